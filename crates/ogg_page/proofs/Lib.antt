@@ -1,0 +1,6 @@
+pub mod Division
+pub mod BitNumbers
+pub mod ByteStep
+pub mod TableRule
+pub mod Prefixes
+pub mod Vectors

@@ -1,0 +1,43 @@
+-- The checksum of a page (RFC 3533, section 6): a cyclic redundancy check of 32 bits, most significant bit first,
+-- from 0 on and with no final change. It is said here by long division of polynomials over two elements; a
+-- polynomial is the list of its coefficients, the highest first.
+use Rattle.std.specs.Prelude.{ℕ, zero, suc, ◌+◌, ◌/◌, ◌%◌, ◌^◌, Bool, true, false, not, nat_eq, if◌then◌else◌, List, [], ◌∷◌, ◌++◌, length, replicate}
+use Rattle.std.specs.List.{flat_map}
+
+-- the low n bits of a number, the highest first
+unfoldable pub bits_of : ℕ → ℕ → List Bool
+bits_of zero x = []
+bits_of (suc n) x = nat_eq (x / 2 ^ n % 2) 1 ∷ bits_of n x
+
+-- the number that these bits spell
+unfoldable pub number_of : List Bool → ℕ
+number_of [] = 0
+number_of (b ∷ bits) = (if b then 2 ^ length bits else 0) + number_of bits
+
+-- bytes as bits, each byte's highest first
+unfoldable pub message_bits : List ℕ → List Bool
+message_bits bytes = flat_map (bits_of 8) bytes
+
+abbrev pub exclusive_or : Bool → Bool → Bool
+exclusive_or true b = not b
+exclusive_or false b = b
+
+-- the first polynomial with the second added to its leading coefficients; to add is also to subtract
+unfoldable pub add : List Bool → List Bool → List Bool
+add [] ys = []
+add (x ∷ xs) [] = x ∷ xs
+add (x ∷ xs) (y ∷ ys) = exclusive_or x y ∷ add xs ys
+
+-- the divisor behind its leading coefficient, that of x ^ 32
+unfoldable pub divisor : List Bool
+divisor = bits_of 32 0x04C11DB7
+
+-- Long division: n times the leading coefficient goes, and where it was 1 the divisor is subtracted.
+unfoldable pub remainder : ℕ → List Bool → List Bool
+remainder zero dividend = dividend
+remainder (suc n) [] = []
+remainder (suc n) (b ∷ rest) = remainder n (if b then add rest divisor else rest)
+
+-- the remainder of the message, multiplied by x ^ 32
+unfoldable pub checksum_of : List ℕ → ℕ
+checksum_of bytes = let message = message_bits bytes in number_of (remainder (length message) (message ++ replicate 32 false))

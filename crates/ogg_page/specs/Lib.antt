@@ -1,0 +1,6 @@
+pub mod Checksum
+pub mod Page
+pub mod PageFault
+pub mod Lacing
+pub mod LogicalStream
+pub mod Output

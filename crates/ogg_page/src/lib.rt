@@ -1,0 +1,28 @@
+//! Pages of an Ogg bitstream: their checksum and their bytes (RFC 3533, section 6).
+//!
+//! A page is a head of 27 bytes, a table of at most 255 lacing values, and a body whose length is
+//! their sum. Writing appends to the caller's vector, and leaves it as it was where memory is
+//! refused. The bytes of no page begin those of another.
+//!
+//! Start at `specs/Page.antt`, which says what a page is, and at `specs/LogicalStream.antt`, which
+//! says what packets the pages of a stream hold.
+#![tactic(auto)]
+
+mod crc;
+mod fault;
+mod head;
+mod laws;
+mod output;
+mod table;
+mod writing;
+
+pub use crc::checksum;
+pub use fault::{PageFault, WriteFault};
+pub use head::PageHead;
+pub use laws::page_bytes_are_prefix_free;
+pub use output::write_whole;
+pub use std::alloc::AllocError as Memory;
+pub use writing::write_page;
+
+#[cfg(test)]
+mod tests;

@@ -1,0 +1,27 @@
+//! Bytes to a writer.
+ghost use Rattle.std.specs.Prelude.{OnOk, OnErr};
+ghost use Rattle.std.specs.Io.KnownBytes.{Appends};
+ghost use Rattle.ogg_page.specs.Output.{WritesPrefix};
+
+use crate::fault::WriteFault;
+use std::io::Write;
+
+/// Writes all of the text, in order. An error of any kind, and a write that takes no byte, is a
+/// fault and isn't tried again; then a prefix of the text was written.
+pub fn write_whole<W: Write>(writer: &mut W, text: &[u8]) -> Result<(), WriteFault>
+    ensures ok { OnOk result (Appends (W.contents writer.old) (W.contents writer.new) text.now) }
+    ensures err { OnErr result (WritesPrefix (W.contents writer.old) (W.contents writer.new) text.now) }
+{
+    let mut done = 0usize;
+    for _ in 0..text.len() {
+        if done >= text.len() {
+            break;
+        }
+        match writer.write(&text[done..]) {
+            Ok(0) => return Err(WriteFault),
+            Ok(count) => done += count,
+            Err(_) => return Err(WriteFault),
+        }
+    }
+    Ok(())
+}
