@@ -22,7 +22,7 @@ pub use head::PageHead;
 pub use laws::page_bytes_are_prefix_free;
 pub use output::write_whole;
 pub use std::alloc::AllocError as Memory;
-pub use writing::write_page;
+pub use writing::{write_page, write_page_of};
 
 #[cfg(test)]
 mod tests;

@@ -1,6 +1,7 @@
 //! Pages as bytes.
-ghost use Rattle.std.specs.Prelude.{◌≡◌, ◌+◌, ◌≤◌, ◌<◌, ◌++◌, length, sum, OnOk, OnErr, List, ℕ, vec_len, vec_capacity};
-ghost use Rattle.ogg_page.specs.Page.{page_of, page_bytes, fixed_part};
+ghost use Rattle.std.specs.Prelude.{◌≡◌, ◌+◌, ◌*◌, ◌≤◌, ◌<◌, ◌++◌, length, sum, OnOk, OnErr, List, ℕ, vec_len, vec_capacity, take};
+ghost use Rattle.ogg_page.specs.Checksum.{checksum_of};
+ghost use Rattle.ogg_page.specs.Page.{page_of, page_bytes, fixed_part, joined};
 
 use crate::Memory;
 use crate::crc::{checksum, checksum_on};
@@ -22,15 +23,80 @@ pub fn write_page(
     ensures ok { OnOk result (out.new.items ≡ out.old.items ++ page_bytes (page_of head.now lacing.now body.now)) }
     ensures err { OnErr result (out.new.items ≡ out.old.items) }
     ensures full { OnErr result (vec_capacity out.old < vec_len out.old + (27 + length lacing.now + length body.now)) }
+    ensures capacity { vec_capacity out.old ≤ vec_capacity out.new }
 {
-    out.reserve(FIXED + lacing.len() + body.len())?;
+    write_page_of(head, lacing, &[body], out)
+}
+
+/// Appends a page whose body lies in pieces. After `Memory` the vector is unchanged.
+pub fn write_page_of(
+    head: &PageHead,
+    lacing: &[u8],
+    pieces: &[&[u8]],
+    out: &mut Vec<u8>,
+) -> Result<(), Memory>
+    requires values { length lacing.now ≤ 255 }
+    requires whole { sum lacing.now ≡ length (joined pieces.now) }
+    ensures ok { OnOk result (out.new.items ≡ out.old.items ++ page_bytes (page_of head.now lacing.now (joined pieces.now))) }
+    ensures err { OnErr result (out.new.items ≡ out.old.items) }
+    ensures full { OnErr result (vec_capacity out.old < vec_len out.old + (27 + length lacing.now + sum lacing.now)) }
+    ensures len { OnOk result (vec_len out.new ≡ vec_len out.old + (27 + length lacing.now + sum lacing.now)) }
+    ensures capacity { vec_capacity out.old ≤ vec_capacity out.new }
+{
+    out.reserve(FIXED + lacing.len() + body_size(lacing))?;
     let values = lacing.len() as u8;
     let blank = fixed_part(head, 0, values);
-    let sum = checksum_on(checksum_on(checksum(&blank), lacing), body);
-    out.extend_from_slice(&fixed_part(head, sum, values))?;
-    out.extend_from_slice(lacing)?;
-    out.extend_from_slice(body)?;
+    let sum = checksum_of_pieces(checksum_on(checksum(&blank), lacing), pieces);
+    append(out, &fixed_part(head, sum, values));
+    append(out, lacing);
+    append_pieces(out, pieces);
     Ok(())
+}
+
+/// How many bytes the lacing values stand for.
+fn body_size(lacing: &[u8]) -> usize
+    requires { length lacing.now ≤ 255 }
+    ensures value { result ≡ sum lacing.now }
+    ensures bound { result ≤ 255 * length lacing.now }
+{
+    let mut size = 0;
+    for value in lacing {
+        size += usize::from(*value);
+    }
+    size
+}
+
+/// The checksum of some bytes and then the pieces, from the checksum of the bytes before.
+fn checksum_of_pieces(before: u32, pieces: &[&[u8]]) -> u32
+    ensures { (front : List ℕ) → before ≡ checksum_of front → result ≡ checksum_of (front ++ joined pieces.now) }
+{
+    let mut sum = before;
+    for piece in pieces {
+        sum = checksum_on(sum, piece);
+    }
+    sum
+}
+
+/// Appends bytes for which there is room.
+fn append(out: &mut Vec<u8>, bytes: &[u8])
+    requires { vec_len out.old + length bytes.now ≤ vec_capacity out.old }
+    ensures items { out.new.items ≡ out.old.items ++ bytes.now }
+    ensures len { vec_len out.new ≡ vec_len out.old + length bytes.now }
+    ensures capacity { vec_capacity out.old ≤ vec_capacity out.new }
+{
+    out.extend_from_slice(bytes).unwrap();
+}
+
+/// Appends pieces for which there is room.
+fn append_pieces(out: &mut Vec<u8>, pieces: &[&[u8]])
+    requires { vec_len out.old + length (joined pieces.now) ≤ vec_capacity out.old }
+    ensures items { out.new.items ≡ out.old.items ++ joined pieces.now }
+    ensures len { vec_len out.new ≡ vec_len out.old + length (joined pieces.now) }
+    ensures capacity { vec_capacity out.old ≤ vec_capacity out.new }
+{
+    for piece in pieces {
+        append(out, piece);
+    }
 }
 
 /// The bytes of a page before its lacing values.

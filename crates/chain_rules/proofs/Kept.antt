@@ -1,0 +1,106 @@
+-- What is so of a command that is kept.
+use Rattle.std.proofs.Common.{◌≡◌, ℕ, zero, suc, ◌+◌, ◌<◌, ◌≤◌, ◌^◌, false, ◌++◌, length, sum_by, refl, sym, arith, Option, Some, None, Result, Ok, Err}
+use Rattle.std.specs.Prelude.{nat_eq, nat_lt, nat_le, is_some, ◌||◌, IsOk}
+use Rattle.std.specs.List.{list_any}
+use Rattle.std.proofs.lemmas.Bool.{or_parts, ltb-false, leb-false}
+use Rattle.chain_rules.specs.declared.command.Command.{Command}
+use Rattle.chain_rules.specs.declared.command.Command.TheVariants.{Begin as BeginOf, Put as PutOf, End as EndOf}
+use Rattle.chain_rules.specs.declared.command.Begin.{Begin}
+use Rattle.chain_rules.specs.declared.command.Put.{Put}
+use Rattle.chain_rules.specs.declared.command.SkeletonHead.{SkeletonHead}
+use Rattle.chain_rules.specs.declared.refusal.Refusal.{Refusal}
+use Rattle.chain_rules.specs.ChainState.{ChainState}
+use Rattle.chain_rules.specs.Progress.{next_in}
+use Rattle.chain_rules.specs.Rules.{first_broken}
+use Rattle.chain_rules.specs.Decision.{decision, answer, rules_for, begin_rules, item_rules, entries_rules, room_rules, size_of, header_bytes, has_many_headers}
+use Rattle.chain_rules.specs.Encoding.{pages_of_command, pages_of_runs, runs_of}
+use Rattle.chain_rules.specs.Size.{has_no_number, size_of_pages}
+use Rattle.chain_rules.proofs.Chain.{no_rule_broken, Unbroken, all_split}
+
+-- the size that it is answered with
+pub kept_size : (r : Result ℕ Refusal) → IsOk r → (size : ℕ) × (r ≡ Ok size)
+kept_size (Ok size) h = (size, refl)
+kept_size (Err refusal) h = cc
+
+answered : (own size : ℕ) (broken : Option Refusal) → answer own broken ≡ Ok size → own ≡ size
+answered own size None e = cc
+answered own size (Some refusal) e = cc
+
+pub size_is_own : (chain : ChainState) (command : Command) (size : ℕ) → decision chain command ≡ Ok size → size ≡ size_of chain command
+unfolding decision
+size_is_own chain command size e = sym (answered (size_of chain command) size (first_broken (rules_for chain command)) e)
+
+-- ---- the end of a stream
+pub record EndFits (chain : ChainState) (serial : ℕ) : Type 0 where
+  pub number : next_in chain.streams serial < 2 ^ 32
+  pub room : chain.length_of + 28 ≤ 2 ^ 40
+
+pub end_fits : (chain : ChainState) (serial : ℕ) → IsOk (decision chain (EndOf serial)) → EndFits chain serial
+unfolding pages_of_command
+end_fits chain serial ok =
+    let size = kept_size (decision chain (EndOf serial)) ok in
+    let kept : Unbroken (rules_for chain (EndOf serial)) = no_rule_broken chain (EndOf serial) size.0 size.1 in
+    let number : nat_le (2 ^ 32) (next_in chain.streams serial) ≡ false =
+    (or_parts (nat_le (2 ^ 32) (next_in chain.streams serial)) false kept.1.1.1.1.0).0 in
+    let room : chain.length_of + size_of chain (EndOf serial) + 1 ≤ 2 ^ 40 = ltb-false (2 ^ 40) (chain.length_of + size_of chain (EndOf serial) + 1) kept.1.1.1.1.1.1.0 in
+    record { number = leb-false (2 ^ 32) (next_in chain.streams serial) number; room = omega (arith, room) }
+
+-- ---- a put
+pub record PutFits (chain : ChainState) (put : Put) : Type 0 where
+  pub few : length put.entries ≤ 4096
+  pub short : sum_by (λ entry. length entry.packet) put.entries ≤ 16777216
+  pub numbered : list_any has_no_number (pages_of_runs chain.streams (runs_of put.entries)) ≡ false
+  pub room : chain.length_of + size_of_pages (pages_of_runs chain.streams (runs_of put.entries)) + 1 ≤ 2 ^ 40
+
+pub put_fits : (chain : ChainState) (put : Put) → IsOk (decision chain (PutOf put)) → PutFits chain put
+unfolding pages_of_command
+put_fits chain put ok =
+    let size = kept_size (decision chain (PutOf put)) ok in
+    let kept : Unbroken (rules_for chain (PutOf put)) = no_rule_broken chain (PutOf put) size.0 size.1 in
+    let room : Unbroken (room_rules chain (PutOf put)) =
+    (all_split (λ rule. rule.0 ≡ false) (entries_rules chain.streams put.entries) (room_rules chain (PutOf put)) kept.1.1.1).1 in
+    record {
+      few = ltb-false 4096 (length put.entries) kept.1.1.0;
+      short = ltb-false 16777216 (sum_by (λ entry. length entry.packet) put.entries) room.0;
+      numbered = room.1.0;
+      room = ltb-false (2 ^ 40) (chain.length_of + size_of_pages (pages_of_runs chain.streams (runs_of put.entries)) + 1) room.1.1.1.0;
+    }
+
+-- ---- a begin
+pub record BeginFits (chain : ChainState) (begin : Begin) : Type 0 where
+  pub plain : begin.skeleton ≡ None
+  pub streams : length begin.streams ≤ 64
+  pub some : 0 < length begin.streams
+  pub few : list_any has_many_headers begin.streams ≡ false
+  pub short : sum_by header_bytes begin.streams ≤ 16777216
+  pub links : chain.links < 65536
+  pub room : chain.length_of + size_of_pages (pages_of_command chain (BeginOf begin)) + 1 ≤ 2 ^ 40
+
+no_skeleton : (skeleton : Option SkeletonHead) → is_some skeleton ≡ false → skeleton ≡ None
+no_skeleton None e = refl
+no_skeleton (Some head) e = cc
+
+not_none : (n : ℕ) → nat_eq n 0 ≡ false → 0 < n
+not_none zero e = cc
+not_none (suc n) e = omega arith
+
+pub begin_fits : (chain : ChainState) (begin : Begin) → IsOk (decision chain (BeginOf begin)) → BeginFits chain begin
+begin_fits chain begin ok =
+    let size = kept_size (decision chain (BeginOf begin)) ok in
+    let kept : Unbroken (rules_for chain (BeginOf begin)) = no_rule_broken chain (BeginOf begin) size.0 size.1 in
+    let whole : Unbroken (begin_rules chain begin ++ item_rules chain begin) × Unbroken (room_rules chain (BeginOf begin)) =
+    all_split (λ rule. rule.0 ≡ false) (begin_rules chain begin ++ item_rules chain begin) (room_rules chain (BeginOf begin)) kept in
+    let room : Unbroken (room_rules chain (BeginOf begin)) = whole.1 in
+    let many : (nat_lt 64 (length begin.streams) || list_any has_many_headers begin.streams ≡ false) × (is_some begin.skeleton ≡ false) =
+    or_parts (nat_lt 64 (length begin.streams) || list_any has_many_headers begin.streams) (is_some begin.skeleton) whole.0.1.1.0 in
+    let parts : (nat_lt 64 (length begin.streams) ≡ false) × (list_any has_many_headers begin.streams ≡ false) =
+    or_parts (nat_lt 64 (length begin.streams)) (list_any has_many_headers begin.streams) many.0 in
+    record {
+      plain = no_skeleton begin.skeleton many.1;
+      streams = ltb-false 64 (length begin.streams) parts.0;
+      some = not_none (length begin.streams) whole.0.1.0;
+      few = parts.1;
+      short = ltb-false 16777216 (sum_by header_bytes begin.streams) room.0;
+      links = leb-false 65536 chain.links room.1.1.0;
+      room = ltb-false (2 ^ 40) (chain.length_of + size_of_pages (pages_of_command chain (BeginOf begin)) + 1) room.1.1.1.0;
+    }

@@ -1,0 +1,120 @@
+-- The definitions on small files.
+use Rattle.std.proofs.Common.{◌≡◌, ℕ, List, [], ◌∷◌, ◌++◌, refl, length, map, Result, Ok, Err, None, true}
+use Rattle.std.specs.Prelude.{pos}
+use Rattle.ogg_page.specs.Page.{Page, page_bytes, fixed_part}
+use Rattle.ogg_page.specs.Lacing.{lacing_of}
+use Rattle.ogg_page.specs.Checksum.{checksum_of, message_bits, number_of, remainder, bits_of, divisor}
+use Rattle.ogg_page.specs.Checksum as crc
+use Rattle.packetiser.specs.Run.{pages_of_run, page_of_run, page_position, run_lacing, run_bytes, values_at, values_before}
+use Rattle.chain_rules.specs.ChainState.{chain_state_of}
+use Rattle.chain_rules.specs.Encoding.{pages_of_command, command_bytes}
+use Rattle.chain_rules.specs.Decision.{decision}
+use Rattle.chain_rules.specs.Recording.{after}
+use Rattle.chain_rules.specs.declared.command.Command.{Command}
+use Rattle.chain_rules.specs.declared.command.Command.TheVariants.{Begin as BeginOf, Put as PutOf, End as EndOf}
+use Rattle.chain_rules.specs.declared.command.NewStream.{NewStream}
+use Rattle.chain_rules.specs.declared.refusal.Refusal.{Refusal}
+use Rattle.chain_rules.specs.declared.refusal.Refusal.TheVariants.{LinkOpen, NoLink, SerialTaken, UnknownSerial, StreamEnded, PositionBack}
+
+abbrev abc : List ℕ
+abc = 97 ∷ 98 ∷ 99 ∷ []
+
+abbrev hello : List ℕ
+hello = 104 ∷ 101 ∷ 108 ∷ 108 ∷ 111 ∷ []
+
+abbrev stream_of : ℕ → NewStream
+stream_of serial = record { serial = serial; headers = abc ∷ []; media = []; rate = (pos 0, pos 0); base_granule = pos 0; preroll = 0; shift = 0 }
+
+abbrev begin : List ℕ → Command
+begin serials = BeginOf (record { skeleton = None; streams = map stream_of serials })
+
+abbrev put : ℕ → ℕ → List ℕ → Command
+put serial position packet = PutOf (record { entries = record { serial = serial; position = position; packet = packet } ∷ [] })
+
+-- the links after a command that is kept
+abbrev add_pages : List (List Page) → List Page → List (List Page)
+add_pages [] pages = []
+add_pages (link ∷ []) pages = (link ++ pages) ∷ []
+add_pages (link ∷ next ∷ links) pages = link ∷ add_pages (next ∷ links) pages
+
+abbrev then_links : List (List Page) → Command → List Page → List (List Page)
+then_links links (BeginOf b) pages = links ++ pages ∷ []
+then_links links (PutOf p) pages = add_pages links pages
+then_links links (EndOf s) pages = add_pages links pages
+
+abbrev grown : List (List Page) → Command → List (List Page)
+grown links command = then_links links command (pages_of_command (chain_state_of links) command)
+
+abbrev grown_by : List (List Page) → List Command → List (List Page)
+grown_by links [] = links
+grown_by links (command ∷ commands) = grown_by (grown links command) commands
+
+abbrev answer : List Command → Command → Result ℕ Refusal
+answer before command = decision (chain_state_of (grown_by [] before)) command
+
+row_1 : answer [] (begin (1 ∷ [])) ≡ Ok 31
+unfolding decision pages_of_command pages_of_run page_of_run page_position run_lacing run_bytes values_at values_before lacing_of
+row_1 = refl
+
+row_2 : answer (begin (1 ∷ []) ∷ []) (put 1 5 hello) ≡ Ok 33
+unfolding decision pages_of_command pages_of_run page_of_run page_position run_lacing run_bytes values_at values_before lacing_of
+row_2 = refl
+
+row_3 : answer (begin (1 ∷ []) ∷ put 1 5 hello ∷ []) (EndOf 1) ≡ Ok 27
+unfolding decision pages_of_command pages_of_run page_of_run page_position run_lacing run_bytes values_at values_before lacing_of
+row_3 = refl
+
+row_3_page : pages_of_command (chain_state_of (grown_by [] (begin (1 ∷ []) ∷ put 1 5 hello ∷ []))) (EndOf 1) ≡ record { flags = 4; position = 5; serial = 1; sequence = 2; lacing = []; body = [] } ∷ []
+unfolding pages_of_command pages_of_run page_of_run page_position run_lacing run_bytes values_at values_before lacing_of
+row_3_page = refl
+
+row_8 : answer (begin (1 ∷ []) ∷ []) (PutOf (record { entries = record { serial = 1; position = 5; packet = hello } ∷ record { serial = 7; position = 5; packet = 120 ∷ [] } ∷ [] })) ≡ Err UnknownSerial
+unfolding decision pages_of_command pages_of_run page_of_run page_position run_lacing run_bytes values_at values_before lacing_of
+row_8 = refl
+
+row_9_two : answer [] (begin (1 ∷ 2 ∷ [])) ≡ Ok 62
+unfolding decision pages_of_command pages_of_run page_of_run page_position run_lacing run_bytes values_at values_before lacing_of
+row_9_two = refl
+
+row_9_ended : answer (begin (1 ∷ 2 ∷ []) ∷ EndOf 1 ∷ []) (EndOf 1) ≡ Err StreamEnded
+unfolding decision pages_of_command pages_of_run page_of_run page_position run_lacing run_bytes values_at values_before lacing_of
+row_9_ended = refl
+
+row_9_open : answer (begin (1 ∷ 2 ∷ []) ∷ EndOf 1 ∷ []) (begin (3 ∷ [])) ≡ Err LinkOpen
+unfolding decision pages_of_command pages_of_run page_of_run page_position run_lacing run_bytes values_at values_before lacing_of
+row_9_open = refl
+
+row_9_closed : answer (begin (1 ∷ 2 ∷ []) ∷ EndOf 1 ∷ EndOf 2 ∷ []) (put 2 5 hello) ≡ Err NoLink
+unfolding decision pages_of_command pages_of_run page_of_run page_position run_lacing run_bytes values_at values_before lacing_of
+row_9_closed = refl
+
+row_9_taken : answer (begin (1 ∷ 2 ∷ []) ∷ EndOf 1 ∷ EndOf 2 ∷ []) (begin (2 ∷ [])) ≡ Err SerialTaken
+unfolding decision pages_of_command pages_of_run page_of_run page_position run_lacing run_bytes values_at values_before lacing_of
+row_9_taken = refl
+
+row_9_next : answer (begin (1 ∷ 2 ∷ []) ∷ EndOf 1 ∷ EndOf 2 ∷ []) (begin (3 ∷ [])) ≡ Ok 31
+unfolding decision pages_of_command pages_of_run page_of_run page_position run_lacing run_bytes values_at values_before lacing_of
+row_9_next = refl
+
+row_20 : answer (begin (1 ∷ []) ∷ put 1 5 hello ∷ []) (put 1 4 hello) ≡ Err PositionBack
+unfolding decision pages_of_command pages_of_run page_of_run page_position run_lacing run_bytes values_at values_before lacing_of
+row_20 = refl
+
+-- a header of three, and one run of two neighbours, two of one stream each
+row_22 : map (λ (p : Page). p.serial) (pages_of_command (chain_state_of (grown_by [] (begin (1 ∷ 2 ∷ []) ∷ [])))
+    (PutOf (record { entries = record { serial = 1; position = 0; packet = 97 ∷ [] } ∷ record { serial = 1; position = 0; packet = 98 ∷ [] } ∷ record { serial = 2; position = 0; packet = 99 ∷ [] } ∷ record { serial = 1; position = 0; packet = 100 ∷ [] } ∷ [] }))) ≡ 1 ∷ 2 ∷ 1 ∷ []
+unfolding pages_of_command pages_of_run page_of_run page_position run_lacing run_bytes values_at values_before lacing_of
+row_22 = refl
+
+row_22_sequence : map (λ (p : Page). p.sequence) (pages_of_command (chain_state_of (grown_by [] (begin (1 ∷ 2 ∷ []) ∷ [])))
+    (PutOf (record { entries = record { serial = 1; position = 0; packet = 97 ∷ [] } ∷ record { serial = 1; position = 0; packet = 98 ∷ [] } ∷ record { serial = 2; position = 0; packet = 99 ∷ [] } ∷ record { serial = 1; position = 0; packet = 100 ∷ [] } ∷ [] }))) ≡ 1 ∷ 1 ∷ 2 ∷ []
+unfolding pages_of_command pages_of_run page_of_run page_position run_lacing run_bytes values_at values_before lacing_of
+row_22_sequence = refl
+
+-- byte by byte: the page of row 1, without its checksum
+row_1_bytes : length (command_bytes (chain_state_of []) (begin (1 ∷ []))) ≡ 31
+unfolding pages_of_command pages_of_run page_of_run page_position run_lacing run_bytes values_at values_before lacing_of page_bytes fixed_part checksum_of message_bits number_of remainder bits_of divisor crc.add
+row_1_bytes = refl
+
+recording : after [] (begin (1 ∷ []) ∷ put 1 5 hello ∷ EndOf 1 ∷ []) ≡ (record { serial = 1; packets = abc ∷ hello ∷ []; ended = true } ∷ []) ∷ []
+recording = refl

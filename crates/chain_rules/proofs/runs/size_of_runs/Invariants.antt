@@ -1,0 +1,18 @@
+use Rattle.std.proofs.Common.{◌≡◌, ◌≤◌, ◌+◌, ◌*◌, length, sum_by}
+use Rattle.std.specs.List.{list_any, fold}
+use Rattle.chain_rules.specs.declared.command.Entry.{Entry}
+use Rattle.chain_rules.specs.Encoding.{runs_of, pages_of_runs, with_run}
+use Rattle.chain_rules.specs.Size.{has_no_number, size_of_pages}
+use Rattle.chain_rules.proofs.runs.size_of_runs.Given as goal
+
+-- the runs so far have their numbers and are counted
+abbrev pub invariant-loop-rest : goal.invariant-loop-rest
+invariant-loop-rest l = record {
+  numbered : list_any has_no_number (pages_of_runs l.initial.streams (runs_of l.entries)) ≡ list_any has_no_number (pages_of_runs l.streams (runs_of l.rest));
+  counted : size_of_pages (pages_of_runs l.initial.streams (runs_of l.entries)) ≡ l.size + size_of_pages (pages_of_runs l.streams (runs_of l.rest));
+  after : fold with_run l.initial.streams (runs_of l.entries) ≡ fold with_run l.streams (runs_of l.rest);
+  small : l.size + 29 * (sum_by (λ (entry : Entry). length entry.packet) l.rest + length l.rest) ≤ 29 * (16777216 + 4096);
+}
+
+abbrev pub decreases-loop-rest : goal.decreases-loop-rest
+decreases-loop-rest l = length l.rest

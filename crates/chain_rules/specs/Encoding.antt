@@ -1,0 +1,107 @@
+-- The pages that a command adds (RFC 3533, section 4): which pages, and in which order.
+use Rattle.std.specs.Prelude.{ℕ, ◌+◌, nat_eq, if◌then◌else◌, List, [], ◌∷◌, ◌++◌, length, map, take, drop}
+use Rattle.std.specs.List.{flat_map}
+use Rattle.ogg_page.specs.Page.{Page, bytes_of_pages}
+use Rattle.packetiser.specs.Run.{Timed, flagged, pages_of_run}
+use Rattle.chain_rules.specs.ChainState.{ChainState, chain_state_of}
+use Rattle.chain_rules.specs.Progress.{next_in, position_in, brought_to}
+use Rattle.chain_rules.specs.declared.stream_state.StreamState.{StreamState}
+use Rattle.chain_rules.specs.declared.command.Command.{Command}
+use Rattle.chain_rules.specs.declared.command.Command.TheVariants.{Begin as BeginOf, Put as PutOf, End as EndOf}
+use Rattle.chain_rules.specs.declared.command.NewStream.{NewStream}
+use Rattle.chain_rules.specs.declared.command.Entry.{Entry}
+
+-- the flags of a stream's first and of its last page
+abbrev pub first_flag : ℕ
+first_flag = 2
+
+abbrev pub last_flag : ℕ
+last_flag = 4
+
+-- a header packet, which has position 0
+abbrev pub header : List ℕ → Timed
+header packet = record { position = 0; packet = packet }
+
+-- a stream's first page, with its first header, and the run of its other headers
+abbrev pub first_pages : NewStream → List Page
+first_pages stream = flagged first_flag (pages_of_run stream.serial 0 (map header (take 1 stream.headers)))
+
+abbrev pub header_pages : NewStream → List Page
+header_pages stream = pages_of_run stream.serial 1 (map header (drop 1 stream.headers))
+
+-- entries cut where the serial changes
+abbrev pub with_front : Entry → List (List Entry) → List (List Entry)
+with_front entry [] = (entry ∷ []) ∷ []
+with_front entry ([] ∷ runs) = (entry ∷ []) ∷ runs
+with_front entry ((next ∷ run) ∷ runs) =
+    if nat_eq entry.serial next.serial then (entry ∷ next ∷ run) ∷ runs else (entry ∷ []) ∷ (next ∷ run) ∷ runs
+
+abbrev pub runs_of : List Entry → List (List Entry)
+runs_of [] = []
+runs_of (entry ∷ entries) = with_front entry (runs_of entries)
+
+abbrev pub timed : Entry → Timed
+timed entry = record { position = entry.position; packet = entry.packet }
+
+-- the stream of a run
+abbrev pub run_serial : List Entry → ℕ
+run_serial [] = 0
+run_serial (entry ∷ run) = entry.serial
+
+-- the pages of a run, from its stream's next number on
+abbrev pub pages_behind : List StreamState → List Entry → List Page
+pages_behind streams run = pages_of_run (run_serial run) (next_in streams (run_serial run)) (map timed run)
+
+-- the position that a run brings its stream to: that of its last packet
+abbrev pub run_position : List Entry → ℕ
+run_position [] = 0
+run_position (entry ∷ []) = entry.position
+run_position (entry ∷ next ∷ run) = run_position (next ∷ run)
+
+-- the streams behind a run's pages
+abbrev pub with_run : List StreamState → List Entry → List StreamState
+with_run streams run =
+    brought_to (run_serial run) (next_in streams (run_serial run) + length (pages_behind streams run)) (run_position run) streams
+
+-- the pages of runs, each behind those before it
+abbrev pub pages_of_runs : List StreamState → List (List Entry) → List Page
+pages_of_runs streams [] = []
+pages_of_runs streams (run ∷ runs) = pages_behind streams run ++ pages_of_runs (with_run streams run) runs
+
+-- a page without packets that ends its stream, with the stream's last position
+abbrev pub end_page : ChainState → ℕ → Page
+end_page chain serial =
+    record {
+      flags = last_flag;
+      position = position_in chain.streams serial;
+      serial = serial;
+      sequence = next_in chain.streams serial;
+      lacing = [];
+      body = [];
+    }
+
+-- The pages of a command. A link's first pages come first, and then its other headers; the pages of a Skeleton would
+-- come in here.
+unfoldable pub pages_of_command : ChainState → Command → List Page
+pages_of_command chain (BeginOf begin) = flat_map first_pages begin.streams ++ flat_map header_pages begin.streams
+pages_of_command chain (PutOf put) = pages_of_runs chain.streams (runs_of put.entries)
+pages_of_command chain (EndOf serial) = end_page chain serial ∷ []
+
+-- the bytes that it adds
+abbrev pub command_bytes : ChainState → Command → List ℕ
+command_bytes chain command = bytes_of_pages (pages_of_command chain command)
+
+-- pages more for the last link
+abbrev pub with_pages : List (List Page) → List Page → List (List Page)
+with_pages [] pages = []
+with_pages (link ∷ []) pages = (link ++ pages) ∷ []
+with_pages (link ∷ next ∷ links) pages = link ∷ with_pages (next ∷ links) pages
+
+abbrev pub joined_with : List (List Page) → Command → List Page → List (List Page)
+joined_with links (BeginOf begin) pages = links ++ pages ∷ []
+joined_with links (PutOf put) pages = with_pages links pages
+joined_with links (EndOf serial) pages = with_pages links pages
+
+-- the links after a command
+abbrev pub links_after : List (List Page) → Command → List (List Page)
+links_after links command = joined_with links command (pages_of_command (chain_state_of links) command)

@@ -1,0 +1,13 @@
+pub mod Refusal
+pub mod Command
+pub mod Links
+pub mod Recording
+pub mod ChainState
+pub mod Encoding
+pub mod Rules
+pub mod Limits
+pub mod Size
+pub mod Decision
+pub mod Begun
+pub mod Shape
+pub mod Progress

@@ -1,0 +1,18 @@
+-- What a shape keeps, and the room that it has.
+use Rattle.std.specs.Prelude.{ℕ, ◌≤◌, length, ⊤}
+use Rattle.chain_rules.specs.ChainState.{ChainState}
+use Rattle.chain_rules.specs.declared.command.Command.{Command}
+use Rattle.chain_rules.specs.declared.command.Command.TheVariants.{Begin as BeginOf, Put as PutOf, End as EndOf}
+
+pub record ShapeState : Type 0 where
+  pub chain : ChainState
+  -- for how many streams of a link there is room
+  pub stream_room : ℕ
+  -- for how many serials more there is room
+  pub serial_room : ℕ
+
+-- there is room for what the command adds
+abbrev pub HasRoom : ShapeState → Command → Type 0
+HasRoom shape (BeginOf begin) = (length begin.streams ≤ shape.stream_room) × (length begin.streams ≤ shape.serial_room)
+HasRoom shape (PutOf put) = ⊤
+HasRoom shape (EndOf serial) = ⊤

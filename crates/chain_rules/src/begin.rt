@@ -1,0 +1,171 @@
+//! The streams of a new link, looked at one after the other.
+ghost use Rattle.std.specs.Prelude.{◌≡◌, ◌≤◌, ◌<◌, ◌+◌, ◌-◌, ◌*◌, ◌++◌, ℕ, [], ◌∷◌, false, length, sum_by, nat_lt, nat_eq, take, drop, map, reverse, List};
+ghost use Rattle.std.specs.List.{list_any, flat_map};
+ghost use Rattle.std.specs.Option.{SomeIff};
+ghost use Rattle.chain_rules.specs.Rules.{first_broken};
+ghost use Rattle.chain_rules.specs.ChainState.{ChainState};
+ghost use Rattle.chain_rules.specs.Decision.{stream_rules, streams_rules, has_many_parts, has_many_headers, header_bytes};
+ghost use Rattle.chain_rules.specs.Encoding.{first_pages, header_pages};
+ghost use Rattle.chain_rules.specs.Size.{has_no_number, size_of_pages};
+ghost use Rattle.chain_rules.specs.declared.command.NewStream.{NewStream as StreamOf};
+
+use crate::command::{Begin, NewStream};
+use crate::limits::{LONGEST_BATCH, LONGEST_FIRST, LONGEST_PACKET, MOST_HEADERS, MOST_STREAMS};
+use crate::listed::Listed;
+use crate::refusal::Refusal;
+use packetiser::{TimedPacket, size_of_run};
+
+impl TimedPacket for Listed<u8> {
+    ghost use Rattle.chain_rules.specs.Encoding.{header};
+
+    // a header
+    ghost timed = { header };
+
+    fn packet(&self) -> &[u8] {
+        self.as_slice()
+    }
+
+    fn position(&self) -> u64 {
+        0
+    }
+}
+
+/// Whether a link has more parts than it may have.
+pub fn has_many_parts(begin: &Begin) -> bool
+    ensures { result ≡ has_many_parts begin.now }
+{
+    let streams = begin.streams.as_slice();
+    if streams.len() > MOST_STREAMS {
+        return true;
+    }
+    if have_many_headers(streams) {
+        return true;
+    }
+    begin.skeleton.is_some()
+}
+
+/// Whether one of the streams has more headers than it may have.
+fn have_many_headers(streams: &[NewStream]) -> bool
+    ensures { result ≡ list_any has_many_headers streams.now }
+{
+    streams
+        .iter()
+        .any(|stream| stream.headers.len() > MOST_HEADERS)
+}
+
+/// The first rule that a stream breaks, behind the streams before it in its link.
+fn broken_by_stream(serials: &[u32], earlier: &[NewStream], stream: &NewStream) -> Option<Refusal>
+    ensures { (chain : ChainState) → chain.serials ≡ serials.now →
+        result ≡ first_broken (stream_rules chain false (reverse (map (λ (s : StreamOf). s.serial) earlier.now)) stream.now) }
+{
+    if serials.contains(&stream.serial) || has_serial(earlier, stream.serial) {
+        return Some(Refusal::SerialTaken);
+    }
+    let headers = stream.headers.as_slice();
+    if headers.is_empty() {
+        return Some(Refusal::NoHeader);
+    }
+    let (first, others) = split_headers(headers);
+    if has_longer(first, LONGEST_FIRST) {
+        return Some(Refusal::HeadTooLong);
+    }
+    if has_longer(others, LONGEST_PACKET) {
+        return Some(Refusal::PacketTooLong);
+    }
+    None
+}
+
+/// The first rule that one of a link's streams breaks.
+pub fn broken_by_streams(serials: &[u32], streams: &[NewStream]) -> Option<Refusal>
+    ensures { (chain : ChainState) → chain.serials ≡ serials.now →
+        result ≡ first_broken (streams_rules chain false [] streams.now) }
+{
+    for (i, stream) in streams.iter().enumerate() {
+        let (earlier, _) = streams.split_at(i);
+        let broken = broken_by_stream(serials, earlier, stream);
+        if broken.is_some() {
+            return broken;
+        }
+    }
+    None
+}
+
+/// Whether one of the streams has this serial.
+fn has_serial(streams: &[NewStream], serial: u32) -> bool
+    ensures { result ≡ list_any (nat_eq serial) (reverse (map (λ (s : StreamOf). s.serial) streams.now)) }
+{
+    has_stream(streams, serial)
+}
+
+fn has_stream(streams: &[NewStream], serial: u32) -> bool
+    ensures { result ≡ list_any (λ (s : StreamOf). nat_eq serial s.serial) streams.now }
+{
+    streams.iter().any(|stream| serial == stream.serial)
+}
+
+/// A stream's first header, where it has one, and its other headers.
+pub fn split_headers(headers: &[Listed<u8>]) -> (&[Listed<u8>], &[Listed<u8>])
+    ensures first { result.0.now ≡ take 1 headers.now }
+    ensures others { result.1.now ≡ drop 1 headers.now }
+{
+    headers.split_at(headers.len().min(1))
+}
+
+/// Whether one of the packets has more bytes than this.
+fn has_longer(packets: &[Listed<u8>], most: usize) -> bool
+    ensures { result ≡ list_any (λ (packet : List ℕ). nat_lt most (length packet)) packets.now }
+{
+    packets.iter().any(|packet| packet.len() > most)
+}
+
+/// What is left of a number of bytes behind the packets, where they aren't longer.
+fn left_behind(left: u64, packets: &[Listed<u8>]) -> Option<u64>
+    ensures { SomeIff result (sum_by length packets.now ≤ left) (left - sum_by length packets.now) }
+{
+    let mut left = left;
+    for packet in packets {
+        left = left.checked_sub(packet.len() as u64)?;
+    }
+    Some(left)
+}
+
+/// Whether the headers are too long together.
+pub fn is_long_begin(streams: &[NewStream]) -> bool
+    ensures { result ≡ nat_lt 16777216 (sum_by header_bytes streams.now) }
+{
+    let mut left = LONGEST_BATCH;
+    for stream in streams {
+        match left_behind(left, stream.headers.as_slice()) {
+            Some(less) => left = less,
+            None => return true,
+        }
+    }
+    false
+}
+
+/// How many bytes the first page and the other header pages of a stream have.
+fn size_of_stream(stream: &NewStream) -> u64
+    requires short { header_bytes stream.now ≤ 16777216 }
+    requires few { length stream.now.headers ≤ 256 }
+    ensures value { result ≡ size_of_pages (first_pages stream.now) + size_of_pages (header_pages stream.now) }
+    ensures small { result ≤ 29 * (header_bytes stream.now + length stream.now.headers) }
+{
+    let (first, others) = split_headers(stream.headers.as_slice());
+    size_of_run(first) + size_of_run(others)
+}
+
+/// How many bytes the pages of a new link have.
+pub fn size_of_begin(streams: &[NewStream]) -> u64
+    requires short { sum_by header_bytes streams.now ≤ 16777216 }
+    requires few { list_any has_many_headers streams.now ≡ false }
+    requires links { length streams.now ≤ 64 }
+    ensures value { result ≡ size_of_pages (flat_map first_pages streams.now ++ flat_map header_pages streams.now) }
+    ensures numbered { list_any has_no_number (flat_map first_pages streams.now ++ flat_map header_pages streams.now) ≡ false }
+    ensures small { result ≤ 486658048 + 29 * 256 * 64 }
+{
+    let mut size = 0;
+    for stream in streams {
+        size += size_of_stream(stream);
+    }
+    size
+}

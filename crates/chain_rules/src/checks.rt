@@ -1,0 +1,193 @@
+//! Whether a command is refused, and why, or else its size.
+ghost use Rattle.std.specs.Prelude.{◌≡◌, ◌≤◌, ◌<◌, ◌+◌, ◌^◌, ℕ, Option, Some, None, Ok, Err, IfSome, IfNone, false, length, sum_by, nat_lt, not};
+ghost use Rattle.std.specs.List.{list_any};
+ghost use Rattle.std.specs.Option.{option_map_or};
+ghost use Rattle.chain_rules.specs.Rules.{first_broken};
+ghost use Rattle.chain_rules.specs.ChainState.{ChainState};
+ghost use Rattle.chain_rules.specs.Decision.{decision, put_rules, begin_rules, room_rules, entries_rules, size_of};
+ghost use Rattle.chain_rules.specs.Size.{numbered_size};
+ghost use Rattle.chain_rules.specs.Encoding.{runs_of, pages_of_runs};
+ghost use Rattle.chain_rules.specs.Decision.{answer, has_many_parts};
+ghost use Rattle.chain_rules.specs.declared.command.Entry.{Entry as EntryOf};
+ghost use Rattle.chain_rules.specs.declared.stream_state.StreamState.{StreamState as State};
+
+use crate::begin::{broken_by_streams, has_many_parts, is_long_begin, size_of_begin};
+use crate::command::{Begin, Command, Entry, Put};
+use crate::entries::{broken_by_entries, with_serial};
+use crate::limits::{LONGEST_FILE, MOST_ENTRIES, MOST_LINKS, MOST_STREAMS, SEQUENCES};
+use crate::refusal::Refusal;
+use crate::runs::{is_long_batch, size_of_runs};
+use crate::stream_state::StreamState;
+
+/// Whether a stream hasn't ended.
+pub fn is_open(streams: &[StreamState]) -> bool
+    ensures { result ≡ list_any (λ (stream : State). not stream.ended) streams.now }
+{
+    streams.iter().any(|stream| !stream.ended)
+}
+
+/// The end of a stream.
+#[tactic(auto, unfolding(crate::specs::Decision::decision, crate::specs::Encoding::pages_of_command))]
+pub fn check_end(streams: &[StreamState], bytes: u64, serial: u32) -> Result<u64, Refusal>
+    requires { bytes < 2 ^ 63 }
+    ensures { (chain : ChainState) → chain.streams ≡ streams.now → chain.length_of ≡ bytes → result ≡ decision chain (Command.End serial) }
+{
+    if !is_open(streams) {
+        return Err(Refusal::NoLink);
+    }
+    let Some(stream) = with_serial(streams, serial) else {
+        return Err(Refusal::UnknownSerial);
+    };
+    if stream.ended {
+        return Err(Refusal::StreamEnded);
+    }
+    if stream.next_sequence >= SEQUENCES {
+        return Err(Refusal::SequenceEnd);
+    }
+    if bytes + 28 > LONGEST_FILE {
+        return Err(Refusal::FileFull);
+    }
+    Ok(27)
+}
+
+/// The first rule that a put breaks as a whole.
+fn broken_by_put(streams: &[StreamState], entries: &[Entry]) -> Option<Refusal>
+    ensures rules { (chain : ChainState) → chain.streams ≡ streams.now → result ≡ first_broken (put_rules chain entries.now) }
+    ensures few { result ≡ None → length entries.now ≤ 4096 }
+{
+    if !is_open(streams) {
+        return Some(Refusal::NoLink);
+    }
+    if entries.is_empty() {
+        return Some(Refusal::Empty);
+    }
+    if entries.len() > MOST_ENTRIES {
+        return Some(Refusal::TooMany);
+    }
+    None
+}
+
+/// The first rule that one of the entries breaks.
+fn broken_by_each(streams: &[StreamState], entries: &[Entry]) -> Option<Refusal>
+    requires { length streams.now ≤ 64 }
+    ensures { result ≡ first_broken (entries_rules streams.now entries.now) }
+{
+    let mut scratch = [StreamState::NOBODY; MOST_STREAMS];
+    let (scratch, _) = scratch.split_at_mut(streams.len());
+    scratch.copy_from_slice(streams);
+    broken_by_entries(scratch, entries)
+}
+
+/// How many bytes the pages of a put have, where each page can have a number.
+pub fn size_of_put(streams: &[StreamState], entries: &[Entry]) -> Option<u64>
+    requires streams { length streams.now ≤ 64 }
+    requires few { length entries.now ≤ 4096 }
+    requires short { sum_by (λ (entry : EntryOf). length entry.packet) entries.now ≤ 16777216 }
+    ensures value { result ≡ numbered_size (pages_of_runs streams.now (runs_of entries.now)) }
+    ensures small { IfSome result (λ size. size ≤ 486658048) }
+{
+    let mut scratch = [StreamState::NOBODY; MOST_STREAMS];
+    let (scratch, _) = scratch.split_at_mut(streams.len());
+    scratch.copy_from_slice(streams);
+    size_of_runs(scratch, entries)
+}
+
+/// Whether there is room for a put whose entries break no rule, and its size.
+#[tactic(auto, unfolding(crate::specs::Encoding::pages_of_command))]
+fn room_for_put(streams: &[StreamState], bytes: u64, put: &Put) -> Result<u64, Refusal>
+    requires streams { length streams.now ≤ 64 }
+    requires few { length put.now.entries ≤ 4096 }
+    requires counted { bytes < 2 ^ 63 }
+    ensures { (chain : ChainState) → chain.streams ≡ streams.now → chain.length_of ≡ bytes
+        → result ≡ answer (size_of chain (Command.Put put.now)) (first_broken (room_rules chain (Command.Put put.now))) }
+{
+    let entries = put.entries.as_slice();
+    if is_long_batch(entries) {
+        return Err(Refusal::BatchTooLong);
+    }
+    let Some(size) = size_of_put(streams, entries) else {
+        return Err(Refusal::SequenceEnd);
+    };
+    if bytes + size + 1 > LONGEST_FILE {
+        return Err(Refusal::FileFull);
+    }
+    Ok(size)
+}
+
+/// A put.
+pub fn check_put(streams: &[StreamState], bytes: u64, put: &Put) -> Result<u64, Refusal>
+    requires streams { length streams.now ≤ 64 }
+    requires counted { bytes < 2 ^ 63 }
+    ensures { (chain : ChainState) → chain.streams ≡ streams.now → chain.length_of ≡ bytes → result ≡ decision chain (Command.Put put.now) }
+{
+    let entries = put.entries.as_slice();
+    if let Some(refusal) = broken_by_put(streams, entries) {
+        return Err(refusal);
+    }
+    if let Some(refusal) = broken_by_each(streams, entries) {
+        return Err(refusal);
+    }
+    room_for_put(streams, bytes, put)
+}
+
+/// The first rule that a new link breaks as a whole.
+fn broken_by_begin(streams: &[StreamState], begin: &Begin) -> Option<Refusal>
+    ensures rules { (chain : ChainState) → chain.streams ≡ streams.now → result ≡ first_broken (begin_rules chain begin.now) }
+    ensures few { result ≡ None → has_many_parts begin.now ≡ false }
+    ensures plain { IfNone result (begin.now.skeleton ≡ None) }
+{
+    if is_open(streams) {
+        return Some(Refusal::LinkOpen);
+    }
+    if begin.streams.is_empty() {
+        return Some(Refusal::Empty);
+    }
+    if has_many_parts(begin) {
+        return Some(Refusal::TooMany);
+    }
+    None
+}
+
+/// Whether there is room for a new link whose streams break no rule, and its size.
+#[tactic(auto, unfolding(crate::specs::Encoding::pages_of_command))]
+fn room_for_begin(links: u64, bytes: u64, begin: &Begin) -> Result<u64, Refusal>
+    requires few { has_many_parts begin.now ≡ false }
+    requires counted { bytes < 2 ^ 63 }
+    ensures { (chain : ChainState) → chain.links ≡ links → chain.length_of ≡ bytes
+        → result ≡ answer (size_of chain (Command.Begin begin.now)) (first_broken (room_rules chain (Command.Begin begin.now))) }
+{
+    let streams = begin.streams.as_slice();
+    if is_long_begin(streams) {
+        return Err(Refusal::BatchTooLong);
+    }
+    // The pages of a link's headers are too few to use up the sequence numbers.
+    let size = size_of_begin(streams);
+    if links >= MOST_LINKS {
+        return Err(Refusal::LinksFull);
+    }
+    if bytes + size + 1 > LONGEST_FILE {
+        return Err(Refusal::FileFull);
+    }
+    Ok(size)
+}
+
+/// A new link.
+pub fn check_begin(
+    streams: &[StreamState],
+    serials: &[u32],
+    links: u64,
+    bytes: u64,
+    begin: &Begin,
+) -> Result<u64, Refusal>
+    requires counted { bytes < 2 ^ 63 }
+    ensures { (chain : ChainState) → chain.streams ≡ streams.now → chain.serials ≡ serials.now → chain.links ≡ links → chain.length_of ≡ bytes
+        → result ≡ decision chain (Command.Begin begin.now) }
+{
+    if let Some(refusal) = broken_by_begin(streams, begin) {
+        return Err(refusal);
+    }
+    if let Some(refusal) = broken_by_streams(serials, begin.streams.as_slice()) {
+        return Err(refusal);
+    }
+    room_for_begin(links, bytes, begin)
+}

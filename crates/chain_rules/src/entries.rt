@@ -1,0 +1,120 @@
+//! The packets of a put, looked at one after the other.
+ghost use Rattle.std.specs.Prelude.{◌≡◌, ◌≤◌, ◌<◌, ◌+◌, ◌^◌, ℕ, [], ◌∷◌, length, sum_by, nat_lt, nat_le, nat_eq, take, drop, take_while, map, if◌then◌else◌, List};
+ghost use Rattle.chain_rules.specs.declared.command.Entry.{Entry as EntryOf};
+ghost use Rattle.std.specs.List.{list_any};
+ghost use Rattle.chain_rules.specs.Rules.{first_broken};
+ghost use Rattle.chain_rules.specs.Decision.{entry_rules, entries_rules};
+ghost use Rattle.chain_rules.specs.Progress.{stream_in, change_at, moved_to, advanced, with_position, brought_to};
+
+use crate::command::Entry;
+use crate::limits::{LONGEST_PACKET, POSITIONS};
+use crate::refusal::Refusal;
+use crate::stream_state::StreamState;
+use packetiser::TimedPacket;
+
+impl TimedPacket for Entry {
+    ghost use Rattle.chain_rules.specs.Encoding.{timed};
+
+    ghost timed = { timed };
+
+    fn packet(&self) -> &[u8] {
+        self.packet.as_slice()
+    }
+
+    fn position(&self) -> u64 {
+        self.position
+    }
+}
+
+/// The stream with this serial.
+pub fn with_serial(streams: &[StreamState], serial: u32) -> Option<StreamState>
+    ensures { result ≡ stream_in streams.now serial }
+{
+    streams
+        .iter()
+        .copied()
+        .find(|stream| stream.serial == serial)
+}
+
+/// Brings the stream with this serial to a position.
+pub fn move_stream(streams: &mut [StreamState], serial: u32, position: u64)
+    ensures { streams.new ≡ with_position serial position streams.old }
+{
+    for stream in streams.iter_mut() {
+        *stream = moved(*stream, serial, position);
+    }
+}
+
+fn moved(stream: StreamState, serial: u32, position: u64) -> StreamState
+    ensures { result ≡ change_at serial (moved_to position) stream }
+{
+    if stream.serial == serial {
+        StreamState {
+            last_position: position,
+            ..stream
+        }
+    } else {
+        stream
+    }
+}
+
+/// Brings the stream with this serial to a position by whole packets; its next page has this number.
+pub fn bring_stream(streams: &mut [StreamState], serial: u32, sequence: u64, position: u64)
+    ensures { streams.new ≡ brought_to serial sequence position streams.old }
+{
+    for stream in streams.iter_mut() {
+        *stream = brought(*stream, serial, sequence, position);
+    }
+}
+
+fn brought(stream: StreamState, serial: u32, sequence: u64, position: u64) -> StreamState
+    ensures { result ≡ change_at serial (advanced sequence position) stream }
+{
+    if stream.serial == serial {
+        StreamState {
+            next_sequence: sequence,
+            last_position: position,
+            finished: true,
+            ..stream
+        }
+    } else {
+        stream
+    }
+}
+
+/// The first rule that an entry breaks.
+fn broken_by_entry(streams: &[StreamState], entry: &Entry) -> Option<Refusal>
+    ensures { result ≡ first_broken (entry_rules streams.now entry.now) }
+{
+    if entry.packet.len() > LONGEST_PACKET {
+        return Some(Refusal::PacketTooLong);
+    }
+    let Some(stream) = with_serial(streams, entry.serial) else {
+        return Some(Refusal::UnknownSerial);
+    };
+    if stream.ended {
+        return Some(Refusal::StreamEnded);
+    }
+    if entry.position >= POSITIONS {
+        return Some(Refusal::PositionRange);
+    }
+    if entry.position < stream.last_position {
+        return Some(Refusal::PositionBack);
+    }
+    None
+}
+
+/// The first rule that one of the entries breaks. The streams are left where the entries before it
+/// have brought them.
+pub fn broken_by_entries(streams: &mut [StreamState], entries: &[Entry]) -> Option<Refusal>
+    ensures { result ≡ first_broken (entries_rules streams.old entries.now) }
+{
+    for entry in entries {
+        let broken = broken_by_entry(streams, entry);
+        if broken.is_some() {
+            return broken;
+        }
+        move_stream(streams, entry.serial, entry.position);
+    }
+    None
+}

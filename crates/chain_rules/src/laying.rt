@@ -1,0 +1,172 @@
+//! The pages of a command as bytes.
+ghost use Rattle.std.specs.Prelude.{◌≡◌, ◌≤◌, ◌<◌, ◌+◌, ◌*◌, ◌++◌, ◌^◌, ℕ, [], ◌∷◌, false, OnOk, OnErr, length, map, sum_by, take, drop, vec_len, vec_capacity};
+ghost use Rattle.std.specs.List.{list_any, flat_map};
+ghost use Rattle.ogg_page.specs.Page.{bytes_of_pages};
+ghost use Rattle.packetiser.specs.Run.{pages_of_run, pages_for, run_lacing, run_bytes, size_for, flagged, lengths};
+ghost use Rattle.chain_rules.specs.ChainState.{ChainState};
+ghost use Rattle.chain_rules.specs.Decision.{header_bytes, has_many_headers};
+ghost use Rattle.chain_rules.specs.Encoding.{first_pages, header_pages, end_page, runs_of, pages_of_runs};
+ghost use Rattle.chain_rules.specs.Progress.{next_in};
+ghost use Rattle.chain_rules.specs.Size.{has_no_number, size_of_pages};
+ghost use Rattle.chain_rules.specs.declared.command.Entry.{Entry as EntryOf};
+
+use crate::Memory;
+use crate::begin::{size_of_begin, split_headers};
+use crate::checks::size_of_put;
+use crate::command::{Entry, NewStream};
+use crate::entries::{bring_stream, with_serial};
+use crate::limits::MOST_STREAMS;
+use crate::runs::{next_sequence, run_length, run_position, run_serial};
+use crate::stream_state::StreamState;
+use ogg_page::{PageHead, write_page};
+use packetiser::{TimedPacket, lay_run};
+
+/// The flag of a stream's first page (RFC 3533, section 6, field 3).
+const FIRST: u8 = 2;
+
+/// The flag of a stream's last page.
+const LAST: u8 = 4;
+
+/// Appends the page that ends a stream.
+pub fn lay_end(streams: &[StreamState], serial: u32, out: &mut Vec<u8>) -> Result<(), Memory>
+    requires { next_in streams.now serial < 2 ^ 32 }
+    ensures ok { (chain : ChainState) → chain.streams ≡ streams.now → OnOk result (out.new.items ≡ out.old.items ++ bytes_of_pages (end_page chain serial ∷ [])) }
+    ensures err { OnErr result (out.new.items ≡ out.old.items) }
+    ensures full { OnErr result (vec_capacity out.old < vec_len out.old + 27) }
+{
+    let position = with_serial(streams, serial).map_or(0, |stream| stream.last_position);
+    let head = PageHead {
+        flags: LAST,
+        position,
+        serial,
+        sequence: next_sequence(streams, serial) as u32,
+    };
+    write_page(&head, &[], &[], out)
+}
+
+/// Appends the pages of a put.
+pub fn lay_put(streams: &[StreamState], entries: &[Entry], out: &mut Vec<u8>) -> Result<(), Memory>
+    requires streams { length streams.now ≤ 64 }
+    requires few { length entries.now ≤ 4096 }
+    requires short { sum_by (λ (entry : EntryOf). length entry.packet) entries.now ≤ 16777216 }
+    requires numbered { list_any has_no_number (pages_of_runs streams.now (runs_of entries.now)) ≡ false }
+    ensures ok { OnOk result (out.new.items ≡ out.old.items ++ bytes_of_pages (pages_of_runs streams.now (runs_of entries.now))) }
+    ensures err { OnErr result (out.new.items ≡ out.old.items) }
+    ensures full { OnErr result (vec_capacity out.old < vec_len out.old + size_of_pages (pages_of_runs streams.now (runs_of entries.now))) }
+{
+    let size = size_of_put(streams, entries).unwrap();
+    out.reserve(size as usize)?;
+    let mut scratch = [StreamState::NOBODY; MOST_STREAMS];
+    let (scratch, _) = scratch.split_at_mut(streams.len());
+    scratch.copy_from_slice(streams);
+    lay_runs(scratch, entries, out);
+    Ok(())
+}
+
+/// Appends the pages of a put for which there is room.
+fn lay_runs(streams: &mut [StreamState], entries: &[Entry], out: &mut Vec<u8>)
+    requires few { length entries.now ≤ 4096 }
+    requires short { sum_by (λ (entry : EntryOf). length entry.packet) entries.now ≤ 16777216 }
+    requires numbered { list_any has_no_number (pages_of_runs streams.old (runs_of entries.now)) ≡ false }
+    requires room { vec_len out.old + size_of_pages (pages_of_runs streams.old (runs_of entries.now)) ≤ vec_capacity out.old }
+    ensures items { out.new.items ≡ out.old.items ++ bytes_of_pages (pages_of_runs streams.old (runs_of entries.now)) }
+{
+    let mut rest = entries;
+    while !rest.is_empty() {
+        let (run, others) = rest.split_at(run_length(rest));
+        let serial = run_serial(run);
+        let next = next_sequence(streams, serial);
+        let pages = append_run(serial, next as u32, 0, run, out);
+        bring_stream(streams, serial, next + u64::from(pages), run_position(run));
+        rest = others;
+    }
+}
+
+/// Appends the pages of a new link.
+pub fn lay_begin(streams: &[NewStream], out: &mut Vec<u8>) -> Result<(), Memory>
+    requires short { sum_by header_bytes streams.now ≤ 16777216 }
+    requires few { list_any has_many_headers streams.now ≡ false }
+    requires links { length streams.now ≤ 64 }
+    ensures ok { OnOk result (out.new.items ≡ out.old.items ++ bytes_of_pages (flat_map first_pages streams.now ++ flat_map header_pages streams.now)) }
+    ensures err { OnErr result (out.new.items ≡ out.old.items) }
+    ensures full { OnErr result (vec_capacity out.old < vec_len out.old + size_of_pages (flat_map first_pages streams.now ++ flat_map header_pages streams.now)) }
+{
+    let size = size_of_begin(streams);
+    out.reserve(size as usize)?;
+    lay_firsts(streams, out);
+    lay_others(streams, out);
+    Ok(())
+}
+
+/// Appends the first pages of new streams, for which there is room.
+fn lay_firsts(streams: &[NewStream], out: &mut Vec<u8>)
+    requires short { sum_by header_bytes streams.now ≤ 16777216 }
+    requires few { list_any has_many_headers streams.now ≡ false }
+    requires room { vec_len out.old + size_of_pages (flat_map first_pages streams.now) ≤ vec_capacity out.old }
+    ensures items { out.new.items ≡ out.old.items ++ bytes_of_pages (flat_map first_pages streams.now) }
+    ensures len { vec_len out.new ≡ vec_len out.old + size_of_pages (flat_map first_pages streams.now) }
+    ensures capacity { vec_capacity out.old ≤ vec_capacity out.new }
+{
+    for stream in streams {
+        lay_first(stream, out);
+    }
+}
+
+/// Appends the first page of a new stream, for which there is room.
+fn lay_first(stream: &NewStream, out: &mut Vec<u8>)
+    requires short { header_bytes stream.now ≤ 16777216 }
+    requires few { length stream.now.headers ≤ 256 }
+    requires room { vec_len out.old + size_of_pages (first_pages stream.now) ≤ vec_capacity out.old }
+    ensures items { out.new.items ≡ out.old.items ++ bytes_of_pages (first_pages stream.now) }
+    ensures len { vec_len out.new ≡ vec_len out.old + size_of_pages (first_pages stream.now) }
+    ensures capacity { vec_capacity out.old ≤ vec_capacity out.new }
+{
+    let (first, _) = split_headers(stream.headers.as_slice());
+    append_run(stream.serial, 0, FIRST, first, out);
+}
+
+/// Appends the pages of the other headers of new streams, for which there is room.
+fn lay_others(streams: &[NewStream], out: &mut Vec<u8>)
+    requires short { sum_by header_bytes streams.now ≤ 16777216 }
+    requires few { list_any has_many_headers streams.now ≡ false }
+    requires room { vec_len out.old + size_of_pages (flat_map header_pages streams.now) ≤ vec_capacity out.old }
+    ensures items { out.new.items ≡ out.old.items ++ bytes_of_pages (flat_map header_pages streams.now) }
+{
+    for stream in streams {
+        lay_other(stream, out);
+    }
+}
+
+/// Appends the pages of a new stream's other headers, for which there is room.
+fn lay_other(stream: &NewStream, out: &mut Vec<u8>)
+    requires short { header_bytes stream.now ≤ 16777216 }
+    requires few { length stream.now.headers ≤ 256 }
+    requires room { vec_len out.old + size_of_pages (header_pages stream.now) ≤ vec_capacity out.old }
+    ensures items { out.new.items ≡ out.old.items ++ bytes_of_pages (header_pages stream.now) }
+    ensures len { vec_len out.new ≡ vec_len out.old + size_of_pages (header_pages stream.now) }
+    ensures capacity { vec_capacity out.old ≤ vec_capacity out.new }
+{
+    let (_, others) = split_headers(stream.headers.as_slice());
+    append_run(stream.serial, 1, 0, others, out);
+}
+
+/// Appends the pages of a run for which there is room, and gives their number.
+fn append_run<T: TimedPacket>(
+    serial: u32,
+    first_sequence: u32,
+    flags: u8,
+    run: &[T],
+    out: &mut Vec<u8>,
+) -> u32
+    requires lengths { lengths (map T.timed run.now) + length run.now ≤ 2 ^ 62 }
+    requires numbers { first_sequence + pages_for (length (run_lacing (map T.timed run.now))) ≤ 2 ^ 32 }
+    requires count { pages_for (length (run_lacing (map T.timed run.now))) < 2 ^ 32 }
+    requires flags { flags < 255 }
+    requires room { vec_len out.old + size_for (length (run_lacing (map T.timed run.now))) (length (run_bytes (map T.timed run.now))) ≤ vec_capacity out.old }
+    ensures pages { result ≡ pages_for (length (run_lacing (map T.timed run.now))) }
+    ensures items { out.new.items ≡ out.old.items ++ bytes_of_pages (flagged flags (pages_of_run serial first_sequence (map T.timed run.now))) }
+    ensures len { vec_len out.new ≡ vec_len out.old + size_for (length (run_lacing (map T.timed run.now))) (length (run_bytes (map T.timed run.now))) }
+    ensures capacity { vec_capacity out.old ≤ vec_capacity out.new }
+{
+    lay_run(serial, first_sequence, flags, run, out).unwrap()
+}

@@ -1,0 +1,4 @@
+pub mod HeadParts
+pub mod Splitting
+pub mod RangeGrammar
+pub mod TargetPaths

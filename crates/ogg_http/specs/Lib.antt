@@ -1,0 +1,9 @@
+pub mod Digits
+pub mod Fields
+pub mod Head
+pub mod Target
+pub mod Range
+pub mod Answer
+-- the grammar of heads, which the clauses of `read_head` cite
+pub use Rattle.httparse.specs.Grammar
+pub use Rattle.httparse.specs.Spans

@@ -1,0 +1,40 @@
+-- What is left of a run behind some of its pages.
+use Rattle.std.specs.Prelude.{ℕ, zero, suc, ◌+◌, ◌-◌, ◌≤◌, ◌≡◌, nat_lt, if◌then◌else◌, List, [], ◌∷◌, ◌++◌, length, take, drop, sum}
+use Rattle.ogg_page.specs.Page.{Page}
+use Rattle.ogg_page.specs.Lacing.{lacing_of}
+use Rattle.packetiser.specs.Run.{Timed, run_lacing, run_bytes, packets_ended, position_of}
+
+-- the lacing values that are left, where so many bytes of the first packet are done
+abbrev pub values_left : ℕ → List Timed → List ℕ
+values_left done [] = []
+values_left done (item ∷ rest) = lacing_of (length item.packet - done) ++ run_lacing rest
+
+-- the bytes that are left
+abbrev pub bytes_left : ℕ → List Timed → List ℕ
+bytes_left done rest = drop done (run_bytes rest)
+
+-- so many bytes of the first packet can be done
+abbrev pub IsWithin : ℕ → List Timed → Type 0
+IsWithin done [] = done ≡ 0
+IsWithin done (item ∷ rest) = done ≤ length item.packet
+
+-- the lacing values of the next page
+abbrev pub next_values : ℕ → List Timed → List ℕ
+next_values done rest = take 255 (values_left done rest)
+
+-- the next page, with flags added to its own
+abbrev pub next_page : ℕ → ℕ → ℕ → ℕ → List Timed → Page
+next_page serial sequence flags done rest =
+    record {
+      flags = (if nat_lt 0 done then 1 else 0) + flags;
+      position = position_of (packets_ended (next_values done rest)) rest;
+      serial = serial;
+      sequence = sequence;
+      lacing = next_values done rest;
+      body = take (sum (next_values done rest)) (bytes_left done rest);
+    }
+
+-- of flags, those that are added to page k: to the first alone
+abbrev pub added : ℕ → ℕ → ℕ
+added flags zero = flags
+added flags (suc k) = 0

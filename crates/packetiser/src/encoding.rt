@@ -1,0 +1,111 @@
+//! The pages of a run as bytes.
+ghost use Rattle.std.specs.Prelude.{◌≡◌, ◌≤◌, ◌<◌, ◌+◌, ◌++◌, ◌^◌, ℕ, IfOk, OnOk, OnErr, length, map, drop, sum, nat_lt, vec_len, vec_capacity};
+ghost use Rattle.ogg_page.specs.Page.{bytes_of_pages, page_bytes};
+ghost use Rattle.ogg_page.specs.Lacing.{ends_open};
+ghost use Rattle.packetiser.specs.Run.{pages_of_run, pages_for, run_lacing, run_bytes, size_for, flagged, lengths, packets_ended};
+ghost use Rattle.packetiser.specs.Place.{values_left, bytes_left, next_values, next_page, added, IsWithin};
+
+use crate::Memory;
+use crate::item::TimedPacket;
+use crate::place::fill;
+use crate::size::{pages_of_run, size_of_run};
+use ogg_page::{PageHead, write_page_of};
+
+/// Appends the pages of a run, and gives their number. `flags` are added to those of the first page.
+/// After `Memory` the vector is unchanged.
+pub fn lay_run<T: TimedPacket>(
+    serial: u32,
+    first_sequence: u32,
+    flags: u8,
+    run: &[T],
+    out: &mut Vec<u8>,
+) -> Result<u32, Memory>
+    requires lengths { lengths (map T.timed run.now) + length run.now ≤ 2 ^ 62 }
+    requires numbers { first_sequence + pages_for (length (run_lacing (map T.timed run.now))) ≤ 2 ^ 32 }
+    requires count { pages_for (length (run_lacing (map T.timed run.now))) < 2 ^ 32 }
+    requires flags { flags < 255 }
+    ensures pages { IfOk result (λ count. count ≡ pages_for (length (run_lacing (map T.timed run.now)))) }
+    ensures ok { IfOk result (λ _. out.new.items ≡ out.old.items
+        ++ bytes_of_pages (flagged flags (pages_of_run serial first_sequence (map T.timed run.now)))) }
+    ensures err { OnErr result (out.new.items ≡ out.old.items) }
+    ensures len { OnOk result (vec_len out.new ≡ vec_len out.old
+        + size_for (length (run_lacing (map T.timed run.now))) (length (run_bytes (map T.timed run.now)))) }
+    ensures full { OnErr result (vec_capacity out.old < vec_len out.old
+        + size_for (length (run_lacing (map T.timed run.now))) (length (run_bytes (map T.timed run.now)))) }
+    ensures capacity { vec_capacity out.old ≤ vec_capacity out.new }
+{
+    let pages = pages_of_run(run);
+    let size = size_of_run(run);
+    out.reserve(size as usize)?;
+    append_pages(serial, first_sequence, flags, run, pages, out);
+    Ok(pages as u32)
+}
+
+/// Appends the pages of a run, of which there are so many and for which there is room.
+fn append_pages<T: TimedPacket>(
+    serial: u32,
+    first_sequence: u32,
+    flags: u8,
+    run: &[T],
+    pages: u64,
+    out: &mut Vec<u8>,
+)
+    requires count { pages ≡ pages_for (length (run_lacing (map T.timed run.now))) }
+    requires numbers { first_sequence + pages ≤ 2 ^ 32 }
+    requires flags { flags < 255 }
+    requires room { vec_len out.old + size_for (length (run_lacing (map T.timed run.now))) (length (run_bytes (map T.timed run.now))) ≤ vec_capacity out.old }
+    ensures items { out.new.items ≡ out.old.items ++ bytes_of_pages (flagged flags (pages_of_run serial first_sequence (map T.timed run.now))) }
+    ensures len { vec_len out.new ≡ vec_len out.old + size_for (length (run_lacing (map T.timed run.now))) (length (run_bytes (map T.timed run.now))) }
+    ensures capacity { vec_capacity out.old ≤ vec_capacity out.new }
+{
+    let mut rest = run;
+    let mut done = 0;
+    for k in 0..pages {
+        let added = added_flags(flags, k);
+        let sequence = (u64::from(first_sequence) + k) as u32;
+        (rest, done) = append_page(serial, sequence, added, rest, done, out);
+    }
+}
+
+/// The flags that are added to page `k`: to the first alone.
+fn added_flags(flags: u8, k: u64) -> u8
+    requires { flags < 255 }
+    ensures value { result ≡ added flags k }
+    ensures few { result < 255 }
+{
+    if k == 0 { flags } else { 0 }
+}
+
+/// Appends the next page of a run of which these packets are left, and gives what is left behind it.
+fn append_page<'a, T: TimedPacket>(
+    serial: u32,
+    sequence: u32,
+    flags: u8,
+    from: &'a [T],
+    begun: usize,
+    out: &mut Vec<u8>,
+) -> (&'a [T], usize)
+    requires within { IsWithin begun (map T.timed from.now) }
+    requires flags { flags < 255 }
+    requires room { vec_len out.old + (27 + length (next_values begun (map T.timed from.now)) + sum (next_values begun (map T.timed from.now))) ≤ vec_capacity out.old }
+    ensures items { out.new.items ≡ out.old.items ++ page_bytes (next_page serial sequence flags begun (map T.timed from.now)) }
+    ensures len { vec_len out.new ≡ vec_len out.old + (27 + length (next_values begun (map T.timed from.now)) + sum (next_values begun (map T.timed from.now))) }
+    ensures capacity { vec_capacity out.old ≤ vec_capacity out.new }
+    ensures values { values_left result.1 (map T.timed result.0.now) ≡ drop 255 (values_left begun (map T.timed from.now)) }
+    ensures bytes { bytes_left result.1 (map T.timed result.0.now) ≡ drop (sum (next_values begun (map T.timed from.now))) (bytes_left begun (map T.timed from.now)) }
+    ensures ended { map T.timed result.0.now ≡ drop (packets_ended (next_values begun (map T.timed from.now))) (map T.timed from.now) }
+    ensures within { IsWithin result.1 (map T.timed result.0.now) }
+    ensures open { 0 < length (next_values begun (map T.timed from.now)) → nat_lt 0 result.1 ≡ ends_open (next_values begun (map T.timed from.now)) }
+{
+    let page = fill(from, begun);
+    let head = PageHead {
+        flags: u8::from(begun > 0) + flags,
+        position: page.position,
+        serial,
+        sequence,
+    };
+    let (lacing, _) = page.lacing.split_at(page.count);
+    let (pieces, _) = page.pieces.split_at(page.count);
+    write_page_of(&head, lacing, pieces, out).unwrap();
+    (page.rest, page.done)
+}

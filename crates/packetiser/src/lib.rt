@@ -1,0 +1,20 @@
+//! Runs of packets as pages (RFC 3533, section 6).
+//!
+//! A run is packets of one logical stream, each with its position, that go into pages together:
+//! their lacing values are joined, and each 255 of them, and what is left, make a page. The sizes
+//! can be had before anything is written, by the packets or by counts alone.
+//!
+//! Start at `specs/Run.antt`, which says what the pages of a run are.
+#![tactic(auto)]
+
+mod encoding;
+mod item;
+mod laws;
+mod place;
+mod size;
+
+pub use encoding::lay_run;
+pub use item::{Item, TimedPacket};
+pub use laws::{run_is_held, run_is_pages};
+pub use ogg_page::Memory;
+pub use size::{pages_of, pages_of_run, size_of, size_of_run, values_and_bytes, values_of};

@@ -1,0 +1,61 @@
+//! How many lacing values, pages and bytes a run takes.
+ghost use Rattle.std.specs.Prelude.{◌≡◌, ◌≤◌, ◌+◌, ◌*◌, ◌/◌, ◌^◌, ℕ, length, map};
+ghost use Rattle.packetiser.specs.Run.{pages_for, run_lacing, run_bytes, size_for, lengths};
+
+use crate::item::TimedPacket;
+
+/// How many lacing values a packet of so many bytes has (RFC 3533, section 5).
+pub fn values_of(len: u64) -> u64
+    ensures { result ≡ len / 255 + 1 }
+{
+    len / 255 + 1
+}
+
+/// How many pages so many lacing values take.
+pub fn pages_of(values: u64) -> u64
+    ensures { result ≡ pages_for values }
+{
+    values.div_ceil(255)
+}
+
+/// How many bytes the pages of a run have, which has so many lacing values and packet bytes.
+pub fn size_of(values: u64, bytes: u64) -> u64
+    requires { values + bytes ≤ 2 ^ 63 }
+    ensures { result ≡ size_for values bytes }
+{
+    27 * pages_of(values) + values + bytes
+}
+
+/// How many pages a run takes.
+pub fn pages_of_run<T: TimedPacket>(run: &[T]) -> u64
+    requires { lengths (map T.timed run.now) + length run.now ≤ 2 ^ 62 }
+    ensures { result ≡ pages_for (length (run_lacing (map T.timed run.now))) }
+{
+    pages_of(values_and_bytes(run).0)
+}
+
+/// How many bytes the pages of a run have.
+pub fn size_of_run<T: TimedPacket>(run: &[T]) -> u64
+    requires { lengths (map T.timed run.now) + length run.now ≤ 2 ^ 62 }
+    ensures { result ≡ size_for (length (run_lacing (map T.timed run.now))) (length (run_bytes (map T.timed run.now))) }
+{
+    let (values, bytes) = values_and_bytes(run);
+    size_of(values, bytes)
+}
+
+/// How many lacing values and how many bytes the packets of a run have.
+pub fn values_and_bytes<T: TimedPacket>(run: &[T]) -> (u64, u64)
+    requires { lengths (map T.timed run.now) + length run.now ≤ 2 ^ 62 }
+    ensures values { result.0 ≡ length (run_lacing (map T.timed run.now)) }
+    ensures bytes { result.1 ≡ length (run_bytes (map T.timed run.now)) }
+    ensures few { result.0 + result.1 ≤ 2 ^ 63 }
+{
+    let mut values = 0;
+    let mut bytes = 0;
+    for item in run {
+        let len = item.packet().len() as u64;
+        values += values_of(len);
+        bytes += len;
+    }
+    (values, bytes)
+}
