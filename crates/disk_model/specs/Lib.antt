@@ -1,0 +1,10 @@
+pub mod Calls
+pub mod Clock
+pub mod Fault
+pub mod FileDisk
+pub mod FileMode
+pub mod Fuse
+pub mod FuseDisk
+pub mod Image
+pub mod MemDisk
+pub mod Torn

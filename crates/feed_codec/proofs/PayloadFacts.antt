@@ -1,0 +1,478 @@
+-- What the parts of a payload say of the whole.
+use Rattle.std.proofs.Common.{rules, ◌-◌, ◌≡◌, ℕ, ◌+◌, ◌<◌, ◌≤◌, ◌^◌, List, [], ◌∷◌, ◌++◌, length, refl, sym, ap, ◌∙◌, subst, arith, append_assoc, append-nil, length-append, Option, None, Some, Bor}
+use Rattle.std.specs.Prelude.{MatchOption, IsSome, Bool, ◌==◌, ℤ, FitsSigned, IsTrue}
+use Rattle.std.specs.Int.{w64}
+use Rattle.std.specs.List.{AllByRecursion, IsSplitAt, flat_map}
+use Rattle.std.proofs.lemmas.Bool.{eqb-true}
+use Rattle.std.proofs.lemmas.List.Concat.{flat_map-append}
+use Rattle.ogg_page.specs.Page.{IsByte}
+use Rattle.chain_rules.specs.Command.{IsCommand, IsNewStream, IsEntry, IsFraction, IsSkeletonHead, IsSkeleton}
+use Rattle.chain_rules.specs.declared.command.Command.TheVariants.{Begin as BeginOf, Put as PutOf, End as EndOf}
+use Rattle.chain_rules.specs.declared.command.SkeletonHead.{SkeletonHead}
+use Rattle.chain_rules.specs.declared.command.NewStream.{NewStream}
+use Rattle.chain_rules.specs.declared.command.Entry.{Entry}
+use Rattle.feed_codec.specs.Numbers.{u16_bytes, u32_bytes, u64_bytes, i64_bytes}
+use Rattle.feed_codec.specs.Record.{packet_bytes, media_bytes, fraction_bytes, skeleton_bytes, stream_bytes, entry_bytes, payload_of, FitsFields, FitsHeader, FitsStream, FitsEntry}
+use Rattle.feed_codec.specs.Payload.{Begins, BeginsNone, AreMany, IsPacket, IsMedia, IsEntryOfFeed, IsStreamOfFeed, Tail, IsTail, tail_bytes, tail_of_stream, skeleton_head_bytes, IsPayload}
+use Rattle.feed_codec.proofs.Lists.{all_front, all_back, all_joined, all_as, split_joins}
+use Rattle.feed_codec.proofs.NumberBytes.{IsU16, IsU32, IsU64, same_u16, same_u32, same_u64, length-u16_bytes, length-u32_bytes, length-u64_bytes, length-i64_bytes, read_u32}
+use Rattle.feed_codec.proofs.Spellings.{PrefixFree, front, fronts, same_packet, same_media, same_many, same_skeleton, entry_packet, stream_parts, stream_headers, stream_tail, command_streams, command_entries}
+
+-- ---- packets and media types
+
+pub packet_short : (bytes : List ℕ) → length bytes < 4 → BeginsNone IsPacket packet_bytes bytes
+packet_short bytes l p rest h e =
+    omega (arith, l, ap length e, length-append (packet_bytes p) rest, length-append (u32_bytes (length p)) p, length-u32_bytes (length p))
+
+pub packet_cut : (bytes rest : List ℕ) (n : ℕ) → n < 2 ^ 32 → bytes ≡ u32_bytes n ++ rest → length rest < n → BeginsNone IsPacket packet_bytes bytes
+packet_cut bytes rest n small is l p more h e =
+    let sizes = front IsU32 u32_bytes same_u32 n (length p) rest p more small h.fits (sym is ∙ e) in
+    omega (arith, l, sizes.0, ap length sizes.1, length-append p more)
+
+pub packet_found : (bytes rest packet more : List ℕ) (n : ℕ) → n < 2 ^ 32 → AllByRecursion IsByte bytes → bytes ≡ u32_bytes n ++ rest
+    → rest ≡ packet ++ more → length packet ≡ n → IsPacket packet × (bytes ≡ packet_bytes packet ++ more)
+packet_found bytes rest packet more n small all is cut l =
+    let behind : AllByRecursion IsByte rest = all_back IsByte (u32_bytes n) rest (subst (AllByRecursion IsByte) is all) in (
+      record {
+        bytes = all_front IsByte packet more (subst (AllByRecursion IsByte) cut behind);
+        fits = omega (arith, l, small);
+      },
+      is ∙ ap (λ l. u32_bytes n ++ l) cut ∙ sym (append_assoc (u32_bytes n) packet more) ∙ ap (λ k. (u32_bytes k ++ packet) ++ more) (sym l),
+    )
+
+-- the same of a cut that may fail
+pub packet_split : (r : Option (Bor (List ℕ) × Bor (List ℕ))) (bytes rest : List ℕ) (n : ℕ) → n < 2 ^ 32 → AllByRecursion IsByte bytes → bytes ≡ u32_bytes n ++ rest
+    → MatchOption r (length rest < n) (λ p. IsSplitAt rest n p.0.now p.1.now)
+    → MatchOption r (BeginsNone IsPacket packet_bytes bytes) (λ p. IsPacket p.0.now × (bytes ≡ packet_bytes p.0.now ++ p.1.now))
+packet_split None bytes rest n small all is cut = packet_cut bytes rest n small is cut
+packet_split (Some p) bytes rest n small all is cut =
+    packet_found bytes rest p.0.now p.1.now n small all is (split_joins rest p.0.now p.1.now n cut) cut.3
+
+pub media_short : (bytes : List ℕ) → length bytes < 2 → BeginsNone IsMedia media_bytes bytes
+media_short bytes l p rest h e =
+    omega (arith, l, ap length e, length-append (media_bytes p) rest, length-append (u16_bytes (length p)) p, length-u16_bytes (length p))
+
+pub media_cut : (bytes rest : List ℕ) (n : ℕ) → n < 2 ^ 16 → bytes ≡ u16_bytes n ++ rest → length rest < n → BeginsNone IsMedia media_bytes bytes
+media_cut bytes rest n small is l p more h e =
+    let sizes = front IsU16 u16_bytes same_u16 n (length p) rest p more small h.fits (sym is ∙ e) in
+    omega (arith, l, sizes.0, ap length sizes.1, length-append p more)
+
+pub media_found : (bytes rest media more : List ℕ) (n : ℕ) → n < 2 ^ 16 → AllByRecursion IsByte bytes → bytes ≡ u16_bytes n ++ rest
+    → rest ≡ media ++ more → length media ≡ n → IsMedia media × (bytes ≡ media_bytes media ++ more)
+media_found bytes rest media more n small all is cut l =
+    let behind : AllByRecursion IsByte rest = all_back IsByte (u16_bytes n) rest (subst (AllByRecursion IsByte) is all) in (
+      record {
+        bytes = all_front IsByte media more (subst (AllByRecursion IsByte) cut behind);
+        fits = omega (arith, l, small);
+      },
+      is ∙ ap (λ l. u16_bytes n ++ l) cut ∙ sym (append_assoc (u16_bytes n) media more) ∙ ap (λ k. (u16_bytes k ++ media) ++ more) (sym l),
+    )
+
+pub media_split : (r : Option (Bor (List ℕ) × Bor (List ℕ))) (bytes rest : List ℕ) (n : ℕ) → n < 2 ^ 16 → AllByRecursion IsByte bytes → bytes ≡ u16_bytes n ++ rest
+    → MatchOption r (length rest < n) (λ p. IsSplitAt rest n p.0.now p.1.now)
+    → MatchOption r (BeginsNone IsMedia media_bytes bytes) (λ p. IsMedia p.0.now × (bytes ≡ media_bytes p.0.now ++ p.1.now))
+media_split None bytes rest n small all is cut = media_cut bytes rest n small is cut
+media_split (Some p) bytes rest n small all is cut =
+    media_found bytes rest p.0.now p.1.now n small all is (split_joins rest p.0.now p.1.now n cut) cut.3
+
+-- ---- entries
+
+pub entry_short : (bytes : List ℕ) → length bytes < 12 → BeginsNone IsEntryOfFeed entry_bytes bytes
+unfolding entry_bytes
+entry_short bytes l entry rest h e =
+    omega (
+      arith,
+      l,
+      ap length e,
+      length-append (entry_bytes entry) rest,
+      length-append (u32_bytes entry.serial) (u64_bytes entry.position ++ packet_bytes entry.packet),
+      length-append (u64_bytes entry.position) (packet_bytes entry.packet),
+      length-u32_bytes entry.serial,
+      length-u64_bytes entry.position,
+    )
+
+pub entry_cut : (bytes behind rest : List ℕ) (serial position : ℕ) → serial < 2 ^ 32 → position < 2 ^ 64 → bytes ≡ u32_bytes serial ++ behind → behind ≡ u64_bytes position ++ rest
+    → BeginsNone IsPacket packet_bytes rest → BeginsNone IsEntryOfFeed entry_bytes bytes
+unfolding entry_bytes
+entry_cut bytes behind rest serial position hs hp is then none entry more h e =
+    let first = front IsU32 u32_bytes same_u32 serial entry.serial behind (u64_bytes entry.position ++ packet_bytes entry.packet) more hs h.numbers.serial (sym is ∙ e) in
+    let second = front IsU64 u64_bytes same_u64 position entry.position rest (packet_bytes entry.packet) more hp h.numbers.position (sym then ∙ first.1) in
+    none entry.packet more (entry_packet entry h) second.1
+
+pub entry_found : (bytes behind rest more packet : List ℕ) (serial position : ℕ) → serial < 2 ^ 32 → position < 2 ^ 64 → bytes ≡ u32_bytes serial ++ behind → behind ≡ u64_bytes position ++ rest
+    → IsPacket packet → rest ≡ packet_bytes packet ++ more
+    → IsEntryOfFeed (record { serial = serial; position = position; packet = packet }) × (bytes ≡ entry_bytes (record { serial = serial; position = position; packet = packet }) ++ more)
+unfolding entry_bytes
+entry_found bytes behind rest more packet serial position hs hp is then h e = (
+  record {
+    numbers = record { serial = hs; position = hp; packet = h.bytes };
+    fits = h.fits;
+  },
+  is ∙ ap (λ l. u32_bytes serial ++ l) (then ∙ ap (λ l. u64_bytes position ++ l) e ∙ sym (append_assoc (u64_bytes position) (packet_bytes packet) more))
+      ∙ sym (append_assoc (u32_bytes serial) (u64_bytes position ++ packet_bytes packet) more),
+)
+
+-- ---- lists of parts
+
+none_many : {X : Type 0} (Is : X → Type 0) (spell : X → List ℕ) → PrefixFree Is spell → (xs ys : List X) (rest more : List ℕ)
+    → length xs < length ys → AllByRecursion Is xs → AllByRecursion Is ys → BeginsNone Is spell rest → flat_map spell xs ++ rest ≡ flat_map spell ys ++ more → ⊥
+none_many Is spell free xs [] rest more l hx hy none e = omega arith
+none_many Is spell free [] (y ∷ ys) rest more l hx hy none e =
+    none y (flat_map spell ys ++ more) hy.0 (e ∙ append_assoc (spell y) (flat_map spell ys) more)
+none_many Is spell free (x ∷ xs) (y ∷ ys) rest more l hx hy none e =
+    let heads = fronts Is spell free x y (flat_map spell xs) (flat_map spell ys) rest more hx.0 hy.0 e in
+    none_many Is spell free xs ys rest more (omega arith) hx.1 hy.1 none heads.1
+
+-- where some stand in front and no further one does, there aren't more
+pub many_cut : {X : Type 0} (Is : X → Type 0) (spell : X → List ℕ) → PrefixFree Is spell → (bytes rest : List ℕ) (done count : ℕ) → done < count
+    → Begins (AreMany Is done) (flat_map spell) bytes rest → BeginsNone Is spell rest → BeginsNone (AreMany Is count) (flat_map spell) bytes
+many_cut Is spell free bytes rest done count l some none ys more h e =
+    none_many Is spell free some.0 ys rest more (omega (arith, l, some.1.0, h.0)) some.1.1 h.1 none (sym some.2 ∙ e)
+
+pub many_none : {X : Type 0} (Is : X → Type 0) (spell : X → List ℕ) (bytes : List ℕ) → Begins (AreMany Is 0) (flat_map spell) bytes bytes
+many_none Is spell bytes = ([], (refl, tt), refl)
+
+-- one more behind them
+pub built_more : {X : Type 0} (Is : X → Type 0) (spell : X → List ℕ) (bytes rest behind : List ℕ) (done : ℕ) (xs : List X) (x : X)
+    → AreMany Is done xs → bytes ≡ flat_map spell xs ++ rest → Is x → rest ≡ spell x ++ behind
+    → AreMany Is (done + 1) (xs ++ x ∷ []) × (bytes ≡ flat_map spell (xs ++ x ∷ []) ++ behind)
+built_more Is spell bytes rest behind done xs x many e one f = (
+  (omega (arith, length-append xs (x ∷ []), many.0), all_joined Is xs (x ∷ []) many.1 (one, tt)),
+  e ∙ ap (λ l. flat_map spell xs ++ l) (f ∙ ap (λ l. l ++ behind) (sym (append-nil (spell x))))
+      ∙ sym (append_assoc (flat_map spell xs) (spell x ++ []) behind) ∙ ap (λ l. l ++ behind) (sym (flat_map-append spell xs (x ∷ []))),
+)
+
+pub many_more : {X : Type 0} (Is : X → Type 0) (spell : X → List ℕ) (bytes rest behind : List ℕ) (done : ℕ)
+    → Begins (AreMany Is done) (flat_map spell) bytes rest → Begins Is spell rest behind → Begins (AreMany Is (done + 1)) (flat_map spell) bytes behind
+many_more Is spell bytes rest behind done some one =
+    let more = built_more Is spell bytes rest behind done some.0 one.0 some.1 some.2 one.1 one.2 in
+    (some.0 ++ one.0 ∷ [], more.0, more.1)
+
+-- where more are left, one stands in front
+pub left_stands : {X : Type 0} (Is : X → Type 0) (spell : X → List ℕ) (rest more : List ℕ) (done count : ℕ) → done < count
+    → Begins (AreMany Is (count - done)) (flat_map spell) rest more → ¬ BeginsNone Is spell rest
+left_stands Is spell rest more done count l ([], many, e) none = omega (arith, l, many.0)
+left_stands Is spell rest more done count l (x ∷ xs, many, e) none =
+    none x (flat_map spell xs ++ more) many.1.0 (e ∙ append_assoc (spell x) (flat_map spell xs) more)
+
+-- and behind it stand the others
+pub left_behind : {X : Type 0} (Is : X → Type 0) (spell : X → List ℕ) → PrefixFree Is spell → (rest behind more : List ℕ) (done count : ℕ) (x : X) → done < count
+    → Begins (AreMany Is (count - done)) (flat_map spell) rest more → Is x → rest ≡ spell x ++ behind → Begins (AreMany Is (count - (done + 1))) (flat_map spell) behind more
+left_behind Is spell free rest behind more done count x l ([], many, e) one f = absurd (omega (arith, l, many.0))
+left_behind Is spell free rest behind more done count x l (y ∷ ys, many, e) one f =
+    let heads = front Is spell free x y behind (flat_map spell ys) more one many.1.0 (sym f ∙ e) in
+    (ys, (omega (arith, l, many.0), many.1.1), heads.1)
+
+-- there is a value where there is no reason for none
+pub stands : {T : Type 0} (r : Option T) (A : Type 0) (P : T → Type 0) → MatchOption r A P → ¬ A → IsSome r
+stands None A P h refuted = absurd (refuted h)
+stands (Some t) A P h refuted = search rules
+
+-- ---- Skeletons
+
+pub head_short : (bytes : List ℕ) → length bytes < 56 → BeginsNone IsSkeletonHead skeleton_head_bytes bytes
+unfolding skeleton_head_bytes
+head_short bytes l head rest h e =
+    omega (
+      arith,
+      l,
+      ap length e,
+      length-append (skeleton_head_bytes head) rest,
+      length-append (u32_bytes head.serial) (fraction_bytes head.presentation ++ (fraction_bytes head.base ++ head.utc)),
+      length-append (fraction_bytes head.presentation) (fraction_bytes head.base ++ head.utc),
+      length-append (fraction_bytes head.base) head.utc,
+      h.utc_length,
+      length-append (i64_bytes head.presentation.0) (i64_bytes head.presentation.1),
+      length-append (i64_bytes head.base.0) (i64_bytes head.base.1),
+      length-u32_bytes head.serial,
+      length-i64_bytes head.presentation.0,
+      length-i64_bytes head.presentation.1,
+      length-i64_bytes head.base.0,
+      length-i64_bytes head.base.1,
+    )
+
+pub head_found : (bytes b1 b2 b3 more utc : List ℕ) (serial : ℕ) (presentation base : ℤ × ℤ)
+    → serial < 2 ^ 32 → IsFraction presentation → IsFraction base → length utc ≡ 20 → AllByRecursion IsByte bytes
+    → bytes ≡ u32_bytes serial ++ b1 → b1 ≡ fraction_bytes presentation ++ b2 → b2 ≡ fraction_bytes base ++ b3 → b3 ≡ utc ++ more
+    → IsSkeletonHead (record { serial = serial; presentation = presentation; base = base; utc = utc })
+    × (bytes ≡ skeleton_head_bytes (record { serial = serial; presentation = presentation; base = base; utc = utc }) ++ more)
+unfolding skeleton_head_bytes
+head_found bytes b1 b2 b3 more utc serial presentation base hs hp hb hu all e1 e2 e3 e4 =
+    let a1 : AllByRecursion IsByte b1 = all_back IsByte (u32_bytes serial) b1 (subst (AllByRecursion IsByte) e1 all) in
+    let a2 : AllByRecursion IsByte b2 = all_back IsByte (fraction_bytes presentation) b2 (subst (AllByRecursion IsByte) e2 a1) in
+    let a3 : AllByRecursion IsByte b3 = all_back IsByte (fraction_bytes base) b3 (subst (AllByRecursion IsByte) e3 a2) in
+    let a4 : AllByRecursion IsByte utc = all_front IsByte utc more (subst (AllByRecursion IsByte) e4 a3) in
+    let j3 : b2 ≡ (fraction_bytes base ++ utc) ++ more = e3 ∙ ap (λ l. fraction_bytes base ++ l) e4 ∙ sym (append_assoc (fraction_bytes base) utc more) in
+    let j2 : b1 ≡ (fraction_bytes presentation ++ (fraction_bytes base ++ utc)) ++ more =
+    e2 ∙ ap (λ l. fraction_bytes presentation ++ l) j3 ∙ sym (append_assoc (fraction_bytes presentation) (fraction_bytes base ++ utc) more) in (
+      record { serial = hs; presentation = hp; base = hb; utc = a4; utc_length = hu },
+      e1 ∙ ap (λ l. u32_bytes serial ++ l) j2 ∙ sym (append_assoc (u32_bytes serial) (fraction_bytes presentation ++ (fraction_bytes base ++ utc)) more),
+    )
+
+pub skeleton_cut : (bytes rest : List ℕ) → bytes ≡ 1 ∷ rest → BeginsNone IsSkeletonHead skeleton_head_bytes rest → BeginsNone IsSkeleton skeleton_bytes bytes
+unfolding skeleton_head_bytes
+skeleton_cut bytes rest is none None more h e = absurd (cc (is, e))
+skeleton_cut bytes rest is none (Some head) more h e =
+    let behind : rest ≡ skeleton_head_bytes head ++ more = cc (is, e) in
+    none head more h behind
+
+pub skeleton_found : (bytes rest more : List ℕ) (head : SkeletonHead) → bytes ≡ 1 ∷ rest → rest ≡ skeleton_head_bytes head ++ more → bytes ≡ skeleton_bytes (Some head) ++ more
+unfolding skeleton_head_bytes
+skeleton_found bytes rest more head is e = is ∙ ap (λ l. 1 ∷ l) e
+
+-- ---- what stands behind a stream's headers
+
+pub tail_cut : (bytes : List ℕ) → BeginsNone IsMedia media_bytes bytes → BeginsNone IsTail tail_bytes bytes
+unfolding tail_bytes
+tail_cut bytes none tail more h e =
+    none tail.media ((fraction_bytes tail.rate ++ (i64_bytes tail.base_granule ++ (u32_bytes tail.preroll ++ tail.shift ∷ []))) ++ more) h.media
+    (e ∙ append_assoc (media_bytes tail.media) (fraction_bytes tail.rate ++ (i64_bytes tail.base_granule ++ (u32_bytes tail.preroll ++ tail.shift ∷ []))) more)
+
+pub tail_short : (bytes rest media : List ℕ) → IsMedia media → bytes ≡ media_bytes media ++ rest → length rest < 29 → BeginsNone IsTail tail_bytes bytes
+unfolding tail_bytes
+tail_short bytes rest media hm is l tail more h e =
+    let behind = front IsMedia media_bytes same_media media tail.media rest (fraction_bytes tail.rate ++ (i64_bytes tail.base_granule ++ (u32_bytes tail.preroll ++ tail.shift ∷ []))) more hm h.media (sym is ∙ e) in
+    omega (
+      arith,
+      l,
+      ap length behind.1,
+      length-append (fraction_bytes tail.rate ++ (i64_bytes tail.base_granule ++ (u32_bytes tail.preroll ++ tail.shift ∷ []))) more,
+      length-append (fraction_bytes tail.rate) (i64_bytes tail.base_granule ++ (u32_bytes tail.preroll ++ tail.shift ∷ [])),
+      length-append (i64_bytes tail.rate.0) (i64_bytes tail.rate.1),
+      length-append (i64_bytes tail.base_granule) (u32_bytes tail.preroll ++ tail.shift ∷ []),
+      length-append (u32_bytes tail.preroll) (tail.shift ∷ []),
+      length-i64_bytes tail.rate.0,
+      length-i64_bytes tail.rate.1,
+      length-i64_bytes tail.base_granule,
+      length-u32_bytes tail.preroll,
+    )
+
+pub tail_found : (bytes b1 b2 b3 b4 more media : List ℕ) (rate : ℤ × ℤ) (base_granule : ℤ) (preroll shift : ℕ)
+    → IsMedia media → IsFraction rate → FitsSigned w64 base_granule → preroll < 2 ^ 32 → shift < 2 ^ 8
+    → bytes ≡ media_bytes media ++ b1 → b1 ≡ fraction_bytes rate ++ b2 → b2 ≡ i64_bytes base_granule ++ b3 → b3 ≡ u32_bytes preroll ++ b4 → b4 ≡ shift ∷ more
+    → IsTail (record { media = media; rate = rate; base_granule = base_granule; preroll = preroll; shift = shift })
+    × (bytes ≡ tail_bytes (record { media = media; rate = rate; base_granule = base_granule; preroll = preroll; shift = shift }) ++ more)
+unfolding tail_bytes
+tail_found bytes b1 b2 b3 b4 more media rate base_granule preroll shift hm hr hg hp hs e1 e2 e3 e4 e5 =
+    let j4 : b3 ≡ (u32_bytes preroll ++ shift ∷ []) ++ more = e4 ∙ ap (λ l. u32_bytes preroll ++ l) e5 ∙ sym (append_assoc (u32_bytes preroll) (shift ∷ []) more) in
+    let j3 : b2 ≡ (i64_bytes base_granule ++ (u32_bytes preroll ++ shift ∷ [])) ++ more =
+    e3 ∙ ap (λ l. i64_bytes base_granule ++ l) j4 ∙ sym (append_assoc (i64_bytes base_granule) (u32_bytes preroll ++ shift ∷ []) more) in
+    let j2 : b1 ≡ (fraction_bytes rate ++ (i64_bytes base_granule ++ (u32_bytes preroll ++ shift ∷ []))) ++ more =
+    e2 ∙ ap (λ l. fraction_bytes rate ++ l) j3 ∙ sym (append_assoc (fraction_bytes rate) (i64_bytes base_granule ++ (u32_bytes preroll ++ shift ∷ [])) more) in (
+      record { media = hm; rate = hr; base_granule = hg; preroll = hp; shift = omega (arith, hs) },
+      e1 ∙ ap (λ l. media_bytes media ++ l) j2 ∙ sym (append_assoc (media_bytes media) (fraction_bytes rate ++ (i64_bytes base_granule ++ (u32_bytes preroll ++ shift ∷ []))) more),
+    )
+
+-- ---- streams
+
+pub stream_short : (bytes : List ℕ) → length bytes < 6 → BeginsNone IsStreamOfFeed stream_bytes bytes
+stream_short bytes l s rest h e =
+    let behind : List ℕ = flat_map packet_bytes s.headers ++ tail_bytes (tail_of_stream s) in
+    omega (
+      arith,
+      l,
+      ap length (e ∙ ap (λ l. l ++ rest) (stream_parts s)),
+      length-append (u32_bytes s.serial ++ (u16_bytes (length s.headers) ++ behind)) rest,
+      length-append (u32_bytes s.serial) (u16_bytes (length s.headers) ++ behind),
+      length-append (u16_bytes (length s.headers)) behind,
+      length-u32_bytes s.serial,
+      length-u16_bytes (length s.headers),
+    )
+
+-- what stands behind the serial and the number of headers of a stream
+stream_behind : (bytes b1 b2 more : List ℕ) (serial count : ℕ) (s : NewStream) → serial < 2 ^ 32 → count < 2 ^ 16 → bytes ≡ u32_bytes serial ++ b1 → b1 ≡ u16_bytes count ++ b2
+    → IsStreamOfFeed s → bytes ≡ stream_bytes s ++ more → (count ≡ length s.headers) × (b2 ≡ (flat_map packet_bytes s.headers ++ tail_bytes (tail_of_stream s)) ++ more)
+stream_behind bytes b1 b2 more serial count s hs hc e1 e2 h e =
+    let behind : List ℕ = flat_map packet_bytes s.headers ++ tail_bytes (tail_of_stream s) in
+    let first = front IsU32 u32_bytes same_u32 serial s.serial b1 (u16_bytes (length s.headers) ++ behind) more hs h.numbers.serial (sym e1 ∙ e ∙ ap (λ l. l ++ more) (stream_parts s)) in
+    front IsU16 u16_bytes same_u16 count (length s.headers) b2 behind more hc h.fits.headers (sym e2 ∙ first.1)
+
+pub stream_cut : (bytes b1 b2 : List ℕ) (serial count : ℕ) → serial < 2 ^ 32 → count < 2 ^ 16 → bytes ≡ u32_bytes serial ++ b1 → b1 ≡ u16_bytes count ++ b2
+    → BeginsNone (AreMany IsPacket count) (flat_map packet_bytes) b2 → BeginsNone IsStreamOfFeed stream_bytes bytes
+stream_cut bytes b1 b2 serial count hs hc e1 e2 none s more h e =
+    let behind = stream_behind bytes b1 b2 more serial count s hs hc e1 e2 h e in
+    none s.headers (tail_bytes (tail_of_stream s) ++ more) (sym behind.0, stream_headers s h)
+    (behind.1 ∙ append_assoc (flat_map packet_bytes s.headers) (tail_bytes (tail_of_stream s)) more)
+
+pub stream_tail_cut : (bytes b1 b2 b3 : List ℕ) (serial count : ℕ) → serial < 2 ^ 32 → count < 2 ^ 16 → bytes ≡ u32_bytes serial ++ b1 → b1 ≡ u16_bytes count ++ b2
+    → Begins (AreMany IsPacket count) (flat_map packet_bytes) b2 b3 → BeginsNone IsTail tail_bytes b3 → BeginsNone IsStreamOfFeed stream_bytes bytes
+stream_tail_cut bytes b1 b2 b3 serial count hs hc e1 e2 some none s more h e =
+    let behind = stream_behind bytes b1 b2 more serial count s hs hc e1 e2 h e in
+    let headers = front (AreMany IsPacket count) (flat_map packet_bytes) (same_many IsPacket packet_bytes same_packet count) some.0 s.headers b3 (tail_bytes (tail_of_stream s)) more
+    some.1 (sym behind.0, stream_headers s h) (sym some.2 ∙ behind.1) in
+    none (tail_of_stream s) more (stream_tail s h) headers.1
+
+-- the stream with this serial, these headers and this tail
+abbrev pub stream_with : ℕ → List (List ℕ) → Tail → NewStream
+stream_with serial headers tail =
+    record { serial = serial; headers = headers; media = tail.media; rate = tail.rate; base_granule = tail.base_granule; preroll = tail.preroll; shift = tail.shift }
+
+pub stream_found : (bytes b1 b2 b3 more : List ℕ) (serial count : ℕ) (headers : List (List ℕ)) (tail : Tail) → serial < 2 ^ 32 → count < 2 ^ 16
+    → bytes ≡ u32_bytes serial ++ b1 → b1 ≡ u16_bytes count ++ b2 → AreMany IsPacket count headers → b2 ≡ flat_map packet_bytes headers ++ b3
+    → IsTail tail → b3 ≡ tail_bytes tail ++ more
+    → IsStreamOfFeed (stream_with serial headers tail) × (bytes ≡ stream_bytes (stream_with serial headers tail) ++ more)
+stream_found bytes b1 b2 b3 more serial count headers tail hs hc e1 e2 hh e3 ht e4 =
+    let behind : List ℕ = flat_map packet_bytes headers ++ tail_bytes tail in
+    let j3 : b2 ≡ behind ++ more = e3 ∙ ap (λ l. flat_map packet_bytes headers ++ l) e4 ∙ sym (append_assoc (flat_map packet_bytes headers) (tail_bytes tail) more) in
+    let j2 : b1 ≡ (u16_bytes (length headers) ++ behind) ++ more =
+    e2 ∙ ap (λ n. u16_bytes n ++ b2) (sym hh.0) ∙ ap (λ l. u16_bytes (length headers) ++ l) j3 ∙ sym (append_assoc (u16_bytes (length headers)) behind more) in
+    let j1 : bytes ≡ (u32_bytes serial ++ (u16_bytes (length headers) ++ behind)) ++ more =
+    e1 ∙ ap (λ l. u32_bytes serial ++ l) j2 ∙ sym (append_assoc (u32_bytes serial) (u16_bytes (length headers) ++ behind) more) in (
+      record {
+        numbers = record {
+          serial = hs;
+          headers = all_as IsPacket (AllByRecursion IsByte) (λ p h. h.bytes) headers hh.1;
+          media = ht.media.bytes;
+          rate = ht.rate;
+          base_granule = ht.base_granule;
+          preroll = ht.preroll;
+          shift = ht.shift;
+        };
+        fits = record {
+          headers = omega (arith, hh.0, hc);
+          each = all_as IsPacket FitsHeader (λ p h. h.fits) headers hh.1;
+          media = ht.media.fits;
+        };
+      },
+      j1 ∙ ap (λ l. l ++ more) (sym (stream_parts (stream_with serial headers tail))),
+    )
+
+-- ---- payloads
+
+pub not_begin : (payload : List ℕ) → BeginsNone IsSkeleton skeleton_bytes payload → ¬ IsPayload 1 payload
+not_begin payload none (BeginOf begin, h, f, kind, e) =
+    none begin.skeleton (u16_bytes (length begin.streams) ++ flat_map stream_bytes begin.streams) h.0 (sym e)
+not_begin payload none (PutOf put, h, f, kind, e) = omega arith
+not_begin payload none (EndOf serial, h, f, kind, e) = omega arith
+
+-- what stands behind the Skeleton of a begin
+pub begin_behind : (payload rest : List ℕ) (skeleton : Option SkeletonHead) → IsSkeleton skeleton → payload ≡ skeleton_bytes skeleton ++ rest → IsPayload 1 payload
+    → (streams : List NewStream) × AllByRecursion IsStreamOfFeed streams × (length streams < 2 ^ 16) × (rest ≡ u16_bytes (length streams) ++ flat_map stream_bytes streams)
+begin_behind payload rest skeleton hs is (BeginOf begin, h, f, kind, e) =
+    let behind = same_skeleton skeleton begin.skeleton rest (u16_bytes (length begin.streams) ++ flat_map stream_bytes begin.streams) hs h.0 (sym is ∙ sym e) in
+    (begin.streams, command_streams begin h f, f.0, behind.1)
+begin_behind payload rest skeleton hs is (PutOf put, h, f, kind, e) = absurd (omega arith)
+begin_behind payload rest skeleton hs is (EndOf serial, h, f, kind, e) = absurd (omega arith)
+
+pub put_behind : (payload : List ℕ) → IsPayload 2 payload
+    → (entries : List Entry) × AllByRecursion IsEntryOfFeed entries × (length entries < 2 ^ 16) × (payload ≡ u16_bytes (length entries) ++ flat_map entry_bytes entries)
+put_behind payload (PutOf put, h, f, kind, e) = (put.entries, command_entries put h f, f.0, sym e)
+put_behind payload (BeginOf begin, h, f, kind, e) = absurd (omega arith)
+put_behind payload (EndOf serial, h, f, kind, e) = absurd (omega arith)
+
+-- how many there are, and then they, up to the end
+abbrev pub Counted : {X : Type 0} → (X → Type 0) → (X → List ℕ) → List ℕ → Type 0
+Counted {X} Is spell bytes = (xs : List X) × AllByRecursion Is xs × (length xs < 2 ^ 16) × (bytes ≡ u16_bytes (length xs) ++ flat_map spell xs)
+
+pub counted_short : {X : Type 0} (Is : X → Type 0) (spell : X → List ℕ) (bytes : List ℕ) → length bytes < 2 → ¬ Counted Is spell bytes
+counted_short Is spell bytes l (xs, all, fits, e) =
+    omega (arith, l, ap length e, length-append (u16_bytes (length xs)) (flat_map spell xs), length-u16_bytes (length xs))
+
+pub counted_cut : {X : Type 0} (Is : X → Type 0) (spell : X → List ℕ) (bytes rest : List ℕ) (n : ℕ) → n < 2 ^ 16 → bytes ≡ u16_bytes n ++ rest
+    → BeginsNone (AreMany Is n) (flat_map spell) rest → ¬ Counted Is spell bytes
+counted_cut Is spell bytes rest n small is none (xs, all, fits, e) =
+    let both = same_u16 n (length xs) rest (flat_map spell xs) small fits (sym is ∙ e) in
+    none xs [] (sym both.0, all) (both.1 ∙ sym (append-nil (flat_map spell xs)))
+
+pub counted_whole : {X : Type 0} (Is : X → Type 0) (spell : X → List ℕ) → PrefixFree Is spell → (bytes rest more : List ℕ) (n : ℕ) → n < 2 ^ 16 → bytes ≡ u16_bytes n ++ rest
+    → Begins (AreMany Is n) (flat_map spell) rest more → Counted Is spell bytes → more ≡ []
+counted_whole Is spell free bytes rest more n small is some (xs, all, fits, e) =
+    let both = same_u16 n (length xs) rest (flat_map spell xs) small fits (sym is ∙ e) in
+    let lists = same_many Is spell free n some.0 xs more [] some.1 (sym both.0, all) (sym some.2 ∙ both.1 ∙ sym (append-nil (flat_map spell xs))) in
+    lists.1
+
+pub counted_found : {X : Type 0} (Is : X → Type 0) (spell : X → List ℕ) (bytes rest : List ℕ) (n : ℕ) (xs : List X) → bytes ≡ u16_bytes n ++ rest
+    → AreMany Is n xs → rest ≡ flat_map spell xs → bytes ≡ u16_bytes (length xs) ++ flat_map spell xs
+counted_found Is spell bytes rest n xs is many e = is ∙ ap (λ l. u16_bytes n ++ l) e ∙ ap (λ k. u16_bytes k ++ flat_map spell xs) (sym many.0)
+
+-- what a command is that was made of these parts
+pub put_facts : (payload : List ℕ) (n : ℕ) (entries : List Entry) → n < 2 ^ 16 → AreMany IsEntryOfFeed n entries → payload ≡ u16_bytes (length entries) ++ flat_map entry_bytes entries
+    → IsCommand (PutOf (record { entries = entries })) × FitsFields (PutOf (record { entries = entries })) × (payload_of (PutOf (record { entries = entries })) ≡ payload)
+put_facts payload n entries small many e = (
+  all_as IsEntryOfFeed IsEntry (λ p h. h.numbers) entries many.1,
+  (omega (arith, many.0, small), all_as IsEntryOfFeed FitsEntry (λ p h. h.fits) entries many.1),
+  sym e,
+)
+
+pub begin_facts : (payload rest : List ℕ) (n : ℕ) (skeleton : Option SkeletonHead) (streams : List NewStream) → n < 2 ^ 16 → IsSkeleton skeleton → payload ≡ skeleton_bytes skeleton ++ rest
+    → AreMany IsStreamOfFeed n streams → rest ≡ u16_bytes (length streams) ++ flat_map stream_bytes streams
+    → IsCommand (BeginOf (record { skeleton = skeleton; streams = streams })) × FitsFields (BeginOf (record { skeleton = skeleton; streams = streams }))
+    × (payload_of (BeginOf (record { skeleton = skeleton; streams = streams })) ≡ payload)
+begin_facts payload rest n skeleton streams small hs is many e = (
+  (hs, all_as IsStreamOfFeed IsNewStream (λ p h. h.numbers) streams many.1),
+  (omega (arith, many.0, small), all_as IsStreamOfFeed FitsStream (λ p h. h.fits) streams many.1),
+  sym (is ∙ ap (λ l. skeleton_bytes skeleton ++ l) e),
+)
+
+pub put_found : (payload : List ℕ) (n : ℕ) (entries : List Entry) → n < 2 ^ 16 → AreMany IsEntryOfFeed n entries → payload ≡ u16_bytes (length entries) ++ flat_map entry_bytes entries
+    → IsPayload 2 payload
+put_found payload n entries small many e =
+    let facts = put_facts payload n entries small many e in
+    (PutOf (record { entries = entries }), facts.0, facts.1, refl, facts.2)
+
+pub begin_found : (payload rest : List ℕ) (n : ℕ) (skeleton : Option SkeletonHead) (streams : List NewStream) → n < 2 ^ 16 → IsSkeleton skeleton → payload ≡ skeleton_bytes skeleton ++ rest
+    → AreMany IsStreamOfFeed n streams → rest ≡ u16_bytes (length streams) ++ flat_map stream_bytes streams → IsPayload 1 payload
+begin_found payload rest n skeleton streams small hs is many e =
+    let facts = begin_facts payload rest n skeleton streams small hs is many e in
+    (BeginOf (record { skeleton = skeleton; streams = streams }), facts.0, facts.1, refl, facts.2)
+
+pub end_found : (payload : List ℕ) → length payload ≡ 4 → AllByRecursion IsByte payload → IsPayload 3 payload
+end_found payload l all =
+    let serial = read_u32 payload l all in
+    (EndOf serial.0, serial.1, tt, refl, serial.2)
+
+pub end_behind : (payload : List ℕ) → IsPayload 3 payload → length payload ≡ 4
+end_behind payload (BeginOf begin, h, f, kind, e) = absurd (omega arith)
+end_behind payload (PutOf put, h, f, kind, e) = absurd (omega arith)
+end_behind payload (EndOf serial, h, f, kind, e) = ap length (sym e) ∙ length-u32_bytes serial
+
+pub is_nothing : (xs : List ℕ) (b : Bool) → b ≡ (length xs == 0) → IsTrue b → xs ≡ []
+is_nothing [] b e t = refl
+is_nothing (x ∷ xs) b e t = absurd (omega (arith, eqb-true (length (x ∷ xs)) 0 (sym e ∙ t)))
+
+pub nothing_is : (xs : List ℕ) (b : Bool) → b ≡ (length xs == 0) → xs ≡ [] → IsTrue b
+nothing_is xs b e none = e ∙ ap (λ l. length l == 0) none
+
+-- ---- what is built from parts that were looked through
+
+pub left_first : {X : Type 0} (Is : X → Type 0) (spell : X → List ℕ) (rest more : List ℕ) (done count : ℕ) → done < count
+    → Begins (AreMany Is (count - done)) (flat_map spell) rest more → (behind : List ℕ) × Begins Is spell rest behind
+left_first Is spell rest more done count l ([], many, e) = absurd (omega (arith, l, many.0))
+left_first Is spell rest more done count l (x ∷ xs, many, e) =
+    (flat_map spell xs ++ more, (x, many.1.0, e ∙ append_assoc (spell x) (flat_map spell xs) more))
+
+-- what stands in front of a stream, and behind its serial and the number of its headers
+pub stream_long : (bytes : List ℕ) → ((rest : List ℕ) × Begins IsStreamOfFeed stream_bytes bytes rest) → 6 ≤ length bytes
+stream_long bytes (rest, (s, h, e)) =
+    let behind : List ℕ = flat_map packet_bytes s.headers ++ tail_bytes (tail_of_stream s) in
+    omega (
+      arith,
+      ap length (e ∙ ap (λ l. l ++ rest) (stream_parts s)),
+      length-append (u32_bytes s.serial ++ (u16_bytes (length s.headers) ++ behind)) rest,
+      length-append (u32_bytes s.serial) (u16_bytes (length s.headers) ++ behind),
+      length-append (u16_bytes (length s.headers)) behind,
+      length-u32_bytes s.serial,
+      length-u16_bytes (length s.headers),
+    )
+
+pub stream_headers_stand : (bytes b1 b2 : List ℕ) (serial count : ℕ) → serial < 2 ^ 32 → count < 2 ^ 16 → bytes ≡ u32_bytes serial ++ b1 → b1 ≡ u16_bytes count ++ b2
+    → ((rest : List ℕ) × Begins IsStreamOfFeed stream_bytes bytes rest) → (rest : List ℕ) × Begins (AreMany IsPacket count) (flat_map packet_bytes) b2 rest
+stream_headers_stand bytes b1 b2 serial count hs hc e1 e2 (more, (s, h, e)) =
+    let behind = stream_behind bytes b1 b2 more serial count s hs hc e1 e2 h e in
+    (tail_bytes (tail_of_stream s) ++ more, (s.headers, (sym behind.0, stream_headers s h), behind.1 ∙ append_assoc (flat_map packet_bytes s.headers) (tail_bytes (tail_of_stream s)) more))
+
+pub stream_tail_stands : (bytes b1 b2 b3 : List ℕ) (serial count : ℕ) (headers : List (List ℕ)) → serial < 2 ^ 32 → count < 2 ^ 16 → bytes ≡ u32_bytes serial ++ b1 → b1 ≡ u16_bytes count ++ b2
+    → AreMany IsPacket count headers → b2 ≡ flat_map packet_bytes headers ++ b3
+    → ((rest : List ℕ) × Begins IsStreamOfFeed stream_bytes bytes rest) → ¬ BeginsNone IsTail tail_bytes b3
+stream_tail_stands bytes b1 b2 b3 serial count headers hs hc e1 e2 many e3 (more, (s, h, e)) none =
+    stream_tail_cut bytes b1 b2 b3 serial count hs hc e1 e2 (headers, many, e3) none s more h e
+
+pub counted_long : {X : Type 0} (Is : X → Type 0) (spell : X → List ℕ) (bytes : List ℕ) → Counted Is spell bytes → 2 ≤ length bytes
+counted_long Is spell bytes (xs, all, fits, e) =
+    omega (arith, ap length e, length-append (u16_bytes (length xs)) (flat_map spell xs), length-u16_bytes (length xs))
+
+pub counted_stand : {X : Type 0} (Is : X → Type 0) (spell : X → List ℕ) (bytes rest : List ℕ) (n : ℕ) → n < 2 ^ 16 → bytes ≡ u16_bytes n ++ rest → Counted Is spell bytes
+    → Begins (AreMany Is n) (flat_map spell) rest []
+counted_stand Is spell bytes rest n small is (xs, all, fits, e) =
+    let both = same_u16 n (length xs) rest (flat_map spell xs) small fits (sym is ∙ e) in
+    (xs, (sym both.0, all), both.1 ∙ sym (append-nil (flat_map spell xs)))

@@ -1,0 +1,14 @@
+use Rattle.std.proofs.Common.{◌≡◌, ◌≤◌, ◌-◌, ◌++◌, [], vec_len, vec_capacity}
+use Rattle.std.specs.List.{flat_map}
+use Rattle.feed_codec.specs.Record.{entry_bytes}
+use Rattle.feed_codec.specs.Payload.{Begins, AreMany, IsEntryOfFeed}
+use Rattle.feed_codec.proofs.building.entries_of.Given as goal
+
+-- so many entries have been built, the others stand in front, and there is room for them
+abbrev pub invariant-loop : goal.invariant-loop
+invariant-loop l =
+    AreMany IsEntryOfFeed l.counter l.entries.items
+    × (l.bytes ≡ flat_map entry_bytes l.entries.items ++ l.rest)
+    × (Begins (AreMany IsEntryOfFeed (l.count - l.counter)) (flat_map entry_bytes) l.rest [])
+    × (vec_len l.entries ≡ l.counter)
+    × (l.count ≤ vec_capacity l.entries)

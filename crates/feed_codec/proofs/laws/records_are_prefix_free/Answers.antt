@@ -1,0 +1,5 @@
+use Rattle.feed_codec.proofs.Spellings.{same_record}
+use Rattle.feed_codec.proofs.laws.records_are_prefix_free.Goals as goal
+
+pub returns : goal.returns
+returns c = same_record

@@ -1,0 +1,8 @@
+use Rattle.std.specs.List.{flat_map}
+use Rattle.feed_codec.specs.Record.{stream_bytes}
+use Rattle.feed_codec.specs.Payload.{Begins, AreMany, IsStreamOfFeed}
+use Rattle.feed_codec.proofs.payload.skip_streams.Given as goal
+
+-- so many streams have been passed
+abbrev pub invariant-loop : goal.invariant-loop
+invariant-loop l = Begins (AreMany IsStreamOfFeed l.counter) (flat_map stream_bytes) l.bytes l.rest

@@ -1,0 +1,18 @@
+use Rattle.std.proofs.Common.{refl, sym, ap, length, arith}
+use Rattle.std.specs.List.{flat_map}
+use Rattle.feed_codec.specs.Numbers.{u16_bytes}
+use Rattle.feed_codec.specs.Record.{packet_bytes}
+use Rattle.feed_codec.proofs.Spellings.{stream_parts}
+use Rattle.feed_codec.proofs.WritingFacts.{grows_more, grows_as}
+use Rattle.feed_codec.proofs.writing.put_stream.Goals as goal
+
+pub returns : goal.returns
+returns c =
+    let s = c.args.stream.now in
+    let headers = grows_as _ _ _ (flat_map packet_bytes s.headers) _ (length (flat_map packet_bytes s.headers))
+    (ap (flat_map packet_bytes) c.as_slice.ensures) (ap (λ l. length (flat_map packet_bytes l)) c.as_slice.ensures) c.put_headers.ensures in
+    let count = grows_as _ _ _ (u16_bytes (length s.headers)) _ 2 (ap u16_bytes c.len.ensures) refl c.put_u16.ensures in
+    let behind = grows_more _ _ _ _ _ _ _ headers c.put_tail.ensures in
+    let counted = grows_more _ _ _ _ _ _ _ count behind in
+    let whole = grows_more _ _ _ _ _ _ _ c.put_u32.ensures counted in
+    grows_as _ _ _ _ _ _ (sym (stream_parts s)) (omega arith) whole

@@ -1,0 +1,10 @@
+use Rattle.std.proofs.Common.{length, take}
+use Rattle.std.specs.List.{flat_map}
+use Rattle.feed_codec.specs.Record.{stream_bytes}
+use Rattle.feed_codec.specs.Writing.{Grows}
+use Rattle.feed_codec.proofs.writing.put_streams.Given as goal
+
+-- the streams so far are written
+abbrev pub invariant-loop-stream : goal.invariant-loop-stream
+invariant-loop-stream l =
+    Grows l.initial.out l.out (flat_map stream_bytes (take l.stream-index l.streams)) (length (flat_map stream_bytes (take l.stream-index l.streams)))

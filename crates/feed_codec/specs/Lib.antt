@@ -1,0 +1,11 @@
+pub mod Numbers
+pub mod Record
+pub mod RecordKind
+pub mod Feed
+pub mod FeedFault
+pub mod Reading
+pub mod Writing
+pub mod RunFault
+pub mod Reply
+pub mod Payload
+pub mod PayloadParts

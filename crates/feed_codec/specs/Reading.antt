@@ -1,0 +1,20 @@
+-- What reading takes from a reader. Ours.
+use Rattle.std.specs.Prelude.{◌≡◌, ◌≢◌, ℕ, ◌<◌, Option, Some, None, List, [], ◌∷◌, length, ⊤}
+use Rattle.feed_codec.specs.Numbers.{u32_bytes}
+use Rattle.feed_codec.specs.Feed.{head_fault}
+use Rattle.feed_codec.specs.RecordKind.{number_of}
+use Rattle.feed_codec.specs.declared.record.Head.{Head}
+use Rattle.feed_codec.specs.declared.fault.FeedFault.{FeedFault}
+
+abbrev pub head_bytes : Head → List ℕ
+head_bytes head = number_of head.kind ∷ u32_bytes head.length
+
+-- where the bytes are known, they aren't empty, and this is the first thing wrong with the head at their front
+abbrev pub HasHeadFault : Option (List ℕ) → FeedFault → Type 0
+HasHeadFault None fault = ⊤
+HasHeadFault (Some bytes) fault = (bytes ≢ []) × (head_fault bytes ≡ Some fault)
+
+-- where the bytes are known, they are fewer
+abbrev pub IsShort : Option (List ℕ) → ℕ → Type 0
+IsShort None wanted = ⊤
+IsShort (Some bytes) wanted = length bytes < wanted

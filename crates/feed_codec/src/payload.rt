@@ -1,0 +1,230 @@
+//! Payloads, looked through without taking memory.
+ghost use Rattle.std.specs.Prelude.{◌≡◌, ◌++◌, ◌↔◌, IsTrue, MatchOption};
+ghost use Rattle.std.specs.List.{flat_map};
+ghost use Rattle.feed_codec.specs.Numbers.{u32_bytes, u16_bytes};
+ghost use Rattle.feed_codec.specs.Record.{packet_bytes, media_bytes, entry_bytes, stream_bytes, skeleton_bytes};
+ghost use Rattle.feed_codec.specs.RecordKind.{number_of};
+ghost use Rattle.feed_codec.specs.Payload.{Begins, BeginsNone, AreMany, IsPacket, IsMedia, IsEntryOfFeed, IsStreamOfFeed, IsTail, tail_bytes, skeleton_head_bytes, IsPayload};
+ghost use Rattle.feed_codec.specs.PayloadParts.{entry_of, tail_of};
+ghost use Rattle.chain_rules.specs.Command.{IsSkeleton, IsSkeletonHead};
+
+use crate::numbers::{take_fraction, take_i64, take_u8, take_u16, take_u32, take_u64};
+use crate::record::RecordKind;
+use chain_rules::SkeletonHead;
+
+/// An entry of a put, where it lies.
+#[derive(Clone, Copy)]
+pub struct EntryPart<'a> {
+    pub serial: u32,
+    pub position: u64,
+    pub packet: &'a [u8],
+}
+
+/// What stands behind a stream's headers, where it lies.
+#[derive(Clone, Copy)]
+pub struct TailPart<'a> {
+    pub media: &'a [u8],
+    pub rate: (i64, i64),
+    pub base_granule: i64,
+    pub preroll: u32,
+    pub shift: u8,
+}
+
+/// Whether the payload is exactly the spelling of a command of this kind.
+pub fn is_payload(kind: RecordKind, payload: &[u8]) -> bool
+    ensures { IsTrue result ↔ IsPayload (number_of kind) payload.now }
+{
+    match kind {
+        RecordKind::Begin => is_begin(payload),
+        RecordKind::Put => is_put(payload),
+        RecordKind::End => payload.len() == 4,
+    }
+}
+
+fn is_begin(payload: &[u8]) -> bool
+    ensures { IsTrue result ↔ IsPayload 1 payload.now }
+{
+    let Some((_, rest)) = split_skeleton(payload) else {
+        return false;
+    };
+    if rest.len() < 2 {
+        return false;
+    }
+    let (count, rest) = take_u16(rest);
+    match skip_streams(count, rest) {
+        Some(rest) => rest.is_empty(),
+        None => false,
+    }
+}
+
+fn is_put(payload: &[u8]) -> bool
+    ensures { IsTrue result ↔ IsPayload 2 payload.now }
+{
+    if payload.len() < 2 {
+        return false;
+    }
+    let (count, rest) = take_u16(payload);
+    match skip_entries(count, rest) {
+        Some(rest) => rest.is_empty(),
+        None => false,
+    }
+}
+
+/// The packet at the front, behind its length, and what follows.
+pub fn split_packet(bytes: &[u8]) -> Option<(&[u8], &[u8])>
+    ensures { MatchOption result (BeginsNone IsPacket packet_bytes bytes.now)
+        (λ (packet, rest). IsPacket packet.now × (bytes.now ≡ packet_bytes packet.now ++ rest.now)) }
+{
+    if bytes.len() < 4 {
+        return None;
+    }
+    let (length, rest) = take_u32(bytes);
+    rest.split_at_checked(length as usize)
+}
+
+/// The media type at the front, behind its length, and what follows.
+fn split_media(bytes: &[u8]) -> Option<(&[u8], &[u8])>
+    ensures { MatchOption result (BeginsNone IsMedia media_bytes bytes.now)
+        (λ (media, rest). IsMedia media.now × (bytes.now ≡ media_bytes media.now ++ rest.now)) }
+{
+    if bytes.len() < 2 {
+        return None;
+    }
+    let (length, rest) = take_u16(bytes);
+    rest.split_at_checked(length as usize)
+}
+
+/// The entry at the front, and what follows.
+pub fn split_entry(bytes: &[u8]) -> Option<(EntryPart<'_>, &[u8])>
+    ensures { MatchOption result (BeginsNone IsEntryOfFeed entry_bytes bytes.now)
+        (λ (part, rest). IsEntryOfFeed (entry_of part) × (bytes.now ≡ entry_bytes (entry_of part) ++ rest.now)) }
+{
+    if bytes.len() < 12 {
+        return None;
+    }
+    let (serial, rest) = take_u32(bytes);
+    let (position, rest) = take_u64(rest);
+    let (packet, rest) = split_packet(rest)?;
+    let part = EntryPart {
+        serial,
+        position,
+        packet,
+    };
+    Some((part, rest))
+}
+
+/// The Skeleton's head at the front, if there is to be one, and what follows.
+pub fn split_skeleton(bytes: &[u8]) -> Option<(Option<SkeletonHead>, &[u8])>
+    ensures { MatchOption result (BeginsNone IsSkeleton skeleton_bytes bytes.now)
+        (λ (skeleton, rest). IsSkeleton skeleton × (bytes.now ≡ skeleton_bytes skeleton ++ rest.now)) }
+{
+    if bytes.is_empty() {
+        return None;
+    }
+    let (announced, rest) = take_u8(bytes);
+    match announced {
+        0 => Some((None, rest)),
+        1 => {
+            let (head, rest) = split_skeleton_head(rest)?;
+            Some((Some(head), rest))
+        }
+        _ => None,
+    }
+}
+
+/// What stands behind a stream's headers, at the front, and what follows.
+pub fn split_tail(bytes: &[u8]) -> Option<(TailPart<'_>, &[u8])>
+    ensures { MatchOption result (BeginsNone IsTail tail_bytes bytes.now)
+        (λ (part, rest). IsTail (tail_of part) × (bytes.now ≡ tail_bytes (tail_of part) ++ rest.now)) }
+{
+    let (media, rest) = split_media(bytes)?;
+    if rest.len() < 29 {
+        return None;
+    }
+    let (rate, rest) = take_fraction(rest);
+    let (base_granule, rest) = take_i64(rest);
+    let (preroll, rest) = take_u32(rest);
+    let (shift, rest) = take_u8(rest);
+    let part = TailPart {
+        media,
+        rate,
+        base_granule,
+        preroll,
+        shift,
+    };
+    Some((part, rest))
+}
+
+/// The Skeleton's head at the front, and what follows.
+fn split_skeleton_head(bytes: &[u8]) -> Option<(SkeletonHead, &[u8])>
+    ensures { MatchOption result (BeginsNone IsSkeletonHead skeleton_head_bytes bytes.now)
+        (λ (head, rest). IsSkeletonHead head × (bytes.now ≡ skeleton_head_bytes head ++ rest.now)) }
+{
+    if bytes.len() < 56 {
+        return None;
+    }
+    let (serial, rest) = take_u32(bytes);
+    let (presentation, rest) = take_fraction(rest);
+    let (base, rest) = take_fraction(rest);
+    let (utc, rest) = rest.split_first_chunk::<20>()?;
+    let head = SkeletonHead {
+        serial,
+        presentation,
+        base,
+        utc: *utc,
+    };
+    Some((head, rest))
+}
+
+/// What follows so many entries at the front.
+fn skip_entries(count: u16, bytes: &[u8]) -> Option<&[u8]>
+    ensures { MatchOption result (BeginsNone (AreMany IsEntryOfFeed count) (flat_map entry_bytes) bytes.now)
+        (λ rest. Begins (AreMany IsEntryOfFeed count) (flat_map entry_bytes) bytes.now rest.now) }
+{
+    let mut rest = bytes;
+    for _ in 0..count {
+        let (_, behind) = split_entry(rest)?;
+        rest = behind;
+    }
+    Some(rest)
+}
+
+/// What follows so many headers at the front.
+fn skip_headers(count: u16, bytes: &[u8]) -> Option<&[u8]>
+    ensures { MatchOption result (BeginsNone (AreMany IsPacket count) (flat_map packet_bytes) bytes.now)
+        (λ rest. Begins (AreMany IsPacket count) (flat_map packet_bytes) bytes.now rest.now) }
+{
+    let mut rest = bytes;
+    for _ in 0..count {
+        let (_, behind) = split_packet(rest)?;
+        rest = behind;
+    }
+    Some(rest)
+}
+
+/// What follows the stream at the front.
+fn skip_stream(bytes: &[u8]) -> Option<&[u8]>
+    ensures { MatchOption result (BeginsNone IsStreamOfFeed stream_bytes bytes.now)
+        (λ rest. Begins IsStreamOfFeed stream_bytes bytes.now rest.now) }
+{
+    if bytes.len() < 6 {
+        return None;
+    }
+    let (_, rest) = take_u32(bytes);
+    let (count, rest) = take_u16(rest);
+    let rest = skip_headers(count, rest)?;
+    let (_, rest) = split_tail(rest)?;
+    Some(rest)
+}
+
+/// What follows so many streams at the front.
+fn skip_streams(count: u16, bytes: &[u8]) -> Option<&[u8]>
+    ensures { MatchOption result (BeginsNone (AreMany IsStreamOfFeed count) (flat_map stream_bytes) bytes.now)
+        (λ rest. Begins (AreMany IsStreamOfFeed count) (flat_map stream_bytes) bytes.now rest.now) }
+{
+    let mut rest = bytes;
+    for _ in 0..count {
+        rest = skip_stream(rest)?;
+    }
+    Some(rest)
+}

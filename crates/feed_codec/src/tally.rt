@@ -1,0 +1,13 @@
+//! What a run came to.
+ghost use Rattle.std.specs.Prelude.{◌≡◌, ◌+◌};
+
+/// What a run over a feed came to: how many commands there were, how many of them were kept and how
+/// many refused, and how long the file is.
+#[derive(Clone, Copy, Debug, PartialEq, Eq)]
+pub struct Tally {
+    pub commands: u64,
+    pub kept: u64,
+    pub refused: u64,
+    pub end: u64,
+    pub ghost adds_up: { kept + refused ≡ commands },
+}

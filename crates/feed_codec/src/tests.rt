@@ -1,0 +1,266 @@
+//! Feeds and lines written out by hand, cut and broken everywhere.
+use super::*;
+use crate::tests::fakes::{FakeReader, FakeWriter};
+use chain_rules::{Command, Memory, Refusal};
+use ogg_page::WriteFault;
+use std::alloc::Global;
+use std::process::Abort;
+use std::test::Fail;
+
+mod fakes;
+
+/// A begin of a stream with serial 1 and the header `abc`, the packet `hello` at position 5, and the
+/// stream's end: 52, 28 and 9 bytes.
+const FEED: [u8; 89] = *b"\x01\x2f\0\0\0\0\x01\0\x01\0\0\0\x01\0\x03\0\0\0abc\0\0\
+    \0\0\0\0\0\0\0\0\0\0\0\0\0\0\0\0\0\0\0\0\0\0\0\0\0\0\0\0\0\
+    \x02\x17\0\0\0\x01\0\x01\0\0\0\x05\0\0\0\0\0\0\0\x05\0\0\0hello\
+    \x03\x04\0\0\0\x01\0\0\0";
+
+/// Where its records end.
+const ENDS: [usize; 3] = [52, 80, 89];
+
+/// A begin with a Skeleton and no stream: serial 7, 1000/-2, 3/4 and a time of 20 letters.
+const SKELETON: [u8; 64] =
+    *b"\x01\x3b\0\0\0\x01\x07\0\0\0\xe8\x03\0\0\0\0\0\0\xfe\xff\xff\xff\xff\xff\xff\xff\
+    \x03\0\0\0\0\0\0\0\x04\0\0\0\0\0\0\0uuuuuuuuuuuuuuuuuuuu\0\0";
+
+/// Bytes that begin with no record, and what is wrong with them.
+const FAULTY: [(&[u8], FeedFault); 12] = [
+    (b"\x01", FeedFault::Truncated),
+    (b"\x09\xff\xff\xff", FeedFault::Truncated),
+    (b"\x09\xff\xff\xff\xff", FeedFault::Kind),
+    (b"\0\x04\0\0\0\x01\0\0\0", FeedFault::Kind),
+    (b"\x04\x04\0\0\0\x01\0\0\0", FeedFault::Kind),
+    (b"\x01\x01\0\0\x02", FeedFault::Length),
+    (b"\x01\0\0\0\x02", FeedFault::Truncated),
+    (b"\x03\x03\0\0\0\x01\0\0", FeedFault::Form),
+    (b"\x03\x05\0\0\0\x01\0\0\0\0", FeedFault::Form),
+    (b"\x02\0\0\0\0", FeedFault::Form),
+    (b"\x02\x02\0\0\0\x01\0", FeedFault::Form),
+    (b"\x01\x03\0\0\0\x02\0\0", FeedFault::Form),
+];
+
+/// What came of a feed: its commands' records, how many there were, and the fault that ended it.
+#[derive(Drop)]
+struct Outcome {
+    records: Vec<u8>,
+    commands: usize,
+    fault: Option<FeedFault>,
+}
+
+/// Reads a feed to its end, and looks whether that end stays and nothing more is read.
+fn read(rt: &impl Abort, alloc: Global, mut reader: FakeReader) -> Result<Outcome, Memory> {
+    let mut records = Vec::new(alloc);
+    let mut feed = Feed::new(alloc);
+    for commands in 0..4 {
+        let fault = match feed.next(&mut reader) {
+            Ok(Some(command)) => {
+                write_command(&command, &mut records)?;
+                continue;
+            }
+            Ok(None) => None,
+            Err(fault) => Some(fault),
+        };
+        let calls = reader.calls();
+        match feed.next(&mut reader) {
+            Ok(None) => assert!(rt; fault.is_none(), "the end stays"),
+            Ok(Some(_)) => assert!(rt; false, "a command after the end"),
+            Err(again) => assert_eq!(rt; fault, Some(again), "the fault stays"),
+        }
+        assert_eq!(rt; reader.calls(), calls, "nothing is read after the end");
+        if fault == Some(FeedFault::Memory) {
+            return Err(Memory);
+        }
+        return Ok(Outcome {
+            records,
+            commands,
+            fault,
+        });
+    }
+    assert!(rt; false, "a fourth command");
+    Err(Memory)
+}
+
+/// The same, and once more where memory was refused.
+fn run(
+    rt: &impl Abort,
+    alloc: Global,
+    bytes: &[u8],
+    step: usize,
+    bad: u64,
+) -> Result<Outcome, Memory> {
+    match read(rt, alloc, FakeReader::new(bytes, step, bad)) {
+        Ok(run) => Ok(run),
+        Err(_) => read(rt, alloc, FakeReader::new(bytes, step, bad)),
+    }
+}
+
+/// How many records end within so many bytes.
+fn whole_records(length: usize) -> usize {
+    ENDS.iter().filter(|end| **end <= length).count()
+}
+
+#[test]
+fn a_feed_cut_at_every_byte_ends_inside_a_record_or_between_two(
+    rt: HostRuntime,
+) -> Result<(), Fail> {
+    for length in 0..=89usize {
+        let (bytes, _) = FEED.split_at(length);
+        let run = run(&rt, rt.alloc(), bytes, 64, 0)?;
+        let between = length == 0 || ENDS.contains(&length);
+        let fault = if between {
+            None
+        } else {
+            Some(FeedFault::Truncated)
+        };
+        assert_eq!(rt; run.fault, fault, "{length} bytes");
+        assert_eq!(rt; run.commands, whole_records(length), "{length} bytes");
+        assert!(rt; bytes.starts_with(run.records.as_slice()), "{length} bytes");
+    }
+    Ok(())
+}
+
+#[test]
+fn what_was_read_is_written_the_same(rt: HostRuntime) -> Result<(), Fail> {
+    let all = run(&rt, rt.alloc(), &FEED, 1, 0)?;
+    assert_eq!(rt; all.records.as_slice(), FEED.as_slice());
+    let skeleton = run(&rt, rt.alloc(), &SKELETON, 7, 0)?;
+    assert_eq!(rt; skeleton.records.as_slice(), SKELETON.as_slice());
+    Ok(())
+}
+
+#[test]
+fn a_record_tells_its_command(rt: HostRuntime) -> Result<(), Fail> {
+    let mut feed = Feed::new(rt.alloc());
+    let mut reader = FakeReader::new(&FEED, 64, 0);
+    match feed.next(&mut reader) {
+        Ok(Some(Command::Begin(begin))) => {
+            assert_eq!(rt; begin.skeleton, None);
+            assert_eq!(rt; begin.streams.len(), 1);
+            for stream in begin.streams.as_slice() {
+                assert_eq!(rt;
+                    (stream.serial, stream.media.len(), stream.shift),
+                    (1, 0, 0)
+                );
+                for header in stream.headers.as_slice() {
+                    assert_eq!(rt; header.as_slice(), b"abc".as_slice());
+                }
+            }
+        }
+        other => assert!(rt; matches!(other, Err(FeedFault::Memory)), "no begin"),
+    }
+    match feed.next(&mut reader) {
+        Ok(Some(Command::Put(put))) => {
+            assert_eq!(rt; put.entries.len(), 1);
+            for entry in put.entries.as_slice() {
+                assert_eq!(rt; (entry.serial, entry.position), (1, 5));
+                assert_eq!(rt; entry.packet.as_slice(), b"hello".as_slice());
+            }
+        }
+        other => assert!(rt; matches!(other, Err(FeedFault::Memory)), "no put"),
+    }
+    match feed.next(&mut reader) {
+        Ok(Some(Command::End(serial))) => assert_eq!(rt; serial, 1),
+        other => assert!(rt; matches!(other, Err(FeedFault::Memory)), "no end"),
+    }
+    let mut reader = FakeReader::new(&SKELETON, 64, 0);
+    match Feed::new(rt.alloc()).next(&mut reader) {
+        Ok(Some(Command::Begin(begin))) => {
+            let head = begin.skeleton.ok_or("no Skeleton")?;
+            assert_eq!(rt;
+                (head.serial, head.presentation, head.base),
+                (7, (1000, -2), (3, 4))
+            );
+            assert_eq!(rt; head.utc, [b'u'; 20]);
+        }
+        other => assert!(rt; matches!(other, Err(FeedFault::Memory)), "no begin"),
+    }
+    Ok(())
+}
+
+#[test]
+fn the_first_fault_is_told(rt: HostRuntime) -> Result<(), Fail> {
+    for (bytes, fault) in FAULTY {
+        let run = run(&rt, rt.alloc(), bytes, 2, 0)?;
+        assert_eq!(rt; (run.commands, run.fault), (0, Some(fault)), "of {bytes:?}");
+    }
+    // The begin, with a byte more than its streams take.
+    let mut longer = Vec::from_slice(rt.alloc(), &FEED)?;
+    longer.truncate(52);
+    longer.push(0)?;
+    longer[1] = 48;
+    let run = run(&rt, rt.alloc(), longer.as_slice(), 64, 0)?;
+    assert_eq!(rt; (run.commands, run.fault), (0, Some(FeedFault::Form)));
+    Ok(())
+}
+
+#[test]
+fn a_failing_reader_is_a_fault_that_stays(rt: HostRuntime) -> Result<(), Fail> {
+    for bad in 1..=90u64 {
+        let run = run(&rt, rt.alloc(), &FEED, 1, bad)?;
+        assert_eq!(rt; run.fault, Some(FeedFault::Read), "call {bad}");
+        assert_eq!(rt; run.commands, whole_records(bad as usize - 1), "call {bad}");
+    }
+    Ok(())
+}
+
+/// Replies, and their lines.
+const LINES: [(Reply, &str); 4] = [
+    (Reply::Kept(Kept { count: 2, end: 64 }), "kept 2 64\n"),
+    (Reply::Kept(Kept { count: 0, end: 0 }), "kept 0 0\n"),
+    (
+        Reply::Kept(Kept {
+            count: u64::MAX,
+            end: u64::MAX,
+        }),
+        "kept 18446744073709551615 18446744073709551615\n",
+    ),
+    (
+        Reply::Refused(Refusal::UnknownSerial),
+        "refused 12 UnknownSerial\n",
+    ),
+];
+
+#[test]
+fn replies_are_lines(rt: HostRuntime) -> Result<(), Fail> {
+    for (reply, line) in LINES {
+        let mut writer = FakeWriter::new(Vec::with_capacity(rt.alloc(), 64)?, 64, 0);
+        write_reply(&reply, &mut writer)?;
+        assert_eq!(rt; writer.written(), line.as_bytes());
+        assert_eq!(rt; writer.calls(), 1, "a line is one write");
+    }
+    Ok(())
+}
+
+#[test]
+fn a_failing_writer_has_a_front_of_the_line(rt: HostRuntime) -> Result<(), Fail> {
+    let (reply, _) = LINES[0];
+    let mut stuck = FakeWriter::new(Vec::with_capacity(rt.alloc(), 64)?, 0, 0);
+    assert_eq!(rt; write_reply(&reply, &mut stuck), Err(WriteFault));
+    assert_eq!(rt; stuck.written(), b"".as_slice());
+    let mut failing = FakeWriter::new(Vec::with_capacity(rt.alloc(), 64)?, 3, 3);
+    assert_eq!(rt; write_reply(&reply, &mut failing), Err(WriteFault));
+    assert_eq!(rt; failing.written(), b"kept 2".as_slice());
+    Ok(())
+}
+
+#[test]
+fn faults_have_numbers_and_names(rt: HostRuntime) {
+    let fault = RunFault::Feed(FeedFault::Form);
+    assert_eq!(rt; (fault.code(), fault.name()), (1, "Feed"));
+    assert_eq!(rt;
+        (FeedFault::Memory.code(), FeedFault::Memory.name()),
+        (6, "Memory")
+    );
+}
+
+#[test]
+fn a_tally_adds_up(rt: HostRuntime) {
+    let tally = Tally {
+        commands: 4,
+        kept: 3,
+        refused: 1,
+        end: 91,
+    };
+    assert_eq!(rt; tally.kept + 1, tally.commands);
+}
