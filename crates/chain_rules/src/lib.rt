@@ -1,4 +1,12 @@
 //! Commands, and the chain of links that they make (RFC 3533, section 4).
+//!
+//! A command begins a link of logical streams, puts packets, or ends a stream. `Shape` stands for
+//! the chain so far: `check` says why a command is refused, or how long its pages are; `lay` appends
+//! these pages; `prepare` makes the room, without which `accept` couldn't add the command in no
+//! memory. A refusal changes nothing, and nothing walks the file.
+//!
+//! Start at `specs/Links.antt`, which says what a link and a chain are, and at `specs/Decision.antt`,
+//! which is the table of refusals.
 #![tactic(auto)]
 
 mod accepting;

@@ -1,0 +1,40 @@
+#!/usr/bin/env bash
+# The same feed through `mux` and through a small program over libogg: the pages compared byte for byte, and the CPU
+# seconds (user and system) of both, each the best of three runs that take turns. Not part of the tests.
+#
+#     apt-get install libogg-dev && bench/mux.sh [SHAPE ..]      tiny, audio, streams, frames, large; none: all
+set -u
+here=$(cd "$(dirname "$0")" && pwd)
+program=${PROGRAM:-$here/../crates/ogg_main/out/ogg_main}
+work=$(mktemp -d "${TMPDIR:-/tmp}/mux-bench.XXXXXX")
+trap 'rm -rf "$work"' EXIT
+
+[ -x "$program" ] || { echo "no program at $program: ./kudzuturret builds it" >&2; exit 1; }
+cc -O2 -o "$work/mux_libogg" "$here/mux_libogg.c" -logg || exit 1
+
+# cpu FILE COMMAND ..: runs the command on the feed, its pages to FILE, and prints its CPU seconds.
+cpu() {
+    local file=$1
+    shift
+    TIMEFORMAT='%U %S'
+    { time "$@" <"$work/feed" >"$file" 2>/dev/null; } 2>&1 | awk '{ printf "%.3f\n", $1 + $2 }'
+}
+
+printf '%-8s %12s %10s %10s %7s\n' shape 'pages, MB' 'mux, s' 'libogg, s' ratio
+status=0
+for shape in "${@:-tiny audio streams frames large}"; do
+    for shape in $shape; do
+        python3 "$here/feeds.py" "$shape" >"$work/feed" || exit 1
+        ours='' theirs=''
+        for _ in 1 2 3; do
+            ours+="$(cpu "$work/ours" "$program" mux) "
+            theirs+="$(cpu "$work/theirs" "$work/mux_libogg") "
+        done
+        cmp "$work/ours" "$work/theirs" || status=1
+        echo "$shape $(stat -c %s "$work/ours") $(printf '%s\n' $ours | sort -n | head -n 1) $(printf '%s\n' $theirs | sort -n | head -n 1)" |
+            awk '{ printf "%-8s %12.1f %10.2f %10.2f %7.2f\n", $1, $2 / 1e6, $3, $4, $3 / $4 }'
+        rm -f "$work/ours" "$work/theirs"
+    done
+done
+[ "$status" -eq 0 ] || echo "the pages differ"
+exit "$status"

@@ -1,0 +1,78 @@
+#!/usr/bin/env python3
+"""Makes a feed from lines: examples/feed.py < FILE.txt > FILE.feed
+
+    begin STREAM [; STREAM] ..     STREAM: SERIAL HEADER [HEADER] ..
+    put ENTRY [; ENTRY] ..         ENTRY: SERIAL POSITION PACKET
+    end SERIAL
+
+A header or a packet is a word, or BYTE*COUNT, as x*600 for six hundred bytes `x`. Words are split as a shell splits
+them, so "" is an empty packet, and a semicolon stands between spaces. Empty lines and lines that begin with # are
+passed over. No rule is looked at: a feed that must be refused can be written too.
+"""
+import shlex
+import struct
+import sys
+
+
+def packet(word):
+    byte, star, count = word.rpartition("*")
+    if star and len(byte.encode()) == 1 and count.isdigit():
+        return byte.encode() * int(count)
+    return word.encode()
+
+
+def listed(data):
+    return struct.pack("<I", len(data)) + data
+
+
+def record(kind, payload):
+    return struct.pack("<BI", kind, len(payload)) + payload
+
+
+def stream(serial, *headers):
+    packets = b"".join(listed(packet(header)) for header in headers)
+    # No media type, rate 0/0, base position 0, preroll 0, shift 0: without a Skeleton nobody looks at these.
+    return struct.pack("<IH", int(serial), len(headers)) + packets + struct.pack("<HqqqIB", 0, 0, 0, 0, 0, 0)
+
+
+def entry(serial, position, word):
+    return struct.pack("<IQ", int(serial), int(position)) + listed(packet(word))
+
+
+def items(words):
+    found, rest = [], []
+    for word in words + [";"]:
+        if word == ";":
+            if rest:
+                found.append(rest)
+            rest = []
+        else:
+            rest.append(word)
+    return found
+
+
+def feed_of(text):
+    feed = b""
+    for line in text.splitlines():
+        if line.strip().startswith("#"):
+            continue
+        words = shlex.split(line)
+        if not words:
+            continue
+        if words[0] == "begin":
+            streams = [stream(*item) for item in items(words[1:])]
+            feed += record(1, b"\0" + struct.pack("<H", len(streams)) + b"".join(streams))
+        elif words[0] == "put":
+            entries = [entry(*item) for item in items(words[1:])]
+            feed += record(2, struct.pack("<H", len(entries)) + b"".join(entries))
+        elif words[0] == "end":
+            feed += record(3, struct.pack("<I", int(words[1])))
+        else:
+            sys.exit(f"feed.py: no such line: {line}")
+    return feed
+
+
+if __name__ == "__main__":
+    if len(sys.argv) > 1:
+        sys.exit(__doc__)
+    sys.stdout.buffer.write(feed_of(sys.stdin.read()))

@@ -1,0 +1,111 @@
+#!/usr/bin/env bash
+# Each fault's line on standard error and its status 1. What stands before it is written and answered.
+. "$(dirname "$0")/common.bash"
+
+hello=$top/examples/hello.feed
+pages "02 0 1 0 3 abc" "00 5 1 1 5 hello" >"$work/hello.pages"
+
+# faults NAME LINE: the feed in $work/feed, put behind the two commands of the example, ends the run with this line.
+faults() {
+    cat "$hello" "$work/feed" >"$work/whole"
+    run mux <"$work/whole"
+    check "$1: status $status, not 1" [ "$status" -eq 1 ]
+    check "$1: pages before it" cmp "$work/out" "$work/hello.pages"
+    check "$1: line" is_text "$work/err" "kept 1 31\nkept 2 64\n$2\n"
+    run mux --check <"$work/whole"
+    came "$1 --check" 1 'kept 1 31\nkept 2 64\n' "$2\n"
+    run mux <"$work/feed"
+    came "$1, alone" 1 "" "$2\n"
+}
+
+bytes 01 >"$work/feed"
+faults "a head cut short" "fault feed 1 Truncated"
+bytes 09 05000000 00 >"$work/feed"
+faults "kind 9, and a payload cut short" "fault feed 2 Kind"
+bytes 00 00000000 >"$work/feed"
+faults "kind 0" "fault feed 2 Kind"
+bytes 04 00000000 >"$work/feed"
+faults "kind 4" "fault feed 2 Kind"
+bytes 04 ffffffff >"$work/feed"
+faults "kind 4 with a length too large" "fault feed 2 Kind"
+bytes 02 01000002 >"$work/feed"
+faults "a length of 33,554,433" "fault feed 3 Length"
+bytes 02 00000002 >"$work/feed"
+faults "a length of 33,554,432 and no payload" "fault feed 1 Truncated"
+bytes 03 05000000 01000000 00 >"$work/feed"
+faults "an end with a byte too many" "fault feed 4 Form"
+bytes 03 03000000 010000 >"$work/feed"
+faults "an end with a byte too few" "fault feed 4 Form"
+{ bytes 01 30000000; tail -c +6 "$hello" | head -c 47; bytes 00; } >"$work/feed"
+faults "a begin with a byte too many" "fault feed 4 Form"
+{ bytes 01 2f000000 02; tail -c +7 "$hello" | head -c 46; } >"$work/feed"
+faults "a begin with 2 for the Skeleton" "fault feed 4 Form"
+bytes 02 02000000 ffff >"$work/feed"
+faults "a put of 65,535 entries and none there" "fault feed 4 Form"
+
+# The feed can't be read.
+run mux <&-
+came "a closed standard input" 1 "" 'fault feed 5 Read\n'
+run mux </
+came "a folder as standard input" 1 "" 'fault feed 5 Read\n'
+
+# There is no memory for a payload of 32 MiB. It is asked for before a byte of it is read.
+{ cat "$hello"; bytes 02 00000002; } >"$work/whole"
+(
+    ulimit -v 24000
+    timeout 20 "$program" mux <"$work/whole" >"$work/out" 2>"$work/err"
+)
+status=$?
+check "no memory: status $status, not 1" [ "$status" -eq 1 ]
+check "no memory: pages before it" cmp "$work/out" "$work/hello.pages"
+check "no memory: line" is_text "$work/err" 'kept 1 31\nkept 2 64\nfault feed 6 Memory\n'
+
+# Standard output takes nothing.
+timeout 20 "$program" mux <"$hello" >/dev/full 2>"$work/err"
+check "a full device: status" [ $? -eq 1 ]
+check "a full device: line" is_text "$work/err" 'fault write\n'
+timeout 20 "$program" mux --check <"$hello" >/dev/full 2>"$work/err"
+check "a full device --check: status" [ $? -eq 1 ]
+check "a full device --check: line" is_text "$work/err" 'fault write\n'
+timeout 20 "$program" mux <"$hello" >&- 2>"$work/err"
+check "a closed standard output: status" [ $? -eq 1 ]
+check "a closed standard output: line" is_text "$work/err" 'fault write\n'
+timeout 20 "$program" mux --check <"$hello" >&- 2>"$work/err"
+check "a closed standard output --check: status" [ $? -eq 1 ]
+check "a closed standard output --check: line" is_text "$work/err" 'fault write\n'
+{
+    sleep 0.5
+    timeout 20 "$program" mux <"$hello" 2>"$work/err"
+    echo $? >"$work/status"
+} | true
+check "a pipe that nobody reads: status $(cat "$work/status")" [ "$(cat "$work/status")" -eq 1 ]
+check "a pipe that nobody reads: line" is_text "$work/err" 'fault write\n'
+
+# The replies can't be written: nor can the line, but the pages before the reply are there.
+timeout 20 "$program" mux <"$hello" >"$work/out" 2>/dev/full
+check "full standard error: status" [ $? -eq 1 ]
+pages "02 0 1 0 3 abc" >"$work/pages"
+check "full standard error: pages" cmp "$work/out" "$work/pages"
+timeout 20 "$program" mux <"$hello" >"$work/out" 2>&-
+check "closed standard error: status" [ $? -eq 1 ]
+check "closed standard error: pages" cmp "$work/out" "$work/pages"
+
+# A writer that takes a part: pages go up to a file's largest size, 1,024 bytes, and then comes the fault.
+{ cat "$hello"; echo 'put 1 6 x*2000' | feed; } >"$work/whole"
+(
+    trap '' XFSZ
+    ulimit -f 1
+    timeout 20 "$program" mux <"$work/whole" >"$work/out" 2>"$work/err"
+    echo $? >"$work/status"
+)
+check "a file at its largest size: status" [ "$(cat "$work/status")" -eq 1 ]
+check "a file at its largest size: line" is_text "$work/err" 'kept 1 31\nkept 2 64\nfault write\n'
+pages "02 0 1 0 3 abc" "00 5 1 1 5 hello" "00 6 1 2 255*7,215 x*2000" | head -c 1024 >"$work/pages"
+check "a file at its largest size: a prefix of the pages" cmp "$work/out" "$work/pages"
+
+# A refusal is no fault, and a fault of the command line isn't one of the feed.
+echo 'put 1 0 x' | feed >"$work/feed"
+run mux <"$work/feed"
+came "a refusal" 0 "" 'refused 3 NoLink\n'
+
+finish

@@ -1,0 +1,35 @@
+#!/usr/bin/env bash
+# A feed that comes slowly: each command's pages and its reply are out before the next command is there.
+. "$(dirname "$0")/common.bash"
+
+mkfifo "$work/in" "$work/replies"
+timeout 20 "$program" mux <"$work/in" >"$work/out" 2>"$work/replies" &
+running=$!
+exec 3>"$work/in" 4<"$work/replies"
+
+# replies NAME LINE SIZE: within a bounded time the line comes, and by then the pages have this size.
+replies() {
+    local line=''
+    read -r -t 10 line <&4
+    check "$1: '$line'" [ "$line" = "$2" ]
+    check "$1: size of the pages" [ "$(wc -c <"$work/out")" -eq "$3" ]
+}
+
+head -c 30 "$top/examples/hello.feed" >&3
+sleep 0.3
+check "half a command: nothing is written" [ ! -s "$work/out" ]
+head -c 52 "$top/examples/hello.feed" | tail -c 22 >&3
+replies "begin" "kept 1 31" 31
+tail -c 28 "$top/examples/hello.feed" >&3
+replies "put" "kept 2 64" 64
+echo 'put 1 4 x' | feed >&3
+replies "put back" "refused 15 PositionBack" 64
+echo 'end 1' | feed >&3
+replies "end" "kept 3 91" 91
+exec 3>&-
+wait "$running"
+check "status" [ $? -eq 0 ]
+pages "02 0 1 0 3 abc" "00 5 1 1 5 hello" "04 5 1 2 - -" >"$work/pages"
+check "pages" cmp "$work/out" "$work/pages"
+
+finish
