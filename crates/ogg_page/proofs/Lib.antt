@@ -4,3 +4,5 @@ pub mod ByteStep
 pub mod TableRule
 pub mod Prefixes
 pub mod Vectors
+pub mod Slices
+pub mod Tables

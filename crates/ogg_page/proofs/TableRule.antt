@@ -1,44 +1,16 @@
--- The table has the checksum of each byte, and one look at it adds a byte.
-use Rattle.std.proofs.Common.{◌≡◌, ℕ, zero, suc, ◌+◌, ◌*◌, ◌/◌, ◌%◌, ◌^◌, ◌<◌, Bool, true, false, List, [], ◌∷◌, ◌++◌, length, take, drop, refl, sym, ◌∙◌, ap, subst, arith, length-append, get_or}
-use Rattle.std.specs.Prelude.{nat_eq, bit_xor, ◌&&◌}
+-- One more byte, by the checksum of each byte.
+use Rattle.std.proofs.Common.{◌≡◌, ℕ, ◌+◌, ◌*◌, ◌/◌, ◌%◌, ◌^◌, ◌<◌, Bool, List, [], ◌∷◌, ◌++◌, length, take, drop, sym, ◌∙◌, ap, subst, arith, length-append}
+use Rattle.std.specs.Prelude.{bit_xor}
 use Rattle.std.proofs.lemmas.List.{take-append-drop, length-take, length-drop, flat_map_more}
-use Rattle.std.proofs.lemmas.Bool.{eqb-true}
 use Rattle.std.proofs.lemmas.Nat.{shr_high, mod_low, xor_comm}
-use Rattle.ogg_page.specs.Checksum.{bits_of, number_of, message_bits, add, divisor, remainder, checksum_of}
-use Rattle.ogg_page.specs.declared.table.TheConstants.{TABLE}
+use Rattle.ogg_page.specs.Checksum.{bits_of, number_of, message_bits, add, remainder, checksum_of}
 use Rattle.ogg_page.proofs.Division.{zeros, length-remainder, length-add}
 use Rattle.ogg_page.proofs.BitNumbers.{number-add, number-append, number-zeros, number-bits_of, bits_of-number, length-bits_of, number_lt, small_mod}
 use Rattle.ogg_page.proofs.ByteStep.{left_of, left_of-push, length-left_of}
 
 -- what the byte i in front of 32 zero bits leaves
-pub entry : ℕ → ℕ
+unfoldable pub entry : ℕ → ℕ
 entry i = number_of (remainder 8 (bits_of 8 i ++ zeros 32))
-
-has_entries : ℕ → List ℕ → Bool
-has_entries i [] = true
-has_entries i (x ∷ xs) = nat_eq x (entry i) && has_entries (suc i) xs
-
-computed : has_entries 0 TABLE ≡ true
-unfolding has_entries entry number_of remainder bits_of add divisor
-computed = refl
-
-both_left : (a b : Bool) → a && b ≡ true → a ≡ true
-both_left true b h = refl
-both_left false b h = h
-
-both_right : (a b : Bool) → a && b ≡ true → b ≡ true
-both_right true b h = h
-both_right false b h = absurd (cc)
-
-entry_at : (i k : ℕ) (xs : List ℕ) → has_entries i xs ≡ true → k < length xs → get_or xs k 0 ≡ entry (i + k)
-unfolding has_entries
-entry_at i k [] h l = absurd (omega arith)
-entry_at i zero (x ∷ xs) h l = eqb-true x (entry i) (both_left (nat_eq x (entry i)) (has_entries (suc i) xs) h) ∙ ap entry (omega arith)
-entry_at i (suc k) (x ∷ xs) h l =
-    entry_at (suc i) k xs (both_right (nat_eq x (entry i)) (has_entries (suc i) xs) h) (omega arith) ∙ ap entry (omega arith)
-
-pub table_entry : (i : ℕ) → i < 256 → get_or TABLE i 0 ≡ entry i
-table_entry i h = entry_at 0 i TABLE computed h ∙ ap entry (omega arith)
 
 shifted : (high low sum : ℕ) → low < 2 ^ 24 → sum ≡ high * 2 ^ 24 + low → low * 2 ^ 8 + 0 ≡ (sum * 2 ^ 8) % 2 ^ 32
 shifted high low sum h e =

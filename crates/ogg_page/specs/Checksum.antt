@@ -41,3 +41,7 @@ remainder (suc n) (b ∷ rest) = remainder n (if b then add rest divisor else re
 -- the remainder of the message, multiplied by x ^ 32
 unfoldable pub checksum_of : List ℕ → ℕ
 checksum_of bytes = let message = message_bits bytes in number_of (remainder (length message) (message ++ replicate 32 false))
+
+-- the checksum of a byte with so many zeros behind it
+abbrev pub entry_before : ℕ → ℕ → ℕ
+entry_before zeros byte = checksum_of (byte ∷ replicate zeros 0)
