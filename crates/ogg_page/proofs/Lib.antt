@@ -3,6 +3,8 @@ pub mod BitNumbers
 pub mod ByteStep
 pub mod TableRule
 pub mod Prefixes
+pub mod ReadAgain
+pub mod Walk
 pub mod Vectors
 pub mod Slices
 pub mod Tables

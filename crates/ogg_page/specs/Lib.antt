@@ -3,4 +3,6 @@ pub mod Page
 pub mod PageFault
 pub mod Lacing
 pub mod LogicalStream
+pub mod Reading
+pub mod Pages
 pub mod Output

@@ -1,5 +1,8 @@
 //! The numbers of a page that its writer chooses.
 
+/// How many bytes come before the lacing values.
+pub(crate) const FIXED: usize = 27;
+
 /// The numbers of a page that its writer chooses (RFC 3533, section 6, fields 3 to 6).
 #[derive(Clone, Copy, Debug, PartialEq, Eq)]
 pub struct PageHead {

@@ -1,9 +1,22 @@
 //! What always holds of pages.
 ghost use Rattle.std.specs.Prelude.{◌≡◌, ◌++◌, List, ℕ};
+ghost use Rattle.std.specs.Iterator.{Drains};
 ghost use Rattle.ogg_page.specs.Page.{Page, IsPage, page_bytes};
+ghost use Rattle.ogg_page.specs.Pages.{AreFoundIn, BeginsWithPages, FoundPage, NextPage};
 
 /// Where two pages begin the same bytes, they are one page, and the same bytes follow. So the bytes
 /// of no page are a proper prefix of another's.
 pub fn page_bytes_are_prefix_free()
     ensures { (p q : Page) (x y : List ℕ) → IsPage p → IsPage q → page_bytes p ++ x ≡ page_bytes q ++ y → (p ≡ q) × (x ≡ y) }
+{}
+
+/// Bytes have one longest prefix that is joined pages, and it is joined from one list of pages.
+pub fn longest_prefix_of_pages_is_unique()
+    ensures { (bytes : List ℕ) (p q : List Page) (x y : List ℕ) → BeginsWithPages bytes p x → BeginsWithPages bytes q y → (p ≡ q) × (x ≡ y) }
+{}
+
+/// What [`Pages`](crate::Pages) gives of bytes, call by call up to the first `None`, are the pages
+/// of their longest prefix, each with its offset, and then one fault where bytes remain.
+pub fn pages_are_the_longest_prefix()
+    ensures { (bytes : List ℕ) (found : List FoundPage) → Drains NextPage (record { offset = 0; bytes = bytes }) found → AreFoundIn bytes found }
 {}

@@ -1,8 +1,9 @@
-//! Pages of an Ogg bitstream: their checksum and their bytes (RFC 3533, section 6).
+//! Pages of an Ogg bitstream: their checksum and their bytes, written and read (RFC 3533, section 6).
 //!
 //! A page is a head of 27 bytes, a table of at most 255 lacing values, and a body whose length is
 //! their sum. Writing appends to the caller's vector, and leaves it as it was where memory is
-//! refused. The bytes of no page begin those of another.
+//! refused. Reading lends the parts of the page at the front of bytes, and takes no memory. The
+//! bytes of no page begin those of another, so bytes are joined pages in one way at most.
 //!
 //! Start at `specs/Page.antt`, which says what a page is, and at `specs/LogicalStream.antt`, which
 //! says what packets the pages of a stream hold.
@@ -11,16 +12,25 @@
 mod crc;
 mod fault;
 mod head;
+mod lacing;
 mod laws;
 mod output;
+mod page;
+mod pages;
+mod reading;
 mod table;
 mod writing;
 
 pub use crc::checksum;
 pub use fault::{PageFault, WriteFault};
 pub use head::PageHead;
-pub use laws::page_bytes_are_prefix_free;
+pub use laws::{
+    longest_prefix_of_pages_is_unique, page_bytes_are_prefix_free, pages_are_the_longest_prefix,
+};
 pub use output::write_whole;
+pub use page::Page;
+pub use pages::Pages;
+pub use reading::read_page;
 pub use std::alloc::AllocError as Memory;
 pub use writing::{write_page, write_page_of};
 

@@ -40,6 +40,108 @@ fn a_page_is_appended_byte_for_byte(rt: HostRuntime) -> Result<(), Fail> {
     Ok(())
 }
 
+/// Changes of one byte of that page: the place, the new value, the code of the first fault.
+const CHANGED: [(usize, u8, u8); 12] = [
+    (0, b'o', 2),
+    (3, b's', 2),
+    (4, 1, 3),
+    (5, 3, 4),
+    (6, 1, 4),
+    (22, 0x93, 4),
+    (26, 0, 4),
+    (26, 2, 1),
+    (27, 2, 4),
+    (27, 4, 1),
+    (28, b'b', 4),
+    (30, b'd', 4),
+];
+
+#[test]
+fn a_changed_page_is_refused_by_its_first_fault(rt: HostRuntime) {
+    for (place, value, code) in CHANGED {
+        let mut bytes = FIRST_PAGE;
+        if let Some(byte) = bytes.get_mut(place) {
+            *byte = value;
+        }
+        let read = read_page(&bytes).map_err(|fault| fault.code());
+        assert!(rt;
+            read.is_err_and(|found| found == code),
+            "{value} at {place}"
+        );
+    }
+}
+
+#[test]
+fn a_page_that_is_cut_is_short(rt: HostRuntime) {
+    for length in [0, 1, 26, 27, 28, 30] {
+        let (front, _) = FIRST_PAGE.split_at(length);
+        assert!(rt;
+            read_page(front).is_err_and(|fault| fault == PageFault::Short),
+            "of {length}"
+        );
+    }
+}
+
+#[test]
+fn a_page_is_read_part_by_part(rt: HostRuntime) -> Result<(), Fail> {
+    let page = read_page(&THREE_PAGES[31..])?;
+    assert_eq!(rt; page.flags(), 0);
+    assert_eq!(rt; page.position(), 5);
+    assert_eq!(rt; page.serial(), 1);
+    assert_eq!(rt; page.sequence(), 1);
+    assert_eq!(rt; page.lacing(), [5].as_slice());
+    assert_eq!(rt; page.body(), b"hello".as_slice());
+    assert_eq!(rt; page.whole(), &THREE_PAGES[31..64]);
+    Ok(())
+}
+
+/// Three pages of stream 1, of 31, 33 and 27 bytes: `abc`, `hello` at position 5, and a last page
+/// without a packet. The checksums are by another program.
+const THREE_PAGES: [u8; 91] = [
+    0x4F, 0x67, 0x67, 0x53, 0x00, 0x02, 0x00, 0x00, 0x00, 0x00, 0x00, 0x00, 0x00, 0x00, 0x01, 0x00,
+    0x00, 0x00, 0x00, 0x00, 0x00, 0x00, 0x92, 0xDD, 0xF6, 0x15, 0x01, 0x03, 0x61, 0x62, 0x63, 0x4F,
+    0x67, 0x67, 0x53, 0x00, 0x00, 0x05, 0x00, 0x00, 0x00, 0x00, 0x00, 0x00, 0x00, 0x01, 0x00, 0x00,
+    0x00, 0x01, 0x00, 0x00, 0x00, 0xBB, 0xFE, 0x76, 0xEA, 0x01, 0x05, 0x68, 0x65, 0x6C, 0x6C, 0x6F,
+    0x4F, 0x67, 0x67, 0x53, 0x00, 0x04, 0x05, 0x00, 0x00, 0x00, 0x00, 0x00, 0x00, 0x00, 0x01, 0x00,
+    0x00, 0x00, 0x02, 0x00, 0x00, 0x00, 0xDB, 0x9D, 0x91, 0x8B, 0x00,
+];
+
+/// What is shown of a thing that is found: the offset and sequence of a page, or the offset and
+/// code of a fault.
+type Shown = Option<Result<(u64, u32), (u64, u8)>>;
+
+fn shown(found: Option<Result<(u64, Page<'_>), (u64, PageFault)>>) -> Shown {
+    match found {
+        Some(Ok((offset, page))) => Some(Ok((offset, page.sequence()))),
+        Some(Err((offset, fault))) => Some(Err((offset, fault.code()))),
+        None => None,
+    }
+}
+
+#[test]
+fn pages_are_found_with_their_offsets(rt: HostRuntime) {
+    let mut pages = Pages::of(&THREE_PAGES);
+    for want in [
+        Some(Ok((0, 0))),
+        Some(Ok((31, 1))),
+        Some(Ok((64, 2))),
+        None,
+        None,
+    ] {
+        assert_eq!(rt; shown(pages.next()), want);
+    }
+}
+
+#[test]
+fn a_fault_comes_last_and_once(rt: HostRuntime) {
+    let mut bytes = THREE_PAGES;
+    bytes[59] = b'H';
+    let mut pages = Pages::of(&bytes);
+    for want in [Some(Ok((0, 0))), Some(Err((31, 4))), None, None] {
+        assert_eq!(rt; shown(pages.next()), want);
+    }
+}
+
 #[test]
 fn text_reaches_a_writer_whole(rt: HostRuntime) -> Result<(), Fail> {
     let mut out = Vec::new(rt.alloc());

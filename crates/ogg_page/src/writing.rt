@@ -1,15 +1,13 @@
 //! Pages as bytes.
-ghost use Rattle.std.specs.Prelude.{◌≡◌, ◌+◌, ◌*◌, ◌≤◌, ◌<◌, ◌++◌, length, sum, OnOk, OnErr, List, ℕ, vec_len, vec_capacity, take};
+ghost use Rattle.std.specs.Prelude.{◌≡◌, ◌+◌, ◌≤◌, ◌<◌, ◌++◌, length, sum, OnOk, OnErr, List, ℕ, vec_len, vec_capacity, take};
 ghost use Rattle.ogg_page.specs.Checksum.{checksum_of};
 ghost use Rattle.ogg_page.specs.Page.{page_of, page_bytes, fixed_part, joined};
 
 use crate::Memory;
 use crate::crc::{checksum, checksum_on};
-use crate::head::PageHead;
+use crate::head::{FIXED, PageHead};
+use crate::lacing::body_size;
 use byteorder::{ByteOrder, LittleEndian};
-
-/// How many bytes come before the lacing values.
-const FIXED: usize = 27;
 
 /// Appends a page (RFC 3533, section 6). After `Memory` the vector is unchanged.
 pub fn write_page(
@@ -51,19 +49,6 @@ pub fn write_page_of(
     append(out, lacing);
     append_pieces(out, pieces);
     Ok(())
-}
-
-/// How many bytes the lacing values stand for.
-fn body_size(lacing: &[u8]) -> usize
-    requires { length lacing.now ≤ 255 }
-    ensures value { result ≡ sum lacing.now }
-    ensures bound { result ≤ 255 * length lacing.now }
-{
-    let mut size = 0;
-    for value in lacing {
-        size += usize::from(*value);
-    }
-    size
 }
 
 /// The checksum of some bytes and then the pieces, from the checksum of the bytes before.

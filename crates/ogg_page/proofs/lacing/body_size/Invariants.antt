@@ -1,5 +1,5 @@
 use Rattle.std.proofs.Common.{◌≡◌, ◌≤◌, ◌*◌, take, sum}
-use Rattle.ogg_page.proofs.writing.body_size.Given as goal
+use Rattle.ogg_page.proofs.lacing.body_size.Given as goal
 
 -- the values so far are added up
 abbrev pub invariant-loop-value : goal.invariant-loop-value

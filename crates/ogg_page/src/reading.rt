@@ -1,0 +1,113 @@
+//! Pages from bytes.
+ghost use Rattle.std.specs.Prelude.{◌≡◌, ◌≤◌, ◌+◌, ◌++◌, length, drop, IfOk, MatchResult, Ok, Err, List, ℕ};
+ghost use Rattle.byteorder.specs.Endian.{little_number};
+ghost use Rattle.ogg_page.specs.Page.{Page as PageValue, IsPage, page_bytes, page_size};
+ghost use Rattle.ogg_page.specs.Reading.{page_at, blanked, IsPageOf};
+ghost use Rattle.ogg_page.specs.Checksum.{checksum_of};
+
+use crate::crc::{checksum, checksum_on};
+use crate::fault::PageFault;
+use crate::head::{FIXED, PageHead};
+use crate::lacing::body_size;
+use crate::page::Page;
+use byteorder::{ByteOrder, LittleEndian};
+
+/// Reads the page at the front of the bytes (RFC 3533, section 6), and lends its parts. Bytes
+/// behind it are not looked at. Where no page stands there, the fault is the first one of
+/// [`PageFault`] in the order `Short` (under 27 bytes), `Pattern`, `Version`, `Short` (the lacing
+/// values or the body run past the end), `Checksum`. It takes no memory.
+pub fn read_page(bytes: &[u8]) -> Result<Page<'_>, PageFault>
+    // It accepts exactly the bytes that begin with a page's bytes, and gives that page.
+    ensures found { IfOk result (λ page. IsPage page × (rest : List ℕ) × (bytes.now ≡ page_bytes page ++ rest)) }
+    ensures each { (page : PageValue) (rest : List ℕ) → IsPage page → bytes.now ≡ page_bytes page ++ rest → result ≡ Ok page }
+    // Of the others it tells the first fault.
+    ensures exact { result ≡ page_at bytes.now }
+{
+    page_or_fault(bytes)
+}
+
+/// The page at the front, or the first fault.
+fn page_or_fault(bytes: &[u8]) -> Result<Page<'_>, PageFault>
+    ensures { result ≡ page_at bytes.now }
+{
+    let (values, size) = sizes_of_page(bytes)?;
+    Ok(page_in_front(bytes, values, size))
+}
+
+/// Splits the page at the front from the bytes behind it.
+pub(crate) fn split_page(bytes: &[u8]) -> Result<(Page<'_>, &[u8]), PageFault>
+    ensures split { MatchResult result (λ (page, rest). IsPage page × (bytes.now ≡ page_bytes page ++ rest.now)) (λ fault. page_at bytes.now ≡ Err fault) }
+    ensures size { IfOk result (λ (page, rest). length bytes.now ≡ page_size page + length rest.now) }
+{
+    let page = read_page(bytes)?;
+    let rest = bytes.split_at(page.whole().len()).1;
+    Ok((page, rest))
+}
+
+/// How many lacing values and how many bytes of body the page at the front has.
+#[tactic(auto, unfolding(crate::specs::Reading::page_at))]
+fn sizes_of_page(bytes: &[u8]) -> Result<(usize, usize), PageFault>
+    ensures { MatchResult result (λ (values, size). IsPageOf bytes.now values size) (λ fault. page_at bytes.now ≡ Err fault) }
+{
+    if bytes.len() < FIXED {
+        return Err(PageFault::Short);
+    }
+    if !bytes.starts_with(b"OggS") {
+        return Err(PageFault::Pattern);
+    }
+    if bytes[4] != 0 {
+        return Err(PageFault::Version);
+    }
+    let values = usize::from(bytes[26]);
+    if bytes.len() < FIXED + values {
+        return Err(PageFault::Short);
+    }
+    let (lacing, rest) = bytes.split_at(FIXED).1.split_at(values);
+    let size = body_size(lacing);
+    if rest.len() < size {
+        return Err(PageFault::Short);
+    }
+    let whole = bytes.split_at(FIXED + values + size).0;
+    if u32_at(bytes, 22) != blanked_checksum(whole) {
+        return Err(PageFault::Checksum);
+    }
+    Ok((values, size))
+}
+
+/// The page at the front, which has so many lacing values and so many bytes of body.
+fn page_in_front(bytes: &[u8], values: usize, size: usize) -> Page<'_>
+    requires { IsPageOf bytes.now values size }
+    ensures { page_at bytes.now ≡ Ok result }
+{
+    let head = PageHead {
+        flags: bytes[5],
+        position: u64_at(bytes, 6),
+        serial: u32_at(bytes, 14),
+        sequence: u32_at(bytes, 18),
+    };
+    let (lacing, rest) = bytes.split_at(FIXED).1.split_at(values);
+    let body = rest.split_at(size).0;
+    Page::new(head, lacing, body, bytes.split_at(FIXED + values + size).0)
+}
+
+/// The checksum of a page's bytes with zeros in the checksum's place.
+fn blanked_checksum(whole: &[u8]) -> u32
+    requires { 27 ≤ length whole.now }
+    ensures { result ≡ checksum_of (blanked whole.now) }
+{
+    checksum_on(checksum_on(checksum(&whole[..22]), &[0; 4]), &whole[26..])
+}
+
+fn u32_at(bytes: &[u8], at: usize) -> u32
+    requires { at + 4 ≤ length bytes.now }
+    ensures { result ≡ little_number 4 (drop at bytes.now) }
+{
+    LittleEndian::read_u32(&bytes[at..])
+}
+
+fn u64_at(bytes: &[u8], at: usize) -> u64
+    requires { at + 8 ≤ length bytes.now }
+    ensures { result ≡ little_number 8 (drop at bytes.now) }
+{
+    LittleEndian::read_u64(&bytes[at..])
+}
