@@ -18,3 +18,6 @@ pub mod Lent
 pub mod ByteSizes
 pub mod LaidHeaders
 pub mod LaidRuns
+pub mod Ending
+pub mod Putting
+pub mod Held

@@ -25,7 +25,7 @@ use Rattle.chain_rules.proofs.RunPages.{some_values, length-map}
 use Rattle.chain_rules.proofs.StateBehind.{behind, state_behind, run_own, run_unmarked, run_state}
 
 -- ---- streams that are looked up behind a change
-looked_up : (serial : ℕ) (change : StreamState → StreamState) → ((s : StreamState) → (change s).serial ≡ s.serial) → (streams : List StreamState) (other : ℕ) →
+pub looked_up : (serial : ℕ) (change : StreamState → StreamState) → ((s : StreamState) → (change s).serial ≡ s.serial) → (streams : List StreamState) (other : ℕ) →
     is_none (stream_in (map (change_at serial change) streams) other) ≡ is_none (stream_in streams other)
 looked_up serial change same [] other = refl
 looked_up serial change same (stream ∷ streams) other =

@@ -11,3 +11,4 @@ pub mod Decision
 pub mod Begun
 pub mod Shape
 pub mod Progress
+pub mod Commands

@@ -5,8 +5,8 @@
 //! these pages; `prepare` makes the room, without which `accept` couldn't add the command in no
 //! memory. A refusal changes nothing, and nothing walks the file.
 //!
-//! Start at `specs/Links.antt`, which says what a link and a chain are, and at `specs/Decision.antt`,
-//! which is the table of refusals.
+//! Start at `specs/Links.antt`, which says what a link and a chain are, at `specs/Decision.antt`,
+//! which is the table of refusals, and at `command_adds_its_packets`, the law that joins the two.
 #![tactic(auto)]
 
 mod accepting;
@@ -14,6 +14,7 @@ mod begin;
 mod checks;
 mod command;
 mod entries;
+mod laws;
 mod laying;
 mod limits;
 mod listed;
@@ -23,6 +24,7 @@ mod shape;
 mod stream_state;
 
 pub use command::{Begin, Command, Entry, NewStream, Put, SkeletonHead};
+pub use laws::{command_adds_its_packets, commands_add_their_packets};
 pub use listed::Listed;
 pub use ogg_page::Memory;
 pub use refusal::Refusal;

@@ -1,0 +1,40 @@
+//! What always holds of the commands that a chain takes.
+ghost use Rattle.std.specs.Prelude.{◌≡◌, ◌++◌, Ok, List, [], ℕ, length};
+ghost use Rattle.std.specs.List.{AllByRecursion};
+ghost use Rattle.ogg_page.specs.Page.{Page};
+ghost use Rattle.chain_rules.specs.Command.{IsCommand};
+ghost use Rattle.chain_rules.specs.Links.{AreLinks};
+ghost use Rattle.chain_rules.specs.Recording.{Recording, HoldsLinks, Holds, add, after};
+ghost use Rattle.chain_rules.specs.ChainState.{ChainState, chain_state_of};
+ghost use Rattle.chain_rules.specs.Decision.{decision};
+ghost use Rattle.chain_rules.specs.Encoding.{command_bytes, links_after};
+ghost use Rattle.chain_rules.specs.Commands.{AreKept, bytes_of_commands, links_behind};
+ghost use Rattle.chain_rules.specs.declared.command.Command.{Command as CommandOf};
+
+/// A command that isn't refused adds its packets, and nothing else changes: the links behind it hold
+/// the recording with the command added, and the bytes that it appends are as many as its size says
+/// (RFC 3533, sections 4 to 6).
+pub fn command_adds_its_packets()
+    ensures size { (chain : ChainState) (command : CommandOf) (size : ℕ) →
+        decision chain command ≡ Ok size → length (command_bytes chain command) ≡ size }
+    ensures links { (bytes : List ℕ) (links : List (List Page)) (recording : Recording) (command : CommandOf) (size : ℕ) →
+        IsCommand command → AreLinks bytes links → HoldsLinks links recording → decision (chain_state_of links) command ≡ Ok size →
+        AreLinks (bytes ++ command_bytes (chain_state_of links) command) (links_after links command)
+        × HoldsLinks (links_after links command) (add recording command) }
+    // The same of bytes that hold a recording, by whichever links.
+    ensures holds { (bytes : List ℕ) (recording : Recording) (held : Holds bytes recording) (command : CommandOf) (size : ℕ) →
+        IsCommand command → decision (chain_state_of held.0) command ≡ Ok size →
+        Holds (bytes ++ command_bytes (chain_state_of held.0) command) (add recording command) }
+{}
+
+/// Commands of which none is refused, each on the links that those before it left, add their packets
+/// in order.
+pub fn commands_add_their_packets()
+    ensures links { (bytes : List ℕ) (links : List (List Page)) (recording : Recording) (commands : List CommandOf) →
+        AllByRecursion IsCommand commands → AreLinks bytes links → HoldsLinks links recording → AreKept links commands →
+        AreLinks (bytes ++ bytes_of_commands links commands) (links_behind links commands)
+        × HoldsLinks (links_behind links commands) (after recording commands) }
+    // From no links on their bytes hold just what they say.
+    ensures holds { (commands : List CommandOf) → AllByRecursion IsCommand commands → AreKept [] commands →
+        Holds (bytes_of_commands [] commands) (after [] commands) }
+{}
