@@ -183,8 +183,8 @@ pub record IsNumbered (link : List Page) (states : List StreamState) (serial : �
 abbrev pub Numbered : List Page → List StreamState → Type 0
 Numbered link states = (serial : ℕ) → has_stream link serial ≡ true → IsNumbered link states serial
 
--- the entry's stream takes packets
-pub record IsReady (link : List Page) (entry : Entry) : Type 0 where
+-- the entry's stream is there and hasn't ended
+pub record TakesPackets (link : List Page) (entry : Entry) : Type 0 where
   pub there : has_stream link entry.serial ≡ true
   pub unended : has_ended link entry.serial ≡ false
 
@@ -247,17 +247,17 @@ run_numbers link serial position states run numbered other there =
     }
 
 ready_later : (link pages : List Page) → Unmarked pages → GoOn pages → (runs : List (List Entry)) →
-    AllByRecursion (AllByRecursion (IsReady link)) runs → AllByRecursion (AllByRecursion (IsReady (link ++ pages))) runs
+    AllByRecursion (AllByRecursion (TakesPackets link)) runs → AllByRecursion (AllByRecursion (TakesPackets (link ++ pages))) runs
 ready_later link pages unmarked go_on runs h =
-    all_weaker (AllByRecursion (IsReady link)) (AllByRecursion (IsReady (link ++ pages)))
-    (λ run g. all_weaker (IsReady link) (IsReady (link ++ pages))
+    all_weaker (AllByRecursion (TakesPackets link)) (AllByRecursion (TakesPackets (link ++ pages)))
+    (λ run g. all_weaker (TakesPackets link) (TakesPackets (link ++ pages))
     (λ entry r. record { there = stream_same link pages entry.serial unmarked ∙ r.there; unended = ended_same entry.serial link pages go_on ∙ r.unended }) run g)
     runs h
 
 -- ---- all runs
 pub runs_grow : (runs : List (List Entry)) (link : List Page) (states : List StreamState) (streams : List Stream) →
     IsLink link → HoldsLink link streams → all_ended link ≡ false → Numbered link states →
-    AllByRecursion OneSerial runs → AllByRecursion (AllByRecursion (IsReady link)) runs →
+    AllByRecursion OneSerial runs → AllByRecursion (AllByRecursion (TakesPackets link)) runs →
     Grown link (pages_of_runs states runs) (fold with_packets_of streams runs)
 runs_grow [] link states streams l h opened numbered ones ready =
     record { link_is = subst IsLink (sym (append-nil link)) l; holds = subst (λ (x : List Page). HoldsLink x streams) (sym (append-nil link)) h }
@@ -269,7 +269,7 @@ runs_grow ((entry ∷ run) ∷ runs) link states streams l h opened numbered one
     let pages : List Page = pages_of_run serial next items in
     let later : List Page = pages_of_runs (with_run states (entry ∷ run)) runs in
     let change : Stream → Stream = change_run serial (entry ∷ run) in
-    let first : IsReady link entry = ready.0.0 in
+    let first : TakesPackets link entry = ready.0.0 in
     let step : Grown link pages (map change streams) =
     run_grows link serial next items streams change l h opened first.there first.unended (numbered serial first.there).number
     (λ stream e. run_here serial (entry ∷ run) stream e ∙ ap (with_packets stream) (sym (packets_timed (entry ∷ run))))
@@ -338,7 +338,7 @@ still_ended serial position (state ∷ states) other =
 ready_entries : (links : List (List Page)) (now : List StreamState) (entries : List Entry) →
     ((serial : ℕ) → is_none (stream_in now serial) ≡ is_none (stream_in (chain_state_of links).streams serial)) →
     ((serial : ℕ) → ended_in now serial ≡ ended_in (chain_state_of links).streams serial) →
-    Unbroken (entries_rules now entries) → AllByRecursion (IsReady (last_link links)) entries
+    Unbroken (entries_rules now entries) → AllByRecursion (TakesPackets (last_link links)) entries
 ready_entries links now [] known ended h = tt
 ready_entries links now (entry ∷ entries) known ended h =
     let there : has_stream (last_link links) entry.serial ≡ true = (known_stream links entry.serial (sym (known entry.serial) ∙ h.1.0)).0 in (
@@ -367,14 +367,14 @@ put_is_held bytes links recording put size small l h e =
     let opened : is_open chain ≡ true = not_false (is_open chain) kept.0 in
     let rest : Unbroken (entries_rules chain.streams put.entries) × Unbroken (room_rules chain (PutOf put)) =
     all_split (λ rule. rule.0 ≡ false) (entries_rules chain.streams put.entries) (room_rules chain (PutOf put)) kept.1.1.1 in
-    let ready : AllByRecursion (IsReady (last_link links)) put.entries =
+    let ready : AllByRecursion (TakesPackets (last_link links)) put.entries =
     ready_entries links chain.streams put.entries (λ serial. refl) (λ serial. refl) rest.0 in
     let numbers : AllByRecursion (λ (page : Page). page.sequence < 2 ^ 32) pages = numbers_fit pages rest.1.1.0 in
     let grows : Grows (last_link links) pages (λ link. fold with_packet link put.entries) =
     λ streams is holds.
     (let new : Grown (last_link links) pages (fold with_packets_of streams runs) =
     runs_grow runs (last_link links) chain.streams streams is holds (open_link links opened) (numbered_by links)
-    (runs_one put.entries) (runs_all (IsReady (last_link links)) put.entries ready) in (
+    (runs_one put.entries) (runs_all (TakesPackets (last_link links)) put.entries ready) in (
       new.link_is,
       subst (λ (s : List Stream). HoldsLink (last_link links ++ pages) s)
           (sym (by_runs streams runs) ∙ ap (λ (es : List Entry). fold with_packet streams es) (runs_joined put.entries)) new.holds,

@@ -9,6 +9,7 @@ pub mod Limits
 pub mod Size
 pub mod Decision
 pub mod Begun
+pub mod Serials
 pub mod Shape
 pub mod Progress
 pub mod Commands

@@ -12,6 +12,7 @@ ghost use Rattle.chain_rules.specs.declared.command.NewStream.{NewStream as Stre
 use crate::begin::split_headers;
 use crate::command::{NewStream, Put};
 use crate::runs::{next_sequence, size_of_runs};
+use crate::serials::Serials;
 use crate::stream_state::StreamState;
 use packetiser::pages_of_run;
 
@@ -53,13 +54,13 @@ pub fn add_runs(streams: &mut [StreamState], put: &Put) -> u64
 }
 
 /// Puts the streams of a new link in the place of those of the last one.
-pub fn add_streams(streams: &mut Vec<StreamState>, serials: &mut Vec<u32>, new: &[NewStream])
+pub fn add_streams(streams: &mut Vec<StreamState>, serials: &mut Serials, new: &[NewStream])
     requires streams { length new.now ≤ vec_capacity streams.old }
-    requires serials { vec_len serials.old + length new.now ≤ vec_capacity serials.old }
+    requires serials { length new.now ≤ serials.old.room }
     requires short { sum_by header_bytes new.now ≤ 16777216 }
     requires few { list_any has_many_headers new.now ≡ false }
     ensures streams { streams.new.items ≡ map new_state new.now }
-    ensures serials { serials.new.items ≡ serials.old.items ++ map (λ (s : StreamOf). s.serial) new.now }
+    ensures serials { serials.new.listed ≡ serials.old.listed ++ map (λ (s : StreamOf). s.serial) new.now }
     ensures count { vec_len streams.new ≡ length new.now }
 {
     streams.clear();

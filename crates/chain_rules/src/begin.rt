@@ -13,6 +13,7 @@ use crate::command::{Begin, NewStream};
 use crate::limits::{LONGEST_BATCH, LONGEST_FIRST, LONGEST_PACKET, MOST_HEADERS, MOST_STREAMS};
 use crate::listed::Listed;
 use crate::refusal::Refusal;
+use crate::serials::Serials;
 use packetiser::{TimedPacket, size_of_run};
 
 impl TimedPacket for Listed<u8> {
@@ -54,11 +55,11 @@ fn have_many_headers(streams: &[NewStream]) -> bool
 }
 
 /// The first rule that a stream breaks, behind the streams before it in its link.
-fn broken_by_stream(serials: &[u32], earlier: &[NewStream], stream: &NewStream) -> Option<Refusal>
-    ensures { (chain : ChainState) → chain.serials ≡ serials.now →
+fn broken_by_stream(serials: &Serials, earlier: &[NewStream], stream: &NewStream) -> Option<Refusal>
+    ensures { (chain : ChainState) → chain.serials ≡ serials.now.listed →
         result ≡ first_broken (stream_rules chain false (reverse (map (λ (s : StreamOf). s.serial) earlier.now)) stream.now) }
 {
-    if serials.contains(&stream.serial) || has_serial(earlier, stream.serial) {
+    if serials.contains(stream.serial) || has_serial(earlier, stream.serial) {
         return Some(Refusal::SerialTaken);
     }
     let headers = stream.headers.as_slice();
@@ -76,8 +77,8 @@ fn broken_by_stream(serials: &[u32], earlier: &[NewStream], stream: &NewStream) 
 }
 
 /// The first rule that one of a link's streams breaks.
-pub fn broken_by_streams(serials: &[u32], streams: &[NewStream]) -> Option<Refusal>
-    ensures { (chain : ChainState) → chain.serials ≡ serials.now →
+pub fn broken_by_streams(serials: &Serials, streams: &[NewStream]) -> Option<Refusal>
+    ensures { (chain : ChainState) → chain.serials ≡ serials.now.listed →
         result ≡ first_broken (streams_rules chain false [] streams.now) }
 {
     for (i, stream) in streams.iter().enumerate() {

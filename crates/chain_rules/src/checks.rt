@@ -17,6 +17,7 @@ use crate::entries::{broken_by_entries, with_serial};
 use crate::limits::{LONGEST_FILE, MOST_ENTRIES, MOST_LINKS, MOST_STREAMS, SEQUENCES};
 use crate::refusal::Refusal;
 use crate::runs::{is_long_batch, size_of_runs};
+use crate::serials::Serials;
 use crate::stream_state::StreamState;
 
 /// Whether a stream hasn't ended.
@@ -174,13 +175,13 @@ fn room_for_begin(links: u64, bytes: u64, begin: &Begin) -> Result<u64, Refusal>
 /// A new link.
 pub fn check_begin(
     streams: &[StreamState],
-    serials: &[u32],
+    serials: &Serials,
     links: u64,
     bytes: u64,
     begin: &Begin,
 ) -> Result<u64, Refusal>
     requires counted { bytes < 2 ^ 63 }
-    ensures { (chain : ChainState) → chain.streams ≡ streams.now → chain.serials ≡ serials.now → chain.links ≡ links → chain.length_of ≡ bytes
+    ensures { (chain : ChainState) → chain.streams ≡ streams.now → chain.serials ≡ serials.now.listed → chain.links ≡ links → chain.length_of ≡ bytes
         → result ≡ decision chain (Command.Begin begin.now) }
 {
     if let Some(refusal) = broken_by_begin(streams, begin) {

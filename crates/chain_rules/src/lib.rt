@@ -20,6 +20,7 @@ mod limits;
 mod listed;
 mod refusal;
 mod runs;
+mod serials;
 mod shape;
 mod stream_state;
 

@@ -9,6 +9,7 @@ use crate::checks::{check_begin, check_end, check_put};
 use crate::command::{Begin, Command, Put};
 use crate::laying::{lay_begin, lay_end, lay_put};
 use crate::refusal::Refusal;
+use crate::serials::Serials;
 use crate::stream_state::StreamState;
 use std::alloc::Global;
 use std::marker::Model;
@@ -19,13 +20,13 @@ pub struct Shape {
     // those of the last link
     streams: Vec<StreamState>,
     has_data: bool,
-    serials: Vec<u32>,
+    serials: Serials,
     links: u64,
     bytes: u64,
 }
 
 impl Model for Shape {
-    ghost use Rattle.std.specs.Prelude.{◌≤◌, ◌<◌, ◌^◌, ◌-◌, vec_len, vec_capacity};
+    ghost use Rattle.std.specs.Prelude.{◌≤◌, ◌<◌, ◌^◌, vec_len, vec_capacity};
     ghost use Rattle.chain_rules.specs.Shape.{ShapeState};
 
     ghost Value = { ShapeState };
@@ -34,12 +35,12 @@ impl Model for Shape {
       chain = record {
         streams = s.streams.items;
         has_data = s.has_data;
-        serials = s.serials.items;
+        serials = s.serials.listed;
         links = s.links;
         length_of = s.bytes;
       };
       stream_room = vec_capacity s.streams;
-      serial_room = vec_capacity s.serials - vec_len s.serials;
+      serial_room = s.serials.room;
     } };
 
     ghost invariant = { λ s. (vec_len s.streams ≤ 64) × (s.bytes < 2 ^ 63) };
@@ -58,7 +59,7 @@ impl Shape {
         Shape {
             streams: Vec::new(alloc),
             has_data: false,
-            serials: Vec::new(alloc),
+            serials: Serials::new(alloc),
             links: 0,
             bytes: 0,
         }
@@ -72,7 +73,7 @@ impl Shape {
         match command {
             Command::Begin(begin) => check_begin(
                 self.streams.as_slice(),
-                self.serials.as_slice(),
+                &self.serials,
                 self.links,
                 self.bytes,
                 begin,

@@ -1,4 +1,4 @@
-use Rattle.std.proofs.Common.{◌≡◌, ◌++◌, ◌+◌, map, take, vec_len}
+use Rattle.std.proofs.Common.{◌≡◌, ◌≤◌, ◌++◌, ◌+◌, map, take, vec_len}
 use Rattle.std.specs.Prelude.{vec_capacity}
 use Rattle.chain_rules.specs.declared.command.NewStream.{NewStream}
 use Rattle.chain_rules.specs.Begun.{new_state}
@@ -8,9 +8,8 @@ use Rattle.chain_rules.proofs.accepting.add_streams.Given as goal
 abbrev pub invariant-loop-stream : goal.invariant-loop-stream
 invariant-loop-stream l = record {
   streams : l.streams.items ≡ map new_state (take l.stream-index l.new);
-  serials : l.serials.items ≡ l.fn.serials.items ++ map (λ (s : NewStream). s.serial) (take l.stream-index l.new);
+  serials : l.serials.listed ≡ l.fn.serials.listed ++ map (λ (s : NewStream). s.serial) (take l.stream-index l.new);
   count : vec_len l.streams ≡ l.stream-index;
-  more : vec_len l.serials ≡ vec_len l.fn.serials + l.stream-index;
   room : vec_capacity l.streams ≡ vec_capacity l.fn.streams;
-  serial_room : vec_capacity l.serials ≡ vec_capacity l.fn.serials;
+  serial_room : l.fn.serials.room ≤ l.serials.room + l.stream-index;
 }

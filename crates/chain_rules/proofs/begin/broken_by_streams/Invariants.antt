@@ -8,6 +8,6 @@ use Rattle.chain_rules.proofs.begin.broken_by_streams.Given as goal
 
 -- the streams so far broke no rule
 abbrev pub invariant-loop-i : goal.invariant-loop-i
-invariant-loop-i l = (chain : ChainState) → chain.serials ≡ l.serials →
+invariant-loop-i l = (chain : ChainState) → chain.serials ≡ l.serials.listed →
     first_broken (streams_rules chain false [] l.streams)
     ≡ first_broken (streams_rules chain false (reverse (map (λ (s : NewStream). s.serial) (take l.i l.streams))) (drop l.i l.streams))

@@ -55,15 +55,15 @@ returns c = λ links e.
     let fits : BeginFits chain begin = begin_fits chain begin c.requires.kept in
     let size = kept_size (decision chain (BeginOf begin)) c.requires.kept in
     let streams : c.add_streams.new.streams.items ≡ map new_state begin.streams = c.add_streams.ensures.streams ∙ ap (map new_state) lent in
-    let more : c.add_streams.new.serials.items ≡ c.self.inside.serials.items ++ serials begin.streams =
-    c.add_streams.ensures.serials ∙ ap (λ (l : List NewStream). c.self.inside.serials.items ++ serials l) lent in
+    let more : c.add_streams.new.serials.listed ≡ c.self.inside.serials.listed ++ serials begin.streams =
+    c.add_streams.ensures.serials ∙ ap (λ (l : List NewStream). c.self.inside.serials.listed ++ serials l) lent in
     let others : c.have_other_headers-self-inside.result ≡ list_any has_other_headers begin.streams = c.have_other_headers-self-inside.ensures ∙ ap (list_any has_other_headers) lent in
     let own : c.size_of_begin-size.result ≡ size_of_pages (firsts begin.streams ++ laters begin.streams) =
     c.size_of_begin-size.ensures.value ∙ ap (λ (l : List NewStream). size_of_pages (firsts l ++ laters l)) lent in
-    ap (λ (l : List StreamState). chain_of l c.have_other_headers-self-inside.result c.add_streams.new.serials.items (c.self.inside.links + 1) (c.self.inside.bytes + c.size_of_begin-size.result)) streams
-    ∙ ap (λ b. chain_of (map new_state begin.streams) b c.add_streams.new.serials.items (c.self.inside.links + 1) (c.self.inside.bytes + c.size_of_begin-size.result)) others
+    ap (λ (l : List StreamState). chain_of l c.have_other_headers-self-inside.result c.add_streams.new.serials.listed (c.self.inside.links + 1) (c.self.inside.bytes + c.size_of_begin-size.result)) streams
+    ∙ ap (λ b. chain_of (map new_state begin.streams) b c.add_streams.new.serials.listed (c.self.inside.links + 1) (c.self.inside.bytes + c.size_of_begin-size.result)) others
     ∙ ap (λ l. chain_of (map new_state begin.streams) (list_any has_other_headers begin.streams) l (c.self.inside.links + 1) (c.self.inside.bytes + c.size_of_begin-size.result)) more
-    ∙ ap (λ n. chain_of (map new_state begin.streams) (list_any has_other_headers begin.streams) (c.self.inside.serials.items ++ serials begin.streams) (c.self.inside.links + 1) (c.self.inside.bytes + n)) own
+    ∙ ap (λ n. chain_of (map new_state begin.streams) (list_any has_other_headers begin.streams) (c.self.inside.serials.listed ++ serials begin.streams) (c.self.inside.links + 1) (c.self.inside.bytes + n)) own
     ∙ ap (λ (s : ShapeState). behind_begin s.chain begin.streams (size_of_pages (firsts begin.streams ++ laters begin.streams))) c.self.view_is
     ∙ ap (λ (ch : ChainState). behind_begin ch begin.streams (size_of_pages (firsts begin.streams ++ laters begin.streams))) e
     ∙ sym (begin_state links begin size.0 fits.plain (ap (λ (ch : ChainState). decision ch (BeginOf begin)) (sym e) ∙ size.1))

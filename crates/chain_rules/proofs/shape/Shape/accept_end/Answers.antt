@@ -32,7 +32,7 @@ returns c = λ links e.
     let streams : c.end_stream.new.streams ≡ map (change_at serial (ended_by (next_in chain.streams serial + 1))) chain.streams =
     c.end_stream.ensures ∙ ap (λ (l : List StreamState). map (change_at serial (ended_by (next_in l serial + 1))) l) lent in
     let as_long : length c.end_stream.new.streams ≡ vec_len c.self.inside.streams = c.end_stream.auto.streams ∙ c.as_mut_slice.ensures.len in
-    ap (λ (l : List StreamState). chain_of l true c.self.inside.serials.items c.self.inside.links (c.self.inside.bytes + 27))
+    ap (λ (l : List StreamState). chain_of l true c.self.inside.serials.listed c.self.inside.links (c.self.inside.bytes + 27))
     (given_back c.end_stream.new.streams c.self.inside.streams.items (vec_len c.self.inside.streams) as_long ∙ streams)
     ∙ ap (λ (s : ShapeState). chain_of (map (change_at serial (ended_by (next_in chain.streams serial + 1))) chain.streams) true s.chain.serials s.chain.links (s.chain.length_of + 27)) c.self.view_is
     ∙ ap (λ (ch : ChainState). behind ch serial (ended_by (next_in ch.streams serial + 1)) 27) e

@@ -43,7 +43,7 @@ returns c = λ links e.
     let own : c.add_runs-size.result ≡ size_of_pages (pages_of_runs chain.streams (runs_of put.entries)) =
     c.add_runs-size.ensures.size ∙ ap (λ (l : List StreamState). size_of_pages (pages_of_runs l (runs_of put.entries))) lent in
     let as_long : length c.add_runs-size.new.streams ≡ vec_len c.self.inside.streams = c.add_runs-size.auto.streams ∙ c.as_mut_slice.ensures.len in
-    ap (λ (l : List StreamState). chain_of l true c.self.inside.serials.items c.self.inside.links (c.self.inside.bytes + c.add_runs-size.result))
+    ap (λ (l : List StreamState). chain_of l true c.self.inside.serials.listed c.self.inside.links (c.self.inside.bytes + c.add_runs-size.result))
     (given_back c.add_runs-size.new.streams c.self.inside.streams.items (vec_len c.self.inside.streams) as_long ∙ streams)
     ∙ ap (λ (s : ShapeState). chain_of (fold with_run chain.streams (runs_of put.entries)) true s.chain.serials s.chain.links (s.chain.length_of + c.add_runs-size.result)) c.self.view_is
     ∙ ap (λ (n : ℕ). grown chain (fold with_run chain.streams (runs_of put.entries)) n) own

@@ -1,0 +1,8 @@
+-- The serials of all streams so far, and the room for more.
+use Rattle.std.specs.Prelude.{ℕ, List}
+
+pub record SerialState : Type 0 where
+  -- in the order of their first pages
+  pub listed : List ℕ
+  -- how many more there is room for
+  pub room : ℕ
