@@ -1,6 +1,6 @@
 -- What is so of a command that is kept.
 use Rattle.std.proofs.Common.{◌≡◌, ℕ, zero, suc, ◌+◌, ◌<◌, ◌≤◌, ◌^◌, false, ◌++◌, length, sum_by, refl, sym, arith, Option, Some, None, Result, Ok, Err}
-use Rattle.std.specs.Prelude.{nat_eq, nat_lt, nat_le, is_some, ◌||◌, IsOk}
+use Rattle.std.specs.Prelude.{nat_eq, nat_lt, nat_le, is_some, ◌||◌, IsOk, IfOk}
 use Rattle.std.specs.List.{list_any}
 use Rattle.std.proofs.lemmas.Bool.{or_parts, ltb-false, leb-false}
 use Rattle.chain_rules.specs.declared.command.Command.{Command}
@@ -10,6 +10,7 @@ use Rattle.chain_rules.specs.declared.command.Put.{Put}
 use Rattle.chain_rules.specs.declared.command.SkeletonHead.{SkeletonHead}
 use Rattle.chain_rules.specs.declared.refusal.Refusal.{Refusal}
 use Rattle.chain_rules.specs.ChainState.{ChainState}
+use Rattle.chain_rules.specs.Limits.{longest_file}
 use Rattle.chain_rules.specs.Progress.{next_in}
 use Rattle.chain_rules.specs.Rules.{first_broken}
 use Rattle.chain_rules.specs.Decision.{decision, answer, rules_for, begin_rules, item_rules, entries_rules, room_rules, size_of, header_bytes, has_many_headers}
@@ -104,3 +105,27 @@ begin_fits chain begin ok =
       links = leb-false 65536 chain.links room.1.1.0;
       room = ltb-false (2 ^ 40) (chain.length_of + size_of_pages (pages_of_command chain (BeginOf begin)) + 1) room.1.1.1.0;
     }
+
+-- ---- any command
+-- the last rule leaves room for the pages and one byte more
+room_left : (chain : ChainState) (command : Command) → Unbroken (room_rules chain command) → chain.length_of + size_of chain command < 2 ^ 40
+room_left chain command room =
+    let left : chain.length_of + size_of chain command + 1 ≤ 2 ^ 40 = ltb-false (2 ^ 40) (chain.length_of + size_of chain command + 1) room.1.1.1.0 in
+    omega (arith, left)
+
+room_is_kept : (chain : ChainState) (command : Command) → Unbroken (rules_for chain command) → Unbroken (room_rules chain command)
+room_is_kept chain (BeginOf begin) kept =
+    (all_split (λ rule. rule.0 ≡ false) (begin_rules chain begin ++ item_rules chain begin) (room_rules chain (BeginOf begin)) kept).1
+room_is_kept chain (PutOf put) kept =
+    (all_split (λ rule. rule.0 ≡ false) (entries_rules chain.streams put.entries) (room_rules chain (PutOf put)) kept.1.1.1).1
+room_is_kept chain (EndOf serial) kept = kept.1.1.1
+
+if_ok : {P : ℕ → Type 0} (answer : Result ℕ Refusal) → ((size : ℕ) → answer ≡ Ok size → P size) → IfOk answer P
+if_ok (Ok size) so = so size refl
+if_ok (Err refusal) so = tt
+
+pub size_fits : (chain : ChainState) (command : Command) → IfOk (decision chain command) (λ size. chain.length_of + size < longest_file)
+size_fits chain command = if_ok (decision chain command) (λ size e.
+    let own : size ≡ size_of chain command = size_is_own chain command size e in
+    let room : chain.length_of + size_of chain command < 2 ^ 40 = room_left chain command (room_is_kept chain command (no_rule_broken chain command size e)) in
+    omega (arith, own, room))

@@ -1,5 +1,5 @@
 //! The chain of the links so far.
-ghost use Rattle.std.specs.Prelude.{◌≡◌, ◌≤◌, ◌<◌, ◌+◌, ◌++◌, ℕ, List, [], OnOk, OnErr, IsOk, length, vec_len, vec_capacity};
+ghost use Rattle.std.specs.Prelude.{◌≡◌, ◌≤◌, ◌<◌, ◌+◌, ◌++◌, ℕ, List, [], OnOk, OnErr, IfOk, IsOk, length, vec_len, vec_capacity};
 ghost use Rattle.ogg_page.specs.Page.{Page};
 
 use crate::Memory;
@@ -49,6 +49,7 @@ impl Model for Shape {
 impl Shape {
     ghost use Rattle.chain_rules.specs.ChainState.{chain_state_of};
     ghost use Rattle.chain_rules.specs.Decision.{decision};
+    ghost use Rattle.chain_rules.specs.Limits.{longest_file};
     ghost use Rattle.chain_rules.specs.Shape.{HasRoom};
     ghost use Rattle.chain_rules.specs.Encoding.{command_bytes, links_after};
 
@@ -66,8 +67,15 @@ impl Shape {
     }
 
     /// The size in bytes of the pages that a command would add, or why it is refused: the first
-    /// reason in the order of `Refusal`.
+    /// reason in the order of `Refusal`. With them, and the byte behind them, the file fits.
     pub fn check(&self, command: &Command) -> Result<u64, Refusal>
+        ensures decides { result ≡ decision self.now.chain command.now }
+        ensures fits { IfOk result (λ size. self.now.chain.length_of + size < longest_file) }
+    {
+        self.decide(command)
+    }
+
+    fn decide(&self, command: &Command) -> Result<u64, Refusal>
         ensures { result ≡ decision self.now.chain command.now }
     {
         match command {
