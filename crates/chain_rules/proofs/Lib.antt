@@ -21,3 +21,4 @@ pub mod LaidRuns
 pub mod Ending
 pub mod Putting
 pub mod Held
+pub mod Longer

@@ -1,5 +1,5 @@
 //! The chain of the links so far.
-ghost use Rattle.std.specs.Prelude.{◌≡◌, ◌≤◌, ◌<◌, ◌+◌, ◌++◌, ℕ, List, [], OnOk, OnErr, IfOk, IsOk, length, vec_len, vec_capacity};
+ghost use Rattle.std.specs.Prelude.{◌≡◌, ◌≤◌, ◌<◌, ◌+◌, ◌++◌, ℕ, List, [], OnOk, OnErr, IfOk, IsOk, Ok, length, vec_len, vec_capacity};
 ghost use Rattle.ogg_page.specs.Page.{Page};
 
 use crate::Memory;
@@ -152,8 +152,10 @@ impl Shape {
     pub fn accept(&mut self, command: &Command)
         requires kept { IsOk (decision self.old.chain command.now) }
         requires room { HasRoom self.old command.now }
-        ensures { (links : List (List Page)) → self.old.chain ≡ chain_state_of links
+        ensures links { (links : List (List Page)) → self.old.chain ≡ chain_state_of links
             → self.new.chain ≡ chain_state_of (links_after links command.now) }
+        ensures grows { (links : List (List Page)) (size : ℕ) → self.old.chain ≡ chain_state_of links → decision self.old.chain command.now ≡ Ok size
+            → self.new.chain.length_of ≡ self.old.chain.length_of + size }
     {
         match command {
             Command::Begin(begin) => self.accept_begin(begin),
