@@ -6,7 +6,6 @@
 #![tactic(auto)]
 
 mod fault;
-mod muxing;
 mod streams;
 mod words;
 

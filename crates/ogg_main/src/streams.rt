@@ -1,7 +1,6 @@
 //! The commands of the program, each over the standard streams that it reads and writes.
 
 use crate::fault::Fault;
-use crate::muxing;
 use feed_codec::FeedFault;
 use std::io::{self, BufReader};
 
@@ -17,9 +16,9 @@ pub fn mux(rt: &HostRuntime, check: bool) -> Result<(), Fault> {
     };
     // The standard streams keep no bytes back, so what is written is out.
     if check {
-        muxing::mux(alloc, &mut feed, &mut io::sink(), &mut rt.stdout())?;
+        multiplexer::mux(alloc, &mut feed, &mut io::sink(), &mut rt.stdout())?;
     } else {
-        muxing::mux(alloc, &mut feed, &mut rt.stdout(), &mut rt.stderr())?;
+        multiplexer::mux(alloc, &mut feed, &mut rt.stdout(), &mut rt.stderr())?;
     }
     Ok(())
 }

@@ -1,0 +1,72 @@
+-- The commands of a run that were kept, and their pages.
+use Rattle.std.proofs.Common.{◌≡◌, ◌+◌, ℕ, List, [], ◌∷◌, ◌++◌, length, inl, inr, refl, sym, ap, ◌∙◌, subst, arith, Result, Ok, Err}
+use Rattle.std.specs.Prelude.{IsOk}
+use Rattle.std.specs.List.{AllByRecursion}
+use Rattle.chain_rules.specs.ChainState.{chain_state_of}
+use Rattle.chain_rules.specs.Commands.{AreKept, bytes_of_commands, links_behind}
+use Rattle.chain_rules.specs.Decision.{decision}
+use Rattle.chain_rules.specs.Encoding.{command_bytes}
+use Rattle.chain_rules.specs.declared.command.Command.{Command}
+use Rattle.chain_rules.specs.declared.refusal.Refusal.{Refusal}
+use Rattle.feed_codec.specs.declared.reply.Reply.{Reply}
+use Rattle.feed_codec.specs.declared.reply.Reply.TheVariants.{Kept as KeptOf, Refused}
+use Rattle.multiplexer.specs.Progress.{Progress, AnsweredBy, AnswersAll, kept_of, with_command}
+
+-- what the commands of a run have come to, behind where they began
+pub record CameTo (before : Progress) (kept : List Command) (bytes : List ℕ) (behind : Progress) : Type 0 where
+  pub are_kept : AreKept before.links kept
+  pub bytes_are : bytes ≡ bytes_of_commands before.links kept
+  pub links_are : behind.links ≡ links_behind before.links kept
+  pub count_is : behind.kept ≡ before.kept + length kept
+
+nothing : (before : Progress) (bytes : List ℕ) (behind : Progress) → bytes ≡ [] → behind ≡ before → CameTo before [] bytes behind
+nothing before bytes behind none same =
+    record { are_kept = tt; bytes_are = none; links_are = ap (λ (p : Progress). p.links) same; count_is = omega (arith, ap (λ (p : Progress). p.kept) same) }
+
+-- a refusal in front
+passed : (before next : Progress) (kept : List Command) (own later bytes : List ℕ) (behind : Progress) → own ≡ [] → next ≡ before → bytes ≡ own ++ later
+    → CameTo next kept later behind → CameTo before kept bytes behind
+passed before next kept own later bytes behind none same whole came =
+    let there : CameTo before kept later behind = subst (λ (p : Progress). CameTo p kept later behind) same came in
+    subst (λ l. CameTo before kept l behind) (sym (whole ∙ ap (λ l. l ++ later) none)) there
+
+-- a command that was kept in front
+taken : (before next : Progress) (command : Command) (size : ℕ) (kept : List Command) (own later bytes : List ℕ) (behind : Progress)
+    → decision (chain_state_of before.links) command ≡ Ok size → own ≡ command_bytes (chain_state_of before.links) command → next ≡ with_command before command → bytes ≡ own ++ later
+    → CameTo next kept later behind → CameTo before (command ∷ kept) bytes behind
+taken before next command size kept own later bytes behind decided pages more whole came =
+    let there : CameTo (with_command before command) kept later behind = subst (λ (p : Progress). CameTo p kept later behind) more came in
+    record {
+      are_kept = (subst (λ (r : Result ℕ Refusal). IsOk r) (sym decided) refl, there.are_kept);
+      bytes_are = whole ∙ ap (λ l. l ++ later) pages ∙ ap (λ l. command_bytes (chain_state_of before.links) command ++ l) there.bytes_are;
+      links_are = there.links_are;
+      count_is = omega (arith, there.count_is);
+    }
+
+one_kept : (decided : Result ℕ Refusal) (before next : Progress) (command : Command) (commands : List Command) (reply : Reply) (replies : List Reply) (own later bytes : List ℕ) (behind : Progress)
+    → decision (chain_state_of before.links) command ≡ decided → AnsweredBy decided before command reply own next → bytes ≡ own ++ later
+    → CameTo next (kept_of commands replies) later behind → CameTo before (kept_of (command ∷ commands) (reply ∷ replies)) bytes behind
+one_kept (Err refusal) before next command commands (KeptOf kept) replies own later bytes behind is (told, none, same) whole came = absurd (cc told)
+one_kept (Err refusal) before next command commands (Refused r) replies own later bytes behind is (told, none, same) whole came =
+    passed before next (kept_of commands replies) own later bytes behind none same whole came
+one_kept (Ok size) before next command commands (KeptOf kept) replies own later bytes behind is (inl (told, pages, more)) whole came =
+    taken before next command size (kept_of commands replies) own later bytes behind is pages more whole came
+one_kept (Ok size) before next command commands (Refused r) replies own later bytes behind is (inl (told, pages, more)) whole came = absurd (cc told)
+one_kept (Ok size) before next command commands (KeptOf kept) replies own later bytes behind is (inr (told, none, same)) whole came = absurd (cc told)
+one_kept (Ok size) before next command commands (Refused r) replies own later bytes behind is (inr (told, none, same)) whole came =
+    passed before next (kept_of commands replies) own later bytes behind none same whole came
+
+pub came_to : (before : Progress) (commands : List Command) (replies : List Reply) (bytes : List ℕ) (behind : Progress) → AnswersAll before commands replies bytes behind
+    → CameTo before (kept_of commands replies) bytes behind
+came_to before [] [] bytes behind (none, same) = nothing before bytes behind none same
+came_to before [] (reply ∷ replies) bytes behind all = absurd all
+came_to before (command ∷ commands) [] bytes behind all = absurd all
+came_to before (command ∷ commands) (reply ∷ replies) bytes behind (next, own, later, answer, rest, whole) =
+    one_kept (decision (chain_state_of before.links) command) before next command commands reply replies own later bytes behind refl answer whole
+    (came_to next commands replies later behind rest)
+
+pub each_kept : (P : Command → Type 0) (commands : List Command) (replies : List Reply) → AllByRecursion P commands → AllByRecursion P (kept_of commands replies)
+each_kept P [] replies all = tt
+each_kept P (command ∷ commands) [] all = tt
+each_kept P (command ∷ commands) (KeptOf kept ∷ replies) (first, rest) = (first, each_kept P commands replies rest)
+each_kept P (command ∷ commands) (Refused refusal ∷ replies) (first, rest) = each_kept P commands replies rest

@@ -1,0 +1,57 @@
+-- How far a run over a feed has come, and how a command is answered there. Ours.
+use Rattle.std.specs.Prelude.{◌≡◌, ◌⊎◌, ℕ, ◌+◌, Result, Ok, Err, List, [], ◌∷◌, ◌++◌}
+use Rattle.ogg_page.specs.Page.{Page}
+use Rattle.chain_rules.specs.ChainState.{chain_state_of}
+use Rattle.chain_rules.specs.Encoding.{command_bytes, links_after}
+use Rattle.chain_rules.specs.Decision.{decision}
+use Rattle.chain_rules.specs.declared.command.Command.{Command}
+use Rattle.chain_rules.specs.declared.refusal.Refusal.{Refusal}
+use Rattle.chain_rules.specs.declared.refusal.Refusal.TheVariants.{Memory}
+use Rattle.feed_codec.specs.declared.reply.Reply.{Reply}
+use Rattle.feed_codec.specs.declared.reply.Reply.TheVariants.{Kept as KeptOf, Refused}
+
+-- the links so far, and how many commands were kept
+pub record Progress : Type 0 where
+  pub links : List (List Page)
+  pub kept : ℕ
+
+-- no links yet
+abbrev pub at_start : Progress
+at_start = record { links = []; kept = 0 }
+
+-- how long the file is
+abbrev pub end_of : Progress → ℕ
+end_of progress = (chain_state_of progress.links).length_of
+
+-- the progress behind a command that was kept
+abbrev pub with_command : Progress → Command → Progress
+with_command progress command = record { links = links_after progress.links command; kept = progress.kept + 1 }
+
+-- A command of this decision gets this reply, these bytes are its pages, and so far the run has come behind it. A command
+-- that isn't refused by a rule is kept, or refused for want of memory; a refusal writes no page and changes nothing.
+abbrev pub AnsweredBy : Result ℕ Refusal → Progress → Command → Reply → List ℕ → Progress → Type 0
+AnsweredBy (Err refusal) before command reply bytes behind = (reply ≡ Refused refusal) × (bytes ≡ []) × (behind ≡ before)
+AnsweredBy (Ok size) before command reply bytes behind =
+    ((reply ≡ KeptOf (record { count = before.kept + 1; end = end_of before + size }))
+    × (bytes ≡ command_bytes (chain_state_of before.links) command) × (behind ≡ with_command before command))
+    ⊎ ((reply ≡ Refused Memory) × (bytes ≡ []) × (behind ≡ before))
+
+-- the command is answered by the decision on it
+abbrev pub Answers : Progress → Command → Reply → List ℕ → Progress → Type 0
+Answers before command reply bytes behind = AnsweredBy (decision (chain_state_of before.links) command) before command reply bytes behind
+
+-- commands in turn, each answered where the commands before it have brought the run; all their pages
+abbrev pub AnswersAll : Progress → List Command → List Reply → List ℕ → Progress → Type 0
+AnswersAll before [] [] bytes behind = (bytes ≡ []) × (behind ≡ before)
+AnswersAll before (command ∷ commands) (reply ∷ replies) bytes behind =
+    (next : Progress) × (own : List ℕ) × (later : List ℕ)
+    × Answers before command reply own next × AnswersAll next commands replies later behind × (bytes ≡ own ++ later)
+AnswersAll before [] (reply ∷ replies) bytes behind = ⊥
+AnswersAll before (command ∷ commands) [] bytes behind = ⊥
+
+-- the commands that were kept, in order
+abbrev pub kept_of : List Command → List Reply → List Command
+kept_of [] replies = []
+kept_of (command ∷ commands) [] = []
+kept_of (command ∷ commands) (KeptOf kept ∷ replies) = command ∷ kept_of commands replies
+kept_of (command ∷ commands) (Refused refusal ∷ replies) = kept_of commands replies

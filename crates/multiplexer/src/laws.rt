@@ -1,0 +1,26 @@
+//! What always holds of a run.
+ghost use Rattle.std.specs.Prelude.{◌≡◌, List, [], ℕ, length};
+ghost use Rattle.std.specs.List.{AllByRecursion};
+ghost use Rattle.chain_rules.specs.Command.{IsCommand};
+ghost use Rattle.chain_rules.specs.Commands.{AreKept, bytes_of_commands, links_behind};
+ghost use Rattle.chain_rules.specs.Recording.{Holds, after};
+ghost use Rattle.chain_rules.specs.declared.command.Command.{Command};
+ghost use Rattle.feed_codec.specs.declared.reply.Reply.{Reply};
+ghost use Rattle.multiplexer.specs.Progress.{Progress, at_start, AnswersAll, kept_of};
+
+use chain_rules::commands_add_their_packets;
+
+/// The pages that a run has written are just those of the commands that were kept, none of which is
+/// refused behind those before it; and they are a chain of links that holds just their packets
+/// (RFC 3533, sections 4 to 6).
+pub fn run_writes_what_was_kept()
+    ensures pages { (commands : List Command) (replies : List Reply) (bytes : List ℕ) (behind : Progress) →
+        AnswersAll at_start commands replies bytes behind →
+        AreKept [] (kept_of commands replies) × (bytes ≡ bytes_of_commands [] (kept_of commands replies))
+        × (behind.links ≡ links_behind [] (kept_of commands replies)) × (behind.kept ≡ length (kept_of commands replies)) }
+    ensures holds { (commands : List Command) (replies : List Reply) (bytes : List ℕ) (behind : Progress) →
+        AllByRecursion IsCommand commands → AnswersAll at_start commands replies bytes behind →
+        Holds bytes (after [] (kept_of commands replies)) }
+{
+    commands_add_their_packets();
+}
