@@ -1,0 +1,308 @@
+//! Feeds that are run whole, and feeds that end in a fault: each answer, and the pages.
+use crate::records::Packet::{Text, Zeros};
+use crate::records::Record::{Begin, BeginMany, Bytes, End, Put, PutMany};
+use crate::records::{Packet, Record, append};
+use feed_codec::{FeedFault, RunFault};
+use multiplexer::mux;
+use std::test::Fail;
+
+/// The page of a stream with serial 1 whose first header is `abc`.
+const FIRST: &[u8] = b"OggS\x00\x02\0\0\0\0\0\0\0\0\x01\0\0\0\0\0\0\0\x92\xdd\xf6\x15\x01\x03abc";
+
+/// Its page with the packet `hello`, at position 5.
+const SECOND: &[u8] = b"OggS\0\0\x05\0\0\0\0\0\0\0\x01\0\0\0\x01\0\0\0\xbb\xfev\xea\x01\x05hello";
+
+/// Its last page.
+const THIRD: &[u8] = b"OggS\0\x04\x05\0\0\0\0\0\0\0\x01\0\0\0\x02\0\0\0\xdb\x9d\x91\x8b\0";
+
+/// A begin of the stream with serial 1 and the header `abc`.
+const ONE: Record = Begin(&[(1, &[Text(b"abc")])]);
+
+/// A put of `hello` at position 5.
+const HELLO: Record = Put(&[(1, 5, Text(b"hello"))]);
+
+/// The longest packet of a put.
+const LONG: (u32, u64, Packet) = (1, 0, Zeros(1_048_576));
+
+/// A feed, and what it comes to.
+struct Example {
+    /// Each record, and the line that answers it.
+    turns: &'static [(Record, &'static str)],
+    /// How long the pages are.
+    end: u64,
+    /// Bytes of the pages, each with where they stand.
+    found: &'static [(usize, &'static [u8])],
+}
+
+/// Feeds without a fault.
+const EXAMPLES: [Example; 16] = [
+    // No command.
+    Example {
+        turns: &[],
+        end: 0,
+        found: &[],
+    },
+    // A link, a packet and the stream's end. After that no link is open.
+    Example {
+        turns: &[
+            (PutMany(0, Zeros(0)), "refused 3 NoLink\n"),
+            (ONE, "kept 1 31\n"),
+            (HELLO, "kept 2 64\n"),
+            (End(1), "kept 3 91\n"),
+            (
+                Begin(&[(2, &[Text(b"abc")]), (2, &[Text(b"abc")])]),
+                "refused 6 SerialTaken\n",
+            ),
+            (End(1), "refused 3 NoLink\n"),
+        ],
+        end: 91,
+        found: &[(0, FIRST), (31, SECOND), (64, THIRD)],
+    },
+    // Packets whose lengths are multiples of 255, or nearly.
+    Example {
+        turns: &[
+            (ONE, "kept 1 31\n"),
+            (
+                Put(&[
+                    (1, 0, Zeros(0)),
+                    (1, 0, Zeros(254)),
+                    (1, 0, Zeros(255)),
+                    (1, 0, Zeros(510)),
+                ]),
+                "kept 2 1084\n",
+            ),
+        ],
+        end: 1084,
+        found: &[(57, &[7, 0, 254, 255, 0, 255, 255, 0])],
+    },
+    // The longest packet that lies whole in a page.
+    Example {
+        turns: &[
+            (ONE, "kept 1 31\n"),
+            (Put(&[(1, 7, Zeros(65_024))]), "kept 2 65337\n"),
+        ],
+        end: 65_337,
+        found: &[(31, b"OggS\0\0\x07\0\0\0\0\0\0\0")],
+    },
+    // One byte more: no packet ends in its first page, and the second goes on with it.
+    Example {
+        turns: &[
+            (ONE, "kept 1 31\n"),
+            (Put(&[(1, 7, Zeros(65_025))]), "kept 2 65366\n"),
+        ],
+        end: 65_366,
+        found: &[
+            (31, b"OggS\0\0\xff\xff\xff\xff\xff\xff\xff\xff"),
+            (65_338, b"OggS\0\x01\x07\0\0\0\0\0\0\0\x01\0\0\0\x02\0\0\0"),
+            (65_364, &[1, 0]),
+        ],
+    },
+    // As many lacing values as a page has, and one more.
+    Example {
+        turns: &[
+            (ONE, "kept 1 31\n"),
+            (PutMany(255, Zeros(0)), "kept 2 313\n"),
+        ],
+        end: 313,
+        found: &[(57, &[255, 0])],
+    },
+    Example {
+        turns: &[
+            (ONE, "kept 1 31\n"),
+            (PutMany(256, Zeros(0)), "kept 2 341\n"),
+        ],
+        end: 341,
+        found: &[(57, &[255, 0]), (313, b"OggS\0\0\0\0"), (339, &[1, 0])],
+    },
+    // A put with an entry that can't be: none of it is written.
+    Example {
+        turns: &[
+            (ONE, "kept 1 31\n"),
+            (
+                Put(&[(1, 5, Text(b"hello")), (7, 5, Text(b"x"))]),
+                "refused 12 UnknownSerial\n",
+            ),
+        ],
+        end: 31,
+        found: &[(0, FIRST)],
+    },
+    // Two streams that end one after the other, and the next link.
+    Example {
+        turns: &[
+            (
+                Begin(&[(1, &[Text(b"abc")]), (2, &[Text(b"abc")])]),
+                "kept 1 62\n",
+            ),
+            (End(1), "kept 2 89\n"),
+            (End(1), "refused 13 StreamEnded\n"),
+            (Begin(&[(3, &[Text(b"abc")])]), "refused 2 LinkOpen\n"),
+            (End(2), "kept 3 116\n"),
+            (Put(&[(2, 0, Text(b"x"))]), "refused 3 NoLink\n"),
+            (Begin(&[(2, &[Text(b"abc")])]), "refused 6 SerialTaken\n"),
+            (Begin(&[(3, &[Text(b"abc")])]), "kept 4 147\n"),
+        ],
+        end: 147,
+        found: &[
+            (62, b"OggS\0\x04\0\0\0\0\0\0\0\0\x01\0\0\0\x01\0\0\0"),
+            (116, b"OggS\0\x02\0\0\0\0\0\0\0\0\x03\0\0\0\0\0\0\0"),
+        ],
+    },
+    // Positions: never back, also within a put, and at most 2^63 - 1.
+    Example {
+        turns: &[
+            (ONE, "kept 1 31\n"),
+            (HELLO, "kept 2 64\n"),
+            (
+                Put(&[(1, 4, Text(b"x")), (7, 9, Text(b"y"))]),
+                "refused 15 PositionBack\n",
+            ),
+            (
+                Put(&[(7, 9, Text(b"y")), (1, 4, Text(b"x"))]),
+                "refused 12 UnknownSerial\n",
+            ),
+            (
+                Put(&[(1, 9, Text(b"x")), (1, 8, Text(b"y"))]),
+                "refused 15 PositionBack\n",
+            ),
+            (Put(&[(1, 4, Text(b"x"))]), "refused 15 PositionBack\n"),
+            (Put(&[(1, 5, Text(b"x"))]), "kept 3 93\n"),
+            (
+                Put(&[(1, 0x8000_0000_0000_0000, Text(b"x"))]),
+                "refused 14 PositionRange\n",
+            ),
+            (
+                Put(&[(1, 0x7fff_ffff_ffff_ffff, Text(b"x"))]),
+                "kept 4 122\n",
+            ),
+        ],
+        end: 122,
+        found: &[(93, b"OggS\0\0\xff\xff\xff\xff\xff\xff\xff\x7f")],
+    },
+    // Headers, of which the first stands alone.
+    Example {
+        turns: &[(
+            Begin(&[(1, &[Text(b"abc"), Text(b"de"), Text(b"f")])]),
+            "kept 1 63\n",
+        )],
+        end: 63,
+        found: &[(0, FIRST), (57, &[2, 2, 1, b'd', b'e', b'f'])],
+    },
+    // Entries of two streams: a run goes as far as its stream.
+    Example {
+        turns: &[
+            (
+                Begin(&[(1, &[Text(b"abc")]), (2, &[Text(b"abc")])]),
+                "kept 1 62\n",
+            ),
+            (
+                Put(&[
+                    (1, 0, Text(b"a")),
+                    (1, 0, Text(b"b")),
+                    (2, 0, Text(b"c")),
+                    (1, 0, Text(b"d")),
+                ]),
+                "kept 2 151\n",
+            ),
+        ],
+        end: 151,
+        found: &[
+            (88, &[2, 1, 1, b'a', b'b']),
+            (93, b"OggS\0\0\0\0\0\0\0\0\0\0\x02\0\0\0\x01\0\0\0"),
+            (122, b"OggS\0\0\0\0\0\0\0\0\0\0\x01\0\0\0\x02\0\0\0"),
+        ],
+    },
+    // The longest packet, and what is longer; the longest batch; the most entries.
+    Example {
+        turns: &[
+            (ONE, "kept 1 31\n"),
+            (
+                Put(&[(1, 0, Zeros(1_048_577))]),
+                "refused 9 PacketTooLong\n",
+            ),
+            (PutMany(17, Zeros(1_048_576)), "refused 16 BatchTooLong\n"),
+            (PutMany(0, Zeros(0)), "refused 4 Empty\n"),
+            (PutMany(4097, Zeros(0)), "refused 5 TooMany\n"),
+            (Put(&[LONG]), "kept 2 1053179\n"),
+        ],
+        end: 1_053_179,
+        found: &[(0, FIRST)],
+    },
+    // No stream, no header, a first header that doesn't lie whole in a page.
+    Example {
+        turns: &[
+            (BeginMany(0), "refused 4 Empty\n"),
+            (Begin(&[(1, &[])]), "refused 7 NoHeader\n"),
+            (Begin(&[(1, &[Zeros(65_025)])]), "refused 8 HeadTooLong\n"),
+            (Begin(&[(1, &[Zeros(65_024)])]), "kept 1 65306\n"),
+        ],
+        end: 65_306,
+        found: &[(26, &[255, 255])],
+    },
+    // The most streams, and one more.
+    Example {
+        turns: &[(BeginMany(64), "kept 1 1984\n")],
+        end: 1984,
+        found: &[(0, FIRST)],
+    },
+    Example {
+        turns: &[(BeginMany(65), "refused 5 TooMany\n")],
+        end: 0,
+        found: &[],
+    },
+];
+
+#[test]
+fn each_command_is_answered_and_its_pages_are_written(rt: HostRuntime) -> Result<(), Fail> {
+    for example in &EXAMPLES {
+        let mut feed = Vec::new(rt.alloc());
+        let mut lines = Vec::new(rt.alloc());
+        for (record, line) in example.turns {
+            append(*record, &mut feed)?;
+            lines.extend_from_slice(line.as_bytes())?;
+        }
+        let mut pages = Vec::new(rt.alloc());
+        let mut replies = Vec::new(rt.alloc());
+        let tally = mux(rt.alloc(), &mut feed.as_slice(), &mut pages, &mut replies)?;
+        assert_eq!(rt; replies.as_slice(), lines.as_slice());
+        assert_eq!(rt; tally.commands, example.turns.len() as u64);
+        assert_eq!(rt; (tally.end, pages.len() as u64), (example.end, example.end));
+        for (at, bytes) in example.found {
+            let stands = pages.get(*at..).is_some_and(|rest| rest.starts_with(bytes));
+            assert!(rt; stands, "{bytes:?} at {at}");
+        }
+    }
+    Ok(())
+}
+
+/// The begin of the stream with serial 1 and the header `abc`, whose payload is said to be one byte
+/// longer than its streams take, and is.
+const LONGER: Record = Bytes(
+    b"\x01\x30\0\0\0\0\x01\0\x01\0\0\0\x01\0\x03\0\0\0abc\0\0\
+      \0\0\0\0\0\0\0\0\0\0\0\0\0\0\0\0\0\0\0\0\0\0\0\0\0\0\0\0\0\0",
+);
+
+/// What follows a feed's begin, and the fault that it is.
+const FAULTS: [(Record, FeedFault); 6] = [
+    (Bytes(b"\x02\x17\0\0\0\x01\0\x01"), FeedFault::Truncated),
+    (Bytes(b"\x02\x17\0"), FeedFault::Truncated),
+    (Bytes(b"\x09\x04\0\0\0\x01\0\0\0"), FeedFault::Kind),
+    (Bytes(b"\x02\x01\0\0\x02"), FeedFault::Length),
+    (Bytes(b"\x03\x03\0\0\0\x01\0\0"), FeedFault::Form),
+    (LONGER, FeedFault::Form),
+];
+
+#[test]
+fn what_stands_before_a_fault_of_the_feed_is_run(rt: HostRuntime) -> Result<(), Fail> {
+    for (broken, fault) in FAULTS {
+        let mut feed = Vec::new(rt.alloc());
+        append(ONE, &mut feed)?;
+        append(broken, &mut feed)?;
+        let mut pages = Vec::new(rt.alloc());
+        let mut replies = Vec::new(rt.alloc());
+        let run = mux(rt.alloc(), &mut feed.as_slice(), &mut pages, &mut replies);
+        assert_eq!(rt; run, Err(RunFault::Feed(fault)));
+        assert_eq!(rt; pages.as_slice(), FIRST);
+        assert_eq!(rt; replies.as_slice(), b"kept 1 31\n".as_slice());
+    }
+    Ok(())
+}
