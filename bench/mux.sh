@@ -1,6 +1,6 @@
 #!/usr/bin/env bash
-# The same feed through `mux` and through a small program over libogg: the pages compared byte for byte, and the CPU
-# seconds (user and system) of both, each the best of three runs that take turns. Not part of the tests.
+# The same feed through `mux` and through a small program over libogg: the pages and the replies compared byte for byte,
+# and the CPU seconds (user and system) of both, each the best of three runs that take turns. Not part of the tests.
 #
 #     apt-get install libogg-dev && bench/mux.sh [SHAPE ..]      tiny, audio, streams, frames, large; none: all
 set -u
@@ -12,12 +12,13 @@ trap 'rm -rf "$work"' EXIT
 [ -x "$program" ] || { echo "no program at $program: ./kudzuturret builds it" >&2; exit 1; }
 cc -O2 -o "$work/mux_libogg" "$here/mux_libogg.c" -logg || exit 1
 
-# cpu FILE COMMAND ..: runs the command on the feed, its pages to FILE, and prints its CPU seconds.
+# cpu FILE COMMAND ..: runs the command on the feed, its pages to FILE, its replies to FILE.replies, and prints its CPU
+# seconds.
 cpu() {
     local file=$1
     shift
     TIMEFORMAT='%U %S'
-    { time "$@" <"$work/feed" >"$file" 2>/dev/null; } 2>&1 | awk '{ printf "%.3f\n", $1 + $2 }'
+    { time "$@" <"$work/feed" >"$file" 2>"$file.replies"; } 2>&1 | awk '{ printf "%.3f\n", $1 + $2 }'
 }
 
 printf '%-8s %12s %10s %10s %7s\n' shape 'pages, MB' 'mux, s' 'libogg, s' ratio
@@ -30,11 +31,11 @@ for shape in "${@:-tiny audio streams frames large}"; do
             ours+="$(cpu "$work/ours" "$program" mux) "
             theirs+="$(cpu "$work/theirs" "$work/mux_libogg") "
         done
-        cmp "$work/ours" "$work/theirs" || status=1
+        cmp "$work/ours" "$work/theirs" && cmp "$work/ours.replies" "$work/theirs.replies" || status=1
         echo "$shape $(stat -c %s "$work/ours") $(printf '%s\n' $ours | sort -n | head -n 1) $(printf '%s\n' $theirs | sort -n | head -n 1)" |
             awk '{ printf "%-8s %12.1f %10.2f %10.2f %7.2f\n", $1, $2 / 1e6, $3, $4, $3 / $4 }'
         rm -f "$work/ours" "$work/theirs"
     done
 done
-[ "$status" -eq 0 ] || echo "the pages differ"
+[ "$status" -eq 0 ] || echo "they differ"
 exit "$status"

@@ -1,7 +1,8 @@
-// Writes the pages of a feed on standard input to standard output, by libogg: what `kudzuturret mux` does, without the
-// rules and the replies. It trusts its input, and only counts each command that it met.
+// Writes the pages of a feed on standard input to standard output, by libogg, and a reply for each command to standard
+// error: what `kudzuturret mux` does, without its rules. It trusts its input, so each command is kept.
 //
 //     cc -O2 -o mux_libogg mux_libogg.c -logg && ./mux_libogg < FEED > PAGES
+#include <inttypes.h>
 #include <ogg/ogg.h>
 #include <stdint.h>
 #include <stdio.h>
@@ -124,6 +125,7 @@ static void end(const unsigned char *at) {
 int main(void) {
     unsigned char head[5], *payload = malloc(MOST_PAYLOAD);
     static char buffer[65536];
+    uint64_t kept = 0, end_of_file = 0;
     setvbuf(stdin, buffer, _IOFBF, sizeof buffer);
     if (!payload) fail("no memory");
     while (fread(head, 1, 5, stdin) == 5) {
@@ -143,6 +145,10 @@ int main(void) {
             if (took <= 0) fail("writing failed");
             done += took;
         }
+        end_of_file += length;
+        char line[64];
+        int size_of_line = snprintf(line, sizeof line, "kept %" PRIu64 " %" PRIu64 "\n", ++kept, end_of_file);
+        if (write(2, line, size_of_line) != size_of_line) return 1;
     }
     return 0;
 }
