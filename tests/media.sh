@@ -1,0 +1,85 @@
+#!/usr/bin/env bash
+# Real media through `mux`, looked at with independent tools: an encoder's packets are taken out of its file, muxed again,
+# and must come back the same. Not part of the tests that ./check runs, since it installs packages.
+#
+#     tests/media.sh            the last line is 'N passed, M failed'
+set -u
+top=$(cd "$(dirname "$0")/.." && pwd)
+program=${PROGRAM:-$top/crates/ogg_main/out/ogg_main}
+work=$(mktemp -d)
+trap 'rm -rf "$work"' EXIT
+passed=0
+failed=0
+
+for tool in ffmpeg ffprobe ogginfo oggz; do
+    if ! command -v "$tool" >"$work/which"; then
+        apt-get update && apt-get install -y ffmpeg vorbis-tools oggz-tools || exit 1
+        break
+    fi
+done >"$work/install" 2>&1 || { tail -n 5 "$work/install"; exit 1; }
+[ -x "$program" ] || { echo "no program at $program: ./kudzuturret builds it" >&2; exit 1; }
+
+check() {
+    local name=$1
+    shift
+    if "$@"; then
+        passed=$((passed + 1))
+    else
+        failed=$((failed + 1))
+        echo "FAILED: $name"
+    fi
+}
+
+encode() { ffmpeg -nostdin -loglevel error -y "$@"; }
+
+# A second of a tone, and of moving bars.
+tone=(-f lavfi -i "sine=frequency=440:duration=2:sample_rate=48000")
+bars=(-f lavfi -i "testsrc=duration=2:size=320x240:rate=25")
+encode "${tone[@]}" -c:a libvorbis "$work/vorbis.ogg"
+encode "${tone[@]}" -c:a libopus "$work/opus.ogg"
+encode "${tone[@]}" -c:a flac "$work/flac.ogg"
+encode "${bars[@]}" "${tone[@]}" -c:v libtheora -c:a libvorbis -serial_offset 100 "$work/theora.ogg"
+# Links one after the other: serials are unique over a whole file.
+encode "${tone[@]}" -c:a libvorbis -serial_offset 7 "$work/second.ogg"
+encode "${tone[@]}" -c:a libvorbis -q:a 1 -serial_offset 8 "$work/third.ogg"
+cat "$work/vorbis.ogg" "$work/second.ogg" "$work/third.ogg" >"$work/chain.ogg"
+
+# The packets of each stream in order, as another program reads them: a hash of each one's bytes. Marks on packets that
+# a player cuts short are left out: those follow from the position of the page with the end of the stream.
+packets() {
+    ffprobe -loglevel error -show_entries packet=stream_index,data_hash -show_data_hash md5 -of flat "$1" |
+        sed -n 's/.*stream_index=//p; s/.*data_hash=//p' | paste - - | sort -s -k 1,1
+}
+
+warnings() { ogginfo "$1" | grep -i 'warning\|error' | sed 's/serial: [0-9a-f]*//'; }
+same_warnings() { [ "$(warnings "$1")" = "$(warnings "$2")" ]; }
+replies_keep() { ! grep -v '^kept ' "$1"; }
+
+# again NAME: the packets of NAME.ogg, muxed again, are the same.
+again() {
+    local name=$1
+    python3 "$top/examples/from_ogg.py" <"$work/$name.ogg" >"$work/$name.feed"
+    "$program" mux <"$work/$name.feed" >"$work/$name.again.ogg" 2>"$work/$name.replies"
+    check "$name: status" [ $? -eq 0 ]
+    check "$name: every command is kept" replies_keep "$work/$name.replies"
+    check "$name: ogginfo warns of no more than of the encoder's file" same_warnings "$work/$name.ogg" "$work/$name.again.ogg"
+    packets "$work/$name.ogg" >"$work/$name.want"
+    packets "$work/$name.again.ogg" >"$work/$name.found"
+    check "$name: packets were read" [ -s "$work/$name.want" ]
+    check "$name: the packets are the same" cmp "$work/$name.want" "$work/$name.found"
+    # While a recording is open it has no page with an end of a stream, of which oggz wants a packet to end in it.
+    if [ "$name" != chain ]; then
+        python3 "$top/tests/open_feed.py" <"$work/$name.feed" >"$work/$name.open.feed"
+        "$program" mux <"$work/$name.open.feed" >"$work/$name.open.ogg" 2>"$work/$name.replies"
+        check "$name: oggz validate of the open recording" oggz validate --prefix "$work/$name.open.ogg"
+    fi
+    printf '%-8s %8d bytes in, %8d out, %6d packets\n' "$name" \
+        "$(stat -c %s "$work/$name.ogg")" "$(stat -c %s "$work/$name.again.ogg")" "$(wc -l <"$work/$name.found")"
+}
+
+for name in vorbis opus flac theora chain; do
+    again "$name"
+done
+
+echo "$passed passed, $failed failed"
+[ "$failed" -eq 0 ]
