@@ -1,12 +1,12 @@
 -- A command that is kept makes the chain longer by its size.
-use Rattle.std.proofs.Common.{◌≡◌, ℕ, ◌+◌, List, refl, sym, ap, ◌∙◌, subst, arith, Result, Ok}
+use Rattle.std.proofs.Common.{◌≡◌, ℕ, ◌+◌, List, refl, sym, ap, ◌∙◌, subst, Result, Ok}
 use Rattle.std.specs.Prelude.{IsOk}
 use Rattle.ogg_page.specs.Page.{Page}
 use Rattle.chain_rules.specs.declared.command.Command.{Command}
 use Rattle.chain_rules.specs.declared.command.Command.TheVariants.{Begin as BeginOf, Put as PutOf, End as EndOf}
 use Rattle.chain_rules.specs.declared.refusal.Refusal.{Refusal}
 use Rattle.chain_rules.specs.ChainState.{ChainState, chain_state_of}
-use Rattle.chain_rules.specs.Decision.{decision, size_of}
+use Rattle.chain_rules.specs.Decision.{decision}
 use Rattle.chain_rules.specs.Encoding.{pages_of_command, links_after}
 use Rattle.chain_rules.proofs.BeginState.{begin_state}
 use Rattle.chain_rules.proofs.EndState.{end_state}

@@ -41,20 +41,18 @@ pub fn move_stream(streams: &mut [StreamState], serial: u32, position: u64)
     ensures { streams.new ≡ with_position serial position streams.old }
 {
     for stream in streams.iter_mut() {
-        *stream = moved(*stream, serial, position);
+        if stream.serial == serial {
+            *stream = moved(*stream, position);
+        }
     }
 }
 
-fn moved(stream: StreamState, serial: u32, position: u64) -> StreamState
-    ensures { result ≡ change_at serial (moved_to position) stream }
+fn moved(stream: StreamState, position: u64) -> StreamState
+    ensures { result ≡ moved_to position stream }
 {
-    if stream.serial == serial {
-        StreamState {
-            last_position: position,
-            ..stream
-        }
-    } else {
-        stream
+    StreamState {
+        last_position: position,
+        ..stream
     }
 }
 
@@ -63,22 +61,20 @@ pub fn bring_stream(streams: &mut [StreamState], serial: u32, sequence: u64, pos
     ensures { streams.new ≡ brought_to serial sequence position streams.old }
 {
     for stream in streams.iter_mut() {
-        *stream = brought(*stream, serial, sequence, position);
+        if stream.serial == serial {
+            *stream = brought(*stream, sequence, position);
+        }
     }
 }
 
-fn brought(stream: StreamState, serial: u32, sequence: u64, position: u64) -> StreamState
-    ensures { result ≡ change_at serial (advanced sequence position) stream }
+fn brought(stream: StreamState, sequence: u64, position: u64) -> StreamState
+    ensures { result ≡ advanced sequence position stream }
 {
-    if stream.serial == serial {
-        StreamState {
-            next_sequence: sequence,
-            last_position: position,
-            finished: true,
-            ..stream
-        }
-    } else {
-        stream
+    StreamState {
+        next_sequence: sequence,
+        last_position: position,
+        finished: true,
+        ..stream
     }
 }
 
