@@ -60,7 +60,7 @@ pub fn fill<T: TimedPacket>(from: &[T], begun: usize) -> Filled<'_, T>
             };
         };
         let left = item.packet().split_at(done).1;
-        if left.len() < 255 {
+        if ends_here(left) {
             lacing[count] = left.len() as u8;
             pieces[count] = left;
             position = item.position();
@@ -80,4 +80,12 @@ pub fn fill<T: TimedPacket>(from: &[T], begun: usize) -> Filled<'_, T>
         rest,
         done,
     }
+}
+
+/// Whether what is left of a packet ends with the next lacing value, which is then less than 255
+/// (RFC 3533, section 5).
+fn ends_here(left: &[u8]) -> bool
+    ensures { result ≡ nat_lt (length left.now) 255 }
+{
+    left.len() < 255
 }

@@ -1,4 +1,5 @@
 use Rattle.std.proofs.Common.{◌≡◌, ◌≤◌, ◌<◌, ◌+◌, ◌++◌, ℕ, List, [], ◌∷◌, length, map, take, drop, sym, ap, ◌∙◌, subst, arith, length-take, length-set}
+use Rattle.std.proofs.lemmas.Bool.{ltb-true, ltb-false}
 use Rattle.std.proofs.lemmas.List.{length-map, length-take-le}
 use Rattle.std.proofs.lemmas.List.{take_more_set}
 use Rattle.std.specs.Borrow.{Bor}
@@ -6,7 +7,7 @@ use Rattle.ogg_page.specs.Page.{joined}
 use Rattle.packetiser.specs.Run.{Timed}
 use Rattle.packetiser.proofs.Filling.{IsFilled, ends_here, goes_on, filled_same, joined_push, full_values, last_values}
 use Rattle.packetiser.proofs.place.fill.Goals as goal
-use Rattle.packetiser.proofs.place.fill.Goals.{then-left-lt255, else-left-lt255}
+use Rattle.packetiser.proofs.place.fill.Goals.{then-ends_here, else-ends_here}
 
 pub loop-count-preserved : goal.loop-count-preserved
 loop-count-preserved g c =
@@ -23,8 +24,8 @@ loop-count-preserved g c =
     let before : IsFilled run c.args.begun lacing body c.loop-count.position (item ∷ others) done =
     subst (λ l. IsFilled run c.args.begun lacing body c.loop-count.position (map timed l) done) c.in-Some.ensures.cases.0 c.loop-count.invariant.filled in
     let left : c.split_at.result.1.now ≡ drop done item.packet = c.split_at.ensures.back ∙ ap (drop done) c.packet.ensures in
-    elim c.if-left-lt255.branch [
-      | then-left-lt255 w ↦
+    elim c.if-ends_here.branch [
+      | then-ends_here w ↦
           let value : ℕ = length c.split_at.result.1.now in
           record {
             filled = filled_same run c.args.begun _ (lacing ++ value ∷ []) _ (body ++ drop done item.packet) _ item.position _ others _ 0
@@ -33,22 +34,22 @@ loop-count-preserved g c =
                 (w.position-is ∙ w.position-position.ensures)
                 (ap (λ (r : Bor _). map timed r.now) w.rest-is)
                 w.done-is
-                (ends_here run c.args.begun lacing body c.loop-count.position item others done value before (ap length left) w.if-left-lt255.true);
+                (ends_here run c.args.begun lacing body c.loop-count.position item others done value before (ap length left) (ltb-true value 255 (sym c.ends_here.ensures ∙ w.if-ends_here.true)));
             lacing_room = ap length w.lacing-is ∙ length-set c.loop-count.lacing n value ∙ c.loop-count.invariant.lacing_room;
             pieces_room = ap length w.pieces-is ∙ length-set c.loop-count.pieces n c.split_at.result.1 ∙ c.loop-count.invariant.pieces_room;
           }
-      | else-left-lt255 w ↦
-          let piece : w.split_at-else-left-lt255.result.0.now ≡ take 255 (drop done item.packet) = w.split_at-else-left-lt255.ensures.front ∙ ap (take 255) left in
+      | else-ends_here w ↦
+          let piece : w.split_at-else-ends_here.result.0.now ≡ take 255 (drop done item.packet) = w.split_at-else-ends_here.ensures.front ∙ ap (take 255) left in
           record {
             filled = filled_same run c.args.begun _ (lacing ++ 255 ∷ []) _ (body ++ take 255 (drop done item.packet)) _ c.loop-count.position _ (item ∷ others) _ (done + 255)
                 (ap (take (n + 1)) w.lacing-is ∙ take_more_set c.loop-count.lacing n 255 room)
-                (ap (λ p. joined (take (n + 1) p)) w.pieces-is ∙ joined_push c.loop-count.pieces n w.split_at-else-left-lt255.result.0 piece_room ∙ ap (λ l. body ++ l) piece)
+                (ap (λ p. joined (take (n + 1) p)) w.pieces-is ∙ joined_push c.loop-count.pieces n w.split_at-else-ends_here.result.0 piece_room ∙ ap (λ l. body ++ l) piece)
                 w.position-is
                 (ap (λ (r : Bor _). map timed r.now) w.rest-is ∙ ap (map timed) c.in-Some.ensures.cases.0)
                 w.done-is
-                (goes_on run c.args.begun lacing body c.loop-count.position item others done before (omega (arith, ap length left, w.if-left-lt255.false)));
+                (goes_on run c.args.begun lacing body c.loop-count.position item others done before (omega (arith, ap length left, ltb-false (length c.split_at.result.1.now) 255 (sym c.ends_here.ensures ∙ w.if-ends_here.false))));
             lacing_room = ap length w.lacing-is ∙ length-set c.loop-count.lacing n 255 ∙ c.loop-count.invariant.lacing_room;
-            pieces_room = ap length w.pieces-is ∙ length-set c.loop-count.pieces n w.split_at-else-left-lt255.result.0 ∙ c.loop-count.invariant.pieces_room;
+            pieces_room = ap length w.pieces-is ∙ length-set c.loop-count.pieces n w.split_at-else-ends_here.result.0 ∙ c.loop-count.invariant.pieces_room;
           }
     ]
 
