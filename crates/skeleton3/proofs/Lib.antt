@@ -1,0 +1,5 @@
+pub mod NumberBytes
+pub mod FieldFacts
+pub mod MediaFacts
+pub mod FisheadFacts
+pub mod FisboneFacts

@@ -1,0 +1,77 @@
+-- The message fields of a fisbone (Xiph, Ogg Skeleton 3.0, "Message header fields"): each is `Name: value`, ended by CR LF.
+use Rattle.std.specs.Prelude.{◌≡◌, ◌≢◌, ℕ, ◌+◌, ◌-◌, ◌<◌, ◌≤◌, Bool, not, ◌||◌, ◌==◌, List, [], ◌∷◌, ◌++◌, length, take, drop, map, filter, find, position, slice_index, All, Option, Some, option_map, option_and_then, codes}
+use Rattle.std.specs.Char.{to_ascii_lowercase}
+use Rattle.std.specs.Borrow.{Bor}
+use Rattle.std.specs.List.{prefix_len, suffix_len, slice_split}
+use Rattle.std.specs.Str.{bytes_eq, byte}
+use Rattle.std.specs.Str.Lines.{strip_carriage_return}
+
+-- Ours: a text is cut at each LF, a piece that ends with CR loses it, and empty pieces are passed over. So a line may
+-- also end with LF alone, or with the text.
+abbrev pub lines_of : List ℕ → List (List ℕ)
+lines_of text = filter (λ line. not (length line == 0)) (map strip_carriage_return (slice_split (λ b. b == 10) text))
+
+-- a space or a tab
+abbrev pub is_blank : ℕ → Bool
+is_blank b = b == 32 || b == 9
+
+abbrev pub without_front_blanks : List ℕ → List ℕ
+without_front_blanks text = drop (prefix_len is_blank text) text
+
+abbrev pub without_end_blanks : List ℕ → List ℕ
+without_end_blanks text = take (length text - suffix_len is_blank text) text
+
+abbrev pub trimmed : List ℕ → List ℕ
+trimmed text = without_end_blanks (without_front_blanks text)
+
+-- where the first colon stands
+abbrev pub first_colon : List ℕ → Option ℕ
+first_colon line = position (λ b. b == byte ":") line
+
+-- a name and its value
+abbrev pub Field : Type 0
+Field = List ℕ × List ℕ
+
+abbrev pub shown : Bor (List ℕ) × Bor (List ℕ) → Field
+shown lent = (lent.0.now, lent.1.now)
+
+-- the name before the first colon, and the value behind it without spaces and tabs at its ends
+abbrev pub field_of : List ℕ → Option Field
+field_of line = option_map (λ at. (take at line, trimmed (drop (at + 1) line))) (first_colon line)
+
+-- the fields of these lines, where each has a colon
+abbrev pub fields_of_lines : List (List ℕ) → Option (List Field)
+fields_of_lines [] = Some []
+fields_of_lines (line ∷ lines) =
+    option_and_then (λ field. option_map (λ fields. field ∷ fields) (fields_of_lines lines)) (field_of line)
+
+abbrev pub fields_of : List ℕ → Option (List Field)
+fields_of text = fields_of_lines (lines_of text)
+
+-- a name's case doesn't count
+abbrev pub is_content_type : List ℕ → Bool
+is_content_type name = bytes_eq (map to_ascii_lowercase name) (codes "content-type")
+
+-- the media type: the value of the first field that is named Content-Type, where each line has a colon
+abbrev pub media_in : List ℕ → Option (List ℕ)
+media_in text = option_and_then (λ fields. option_map (λ field. field.1) (find (λ field. is_content_type field.0) fields)) (fields_of text)
+
+-- the field that is written: the media type's
+abbrev pub content_type : List ℕ → List ℕ
+content_type media = codes "Content-Type: " ++ media ++ codes "\r\n"
+
+-- what a field can carry as its value: no LF, and neither a space nor a tab at an end
+pub record IsFieldValue (value : List ℕ) : Type 0 where
+  pub line : All (λ b. b ≢ 10) value
+  pub ends : trimmed value ≡ value
+
+abbrev pub IsPrintable : ℕ → Type 0
+IsPrintable b = (32 ≤ b) × (b ≤ 126)
+
+-- ours: a media type is 1 to 255 printing ASCII characters, with a space at neither end
+pub record IsMediaType (media : List ℕ) : Type 0 where
+  pub some : 0 < length media
+  pub few : length media ≤ 255
+  pub printable : All IsPrintable media
+  pub first : slice_index media 0 ≢ 32
+  pub last : slice_index media (length media - 1) ≢ 32

@@ -1,0 +1,5 @@
+pub mod Numbers
+pub mod SkeletonFault
+pub mod Fields
+pub mod Fishead
+pub mod Fisbone

@@ -1,0 +1,134 @@
+//! The packet of a stream in a Skeleton.
+ghost use Rattle.std.specs.Prelude.{◌≡◌, [], ◌∷◌, ◌+◌, ◌≤◌, ◌<◌, ◌++◌, length, IfOk, Ok, IsOkAnd, OnOk, OnErr, vec_len, vec_capacity};
+ghost use Rattle.std.specs.Result.{result_err};
+ghost use Rattle.skeleton3.specs.Fields.{IsFieldValue};
+ghost use Rattle.skeleton3.specs.Fisbone.{Fisbone as FisboneValue, HoldsFisbone, IsFisbone, fisbone_of, fisbone_bytes, fisbone_fault, fixed_part};
+
+use crate::Memory;
+use crate::fault::SkeletonFault;
+use crate::fields::media_in;
+use crate::numbers::{take_fraction, take_i64, take_u8, take_u32};
+use byteorder::{ByteOrder, LittleEndian};
+
+/// How many bytes come before the message fields.
+const FIXED: usize = 52;
+
+const NAME: &[u8; 8] = b"fisbone\0";
+
+/// Where the message fields begin, counted from the byte behind the name.
+const OFFSET: u32 = 44;
+
+/// What a Skeleton says of a stream (Ogg Skeleton 3.0, "fisbone"). The media type lies in the bytes that
+/// it was read from, or wherever the writer keeps it.
+#[derive(Clone, Copy, Debug, PartialEq, Eq)]
+pub struct Fisbone<'a> {
+    /// The stream's serial.
+    pub serial: u32,
+    /// The number of the stream's header packets.
+    pub headers: u32,
+    /// Granules in a second: a numerator and a denominator.
+    pub rate: (i64, i64),
+    /// The granule position at which the stream begins.
+    pub base_granule: i64,
+    /// How many packets a decoder needs before the one that it shows.
+    pub preroll: u32,
+    /// How many low bits of a granule position count from the last key frame.
+    pub shift: u8,
+    /// The media type.
+    pub media: &'a [u8],
+}
+
+impl<'a> Fisbone<'a> {
+    /// Reads a packet. The media type is borrowed from it, and no memory is taken.
+    pub fn read(packet: &'a [u8]) -> Result<Fisbone<'a>, SkeletonFault>
+        // It accepts exactly the packets that have no fault, and of the others it gives the first.
+        ensures fault { result_err result ≡ fisbone_fault packet.now }
+        // What it reads is what the packet holds.
+        ensures ok { IfOk result (λ fisbone. HoldsFisbone packet.now (fisbone_of fisbone)) }
+        ensures each { (fisbone : FisboneValue) → IsFisbone fisbone
+            → HoldsFisbone packet.now fisbone → IsOkAnd result (λ read. fisbone_of read ≡ fisbone) }
+        // What is written is read as the same value.
+        ensures written { (fisbone : FisboneValue) → IsFisbone fisbone → IsFieldValue fisbone.media
+            → packet.now ≡ fisbone_bytes fisbone → IsOkAnd result (λ read. fisbone_of read ≡ fisbone) }
+    {
+        if packet.len() < FIXED {
+            return Err(SkeletonFault::Length);
+        }
+        let (name, rest) = packet.split_at(8);
+        if name != NAME.as_slice() {
+            return Err(SkeletonFault::Name);
+        }
+        let (_offset, rest) = take_u32(rest);
+        let (serial, rest) = take_u32(rest);
+        let (headers, rest) = take_u32(rest);
+        let (rate, rest) = take_fraction(rest);
+        let (base_granule, rest) = take_i64(rest);
+        let (preroll, rest) = take_u32(rest);
+        let (shift, rest) = take_u8(rest);
+        let (_padding, message) = rest.split_at(3);
+        let Some(media) = media_in(message) else {
+            return Err(SkeletonFault::Fields);
+        };
+        Ok(Fisbone {
+            serial,
+            headers,
+            rate,
+            base_granule,
+            preroll,
+            shift,
+            media,
+        })
+    }
+
+    /// How many bytes the packet has: 68, and those of the media type.
+    #[tactic(auto, unfolding(crate::specs::Fisbone::fixed_part, crate::specs::Numbers::u32_bytes, crate::specs::Numbers::i64_bytes))]
+    pub fn size(&self) -> u64
+        ensures { result ≡ length (fisbone_bytes (fisbone_of self.now)) }
+    {
+        68 + self.media.len() as u64
+    }
+
+    /// Appends the packet, with the media type as its one message field. After `Memory` the vector is
+    /// unchanged.
+    pub fn write(&self, out: &mut Vec<u8>) -> Result<(), Memory>
+        ensures ok { OnOk result (out.new.items ≡ out.old.items ++ fisbone_bytes (fisbone_of self.now)) }
+        ensures err { OnErr result (out.new.items ≡ out.old.items) }
+        ensures full { OnErr result
+            (vec_capacity out.old < vec_len out.old + length (fisbone_bytes (fisbone_of self.now))) }
+    {
+        // The one step that can fail comes first.
+        out.reserve(self.size() as usize)?;
+        append(out, &self.fixed_part());
+        append(out, b"Content-Type: ");
+        append(out, self.media);
+        append(out, b"\r\n");
+        Ok(())
+    }
+
+    #[tactic(auto, unfolding(crate::specs::Fisbone::fixed_part, crate::specs::Numbers::u32_bytes, crate::specs::Numbers::i64_bytes))]
+    fn fixed_part(&self) -> [u8; FIXED]
+        ensures { result ≡ fixed_part 44 (0 ∷ 0 ∷ 0 ∷ []) (fisbone_of self.now) }
+    {
+        let mut bytes = [0; FIXED];
+        bytes[..8].copy_from_slice(NAME);
+        LittleEndian::write_u32(&mut bytes[8..], OFFSET);
+        LittleEndian::write_u32(&mut bytes[12..], self.serial);
+        LittleEndian::write_u32(&mut bytes[16..], self.headers);
+        LittleEndian::write_i64(&mut bytes[20..], self.rate.0);
+        LittleEndian::write_i64(&mut bytes[28..], self.rate.1);
+        LittleEndian::write_i64(&mut bytes[36..], self.base_granule);
+        LittleEndian::write_u32(&mut bytes[44..], self.preroll);
+        bytes[48] = self.shift;
+        bytes
+    }
+}
+
+/// Appends bytes for which there is room.
+fn append(out: &mut Vec<u8>, bytes: &[u8])
+    requires { vec_len out.old + length bytes.now ≤ vec_capacity out.old }
+    ensures items { out.new.items ≡ out.old.items ++ bytes.now }
+    ensures len { vec_len out.new ≡ vec_len out.old + length bytes.now }
+    ensures capacity { vec_capacity out.old ≤ vec_capacity out.new }
+{
+    out.extend_from_slice(bytes).unwrap();
+}

@@ -1,0 +1,8 @@
+//! What always holds of media types.
+ghost use Rattle.std.specs.Prelude.{ℕ, List};
+ghost use Rattle.skeleton3.specs.Fields.{IsFieldValue, IsMediaType};
+
+/// A media type is a value that a message field can carry, so it is read as it was written.
+pub fn media_types_are_field_values()
+    ensures { (media : List ℕ) → IsMediaType media → IsFieldValue media }
+{}

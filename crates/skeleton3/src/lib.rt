@@ -1,0 +1,26 @@
+//! Packets of an Ogg Skeleton, version 3.0, read and written (Xiph, "Ogg Skeleton 3.0").
+//!
+//! A Skeleton is a logical stream that says what the other streams of its link are: one fishead for
+//! the link, and one fisbone for each stream. Reading borrows from the packet and takes no memory; it
+//! accepts every packet of version 3 that has a media type, and tells the first fault of any other.
+//! Writing appends to the caller's vector, all of the packet or nothing.
+//!
+//! Start at `specs/Fishead.antt` and `specs/Fisbone.antt`, which say what the packets are, and at
+//! `specs/Fields.antt` for the message fields, in which a fisbone names its media type.
+#![tactic(auto)]
+
+mod fault;
+mod fields;
+mod fisbone;
+mod fishead;
+mod laws;
+mod numbers;
+
+pub use fault::SkeletonFault;
+pub use fisbone::Fisbone;
+pub use fishead::Fishead;
+pub use laws::media_types_are_field_values;
+pub use std::alloc::AllocError as Memory;
+
+#[cfg(test)]
+mod tests;
