@@ -3,3 +3,4 @@ pub mod FieldFacts
 pub mod MediaFacts
 pub mod FisheadFacts
 pub mod FisboneFacts
+mod Examples

@@ -1,31 +1,61 @@
 -- The media type: what is written of it is read so.
-use Rattle.std.proofs.Common.{◌≡◌, ◌≢◌, ℕ, suc, ◌+◌, ◌-◌, List, [], ◌∷◌, ◌++◌, length, take, drop, get_or, false, cond, ◌||◌, ◌==◌, Some, None, option_map, codes, refl, sym, ap, ◌∙◌, arith, rules, append_assoc, length-append}
+use Rattle.std.proofs.Common.{◌≡◌, ℕ, zero, suc, ◌+◌, ◌-◌, ◌<◌, ◌≤◌, List, [], ◌∷◌, ◌++◌, length, take, drop, get_or, Bool, true, false, cond, not, ◌&&◌, ◌||◌, ◌==◌, nat_eq, nat_le, Some, None, option_map, codes, refl, sym, ap, ◌∙◌, arith, rules, append_assoc, length-append, drop-cons}
+use Rattle.std.proofs.Math.ListN.{drop_of_length-le}
 use Rattle.std.proofs.Math.Seq.{take-append_seam, get_or-append_seam}
-use Rattle.std.proofs.lemmas.Bool.{lt-ltb, ne_eqb, eq-eqb, cond-true}
+use Rattle.std.proofs.lemmas.Bool.{and_parts, or_parts, not-true, lt-ltb, leb-true, ne_eqb, eq-eqb, eqb-false, cond-true}
 use Rattle.std.proofs.lemmas.List.{take_all}
 use Rattle.std.proofs.lemmas.List.Elements.{All-append, All-from_recursion}
 use Rattle.std.proofs.lemmas.List.Splits.{slice_split_at}
 use Rattle.std.proofs.lemmas.List.Sums.{prefix_len_is, suffix_len_is}
-use Rattle.std.specs.List.{All, AllByRecursion, slice_split, prefix_len, suffix_len}
+use Rattle.std.specs.List.{All, AllByRecursion, list_all, list_any, slice_split, prefix_len, suffix_len}
 use Rattle.std.specs.Str.Lines.{strip_carriage_return}
-use Rattle.skeleton3.specs.Fields.{Field, IsMediaType, IsFieldValue, IsPrintable, is_blank, trimmed, without_end_blanks, content_type, media_in, field_of, first_colon}
+use Rattle.skeleton3.specs.Fields.{Field, is_media_type, IsFieldValue, is_blank, trimmed, without_end_blanks, content_type, media_in, field_of, first_colon}
 use Rattle.skeleton3.proofs.FieldFacts.{is_feed, media_from, nothing_left, empty_line, one_field, chosen_now}
 
--- a printing character that isn't a space isn't blank
-not_blank : (b : ℕ) → IsPrintable b → b ≢ 32 → is_blank b ≡ false
-not_blank b printable other = ap (λ t. t || b == 9) (ne_eqb b 32 other) ∙ ne_eqb b 9 (λ e. let low = printable.0 in omega arith)
+abbrev is_printable : ℕ → Bool
+is_printable c = nat_le 0x20 c && nat_le c 0x7e
 
-pub media_is_value : (media : List ℕ) → IsMediaType media → IsFieldValue media
+-- a printing character that isn't a space isn't blank
+not_blank : (b : ℕ) → 32 ≤ b → nat_eq 32 b ≡ false → is_blank b ≡ false
+not_blank b printable other = ap (λ t. t || b == 9) (ne_eqb b 32 (λ e. eqb-false 32 b other (sym e))) ∙ ne_eqb b 9 (λ e. omega arith)
+
+printable_at : (media : List ℕ) (k d : ℕ) → list_all is_printable media ≡ true → k < length media → 32 ≤ get_or media k d
+printable_at [] k d all l = absurd (omega arith)
+printable_at (x ∷ xs) zero d all l = leb-true 32 x (and_parts _ _ (and_parts _ _ all).0).0
+printable_at (x ∷ xs) (suc k) d all l = printable_at xs k d (and_parts _ _ all).1 (omega arith)
+
+first_of : (p : ℕ → Bool) (x : ℕ) (xs : List ℕ) → not (list_any p (x ∷ xs)) ≡ true → p x ≡ false
+first_of p x xs none = (or_parts (p x) (list_any p xs) (not-true _ none)).0
+
+front_one : (media : List ℕ) → 0 < length media → take 1 media ≡ get_or media 0 0 ∷ []
+front_one [] some = absurd (omega arith)
+front_one (x ∷ xs) some = refl
+
+last_one : (media : List ℕ) → 0 < length media → drop (length media - 1) media ≡ get_or media (length media - 1) 0 ∷ []
+last_one media some =
+    let i : ℕ = length media - 1 in
+    drop-cons media i 0 (omega arith) ∙ ap (λ rest. get_or media i 0 ∷ rest) (drop_of_length-le media {i = suc i} (omega arith))
+
+-- the value of a media type: it is printing, and neither end is a space
+pub media_is_value : (media : List ℕ) → is_media_type media ≡ true → IsFieldValue media
 media_is_value media h =
-    let front : prefix_len is_blank media ≡ 0 = prefix_len_is is_blank media 0 0 (omega arith) (λ k l. absurd (omega arith))
-    (λ l. not_blank _ (h.printable 0 0 l) h.first) in
-    let last : suffix_len is_blank media ≡ length media - length media = suffix_len_is is_blank media (length media) 0 (omega arith) (λ k l m. absurd (omega arith))
-    (λ l. not_blank _ (h.printable (length media - 1) 0 (omega arith)) h.last) in
+    let space : ℕ → Bool = nat_eq 0x20 in
+    let last = and_parts _ _ h in
+    let first = and_parts _ _ last.0 in
+    let printable = and_parts _ _ first.0 in
+    let sizes = and_parts _ _ printable.0 in
+    let some : 0 < length media = let size = leb-true 1 (length media) sizes.0 in omega arith in
+    let at_front = first_of space (get_or media 0 0) [] (sym (ap (λ l. not (list_any space l)) (front_one media some)) ∙ first.1) in
+    let at_end = first_of space (get_or media (length media - 1) 0) [] (sym (ap (λ l. not (list_any space l)) (last_one media some)) ∙ last.1) in
+    let blanks_in_front : prefix_len is_blank media ≡ 0 = prefix_len_is is_blank media 0 0 (omega arith) (λ k l. absurd (omega arith))
+    (λ l. not_blank _ (printable_at media 0 0 printable.1 l) at_front) in
+    let blanks_at_end : suffix_len is_blank media ≡ length media - length media = suffix_len_is is_blank media (length media) 0 (omega arith) (λ k l m. absurd (omega arith))
+    (λ l. not_blank _ (printable_at media (length media - 1) 0 printable.1 (omega arith)) at_end) in
     record {
-      line = λ k d l e. let p = h.printable k d l in omega arith;
+      line = λ k d l e. let low = printable_at media k d printable.1 l in omega arith;
       ends =
-          ap (λ n. without_end_blanks (drop n media)) front
-          ∙ take_all (length media - suffix_len is_blank media) media (omega (arith, last));
+          ap (λ n. without_end_blanks (drop n media)) blanks_in_front
+          ∙ take_all (length media - suffix_len is_blank media) media (omega (arith, blanks_at_end));
     }
 
 -- a space in front of a value is dropped

@@ -1,8 +1,8 @@
 -- The message fields of a fisbone (Xiph, Ogg Skeleton 3.0, "Message header fields"): each is `Name: value`, ended by CR LF.
-use Rattle.std.specs.Prelude.{◌≡◌, ◌≢◌, ℕ, ◌+◌, ◌-◌, ◌<◌, ◌≤◌, Bool, not, ◌||◌, ◌==◌, List, [], ◌∷◌, ◌++◌, length, take, drop, map, filter, find, position, slice_index, All, Option, Some, option_map, option_and_then, codes}
+use Rattle.std.specs.Prelude.{◌≡◌, ◌≢◌, ℕ, ◌+◌, ◌-◌, Bool, not, ◌&&◌, ◌||◌, ◌==◌, nat_eq, nat_le, List, [], ◌∷◌, ◌++◌, length, take, drop, map, filter, find, position, All, Option, Some, option_map, option_and_then, codes}
 use Rattle.std.specs.Char.{to_ascii_lowercase}
 use Rattle.std.specs.Borrow.{Bor}
-use Rattle.std.specs.List.{prefix_len, suffix_len, slice_split}
+use Rattle.std.specs.List.{list_all, list_any, prefix_len, suffix_len, slice_split}
 use Rattle.std.specs.Str.{bytes_eq, byte}
 use Rattle.std.specs.Str.Lines.{strip_carriage_return}
 
@@ -65,13 +65,8 @@ pub record IsFieldValue (value : List ℕ) : Type 0 where
   pub line : All (λ b. b ≢ 10) value
   pub ends : trimmed value ≡ value
 
-abbrev pub IsPrintable : ℕ → Type 0
-IsPrintable b = (32 ≤ b) × (b ≤ 126)
-
 -- ours: a media type is 1 to 255 printing ASCII characters, with a space at neither end
-pub record IsMediaType (media : List ℕ) : Type 0 where
-  pub some : 0 < length media
-  pub few : length media ≤ 255
-  pub printable : All IsPrintable media
-  pub first : slice_index media 0 ≢ 32
-  pub last : slice_index media (length media - 1) ≢ 32
+abbrev pub is_media_type : List ℕ → Bool
+is_media_type media =
+    nat_le 1 (length media) && nat_le (length media) 255 && list_all (λ c. nat_le 0x20 c && nat_le c 0x7e) media
+    && not (list_any (nat_eq 0x20) (take 1 media)) && not (list_any (nat_eq 0x20) (drop (length media - 1) media))

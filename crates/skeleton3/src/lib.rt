@@ -2,8 +2,8 @@
 //!
 //! A Skeleton is a logical stream that says what the other streams of its link are: one fishead for
 //! the link, and one fisbone for each stream. Reading borrows from the packet and takes no memory; it
-//! accepts every packet of version 3 that has a media type, and tells the first fault of any other.
-//! Writing appends to the caller's vector, all of the packet or nothing.
+//! accepts exactly the packets without a fault, and tells the first fault of any other. Writing
+//! appends to the caller's vector, all of the packet or nothing, and what it wrote is read as it was.
 //!
 //! Start at `specs/Fishead.antt` and `specs/Fisbone.antt`, which say what the packets are, and at
 //! `specs/Fields.antt` for the message fields, in which a fisbone names its media type.
