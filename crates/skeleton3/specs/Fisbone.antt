@@ -70,7 +70,7 @@ pub record HoldsFisbone (packet : List ℕ) (fisbone : Fisbone) : Type 0 where
   pub spelled : packet ≡ fisbone_with offset padding message fisbone
   pub media : media_in message ≡ Some fisbone.media
 
--- the first fault of a packet as a fisbone, if it has one
+-- Ours: what is wrong with a packet as a fisbone, the first fault in this order, if it has one.
 abbrev pub fisbone_fault : List ℕ → Option SkeletonFault
 fisbone_fault packet =
     if nat_lt (length packet) 52 then Some Length

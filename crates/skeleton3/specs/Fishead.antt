@@ -32,7 +32,7 @@ pub record IsFishead (fishead : Fishead) : Type 0 where
 abbrev pub HoldsFishead : List ℕ → Fishead → Type 0
 HoldsFishead packet fishead = (minor : ℕ) × (minor < 2 ^ 16) × (packet ≡ fishead_with minor fishead)
 
--- the first fault of a packet as a fishead, if it has one
+-- Ours: what is wrong with a packet as a fishead, the first fault in this order, if it has one.
 abbrev pub fishead_fault : List ℕ → Option SkeletonFault
 fishead_fault packet =
     if not (length packet == 64) then Some Length
