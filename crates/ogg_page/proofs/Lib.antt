@@ -5,6 +5,7 @@ pub mod TableRule
 pub mod Prefixes
 pub mod ReadAgain
 pub mod Walk
+pub mod Found
 pub mod Vectors
 pub mod Slices
 pub mod Tables

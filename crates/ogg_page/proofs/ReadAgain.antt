@@ -1,11 +1,11 @@
 -- What is read is a page whose bytes stand in front, and a page whose bytes stand in front is read.
 use Rattle.std.proofs.Common.{◌≡◌, ℕ, zero, suc, ◌+◌, ◌^◌, ◌<◌, ◌≤◌, Bool, true, false, not, List, [], ◌∷◌, ◌++◌, length, take, drop, get_or, sum, refl, sym, ◌∙◌, ap, subst, arith, append_assoc, length-append, Result, Ok, Err}
-use Rattle.std.specs.Prelude.{nat_eq, nat_lt, if◌then◌else◌, codes, slice_index}
+use Rattle.std.specs.Prelude.{IsOk, nat_eq, nat_lt, if◌then◌else◌, codes, slice_index}
 use Rattle.std.specs.List.{All, starts_with}
 use Rattle.std.specs.Cmp.Lexicographic.{same_text}
 use Rattle.std.proofs.Math.Seq.{take-add}
 use Rattle.std.proofs.lemmas.Nat.{le_bytes_4, le_bytes_8, from_le_bytes-to_le_bytes_4, from_le_bytes-to_le_bytes_8}
-use Rattle.std.proofs.lemmas.Bool.{eqb-true, eq-eqb, ltb-false, le-ltb}
+use Rattle.std.proofs.lemmas.Bool.{false≢true, eqb-true, eq-eqb, ltb-false, le-ltb}
 use Rattle.std.proofs.lemmas.List.{take-append-drop, length-take-le, length-drop, take_at, drop_at, get_or-drop}
 use Rattle.std.proofs.lemmas.List.Elements.{All-from_get_or, All-take, All-drop, recursion_from_All}
 use Rattle.byteorder.specs.Endian.{little_bytes, little_number}
@@ -88,7 +88,7 @@ guard : (b : Bool) (f : PageFault) (x : Result Page PageFault) (p : Page) → (i
 guard true f x p e = (cc, cc)
 guard false f x p e = (refl, e)
 
-ok_same : (x y : Page) → (let r : Result Page PageFault = Ok x in r) ≡ Ok y → x ≡ y
+pub ok_same : (x y : Page) → (let r : Result Page PageFault = Ok x in r) ≡ Ok y → x ≡ y
 ok_same x y e = cc
 
 pub record Passed (bytes : List ℕ) (p : Page) : Type 0 where
@@ -281,3 +281,17 @@ front_is_page bytes values size h q =
     let body : length fields.body ≡ size = sym both.0.whole ∙ sym q.body in
     ap (take (27 + values + size)) both.1
     ∙ take_at (page_bytes fields) (drop (sum fields.lacing) (drop (length fields.lacing) (drop 27 bytes))) (27 + values + size) (length-page_bytes fields ∙ omega (arith, table, body))
+
+-- the sizes of a page that is known to stand in front
+pub known_sizes : (bytes : List ℕ) (read : Result Page PageFault) → page_at bytes ≡ read → IsOk read → IsPageOf bytes (slice_index bytes 26) (sum (lacing_at bytes))
+known_sizes bytes (Err fault) e ok = absurd (false≢true ok)
+known_sizes bytes (Ok page) e ok =
+    let q : Passed bytes page = passed bytes page e in
+    let table : 27 + slice_index bytes 26 ≤ length bytes = ltb-false (length bytes) (27 + slice_index bytes 26) q.table in
+    let body : sum (lacing_at bytes) ≤ length (behind_lacing bytes) = ltb-false (length (behind_lacing bytes)) (sum (lacing_at bytes)) q.body in
+    record {
+      page = e ∙ ap Ok (sym q.page);
+      table = refl;
+      body = refl;
+      whole = omega (arith, table, body, length-drop (slice_index bytes 26) (drop 27 bytes), length-drop 27 bytes);
+    }

@@ -9,7 +9,7 @@ use Rattle.ogg_page.proofs.Prefixes.{one_page}
 use Rattle.ogg_page.proofs.ReadAgain.{page_is_read, length-page_bytes}
 
 -- no page has no bytes
-nothing_is_no_page : (page : Page) (more : List ℕ) → [] ≢ page_bytes page ++ more
+pub nothing_is_no_page : (page : Page) (more : List ℕ) → [] ≢ page_bytes page ++ more
 nothing_is_no_page page more e = absurd (omega (arith, ap length e, length-append (page_bytes page) more, length-page_bytes page))
 
 -- bytes at fault begin with no page
@@ -25,7 +25,7 @@ pub record FoundFrom (left : PagesLeft) (found : List FoundPage) : Type 0 where
   pub begins : BeginsWithPages left.bytes pages rest
   pub all : found ≡ located left.offset pages ++ fault_at (left.offset + length (bytes_of_pages pages)) rest
 
-nothing_left : (offset : ℕ) (left : PagesLeft) → left.bytes ≡ [] → FoundFrom left []
+pub nothing_left : (offset : ℕ) (left : PagesLeft) → left.bytes ≡ [] → FoundFrom left []
 nothing_left offset left e = record {
   pages = [];
   rest = [];
@@ -33,17 +33,17 @@ nothing_left offset left e = record {
   all = refl;
 }
 
-abbrev page_found : ℕ → Page → FoundPage
+abbrev pub page_found : ℕ → Page → FoundPage
 page_found offset page = Ok (offset, page)
 
-abbrev fault_found : ℕ → PageFault → FoundPage
+abbrev pub fault_found : ℕ → PageFault → FoundPage
 fault_found offset fault = Err (offset, fault)
 
 same_fault : (offset : ℕ) (bytes : List ℕ) (fault : PageFault) → bytes ≢ [] → page_at bytes ≡ Err fault → fault_found offset fault ∷ [] ≡ fault_at offset bytes
 same_fault offset [] fault some f = absurd (some refl)
 same_fault offset (byte ∷ bytes) fault some f = ap (fault_of offset) (sym f)
 
-last_fault : (left next : PagesLeft) (found : ℕ × PageFault) → NextPage left (Some (Err found)) next → FoundFrom left (Err found ∷ [])
+pub last_fault : (left next : PagesLeft) (found : ℕ × PageFault) → NextPage left (Some (Err found)) next → FoundFrom left (Err found ∷ [])
 last_fault left next found step = record {
   pages = [];
   rest = left.bytes;
@@ -57,7 +57,7 @@ end_stays left t [] e y = refl
 end_stays left t (Ok page ∷ found) e (j, step, more) = absurd (nothing_is_no_page page.1 j.bytes (sym e ∙ step.2))
 end_stays left t (Err fault ∷ found) e (j, step, more) = absurd (step.1 e)
 
-one_more : (left next : PagesLeft) (offset : ℕ) (page : Page) (found : List FoundPage) →
+pub one_more : (left next : PagesLeft) (offset : ℕ) (page : Page) (found : List FoundPage) →
     NextPage left (Some (Ok (offset, page))) next → FoundFrom next found → FoundFrom left (Ok (offset, page) ∷ found)
 one_more left next offset page found step behind =
     let size : length (page_bytes page ++ bytes_of_pages behind.pages) ≡ page_size page + length (bytes_of_pages behind.pages) =

@@ -1,5 +1,5 @@
 -- Bytes as pages, one after the other (RFC 3533, section 6).
-use Rattle.std.specs.Prelude.{◌≡◌, ◌≢◌, ℕ, ◌+◌, Option, Some, None, Result, Ok, Err, List, [], ◌∷◌, ◌++◌, length}
+use Rattle.std.specs.Prelude.{◌≡◌, ◌≢◌, ℕ, zero, suc, ◌+◌, Option, Some, None, Result, Ok, Err, List, [], ◌∷◌, ◌++◌, length, drop}
 use Rattle.std.specs.List.{AllByRecursion}
 use Rattle.ogg_page.specs.Page.{Page, IsPage, page_bytes, page_size, bytes_of_pages}
 use Rattle.ogg_page.specs.Reading.{page_at}
@@ -35,6 +35,20 @@ pub record AreFoundIn (bytes : List ℕ) (found : List FoundPage) : Type 0 where
   pub rest : List ℕ
   pub begins : BeginsWithPages bytes pages rest
   pub all : found ≡ located 0 pages ++ fault_at (length (bytes_of_pages pages)) rest
+
+-- The same, found from page to page: in these bytes, of which the first is at this offset, and in so many steps at most.
+unfoldable pub found_within : ℕ → ℕ → List ℕ → List FoundPage
+found_within zero offset bytes = []
+found_within (suc steps) offset [] = []
+found_within (suc steps) offset (byte ∷ bytes) =
+    elim (page_at (byte ∷ bytes)) [
+      | Ok page ↦ Ok (offset, page) ∷ found_within steps (offset + page_size page) (drop (page_size page) (byte ∷ bytes))
+      | Err fault ↦ Err (offset, fault) ∷ []
+    ]
+
+-- no page is empty, so there is no step for which a byte is lacking
+abbrev pub found_in : ℕ → List ℕ → List FoundPage
+found_in offset bytes = found_within (length bytes) offset bytes
 
 -- how far a walk over bytes has come, and the bytes that it has still to look at
 pub record PagesLeft : Type 0 where

@@ -1,8 +1,8 @@
 //! What always holds of pages.
-ghost use Rattle.std.specs.Prelude.{◌≡◌, ◌++◌, List, ℕ};
+ghost use Rattle.std.specs.Prelude.{◌≡◌, ◌++◌, ◌<◌, List, ℕ, slice_index};
 ghost use Rattle.std.specs.Iterator.{Drains};
 ghost use Rattle.ogg_page.specs.Page.{Page, IsPage, page_bytes};
-ghost use Rattle.ogg_page.specs.Pages.{AreFoundIn, BeginsWithPages, FoundPage, NextPage};
+ghost use Rattle.ogg_page.specs.Pages.{AreFoundIn, BeginsWithPages, FoundPage, NextPage, found_in};
 
 /// Where two pages begin the same bytes, they are one page, and the same bytes follow. So the bytes
 /// of no page are a proper prefix of another's.
@@ -19,4 +19,10 @@ pub fn longest_prefix_of_pages_is_unique()
 /// of their longest prefix, each with its offset, and then one fault where bytes remain.
 pub fn pages_are_the_longest_prefix()
     ensures { (bytes : List ℕ) (found : List FoundPage) → Drains NextPage (record { offset = 0; bytes = bytes }) found → AreFoundIn bytes found }
+{}
+
+/// What is found from page to page in bytes is their longest prefix of pages, each with its offset,
+/// and then one fault where bytes remain.
+pub fn pages_are_found_in_turn()
+    ensures { (bytes : List ℕ) → ((i : ℕ) → slice_index bytes i < 256) → AreFoundIn bytes (found_in 0 bytes) }
 {}

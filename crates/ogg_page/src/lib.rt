@@ -25,12 +25,13 @@ pub use crc::checksum;
 pub use fault::{PageFault, WriteFault};
 pub use head::PageHead;
 pub use laws::{
-    longest_prefix_of_pages_is_unique, page_bytes_are_prefix_free, pages_are_the_longest_prefix,
+    longest_prefix_of_pages_is_unique, page_bytes_are_prefix_free, pages_are_found_in_turn,
+    pages_are_the_longest_prefix,
 };
 pub use output::write_whole;
 pub use page::Page;
 pub use pages::Pages;
-pub use reading::read_page;
+pub use reading::{read_page, split_known_page, split_page};
 pub use std::alloc::AllocError as Memory;
 pub use writing::{write_page, write_page_of};
 

@@ -1,5 +1,5 @@
 //! Pages from bytes.
-ghost use Rattle.std.specs.Prelude.{◌≡◌, ◌≤◌, ◌+◌, ◌++◌, length, drop, IfOk, MatchResult, Ok, Err, List, ℕ};
+ghost use Rattle.std.specs.Prelude.{◌≡◌, ◌≤◌, ◌+◌, ◌++◌, length, drop, IfOk, IsOk, MatchResult, Ok, Err, List, ℕ};
 ghost use Rattle.byteorder.specs.Endian.{little_number};
 ghost use Rattle.ogg_page.specs.Page.{Page as PageValue, IsPage, page_bytes, page_size};
 ghost use Rattle.ogg_page.specs.Reading.{page_at, blanked, IsPageOf};
@@ -34,14 +34,26 @@ fn page_or_fault(bytes: &[u8]) -> Result<Page<'_>, PageFault>
     Ok(page_in_front(bytes, values, size))
 }
 
-/// Splits the page at the front from the bytes behind it.
-pub(crate) fn split_page(bytes: &[u8]) -> Result<(Page<'_>, &[u8]), PageFault>
+/// Splits the page at the front from the bytes behind it. The faults are those of [`read_page`].
+pub fn split_page(bytes: &[u8]) -> Result<(Page<'_>, &[u8]), PageFault>
     ensures split { MatchResult result (λ (page, rest). IsPage page × (bytes.now ≡ page_bytes page ++ rest.now)) (λ fault. page_at bytes.now ≡ Err fault) }
     ensures size { IfOk result (λ (page, rest). length bytes.now ≡ page_size page + length rest.now) }
 {
     let page = read_page(bytes)?;
     let rest = bytes.split_at(page.whole().len()).1;
     Ok((page, rest))
+}
+
+/// Splits a page that is known to stand at the front from the bytes behind it: its checksum isn't
+/// looked at again, so this takes no time for its body.
+pub fn split_known_page(bytes: &[u8]) -> (Page<'_>, &[u8])
+    requires { IsOk (page_at bytes.now) }
+    ensures { IsPage result.0 × (bytes.now ≡ page_bytes result.0 ++ result.1.now) }
+{
+    let values = usize::from(bytes[26]);
+    let size = body_size(bytes.split_at(FIXED).1.split_at(values).0);
+    let page = page_in_front(bytes, values, size);
+    (page, bytes.split_at(FIXED + values + size).1)
 }
 
 /// How many lacing values and how many bytes of body the page at the front has.
