@@ -1,0 +1,4 @@
+pub mod Fronts
+pub mod Walks
+pub mod Opened
+pub mod Slices

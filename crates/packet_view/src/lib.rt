@@ -1,0 +1,26 @@
+//! The packets of one stream, as slices of bytes that somebody else owns (RFC 3533, sections 5 and 6).
+//!
+//! `Packets` walks over bytes page by page and gives the packets of one stream that end before the
+//! first page at fault, and then that fault. A `Packet` is its parts, one for each page that has
+//! bytes of it: nothing is copied, and no call takes memory.
+//!
+//! Start at `specs/Packets.antt`, which says which packets bytes hold.
+#![tactic(auto)]
+
+mod fault;
+mod finding;
+mod front;
+mod packet;
+mod packets;
+mod parts;
+mod place;
+mod unread;
+mod walking;
+
+pub use fault::ViewFault;
+pub use packet::Packet;
+pub use packets::Packets;
+pub use parts::Parts;
+
+#[cfg(test)]
+mod tests;

@@ -1,0 +1,96 @@
+//! One packet.
+ghost use Rattle.std.specs.Prelude.{◌≡◌, ◌≤◌, ◌↔◌, [], length, IsSome, IfSome};
+ghost use Rattle.packet_view.specs.Packets.{joined_parts};
+ghost use Rattle.packet_view.specs.Packet.{ArePages, parts_of, slices_of};
+
+use crate::parts::Parts;
+use std::marker::Model;
+
+/// A packet in borrowed bytes: its parts, one for each page that has bytes of it. Nothing is copied,
+/// and no call takes memory.
+#[derive(Debug, Drop)]
+pub struct Packet<'a> {
+    /// The bytes in the page where the packet begins, and their place in the source.
+    first: &'a [u8],
+    place: u64,
+    /// The pages behind that one, up to the page where the packet ends, and their place.
+    more: &'a [u8],
+    offset: u64,
+    serial: u32,
+    len: usize,
+    position: Option<u64>,
+}
+
+impl<'a> Model for Packet<'a> {
+    ghost use Rattle.packet_view.specs.Packets.{PacketParts};
+
+    ghost Value = { PacketParts };
+
+    ghost use Rattle.packet_view.specs.Packet.{parts_of};
+    ghost use Rattle.packet_view.specs.Whole.{IsWhole};
+
+    ghost view = { λ p. record { parts = parts_of p.place p.first.now p.serial p.offset p.more.now; position = p.position } };
+
+    ghost invariant = { IsWhole };
+}
+
+impl<'a> Packet<'a> {
+    pub(crate) fn new(
+        first: &'a [u8],
+        place: u64,
+        more: &'a [u8],
+        offset: u64,
+        serial: u32,
+        len: usize,
+        position: Option<u64>,
+    ) -> Packet<'a>
+        requires size { len ≡ length (joined_parts (parts_of place first.now serial offset more.now)) }
+        requires pages { ArePages more.now }
+        requires begins { first.now ≡ [] → more.now ≡ [] }
+        ensures { result ≡ record { parts = parts_of place first.now serial offset more.now; position = position } }
+    {
+        Packet {
+            first,
+            place,
+            more,
+            offset,
+            serial,
+            len,
+            position,
+        }
+    }
+
+    /// How many bytes the packet has.
+    pub fn len(&self) -> usize
+        ensures { result ≡ length (joined_parts self.now.parts) }
+    {
+        self.len
+    }
+
+    /// The packet's parts, in order. None is empty, so an empty packet has none.
+    pub fn parts(&self) -> Parts<'a>
+        ensures { result ≡ slices_of self.now.parts }
+    {
+        Parts::new(self.first, self.serial, self.more)
+    }
+
+    /// The packet's bytes, where it has at most one part.
+    pub fn as_slice(&self) -> Option<&'a [u8]>
+        ensures some { IsSome result ↔ (length self.now.parts ≤ 1) }
+        ensures bytes { IfSome result (λ bytes. bytes.now ≡ joined_parts self.now.parts) }
+    {
+        if self.first.len() == self.len {
+            Some(self.first)
+        } else {
+            None
+        }
+    }
+
+    /// The position of the page where the packet ends, if no packet ends there behind it and the
+    /// page has one.
+    pub fn position(&self) -> Option<u64>
+        ensures { result ≡ self.now.position }
+    {
+        self.position
+    }
+}
