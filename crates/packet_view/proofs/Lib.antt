@@ -2,3 +2,5 @@ pub mod Fronts
 pub mod Walks
 pub mod Opened
 pub mod Slices
+pub mod PageHolds
+pub mod AllHeld

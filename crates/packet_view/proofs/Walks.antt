@@ -47,7 +47,7 @@ by_place serial parts offset page found None =
     after_packets (packets_in (position_in page) parts (body_place offset page) 0 page.lacing page.body)
     (packets_from serial (behind_page page) (parts_behind parts (body_place offset page) 0 page.lacing page.body) found)
 
-from-page : (serial : ℕ) (behind : Behind) (parts : List Part) (offset : ℕ) (page : Page) (found : List FoundPage) → nat_eq page.serial serial ≡ true →
+pub from-page : (serial : ℕ) (behind : Behind) (parts : List Part) (offset : ℕ) (page : Page) (found : List FoundPage) → nat_eq page.serial serial ≡ true →
     packets_from serial behind parts (page_found offset page ∷ found) ≡ by_place serial parts offset page found (misplaced behind (is_some_part parts) offset page)
 unfolding packets_from
 from-page serial behind parts offset page found e = pick_true (nat_eq page.serial serial) _ _ e ∙ by_cases (misplaced behind (is_some_part parts) offset page)

@@ -6,3 +6,4 @@ pub mod Packet
 pub mod Giving
 pub mod Reading
 pub mod Whole
+pub mod Held

@@ -10,6 +10,7 @@
 mod fault;
 mod finding;
 mod front;
+mod laws;
 mod packet;
 mod packets;
 mod parts;
@@ -18,6 +19,7 @@ mod unread;
 mod walking;
 
 pub use fault::ViewFault;
+pub use laws::packets_are_held;
 pub use packet::Packet;
 pub use packets::Packets;
 pub use parts::Parts;

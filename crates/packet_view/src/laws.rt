@@ -1,0 +1,12 @@
+//! What always holds of the packets in bytes.
+ghost use Rattle.std.specs.Prelude.{◌<◌, List, ℕ, slice_index};
+ghost use Rattle.ogg_page.specs.Pages.{found_in};
+ghost use Rattle.packet_view.specs.Packets.{packets_of};
+ghost use Rattle.packet_view.specs.Held.{AreHeld};
+
+/// The packets that [`Packets`](crate::Packets) gives are those that the stream's pages before the
+/// first page at fault hold, in order and whole; each of those pages fits the stream's pages before
+/// it, and the fault is that of what comes next.
+pub fn packets_are_held()
+    ensures { (serial : ℕ) (bytes : List ℕ) → ((i : ℕ) → slice_index bytes i < 256) → AreHeld serial (found_in 0 bytes) (packets_of serial bytes) }
+{}
