@@ -22,3 +22,8 @@ pub mod Ending
 pub mod Putting
 pub mod Held
 pub mod Longer
+pub mod Flags
+pub mod Rules
+pub mod PageRules
+pub mod PageState
+pub mod TakenRows

@@ -19,16 +19,16 @@ use Rattle.chain_rules.specs.declared.refusal.Refusal.TheVariants.{LinkOpen, NoL
 abbrev abc : List ℕ
 abc = 97 ∷ 98 ∷ 99 ∷ []
 
-abbrev hello : List ℕ
+abbrev pub hello : List ℕ
 hello = 104 ∷ 101 ∷ 108 ∷ 108 ∷ 111 ∷ []
 
 abbrev stream_of : ℕ → NewStream
 stream_of serial = record { serial = serial; headers = abc ∷ []; media = []; rate = (pos 0, pos 0); base_granule = pos 0; preroll = 0; shift = 0 }
 
-abbrev begin : List ℕ → Command
+abbrev pub begin : List ℕ → Command
 begin serials = BeginOf (record { skeleton = None; streams = map stream_of serials })
 
-abbrev put : ℕ → ℕ → List ℕ → Command
+abbrev pub put : ℕ → ℕ → List ℕ → Command
 put serial position packet = PutOf (record { entries = record { serial = serial; position = position; packet = packet } ∷ [] })
 
 -- the links after a command that is kept

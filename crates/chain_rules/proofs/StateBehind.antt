@@ -42,7 +42,7 @@ serials_with (link ∷ next ∷ links) pages h = ap (λ l. serials_of link ++ l)
 abbrev pub size_of_links : List (List Page) → ℕ
 size_of_links links = sum_by (λ link. sum_by page_size link) links
 
-size_with : (links : List (List Page)) (pages : List Page) → links ≢ [] → size_of_links (with_pages links pages) ≡ size_of_links links + size_of_pages pages
+pub size_with : (links : List (List Page)) (pages : List Page) → links ≢ [] → size_of_links (with_pages links pages) ≡ size_of_links links + size_of_pages pages
 size_with [] pages some = absurd (some refl)
 size_with (link ∷ []) pages some =
     omega (arith, sum_by-cons size_of_pages (link ++ pages) [], sum_by-cons size_of_pages link [], sum_by-append page_size link pages)
@@ -61,7 +61,7 @@ abbrev pub state : ℕ → ℕ → ℕ → Bool → Bool → StreamState
 state serial next position ended finished =
     record { serial = serial; next_sequence = next; last_position = position; ended = ended; finished = finished }
 
-state_other : (link pages : List Page) (serial other : ℕ) → Own serial pages → (serial ≡ other → ⊥) → state_of (link ++ pages) other ≡ state_of link other
+pub state_other : (link pages : List Page) (serial other : ℕ) → Own serial pages → (serial ≡ other → ⊥) → state_of (link ++ pages) other ≡ state_of link other
 state_other link pages serial other own ne =
     ap (λ (own : List Page). state other (number_behind own) (last_position own) (list_any is_last own) (not (ends_open (joined_lacing own))))
     (with_other serial other link pages own ne)

@@ -1,4 +1,5 @@
 pub mod Refusal
+pub mod ChainFault
 pub mod Command
 pub mod Links
 pub mod Recording
@@ -11,5 +12,7 @@ pub mod Decision
 pub mod Begun
 pub mod Serials
 pub mod Shape
+pub mod Taking
+pub mod Followed
 pub mod Progress
 pub mod Commands

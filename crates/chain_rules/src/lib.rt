@@ -3,7 +3,8 @@
 //! A command begins a link of logical streams, puts packets, or ends a stream. `Shape` stands for
 //! the chain so far: `check` says why a command is refused, or how long its pages are; `lay` appends
 //! these pages; `prepare` makes the room, without which `accept` couldn't add the command in no
-//! memory. A refusal changes nothing, and nothing walks the file.
+//! memory. A refusal changes nothing, and nothing walks the file. `take_page` takes pages that were
+//! read, one by one, and `unfinished` says whether they leave a packet unfinished.
 //!
 //! Start at `specs/Links.antt`, which says what a link and a chain are, at `specs/Decision.antt`,
 //! which is the table of refusals, and at `command_adds_its_packets`, the law that joins the two.
@@ -11,6 +12,7 @@
 
 mod accepting;
 mod begin;
+mod chain_fault;
 mod checks;
 mod command;
 mod entries;
@@ -23,7 +25,9 @@ mod runs;
 mod serials;
 mod shape;
 mod stream_state;
+mod taking;
 
+pub use chain_fault::ChainFault;
 pub use command::{Begin, Command, Entry, NewStream, Put, SkeletonHead};
 pub use laws::{command_adds_its_packets, commands_add_their_packets};
 pub use listed::Listed;

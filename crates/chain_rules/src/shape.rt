@@ -1,16 +1,19 @@
 //! The chain of the links so far.
-ghost use Rattle.std.specs.Prelude.{◌≡◌, ◌≤◌, ◌<◌, ◌+◌, ◌++◌, ℕ, List, [], OnOk, OnErr, IfOk, IsOk, Ok, length, vec_len, vec_capacity};
-ghost use Rattle.ogg_page.specs.Page.{Page};
+ghost use Rattle.std.specs.Prelude.{◌≡◌, ◌≤◌, ◌<◌, ◌+◌, ◌++◌, ◌^◌, ℕ, List, [], true, false, OnOk, OnErr, IfOk, IsOk, Ok, Err, Option, Some, None, length, vec_len, vec_capacity};
+ghost use Rattle.ogg_page.specs.Page.{Page as PageValue, page_size};
 
 use crate::Memory;
 use crate::accepting::{add_runs, add_streams, end_stream, have_other_headers};
 use crate::begin::size_of_begin;
-use crate::checks::{check_begin, check_end, check_put};
+use crate::chain_fault::ChainFault;
+use crate::checks::{check_begin, check_end, check_put, is_open};
 use crate::command::{Begin, Command, Put};
 use crate::laying::{lay_begin, lay_end, lay_put};
 use crate::refusal::Refusal;
 use crate::serials::Serials;
 use crate::stream_state::StreamState;
+use crate::taking::{broken_by_page, first_unfinished, follow, is_first, join_link, open_link};
+use ogg_page::Page;
 use std::alloc::Global;
 use std::marker::Model;
 
@@ -47,11 +50,15 @@ impl Model for Shape {
 }
 
 impl Shape {
-    ghost use Rattle.chain_rules.specs.ChainState.{chain_state_of};
+    ghost use Rattle.chain_rules.specs.ChainState.{ChainState, chain_state_of, is_open};
     ghost use Rattle.chain_rules.specs.Decision.{decision};
     ghost use Rattle.chain_rules.specs.Limits.{longest_file};
     ghost use Rattle.chain_rules.specs.Shape.{HasRoom};
     ghost use Rattle.chain_rules.specs.Encoding.{command_bytes, links_after};
+    ghost use Rattle.chain_rules.specs.Taking.{fault_of_page, links_with, unfinished_stream, HasRoomFor};
+    ghost use Rattle.chain_rules.specs.Followed.{opened, joined, continued};
+    ghost use Rattle.chain_rules.specs.declared.chain_fault.ChainFault.{ChainFault as ChainFaultOf};
+    ghost use Rattle.ogg_page.specs.LogicalStream.{is_first};
 
     /// The chain of no links.
     pub fn new(alloc: Global) -> Self
@@ -152,9 +159,9 @@ impl Shape {
     pub fn accept(&mut self, command: &Command)
         requires kept { IsOk (decision self.old.chain command.now) }
         requires room { HasRoom self.old command.now }
-        ensures links { (links : List (List Page)) → self.old.chain ≡ chain_state_of links
+        ensures links { (links : List (List PageValue)) → self.old.chain ≡ chain_state_of links
             → self.new.chain ≡ chain_state_of (links_after links command.now) }
-        ensures grows { (links : List (List Page)) (size : ℕ) → self.old.chain ≡ chain_state_of links → decision self.old.chain command.now ≡ Ok size
+        ensures grows { (links : List (List PageValue)) (size : ℕ) → self.old.chain ≡ chain_state_of links → decision self.old.chain command.now ≡ Ok size
             → self.new.chain.length_of ≡ self.old.chain.length_of + size }
     {
         match command {
@@ -166,7 +173,7 @@ impl Shape {
 
     fn accept_end(&mut self, serial: u32)
         requires { IsOk (decision self.old.chain (Command.End serial)) }
-        ensures { (links : List (List Page)) → self.old.chain ≡ chain_state_of links
+        ensures { (links : List (List PageValue)) → self.old.chain ≡ chain_state_of links
             → self.new.chain ≡ chain_state_of (links_after links (Command.End serial)) }
     {
         end_stream(self.streams.as_mut_slice(), serial);
@@ -176,7 +183,7 @@ impl Shape {
 
     fn accept_put(&mut self, put: &Put)
         requires { IsOk (decision self.old.chain (Command.Put put.now)) }
-        ensures { (links : List (List Page)) → self.old.chain ≡ chain_state_of links
+        ensures { (links : List (List PageValue)) → self.old.chain ≡ chain_state_of links
             → self.new.chain ≡ chain_state_of (links_after links (Command.Put put.now)) }
     {
         let size = add_runs(self.streams.as_mut_slice(), put);
@@ -187,7 +194,7 @@ impl Shape {
     fn accept_begin(&mut self, begin: &Begin)
         requires kept { IsOk (decision self.old.chain (Command.Begin begin.now)) }
         requires room { HasRoom self.old (Command.Begin begin.now) }
-        ensures { (links : List (List Page)) → self.old.chain ≡ chain_state_of links
+        ensures { (links : List (List PageValue)) → self.old.chain ≡ chain_state_of links
             → self.new.chain ≡ chain_state_of (links_after links (Command.Begin begin.now)) }
     {
         let streams = begin.streams.as_slice();
@@ -196,5 +203,78 @@ impl Shape {
         self.has_data = have_other_headers(streams);
         self.links += 1;
         self.bytes += size;
+    }
+
+    /// Takes a page that was read into the chain, or says why it may not follow: the first fault in
+    /// this order. A page that isn't its stream's first: `BosPlace`, `NoStream`, `AfterEos`,
+    /// `Sequence`, `Continued`, `EosUnfinished`. A first page where all streams have ended, so that
+    /// it begins a link: `BosShape`, `TooMany`. Another first page: `BosWhileOpen`, `SerialTwice`,
+    /// `BosShape`, `TooMany`. Last `Memory`, which a first page alone can meet. After a fault the
+    /// chain is as it was (RFC 3533, sections 4 to 6).
+    pub fn take_page(&mut self, page: &Page<'_>) -> Result<(), ChainFault>
+        requires { self.old.chain.length_of + page_size page.now < 2 ^ 63 }
+        ensures fault { (fault : ChainFaultOf) → fault_of_page self.old.chain page.now ≡ Some fault → result ≡ Err fault }
+        ensures memory { fault_of_page self.old.chain page.now ≡ None → OnErr result ((result ≡ Err ChainFault.Memory) × (HasRoomFor self.old page.now → ⊥)) }
+        ensures links { OnOk result ((links : List (List PageValue)) → self.old.chain ≡ chain_state_of links
+            → self.new.chain ≡ chain_state_of (links_with links page.now)) }
+        ensures same { OnErr result (self.new.chain ≡ self.old.chain) }
+    {
+        let streams = self.streams.as_slice();
+        if let Some(fault) = broken_by_page(streams, self.has_data, self.links, page) {
+            return Err(fault);
+        }
+        if !is_first(page) {
+            self.continue_link(page);
+        } else if is_open(streams) {
+            self.join_link(page)?;
+        } else {
+            self.open_link(page)?;
+        }
+        Ok(())
+    }
+
+    fn continue_link(&mut self, page: &Page<'_>)
+        requires { self.old.chain.length_of + page_size page.now < 2 ^ 63 }
+        ensures { self.new.chain ≡ continued self.old.chain page.now }
+    {
+        follow(self.streams.as_mut_slice(), page);
+        self.has_data = true;
+        self.bytes += page.whole().len() as u64;
+    }
+
+    fn join_link(&mut self, page: &Page<'_>) -> Result<(), Memory>
+        requires long { self.old.chain.length_of + page_size page.now < 2 ^ 63 }
+        requires few { length self.old.chain.streams < 64 }
+        ensures ok { OnOk result (self.new.chain ≡ joined self.old.chain page.now) }
+        ensures err { OnErr result (self.new.chain ≡ self.old.chain) }
+        ensures full { OnErr result (length self.old.chain.streams + 1 ≤ self.old.stream_room → 1 ≤ self.old.serial_room → ⊥) }
+    {
+        join_link(&mut self.streams, &mut self.serials, page)?;
+        self.bytes += page.whole().len() as u64;
+        Ok(())
+    }
+
+    fn open_link(&mut self, page: &Page<'_>) -> Result<(), Memory>
+        requires long { self.old.chain.length_of + page_size page.now < 2 ^ 63 }
+        requires few { self.old.chain.links < 65536 }
+        ensures ok { OnOk result (self.new.chain ≡ opened self.old.chain page.now) }
+        ensures err { OnErr result (self.new.chain ≡ self.old.chain) }
+        ensures full { OnErr result (1 ≤ self.old.stream_room → 1 ≤ self.old.serial_room → ⊥) }
+    {
+        let links = self.links + 1;
+        open_link(&mut self.streams, &mut self.serials, page)?;
+        self.links = links;
+        self.has_data = false;
+        self.bytes += page.whole().len() as u64;
+        Ok(())
+    }
+
+    /// The serial of the first stream of the last link, in the order of their first pages, that has
+    /// an unfinished packet. In the links before it none has one, once their pages were taken.
+    pub fn unfinished(&self) -> Option<u32>
+        ensures { result ≡ unfinished_stream self.now.chain }
+    {
+        let stream = first_unfinished(self.streams.as_slice())?;
+        Some(stream.serial)
     }
 }

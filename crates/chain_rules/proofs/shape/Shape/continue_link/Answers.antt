@@ -1,0 +1,31 @@
+use Rattle.std.proofs.Common.{◌≡◌, ◌+◌, true, List, length, map, ◌∙◌, ap, arith, vec_len}
+use Rattle.ogg_page.specs.Page.{Page, page_size}
+use Rattle.chain_rules.specs.declared.stream_state.StreamState.{StreamState}
+use Rattle.chain_rules.specs.ChainState.{ChainState}
+use Rattle.chain_rules.specs.Shape.{ShapeState}
+use Rattle.chain_rules.specs.Progress.{change_at}
+use Rattle.chain_rules.specs.Followed.{followed}
+use Rattle.chain_rules.proofs.ByteSizes.{length-page_bytes}
+use Rattle.chain_rules.proofs.Lent.{given_back}
+use Rattle.chain_rules.proofs.StateBehind.{chain_of}
+use Rattle.chain_rules.proofs.shape.Shape.continue_link.Goals as goal
+
+pub invariant_of-self : goal.invariant_of-self
+invariant_of-self c =
+    let bytes : c.self.inside.bytes ≡ c.args.self.now.chain.length_of = ap (λ (s : ShapeState). s.chain.length_of) c.self.view_is in
+    let size : length c.whole.result.now ≡ page_size c.args.page.now = ap length c.whole.ensures.bytes ∙ length-page_bytes c.args.page.now in
+    (c.self.invariant.0, omega (arith, bytes, size, c.requires))
+
+pub returns : goal.returns
+returns c =
+    let chain : ChainState = c.args.self.now.chain in
+    let page : Page = c.args.page.now in
+    let change : StreamState → StreamState = change_at page.serial (followed page) in
+    let lent : c.as_mut_slice.result.now ≡ chain.streams = c.as_mut_slice.ensures.value ∙ ap (λ (s : ShapeState). s.chain.streams) c.self.view_is in
+    let streams : c.follow.new.streams ≡ map change chain.streams = c.follow.ensures ∙ ap (map change) lent in
+    let as_long : length c.follow.new.streams ≡ vec_len c.self.inside.streams = c.follow.auto.streams ∙ c.as_mut_slice.ensures.len in
+    let size : length c.whole.result.now ≡ page_size page = ap length c.whole.ensures.bytes ∙ length-page_bytes page in
+    ap (λ (l : List StreamState). chain_of l true c.self.inside.serials.listed c.self.inside.links (c.self.inside.bytes + length c.whole.result.now))
+    (given_back c.follow.new.streams c.self.inside.streams.items (vec_len c.self.inside.streams) as_long ∙ streams)
+    ∙ ap (λ n. chain_of (map change chain.streams) true c.self.inside.serials.listed c.self.inside.links (c.self.inside.bytes + n)) size
+    ∙ ap (λ (s : ShapeState). chain_of (map change chain.streams) true s.chain.serials s.chain.links (s.chain.length_of + page_size page)) c.self.view_is

@@ -1,0 +1,25 @@
+use Rattle.std.proofs.Common.{◌≡◌, ◌+◌, ◌++◌, [], ◌∷◌, List, ℕ, length, ◌∙◌, ap, arith, vec_len}
+use Rattle.ogg_page.specs.Page.{Page, page_size}
+use Rattle.chain_rules.specs.declared.stream_state.StreamState.{StreamState}
+use Rattle.chain_rules.specs.ChainState.{ChainState}
+use Rattle.chain_rules.specs.Shape.{ShapeState}
+use Rattle.chain_rules.specs.Followed.{entered}
+use Rattle.chain_rules.proofs.ByteSizes.{length-page_bytes}
+use Rattle.chain_rules.proofs.StateBehind.{chain_of}
+use Rattle.chain_rules.proofs.shape.Shape.join_link.Goals as goal
+
+pub invariant_of-self-2 : goal.invariant_of-self-2
+invariant_of-self-2 c =
+    let bytes : c.self.inside.bytes ≡ c.args.self.now.chain.length_of = ap (λ (s : ShapeState). s.chain.length_of) c.self.view_is in
+    let count : length c.self.inside.streams.items ≡ length c.args.self.now.chain.streams = ap (λ (s : ShapeState). length s.chain.streams) c.self.view_is in
+    let size : length c.whole.result.now ≡ page_size c.args.page.now = ap length c.whole.ensures.bytes ∙ length-page_bytes c.args.page.now in
+    (omega (arith, c.in_ok-join_link.ensures.count, count, c.self.inside.streams.ok.0, c.requires.few), omega (arith, bytes, size, c.requires.long))
+
+pub returns-clause-ok : goal.returns-clause-ok
+returns-clause-ok c =
+    let page : Page = c.args.page.now in
+    let size : length c.whole.result.now ≡ page_size page = ap length c.whole.ensures.bytes ∙ length-page_bytes page in
+    ap (λ (l : List StreamState). chain_of l c.self.inside.has_data c.join_link.new.serials.listed c.self.inside.links (c.self.inside.bytes + length c.whole.result.now)) c.in_ok-join_link.ensures.streams
+    ∙ ap (λ (l : List ℕ). chain_of (c.self.inside.streams.items ++ entered page ∷ []) c.self.inside.has_data l c.self.inside.links (c.self.inside.bytes + length c.whole.result.now)) c.in_ok-join_link.ensures.serials
+    ∙ ap (λ n. chain_of (c.self.inside.streams.items ++ entered page ∷ []) c.self.inside.has_data (c.self.inside.serials.listed ++ page.serial ∷ []) c.self.inside.links (c.self.inside.bytes + n)) size
+    ∙ ap (λ (s : ShapeState). chain_of (s.chain.streams ++ entered page ∷ []) s.chain.has_data (s.chain.serials ++ page.serial ∷ []) s.chain.links (s.chain.length_of + page_size page)) c.self.view_is

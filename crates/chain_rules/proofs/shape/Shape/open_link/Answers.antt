@@ -1,0 +1,23 @@
+use Rattle.std.proofs.Common.{◌≡◌, ◌+◌, ◌++◌, [], ◌∷◌, false, List, ℕ, length, ◌∙◌, ap, arith}
+use Rattle.ogg_page.specs.Page.{Page, page_size}
+use Rattle.chain_rules.specs.declared.stream_state.StreamState.{StreamState}
+use Rattle.chain_rules.specs.Shape.{ShapeState}
+use Rattle.chain_rules.specs.Followed.{entered}
+use Rattle.chain_rules.proofs.ByteSizes.{length-page_bytes}
+use Rattle.chain_rules.proofs.StateBehind.{chain_of}
+use Rattle.chain_rules.proofs.shape.Shape.open_link.Goals as goal
+
+pub invariant_of-self-2 : goal.invariant_of-self-2
+invariant_of-self-2 c =
+    let bytes : c.self.inside.bytes ≡ c.args.self.now.chain.length_of = ap (λ (s : ShapeState). s.chain.length_of) c.self.view_is in
+    let size : length c.whole.result.now ≡ page_size c.args.page.now = ap length c.whole.ensures.bytes ∙ length-page_bytes c.args.page.now in
+    (omega (arith, c.in_ok-open_link.ensures.count), omega (arith, bytes, size, c.requires.long))
+
+pub returns-clause-ok : goal.returns-clause-ok
+returns-clause-ok c =
+    let page : Page = c.args.page.now in
+    let size : length c.whole.result.now ≡ page_size page = ap length c.whole.ensures.bytes ∙ length-page_bytes page in
+    ap (λ (l : List StreamState). chain_of l false c.open_link.new.serials.listed (c.self.inside.links + 1) (c.self.inside.bytes + length c.whole.result.now)) c.in_ok-open_link.ensures.streams
+    ∙ ap (λ (l : List ℕ). chain_of (entered page ∷ []) false l (c.self.inside.links + 1) (c.self.inside.bytes + length c.whole.result.now)) c.in_ok-open_link.ensures.serials
+    ∙ ap (λ n. chain_of (entered page ∷ []) false (c.self.inside.serials.listed ++ page.serial ∷ []) (c.self.inside.links + 1) (c.self.inside.bytes + n)) size
+    ∙ ap (λ (s : ShapeState). chain_of (entered page ∷ []) false (s.chain.serials ++ page.serial ∷ []) (s.chain.links + 1) (s.chain.length_of + page_size page)) c.self.view_is
