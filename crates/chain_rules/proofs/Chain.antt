@@ -18,29 +18,16 @@ use Rattle.chain_rules.specs.Progress.{next_in}
 use Rattle.chain_rules.specs.Rules.{Rule, first_broken}
 use Rattle.chain_rules.specs.Decision.{decision, rules_for, size_of}
 use Rattle.chain_rules.proofs.Grow.{all_both}
+use Rattle.chain_rules.proofs.Rules.{NoneBroken, none_broken}
 
 -- ---- the rules that a kept command doesn't break
-none_broken : (broken : Option Refusal) (own size : ℕ) → option_map_or (λ refusal. Err refusal) broken (Ok own) ≡ Ok size → broken ≡ None
-none_broken None own size e = refl
-none_broken (Some r) own size e = cc
+no_refusal_in : (broken : Option Refusal) (own size : ℕ) → option_map_or (λ refusal. Err refusal) broken (Ok own) ≡ Ok size → broken ≡ None
+no_refusal_in None own size e = refl
+no_refusal_in (Some r) own size e = cc
 
 no_refusal : (chain : ChainState) (command : Command) (size : ℕ) → decision chain command ≡ Ok size → first_broken (rules_for chain command) ≡ None
 unfolding decision
-no_refusal chain command size e = none_broken (first_broken (rules_for chain command)) (size_of chain command) size e
-
-of_cond : (b : Bool) (r : Refusal) (o : Option Refusal) → cond b (Some r) o ≡ None → (b ≡ false) × (o ≡ None)
-of_cond true r o e = cc
-of_cond false r o e = (refl, e)
-
-unbroken : (rule : Rule Refusal) (rules : List (Rule Refusal)) → first_broken (rule ∷ rules) ≡ None → (rule.0 ≡ false) × (first_broken rules ≡ None)
-unbroken rule rules e = of_cond rule.0 rule.1 (first_broken rules) e
-
--- no rule is broken
-pub unbroken_all : (rules : List (Rule Refusal)) → first_broken rules ≡ None → AllByRecursion (λ rule. rule.0 ≡ false) rules
-unbroken_all [] e = tt
-unbroken_all (rule ∷ rules) e =
-    let head : (rule.0 ≡ false) × (first_broken rules ≡ None) = unbroken rule rules e in
-    (head.0, unbroken_all rules head.1)
+no_refusal chain command size e = no_refusal_in (first_broken (rules_for chain command)) (size_of chain command) size e
 
 pub all_split : {X : Type 0} (P : X → Type 0) (xs ys : List X) → AllByRecursion P (xs ++ ys) → AllByRecursion P xs × AllByRecursion P ys
 all_split P [] ys h = (tt, h)
@@ -49,10 +36,10 @@ all_split P (x ∷ xs) ys h =
     ((h.0, rest.0), rest.1)
 
 abbrev pub Unbroken : List (Rule Refusal) → Type 0
-Unbroken rules = AllByRecursion (λ rule. rule.0 ≡ false) rules
+Unbroken rules = NoneBroken rules
 
 pub no_rule_broken : (chain : ChainState) (command : Command) (size : ℕ) → decision chain command ≡ Ok size → Unbroken (rules_for chain command)
-no_rule_broken chain command size e = unbroken_all (rules_for chain command) (no_refusal chain command size e)
+no_rule_broken chain command size e = none_broken (rules_for chain command) (no_refusal chain command size e)
 
 pub not_false : (b : Bool) → not b ≡ false → b ≡ true
 not_false true e = refl

@@ -27,3 +27,6 @@ pub mod Rules
 pub mod PageRules
 pub mod PageState
 pub mod TakenRows
+pub mod TakenLinks
+pub mod Fronts
+pub mod InTurn

@@ -1,6 +1,5 @@
 -- The rules that a page keeps that may follow.
-use Rattle.std.proofs.Common.{◌≡◌, Bool, true, false, cond, sym, ◌∙◌, ap, refl, None}
-use Rattle.std.specs.Prelude.{not}
+use Rattle.std.proofs.Common.{◌≡◌, true, false, cond, sym, ◌∙◌, ap, None}
 use Rattle.std.proofs.lemmas.Bool.{cond-true, cond-false}
 use Rattle.ogg_page.specs.Page.{Page}
 use Rattle.ogg_page.specs.LogicalStream.{is_first}
@@ -8,13 +7,6 @@ use Rattle.chain_rules.specs.ChainState.{ChainState, is_open}
 use Rattle.chain_rules.specs.Rules.{first_broken}
 use Rattle.chain_rules.specs.Taking.{fault_of_page, rules_for_page, opening_rules, joining_rules, later_rules}
 use Rattle.chain_rules.proofs.Rules.{NoneBroken, none_broken, no_fault}
-
-pub never : (b : Bool) {A : Type 0} → b ≡ false → b ≡ true → A
-never b e f = cc
-
-pub not_no : (b : Bool) → not b ≡ false → b ≡ true
-not_no true e = refl
-not_no false e = cc
 
 later_are : (chain : ChainState) (page : Page) → is_first page ≡ false → rules_for_page chain page ≡ later_rules chain page
 later_are chain page later = cond-false (is_first page) (cond (is_open chain) (joining_rules chain page) (opening_rules chain page)) (later_rules chain page) later

@@ -1,7 +1,7 @@
 -- The chain state behind a page that may follow.
-use Rattle.std.proofs.Common.{◌≡◌, ◌≢◌, ◌+◌, ◌<◌, ◌^◌, ℕ, Bool, true, false, cond, List, [], ◌∷◌, ◌++◌, length, map, refl, sym, ◌∙◌, ap, arith, None, Option, Some, inl, inr, eq-eqb, length-append, append_assoc}
-use Rattle.std.specs.Prelude.{nat_eq, nat_lt, nat_le, not, ◌||◌, ◌&&◌, is_some, is_none}
-use Rattle.std.specs.List.{AllByRecursion, list_any, flat_map, filter, find}
+use Rattle.std.proofs.Common.{◌≡◌, ◌≢◌, ◌+◌, ◌<◌, ◌^◌, ℕ, Bool, true, false, cond, List, [], ◌∷◌, ◌++◌, length, map, refl, sym, ◌∙◌, ap, arith, None, Some, inl, inr, eq-eqb, length-append, append_assoc}
+use Rattle.std.specs.Prelude.{nat_eq, nat_lt, not, ◌||◌, ◌&&◌, is_some}
+use Rattle.std.specs.List.{AllByRecursion, list_any, flat_map, filter}
 use Rattle.std.proofs.lemmas.Bool.{cond-true, cond-false, ne_eqb, eqb-false, or_parts, cases_Bool, leb-false}
 use Rattle.std.proofs.lemmas.List.{append-nil}
 use Rattle.std.proofs.lemmas.List.Elements.{filter-append}
@@ -17,13 +17,13 @@ use Rattle.chain_rules.specs.Links.{pages_with, serials_of, has_stream, has_ende
 use Rattle.chain_rules.specs.ChainState.{ChainState, chain_state_of, state_of, last_link, last_position, is_open, stream_at}
 use Rattle.chain_rules.specs.Encoding.{with_pages}
 use Rattle.chain_rules.specs.Size.{size_of_pages}
-use Rattle.chain_rules.specs.Taking.{fault_of_page, begins_link, links_with, leaves_open, later_rules, joining_rules, opening_rules}
+use Rattle.chain_rules.specs.Taking.{fault_of_page, begins_link, links_with, leaves_open, later_rules, joining_rules}
 use Rattle.chain_rules.specs.Followed.{followed, without_pages, entered, opened, joined, continued}
-use Rattle.chain_rules.proofs.Grow.{with_own, with_other, ended_both, or_false, filter_all, filter_none}
-use Rattle.chain_rules.proofs.Chain.{any_map, open_some, length_more, found_at}
+use Rattle.chain_rules.proofs.Grow.{with_own, ended_both, or_false, filter_all, filter_none}
+use Rattle.chain_rules.proofs.Chain.{not_false, any_map, open_some, length_more, found_at}
 use Rattle.chain_rules.proofs.StateBehind.{state, chain_of, behind, state_behind, state_other, last_with, size_with, size_of_links}
 use Rattle.chain_rules.proofs.Rules.{NoneBroken}
-use Rattle.chain_rules.proofs.PageRules.{never, not_no, later_kept, joining_kept, opening_kept}
+use Rattle.chain_rules.proofs.PageRules.{later_kept, joining_kept, opening_kept}
 
 -- ---- the links with the page
 pub last_is : (done : List (List Page)) (link : List Page) → last_link (done ++ link ∷ []) ≡ link
@@ -137,7 +137,7 @@ pub all_first : (pages : List Page) → list_any (λ page. not (is_first page)) 
 all_first [] e = tt
 all_first (page ∷ pages) e =
     let parts : (not (is_first page) ≡ false) × (list_any (λ p. not (is_first p)) pages ≡ false) = or_parts (not (is_first page)) (list_any (λ p. not (is_first p)) pages) e in
-    (not_no (is_first page) parts.0, all_first pages parts.1)
+    (not_false (is_first page) parts.0, all_first pages parts.1)
 
 -- no stream with this serial
 pub absent : (links : List (List Page)) (serial : ℕ) → is_some (stream_at (chain_state_of links) serial) ≡ false → has_stream (last_link links) serial ≡ false

@@ -1,5 +1,5 @@
 -- Which pages may follow, on small files.
-use Rattle.std.proofs.Common.{◌≡◌, ◌+◌, ℕ, zero, suc, List, [], ◌∷◌, ◌++◌, refl, Option, Some, None, Err, false, true, replicate}
+use Rattle.std.proofs.Common.{◌≡◌, ◌+◌, ℕ, zero, suc, List, [], ◌∷◌, ◌++◌, refl, Option, Some, None, Err, true}
 use Rattle.ogg_page.specs.Page.{Page}
 use Rattle.ogg_page.specs.Lacing.{lacing_of}
 use Rattle.packetiser.specs.Run.{pages_of_run, page_of_run, page_position, run_lacing, run_bytes, values_at, values_before}

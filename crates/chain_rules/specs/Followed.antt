@@ -1,9 +1,9 @@
 -- The chain state behind a page that may follow.
 use Rattle.std.specs.Prelude.{◌+◌, ◌^◌, ℕ, true, false, not, ◌||◌, nat_lt, if◌then◌else◌, [], ◌∷◌, ◌++◌, map}
 use Rattle.ogg_page.specs.Page.{Page, page_size}
-use Rattle.ogg_page.specs.LogicalStream.{is_first, is_last}
+use Rattle.ogg_page.specs.LogicalStream.{is_last}
 use Rattle.chain_rules.specs.declared.stream_state.StreamState.{StreamState}
-use Rattle.chain_rules.specs.ChainState.{ChainState, is_open}
+use Rattle.chain_rules.specs.ChainState.{ChainState}
 use Rattle.chain_rules.specs.Progress.{change_at}
 use Rattle.chain_rules.specs.Taking.{leaves_open}
 

@@ -1,13 +1,14 @@
-//! What always holds of the commands that a chain takes.
-ghost use Rattle.std.specs.Prelude.{◌≡◌, ◌++◌, Ok, List, [], ℕ, length};
+//! What always holds of the commands and the pages that a chain takes.
+ghost use Rattle.std.specs.Prelude.{◌≡◌, ◌++◌, ◌↔◌, Ok, List, [], ℕ, length};
 ghost use Rattle.std.specs.List.{AllByRecursion};
-ghost use Rattle.ogg_page.specs.Page.{Page};
+ghost use Rattle.ogg_page.specs.Page.{Page, IsPage, bytes_of_pages};
 ghost use Rattle.chain_rules.specs.Command.{IsCommand};
 ghost use Rattle.chain_rules.specs.Links.{AreLinks};
 ghost use Rattle.chain_rules.specs.Recording.{Recording, HoldsLinks, Holds, add, after};
 ghost use Rattle.chain_rules.specs.ChainState.{ChainState, chain_state_of};
 ghost use Rattle.chain_rules.specs.Decision.{decision};
 ghost use Rattle.chain_rules.specs.Encoding.{command_bytes, links_after};
+ghost use Rattle.chain_rules.specs.Taking.{AreTaken};
 ghost use Rattle.chain_rules.specs.Commands.{AreKept, bytes_of_commands, links_behind};
 ghost use Rattle.chain_rules.specs.declared.command.Command.{Command as CommandOf};
 
@@ -37,4 +38,11 @@ pub fn commands_add_their_packets()
     // From no links on their bytes hold just what they say.
     ensures holds { (commands : List CommandOf) → AllByRecursion IsCommand commands → AreKept [] commands →
         Holds (bytes_of_commands [] commands) (after [] commands) }
+{}
+
+/// The pages of a list are taken in turn, from no links on, exactly where their bytes are a chain of
+/// links, and then the links are these (RFC 3533, section 4).
+pub fn pages_in_turn_are_links()
+    ensures { (pages : List Page) (links : List (List Page)) → AllByRecursion IsPage pages →
+        AreTaken [] pages links ↔ AreLinks (bytes_of_pages pages) links }
 {}

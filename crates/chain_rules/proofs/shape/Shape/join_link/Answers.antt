@@ -1,7 +1,6 @@
-use Rattle.std.proofs.Common.{◌≡◌, ◌+◌, ◌++◌, [], ◌∷◌, List, ℕ, length, ◌∙◌, ap, arith, vec_len}
+use Rattle.std.proofs.Common.{◌≡◌, ◌+◌, ◌++◌, [], ◌∷◌, List, ℕ, length, ◌∙◌, ap, arith}
 use Rattle.ogg_page.specs.Page.{Page, page_size}
 use Rattle.chain_rules.specs.declared.stream_state.StreamState.{StreamState}
-use Rattle.chain_rules.specs.ChainState.{ChainState}
 use Rattle.chain_rules.specs.Shape.{ShapeState}
 use Rattle.chain_rules.specs.Followed.{entered}
 use Rattle.chain_rules.proofs.ByteSizes.{length-page_bytes}

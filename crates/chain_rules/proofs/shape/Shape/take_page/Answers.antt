@@ -1,10 +1,9 @@
-use Rattle.std.proofs.Common.{◌≡◌, ◌<◌, true, false, List, length, sym, ◌∙◌, ap, None, Option}
+use Rattle.std.proofs.Common.{◌≡◌, true, false, sym, ◌∙◌, ap, None}
 use Rattle.std.specs.Prelude.{not}
 use Rattle.std.specs.List.{list_any}
 use Rattle.ogg_page.specs.Page.{Page}
 use Rattle.ogg_page.specs.LogicalStream.{is_first}
 use Rattle.chain_rules.specs.declared.stream_state.StreamState.{StreamState}
-use Rattle.chain_rules.specs.declared.chain_fault.ChainFault.{ChainFault}
 use Rattle.chain_rules.specs.ChainState.{ChainState, is_open}
 use Rattle.chain_rules.specs.Shape.{ShapeState}
 use Rattle.chain_rules.specs.Taking.{fault_of_page}
