@@ -1,6 +1,6 @@
 -- The packets are those that the stream's pages before the first page at fault hold.
-use Rattle.std.proofs.Common.{◌≡◌, ◌≢◌, ℕ, zero, suc, ◌+◌, ◌-◌, ◌*◌, ◌/◌, ◌%◌, ◌<◌, Bool, true, false, not, List, [], ◌∷◌, ◌++◌, length, map, refl, sym, ◌∙◌, ap, subst, arith, append_assoc, length-append, append-nil, Option, Some, None, Ok, Err, Result}
-use Rattle.std.specs.Prelude.{nat_eq, if◌then◌else◌, replicate, slice_index, IsSome, ◌||◌}
+use Rattle.std.proofs.Common.{◌≡◌, ◌≢◌, ℕ, zero, suc, ◌+◌, ◌-◌, ◌/◌, ◌%◌, Bool, true, false, not, List, [], ◌∷◌, ◌++◌, length, map, refl, sym, ◌∙◌, ap, subst, arith, append_assoc, length-append, append-nil, Option, Some, None, Ok, Err, Result}
+use Rattle.std.specs.Prelude.{nat_eq, if◌then◌else◌, replicate, slice_index, ◌||◌}
 use Rattle.std.specs.List.{AllByRecursion, flat_map, concat, list_any}
 use Rattle.std.proofs.lemmas.Bool.{false≢true, eqb-true, ne_eqb}
 use Rattle.std.proofs.lemmas.List.{get_or-append-add, get_or-replicate, map-append, length-replicate}
@@ -14,13 +14,13 @@ use Rattle.ogg_page.specs.declared.fault.PageFault.{PageFault}
 use Rattle.ogg_page.specs.Lacing.{lace, lacing_of, ends_open}
 use Rattle.ogg_page.specs.LogicalStream.{HoldsPackets, EachBehind, joined_lacing, joined_bodies, number_behind, is_continued, is_last}
 use Rattle.ogg_page.proofs.ReadAgain.{AreBytes}
-use Rattle.ogg_page.proofs.Walk.{FoundFrom, page_found}
+use Rattle.ogg_page.proofs.Walk.{FoundFrom}
 use Rattle.ogg_page.proofs.Found.{all_found}
 use Rattle.packet_view.specs.Packets.{Part, PacketParts, PacketsLeft, joined_parts, is_some_part, is_other_number, differ, misplaced, body_place, behind_page, position_in, no_packet, after_packets, packets_in, parts_behind, packets_from, packets_of}
 use Rattle.packet_view.specs.Held.{found_page, pages_of_stream, FitsInOrder, number_after, behind_pages, IsFaultBehind, AreHeld}
 use Rattle.packet_view.specs.declared.place.Behind.{Behind}
 use Rattle.packet_view.specs.declared.fault.ViewFault.{ViewFault}
-use Rattle.packet_view.specs.declared.fault.ViewFault.TheVariants.{Page as PageIsAtFault, Sequence, Continued, AfterEos, Unfinished}
+use Rattle.packet_view.specs.declared.fault.ViewFault.TheVariants.{Sequence, Continued, AfterEos, Unfinished}
 use Rattle.packet_view.proofs.Fronts.{pick_false}
 use Rattle.packet_view.proofs.Walks.{pick_true, by_place, from-page}
 use Rattle.packet_view.proofs.PageHolds.{texts, Cuts, cuts}

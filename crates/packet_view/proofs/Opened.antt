@@ -1,17 +1,17 @@
 -- A packet that goes on from page to page.
-use Rattle.std.proofs.Common.{◌≡◌, ◌≢◌, ℕ, ◌+◌, ◌-◌, ◌≤◌, Bool, true, false, List, [], ◌∷◌, ◌++◌, length, take, refl, sym, ◌∙◌, ap, subst, arith, append_assoc, length-append, append-nil}
+use Rattle.std.proofs.Common.{◌≡◌, ◌≢◌, ℕ, ◌+◌, ◌-◌, ◌≤◌, Bool, true, false, List, [], ◌∷◌, ◌++◌, length, take, refl, sym, ◌∙◌, ap, arith, append_assoc, length-append, append-nil}
 use Rattle.std.specs.Prelude.{nat_eq, if◌then◌else◌}
-use Rattle.std.specs.List.{AllByRecursion, flat_map}
+use Rattle.std.specs.List.{AllByRecursion}
 use Rattle.std.proofs.lemmas.Grind.{flat_map-append}
 use Rattle.std.proofs.lemmas.List.{take_at, length-take}
 use Rattle.ogg_page.specs.Page.{Page, IsPage, page_bytes, page_size, bytes_of_pages}
 use Rattle.ogg_page.specs.Pages.{FoundPage, found_in, located}
 use Rattle.ogg_page.proofs.ReadAgain.{length-page_bytes}
 use Rattle.ogg_page.proofs.Found.{found-nothing, found-pages}
-use Rattle.packet_view.specs.Packets.{Part, PacketParts, PacketsLeft, with_part, joined_parts, is_some_part, body_place, no_packet, after_packets, packets_from}
+use Rattle.packet_view.specs.Packets.{Part, PacketParts, PacketsLeft, with_part, joined_parts, is_some_part, body_place, after_packets, packets_from}
 use Rattle.packet_view.specs.Front.{front_size, packets_left, parts_left, position_behind, EndsPacket, GoesOnBehind}
 use Rattle.packet_view.specs.Walking.{packets_at, parts_in, IsPlaceWith, Reaches}
-use Rattle.packet_view.specs.Packet.{ArePages, parts_of}
+use Rattle.packet_view.specs.Packet.{parts_of}
 use Rattle.packet_view.specs.declared.place.Behind.{Behind}
 use Rattle.packet_view.specs.declared.place.Place.{Place}
 use Rattle.packet_view.specs.declared.unread.Unread.{Unread}

@@ -1,5 +1,5 @@
 -- The packets that end in a page, and what is left of the one that goes on.
-use Rattle.std.proofs.Common.{◌≡◌, ◌≢◌, ℕ, zero, suc, ◌+◌, ◌*◌, ◌/◌, ◌%◌, ◌<◌, ◌≤◌, Bool, true, false, not, List, [], ◌∷◌, ◌++◌, length, take, drop, sum, map, refl, sym, ◌∙◌, ap, subst, arith, append_assoc, length-append, append-nil, Option}
+use Rattle.std.proofs.Common.{◌≡◌, ◌≢◌, ℕ, zero, suc, ◌+◌, ◌*◌, ◌/◌, ◌%◌, ◌<◌, Bool, true, false, not, List, [], ◌∷◌, ◌++◌, length, take, drop, sum, map, refl, sym, ◌∙◌, ap, subst, arith, append_assoc, length-append, append-nil, Option}
 use Rattle.std.specs.Prelude.{nat_eq, replicate}
 use Rattle.std.specs.List.{AllByRecursion, flat_map, concat}
 use Rattle.std.proofs.lemmas.Bool.{eqb-true, eq-eqb, false≢true}

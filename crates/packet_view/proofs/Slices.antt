@@ -1,13 +1,13 @@
 -- The parts of a packet, one after the other.
-use Rattle.std.proofs.Common.{◌≡◌, ◌≢◌, ℕ, ◌+◌, ◌≤◌, Bool, true, false, List, [], ◌∷◌, ◌++◌, length, take, refl, sym, ◌∙◌, ap, subst, arith, append_assoc, length-append, append-nil, Ok, Err, Result}
-use Rattle.std.specs.Prelude.{nat_eq, if◌then◌else◌, map, IsOk}
-use Rattle.std.specs.List.{AllByRecursion}
+use Rattle.std.proofs.Common.{◌≡◌, ◌≢◌, ℕ, ◌+◌, ◌≤◌, Bool, true, false, List, [], ◌∷◌, ◌++◌, length, take, refl, sym, ◌∙◌, ap, subst, arith, length-append, Ok, Err}
+use Rattle.std.specs.Prelude.{nat_eq, if◌then◌else◌, IsOk}
+use Rattle.std.specs.List.{AllByRecursion, concat}
 use Rattle.std.proofs.lemmas.Grind.{flat_map-append}
 use Rattle.ogg_page.specs.Page.{Page, IsPage, page_bytes, page_size, bytes_of_pages}
 use Rattle.ogg_page.specs.Reading.{page_at}
 use Rattle.ogg_page.specs.Pages.{FoundPage, found_in, located}
 use Rattle.ogg_page.proofs.Prefixes.{one_page}
-use Rattle.ogg_page.proofs.ReadAgain.{page_is_read, length-page_bytes}
+use Rattle.ogg_page.proofs.ReadAgain.{page_is_read}
 use Rattle.ogg_page.proofs.Walk.{nothing_is_no_page}
 use Rattle.ogg_page.proofs.Found.{found-nothing, found-page}
 use Rattle.packet_view.specs.Packets.{Part, with_part, joined_parts, body_place}
@@ -156,3 +156,8 @@ all_first place (byte ∷ first) serial offset more begins le =
     joined_none : (others : List Part) → length others ≡ 0 → length (byte ∷ first) ≡ length (byte ∷ first) + length (joined_parts others)
     joined_none [] e = omega arith
     joined_none (part ∷ others) e = absurd (omega arith)
+
+-- the bytes of all parts
+pub joined_slices : (parts : List Part) → concat (slices_of parts) ≡ joined_parts parts
+joined_slices [] = refl
+joined_slices (part ∷ parts) = ap (λ l. part.bytes ++ l) (joined_slices parts)

@@ -1,5 +1,5 @@
 -- What the packets are from the next page on, and which pages lie before it.
-use Rattle.std.proofs.Common.{◌≡◌, ◌≢◌, ℕ, ◌+◌, Bool, true, false, List, [], ◌∷◌, ◌++◌, length, take, refl, sym, ◌∙◌, ap, subst, arith, append_assoc, length-append, Option, Some, None, Ok, Err, append-nil}
+use Rattle.std.proofs.Common.{◌≡◌, ◌≢◌, ℕ, ◌+◌, Bool, true, false, List, [], ◌∷◌, ◌++◌, length, take, refl, sym, ◌∙◌, ap, arith, append_assoc, length-append, Option, Some, None, Err, append-nil}
 use Rattle.std.specs.Prelude.{nat_eq, if◌then◌else◌}
 use Rattle.std.specs.List.{AllByRecursion}
 use Rattle.std.proofs.lemmas.Bool.{false≢true}
@@ -8,7 +8,7 @@ use Rattle.ogg_page.specs.Reading.{page_at}
 use Rattle.ogg_page.specs.Pages.{FoundPage, found_in, located}
 use Rattle.ogg_page.specs.declared.fault.PageFault.{PageFault}
 use Rattle.ogg_page.proofs.ReadAgain.{length-page_bytes}
-use Rattle.ogg_page.proofs.Walk.{page_found, fault_found}
+use Rattle.ogg_page.proofs.Walk.{page_found}
 use Rattle.ogg_page.proofs.Found.{found-nothing, found-fault, found-page}
 use Rattle.packet_view.specs.Packets.{Part, PacketsLeft, with_part, is_some_part, misplaced, body_place, behind_page, position_in, no_packet, after_packets, packets_in, parts_behind, packets_from}
 use Rattle.packet_view.specs.Front.{front_size}

@@ -1,5 +1,5 @@
 -- What one call gives, and what is left.
-use Rattle.std.specs.Prelude.{◌≡◌, ℕ, Option, Some, None, Result, Ok, Err, List, [], ◌∷◌}
+use Rattle.std.specs.Prelude.{◌≡◌, ℕ, Option, Some, None, Result, Ok, Err, [], ◌∷◌}
 use Rattle.packet_view.specs.Packets.{PacketParts, PacketsLeft, no_packet, after_packets}
 use Rattle.packet_view.specs.Walking.{packets_at}
 use Rattle.packet_view.specs.declared.place.Place.{Place}

@@ -5,7 +5,7 @@ use Rattle.ogg_page.specs.Page.{Page}
 use Rattle.ogg_page.specs.Pages.{FoundPage}
 use Rattle.ogg_page.specs.Lacing.{ends_open}
 use Rattle.ogg_page.specs.LogicalStream.{HoldsPackets, EachBehind, joined_lacing, number_behind, is_continued, is_last}
-use Rattle.packet_view.specs.Packets.{PacketParts, PacketsLeft, joined_parts, misplaced}
+use Rattle.packet_view.specs.Packets.{PacketsLeft, joined_parts, misplaced}
 use Rattle.packet_view.specs.declared.place.Behind.{Behind}
 use Rattle.packet_view.specs.declared.fault.ViewFault.{ViewFault}
 use Rattle.packet_view.specs.declared.fault.ViewFault.TheVariants.{Page as PageIsAtFault, Unfinished}

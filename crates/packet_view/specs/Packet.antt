@@ -1,9 +1,9 @@
 -- A packet as slices of its source.
-use Rattle.std.specs.Prelude.{◌≡◌, ◌≤◌, ◌<◌, ◌^◌, ℕ, ◌+◌, List, ◌++◌, length, [], map}
+use Rattle.std.specs.Prelude.{◌≡◌, ℕ, List, ◌++◌, [], map}
 use Rattle.std.specs.List.{AllByRecursion}
 use Rattle.ogg_page.specs.Page.{Page, IsPage, bytes_of_pages}
 use Rattle.ogg_page.specs.Pages.{found_in}
-use Rattle.packet_view.specs.Packets.{Part, PacketParts, with_part, joined_parts}
+use Rattle.packet_view.specs.Packets.{Part, with_part}
 use Rattle.packet_view.specs.Walking.{parts_in}
 
 -- the bytes are whole pages

@@ -1,7 +1,7 @@
 -- The packets of one stream in any bytes, as slices of those bytes (RFC 3533, sections 5 and 6).
-use Rattle.std.specs.Prelude.{ℕ, ◌+◌, ◌-◌, ◌^◌, Bool, true, false, not, nat_eq, if◌then◌else◌, Option, Some, None, Result, Ok, Err, List, [], ◌∷◌, ◌++◌, length, take, drop}
+use Rattle.std.specs.Prelude.{ℕ, ◌+◌, ◌-◌, ◌^◌, Bool, true, false, not, nat_eq, if◌then◌else◌, Option, Some, None, Ok, Err, List, [], ◌∷◌, ◌++◌, length, take, drop}
 use Rattle.std.specs.List.{flat_map, list_any}
-use Rattle.ogg_page.specs.Page.{Page, page_size}
+use Rattle.ogg_page.specs.Page.{Page}
 use Rattle.ogg_page.specs.Pages.{FoundPage, found_in}
 use Rattle.ogg_page.specs.LogicalStream.{is_continued, is_last}
 use Rattle.packet_view.specs.declared.place.Behind.{Behind}

@@ -10,6 +10,7 @@
 mod fault;
 mod finding;
 mod front;
+mod joining;
 mod laws;
 mod packet;
 mod packets;

@@ -1,9 +1,14 @@
 //! One packet.
-ghost use Rattle.std.specs.Prelude.{◌≡◌, ◌≤◌, ◌↔◌, [], length, IsSome, IfSome};
+ghost use Rattle.std.specs.Prelude.{◌≡◌, ◌<◌, ◌≤◌, ◌↔◌, [], length, slice_index, IsTrue, IsSome, IfSome, OnOk, OnErr};
+ghost use Rattle.std.specs.Io.KnownBytes.{Appends};
+ghost use Rattle.ogg_page.specs.Output.{WritesPrefix};
 ghost use Rattle.packet_view.specs.Packets.{joined_parts};
 ghost use Rattle.packet_view.specs.Packet.{ArePages, parts_of, slices_of};
 
+use crate::joining::{are_bytes, byte_at, write_parts};
 use crate::parts::Parts;
+use ogg_page::WriteFault;
+use std::io::Write;
 use std::marker::Model;
 
 /// A packet in borrowed bytes: its parts, one for each page that has bytes of it. Nothing is copied,
@@ -84,6 +89,29 @@ impl<'a> Packet<'a> {
         } else {
             None
         }
+    }
+
+    /// The packet's byte at this index.
+    pub fn byte_at(&self, index: usize) -> u8
+        requires { index < length (joined_parts self.now.parts) }
+        ensures { result ≡ slice_index (joined_parts self.now.parts) index }
+    {
+        byte_at(self.parts(), index)
+    }
+
+    /// Whether the packet's bytes are these.
+    pub fn same_as(&self, bytes: &[u8]) -> bool
+        ensures { IsTrue result ↔ (joined_parts self.now.parts ≡ bytes.now) }
+    {
+        are_bytes(self.parts(), bytes)
+    }
+
+    /// Writes the packet's bytes, in order. After a fault a prefix of them was written.
+    pub fn write_to<W: Write>(&self, writer: &mut W) -> Result<(), WriteFault>
+        ensures ok { OnOk result (Appends (W.contents writer.old) (W.contents writer.new) (joined_parts self.now.parts)) }
+        ensures err { OnErr result (WritesPrefix (W.contents writer.old) (W.contents writer.new) (joined_parts self.now.parts)) }
+    {
+        write_parts(self.parts(), writer)
     }
 
     /// The position of the page where the packet ends, if no packet ends there behind it and the

@@ -169,6 +169,13 @@ fn open_page(alloc: Global) -> Result<Vec<u8>, Memory> {
     Ok(bytes)
 }
 
+/// The bytes of the packet that begins there and goes on as `x`.
+fn sevens_and_x() -> [u8; 256] {
+    let mut bytes = [7; 256];
+    bytes[255] = b'x';
+    bytes
+}
+
 /// Checks that a packet is the one of two parts.
 fn assert_two_parts(rt: &impl Abort, packet: &Packet<'_>) {
     assert_eq!(rt; packet.len(), 256);
@@ -178,6 +185,9 @@ fn assert_two_parts(rt: &impl Abort, packet: &Packet<'_>) {
     assert_eq!(rt; parts.next(), Some([7; 255].as_slice()));
     assert_eq!(rt; parts.next(), Some(b"x".as_slice()));
     assert!(rt; parts.next().is_none());
+    assert!(rt; packet.same_as(&sevens_and_x()));
+    assert!(rt; !packet.same_as(&[7; 255]));
+    assert!(rt; !packet.same_as(&[7; 256]));
 }
 
 #[test]
@@ -189,6 +199,23 @@ fn a_packet_goes_on_behind_pages_of_other_streams(rt: HostRuntime) -> Result<(),
         Some(packet) => assert_two_parts(&rt, &packet),
         None => assert!(rt; false),
     }
+    Ok(())
+}
+
+#[test]
+fn a_packet_is_written_whole(rt: HostRuntime) -> Result<(), Fail> {
+    let mut bytes = open_page(rt.alloc())?;
+    bytes.extend_from_slice(&CONTINUED)?;
+    let mut out = Vec::new(rt.alloc());
+    if let Some(packet) = Packets::of(&bytes, 1).next()? {
+        packet.write_to(&mut out)?;
+        for (index, want) in [(0, 7), (254, 7), (255, b'x')] {
+            if index < packet.len() {
+                assert_eq!(rt; packet.byte_at(index), want, "at {index}");
+            }
+        }
+    }
+    assert_eq!(rt; out.as_slice(), sevens_and_x().as_slice());
     Ok(())
 }
 

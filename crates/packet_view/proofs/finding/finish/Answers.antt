@@ -1,12 +1,11 @@
-use Rattle.std.proofs.Common.{◌≡◌, ◌∙◌, ◌∷◌, [], List, Bool, true, ℕ, length, ap, sym, refl, Some, None}
+use Rattle.std.proofs.Common.{◌≡◌, ◌∙◌, ◌∷◌, [], List, true, length, ap, sym, Some, None}
 use Rattle.std.specs.Prelude.{if◌then◌else◌}
-use Rattle.ogg_page.specs.Page.{bytes_of_pages}
 use Rattle.ogg_page.specs.Pages.{found_in, located}
-use Rattle.packet_view.specs.Packets.{Part, with_part, joined_parts, is_some_part, packets_from, no_packet, after_packets}
+use Rattle.packet_view.specs.Packets.{Part, joined_parts, is_some_part, packets_from, no_packet, after_packets}
 use Rattle.packet_view.specs.Packet.{parts_of}
 use Rattle.packet_view.specs.Walking.{packets_at, parts_in, Reaches}
 use Rattle.packet_view.specs.declared.fault.ViewFault.TheVariants.{Unfinished}
-use Rattle.packet_view.proofs.Opened.{Opened, Grown, opened, opens, grows, goes_on, ends, counted_more, some_first, pages_between, packet_parts}
+use Rattle.packet_view.proofs.Opened.{opened, opens, grows, goes_on, ends, counted_more, some_first, pages_between, packet_parts}
 use Rattle.packet_view.proofs.finding.finish.Goals as goal
 
 pub pages-init : goal.pages-init

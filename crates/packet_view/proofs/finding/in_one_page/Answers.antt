@@ -1,7 +1,5 @@
-use Rattle.std.proofs.Common.{◌≡◌, ◌∙◌, ◌++◌, ◌∷◌, [], List, length, ap, sym, append-nil}
-use Rattle.packet_view.specs.Packets.{Part, with_part, joined_parts}
-use Rattle.packet_view.specs.Packet.{parts_of}
-use Rattle.packet_view.specs.Front.{position_behind}
+use Rattle.std.proofs.Common.{◌∙◌, [], length, ap, sym}
+use Rattle.packet_view.specs.Packets.{with_part, joined_parts}
 use Rattle.packet_view.proofs.Opened.{joined-with_part, no_parts}
 use Rattle.packet_view.proofs.finding.in_one_page.Goals as goal
 

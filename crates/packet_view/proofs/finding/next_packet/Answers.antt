@@ -1,4 +1,4 @@
-use Rattle.std.proofs.Common.{◌≡◌, ◌∙◌, [], List, length, refl, rules, tests, arith, Ok, Some, None}
+use Rattle.std.proofs.Common.{◌≡◌, ◌∙◌, [], length, refl, rules, tests, None}
 use Rattle.ogg_page.specs.Pages.{found_in}
 use Rattle.packet_view.specs.Packets.{packets_from, no_packet}
 use Rattle.packet_view.specs.Walking.{packets_at}

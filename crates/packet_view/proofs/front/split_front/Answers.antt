@@ -1,6 +1,6 @@
-use Rattle.std.proofs.Common.{◌≡◌, ◌+◌, ◌*◌, ◌<◌, ◌≤◌, ℕ, List, [], ◌∷◌, length, take, drop, get_or, sum, arith, ap, sym, ◌∙◌, refl}
-use Rattle.packet_view.specs.Packets.{packets_in, parts_behind, with_part, ends_packet}
-use Rattle.packet_view.proofs.Fronts.{SplitsAt, splits_at, all_full, OpenFacts, open_facts, EndFacts, end_facts, ended_with}
+use Rattle.std.proofs.Common.{◌+◌, ◌*◌, ℕ, List, [], ◌∷◌, take, drop, get_or, sum, arith, ap, sym, ◌∙◌}
+use Rattle.packet_view.specs.Packets.{packets_in, parts_behind}
+use Rattle.packet_view.proofs.Fronts.{splits_at, all_full, open_facts, end_facts, ended_with}
 use Rattle.packet_view.proofs.front.split_front.Goals as goal
 
 pub returns-then-full-unread : goal.returns-then-full-unread

@@ -1,9 +1,9 @@
-use Rattle.std.proofs.Common.{◌≡◌, ◌≢◌, ◌+◌, ◌-◌, ◌∙◌, ap, sym, refl, arith, tests, rules, length, Bool, true, false, Some, None}
-use Rattle.std.proofs.lemmas.Bool.{eq-eqb, eqb-true}
+use Rattle.std.proofs.Common.{◌≡◌, ◌≢◌, ◌+◌, ◌-◌, ◌∙◌, ap, sym, refl, arith, tests, rules, length, true, false, Some, None}
+use Rattle.std.proofs.lemmas.Bool.{eq-eqb}
 use Rattle.std.specs.Prelude.{nat_eq}
 use Rattle.ogg_page.specs.Page.{page_size}
 use Rattle.ogg_page.specs.Pages.{found_in}
-use Rattle.packet_view.specs.Packets.{packets_from, is_some_part, misplaced}
+use Rattle.packet_view.specs.Packets.{packets_from, misplaced}
 use Rattle.packet_view.proofs.Fronts.{other}
 use Rattle.packet_view.proofs.Walks.{from-nothing, from-fault, from-other, from-its-page, placed, skips-none, skips_push, reaches, none_left, some_left}
 use Rattle.packet_view.proofs.walking.next_page.Goals as goal

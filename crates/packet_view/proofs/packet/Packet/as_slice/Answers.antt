@@ -1,4 +1,4 @@
-use Rattle.std.proofs.Common.{◌≡◌, ◌≤◌, ◌∙◌, length, ap, sym, subst, refl}
+use Rattle.std.proofs.Common.{◌≤◌, ◌∙◌, length, sym, subst, refl}
 use Rattle.packet_view.specs.Packets.{PacketParts}
 use Rattle.packet_view.proofs.Slices.{few_parts, all_first}
 use Rattle.packet_view.proofs.packet.Packet.as_slice.Goals as goal

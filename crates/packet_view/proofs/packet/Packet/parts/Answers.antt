@@ -1,4 +1,4 @@
-use Rattle.std.proofs.Common.{◌≡◌, ◌∙◌, ap}
+use Rattle.std.proofs.Common.{◌∙◌, ap}
 use Rattle.packet_view.specs.Packets.{PacketParts}
 use Rattle.packet_view.specs.Packet.{slices_of}
 use Rattle.packet_view.proofs.Slices.{packet_slices}

@@ -1,5 +1,5 @@
-use Rattle.std.proofs.Common.{◌≡◌, ◌∙◌, [], ap, refl}
-use Rattle.packet_view.specs.Packets.{packets_in, parts_behind, packets_of}
+use Rattle.std.proofs.Common.{refl}
+use Rattle.packet_view.specs.Packets.{packets_in, parts_behind}
 use Rattle.packet_view.proofs.packets.Packets.of.Goals as goal
 
 pub returns : goal.returns
