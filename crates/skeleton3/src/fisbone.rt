@@ -1,6 +1,7 @@
 //! The packet of a stream in a Skeleton.
 ghost use Rattle.std.specs.Prelude.{◌≡◌, [], ◌∷◌, ◌+◌, ◌≤◌, ◌<◌, ◌++◌, length, IfOk, Ok, IsOkAnd, OnOk, OnErr, vec_len, vec_capacity};
 ghost use Rattle.std.specs.Result.{result_err};
+ghost use Rattle.arrayvec.specs.ArrayVec.{array_vec_len};
 ghost use Rattle.skeleton3.specs.Fields.{IsFieldValue};
 ghost use Rattle.skeleton3.specs.Fisbone.{Fisbone as FisboneValue, HoldsFisbone, IsFisbone, fisbone_of, fisbone_bytes, fisbone_fault, fixed_part};
 
@@ -8,6 +9,7 @@ use crate::Memory;
 use crate::fault::SkeletonFault;
 use crate::fields::media_in;
 use crate::numbers::{take_fraction, take_i64, take_u8, take_u32};
+use arrayvec::ArrayVec;
 use byteorder::{ByteOrder, LittleEndian};
 
 /// How many bytes come before the message fields.
@@ -105,6 +107,20 @@ impl<'a> Fisbone<'a> {
         Ok(())
     }
 
+    /// The packet, with the media type as its one message field, where that type has at most 255 bytes.
+    /// It takes no memory.
+    pub fn packet(&self) -> ArrayVec<u8, 323>
+        requires { length self.now.media.now ≤ 255 }
+        ensures { result.items ≡ fisbone_bytes (fisbone_of self.now) }
+    {
+        let mut packet = ArrayVec::new();
+        push(&mut packet, &self.fixed_part());
+        push(&mut packet, b"Content-Type: ");
+        push(&mut packet, self.media);
+        push(&mut packet, b"\r\n");
+        packet
+    }
+
     #[tactic(auto, unfolding(crate::specs::Fisbone::fixed_part, crate::specs::Numbers::u32_bytes, crate::specs::Numbers::i64_bytes))]
     fn fixed_part(&self) -> [u8; FIXED]
         ensures { result ≡ fixed_part 44 (0 ∷ 0 ∷ 0 ∷ []) (fisbone_of self.now) }
@@ -131,4 +147,13 @@ fn append(out: &mut Vec<u8>, bytes: &[u8])
     ensures capacity { vec_capacity out.old ≤ vec_capacity out.new }
 {
     out.extend_from_slice(bytes).unwrap();
+}
+
+/// Appends bytes for which a packet has room.
+fn push(packet: &mut ArrayVec<u8, 323>, bytes: &[u8])
+    requires { array_vec_len packet.old + length bytes.now ≤ 323 }
+    ensures items { packet.new.items ≡ packet.old.items ++ bytes.now }
+    ensures len { array_vec_len packet.new ≡ array_vec_len packet.old + length bytes.now }
+{
+    packet.try_extend_from_slice(bytes).unwrap();
 }

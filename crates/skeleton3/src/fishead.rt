@@ -76,6 +76,13 @@ impl Fishead {
         out.extend_from_slice(&self.bytes())
     }
 
+    /// The packet, of version 3.0. It takes no memory.
+    pub fn packet(&self) -> [u8; 64]
+        ensures { result ≡ fishead_bytes self.now }
+    {
+        self.bytes()
+    }
+
     #[tactic(auto, unfolding(crate::specs::Fishead::fishead_with, crate::specs::Numbers::u16_bytes, crate::specs::Numbers::i64_bytes))]
     fn bytes(&self) -> [u8; SIZE]
         ensures { result ≡ fishead_bytes self.now }
