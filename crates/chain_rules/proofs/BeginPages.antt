@@ -15,11 +15,11 @@ use Rattle.chain_rules.specs.Size.{has_no_number, size_of_pages}
 use Rattle.chain_rules.proofs.RunPages.{within, few_values, length-map}
 
 -- ---- flags change neither number nor size
-flagged_numbers : (flags : ℕ) (pages : List Page) → list_any has_no_number (flagged flags pages) ≡ list_any has_no_number pages
+pub flagged_numbers : (flags : ℕ) (pages : List Page) → list_any has_no_number (flagged flags pages) ≡ list_any has_no_number pages
 flagged_numbers flags [] = refl
 flagged_numbers flags (page ∷ pages) = refl
 
-flagged_size : (flags : ℕ) (pages : List Page) → size_of_pages (flagged flags pages) ≡ size_of_pages pages
+pub flagged_size : (flags : ℕ) (pages : List Page) → size_of_pages (flagged flags pages) ≡ size_of_pages pages
 flagged_size flags [] = refl
 flagged_size flags (page ∷ pages) = sum_by-cons page_size (record page { flags = page.flags + flags }) pages ∙ sym (sum_by-cons page_size page pages)
 
@@ -54,18 +54,18 @@ pub split_lengths : (headers : List (List ℕ)) → header_lengths (take 1 heade
 split_lengths headers = sum_by-take-drop length headers 1
 
 -- ---- numbers
-first_numbered : (stream : NewStream) → IsSmall stream → list_any has_no_number (first_pages stream) ≡ false
+pub first_numbered : (stream : NewStream) → IsSmall stream → list_any has_no_number (first_pages stream) ≡ false
 first_numbered stream is =
     flagged_numbers first_flag (pages_of_run stream.serial 0 (map header (take 1 stream.headers)))
     ∙ within stream.serial 0 (map header (take 1 stream.headers))
     (omega (arith, few_pages (take 1 stream.headers) (omega (arith, split_lengths stream.headers, is.short)) (omega (arith, length-take 1 stream.headers, is.few))))
 
-headers_numbered : (stream : NewStream) → IsSmall stream → list_any has_no_number (header_pages stream) ≡ false
+pub headers_numbered : (stream : NewStream) → IsSmall stream → list_any has_no_number (header_pages stream) ≡ false
 headers_numbered stream is =
     within stream.serial 1 (map header (drop 1 stream.headers))
     (omega (arith, few_pages (drop 1 stream.headers) (omega (arith, split_lengths stream.headers, is.short)) (omega (arith, length-drop 1 stream.headers, is.few))))
 
-all_numbered : (pages_of : NewStream → List Page) → ((stream : NewStream) → IsSmall stream → list_any has_no_number (pages_of stream) ≡ false) →
+pub all_numbered : (pages_of : NewStream → List Page) → ((stream : NewStream) → IsSmall stream → list_any has_no_number (pages_of stream) ≡ false) →
     (streams : List NewStream) → AllByRecursion IsSmall streams → list_any has_no_number (flat_map pages_of streams) ≡ false
 all_numbered pages_of each [] h = refl
 all_numbered pages_of each (stream ∷ streams) h =

@@ -1,6 +1,5 @@
 -- A command that is kept adds its packets.
 use Rattle.std.proofs.Common.{◌≡◌, ℕ, List, [], ◌∷◌, ◌++◌, refl, sym, subst, arith, append_assoc, Ok}
-use Rattle.std.specs.Prelude.{IsOk}
 use Rattle.std.specs.List.{AllByRecursion}
 use Rattle.std.proofs.lemmas.List.{append-nil}
 use Rattle.ogg_page.specs.Page.{Page}
@@ -13,8 +12,8 @@ use Rattle.chain_rules.specs.ChainState.{chain_state_of}
 use Rattle.chain_rules.specs.Encoding.{command_bytes, links_after}
 use Rattle.chain_rules.specs.Decision.{decision}
 use Rattle.chain_rules.specs.Commands.{AreKept, bytes_of_commands, links_behind}
-use Rattle.chain_rules.proofs.Kept.{begin_fits, kept_size}
-use Rattle.chain_rules.proofs.Beginning.{begin_is_held}
+use Rattle.chain_rules.proofs.Kept.{kept_size}
+use Rattle.chain_rules.proofs.BeginHeld.{begin_is_held}
 use Rattle.chain_rules.proofs.Putting.{put_is_held}
 use Rattle.chain_rules.proofs.Ending.{end_is_held}
 
@@ -22,7 +21,7 @@ pub is_held : (bytes : List ℕ) (links : List (List Page)) (recording : Recordi
     AreLinks bytes links → HoldsLinks links recording → decision (chain_state_of links) command ≡ Ok size →
     AreLinks (bytes ++ command_bytes (chain_state_of links) command) (links_after links command) × HoldsLinks (links_after links command) (add recording command)
 is_held bytes links recording (BeginOf begin) size is l h e =
-    begin_is_held bytes links recording begin size (begin_fits (chain_state_of links) begin (subst (λ r. IsOk r) (sym e) refl)).plain is.1 l h e
+    begin_is_held bytes links recording begin size is.0 is.1 l h e
 is_held bytes links recording (PutOf put) size is l h e = put_is_held bytes links recording put size is l h e
 is_held bytes links recording (EndOf serial) size is l h e = end_is_held bytes links recording serial size is l h e
 

@@ -1,22 +1,24 @@
 -- What is so of a command that is kept.
-use Rattle.std.proofs.Common.{◌≡◌, ℕ, zero, suc, ◌+◌, ◌<◌, ◌≤◌, ◌^◌, false, ◌++◌, length, sum_by, refl, sym, arith, Option, Some, None, Result, Ok, Err}
-use Rattle.std.specs.Prelude.{nat_eq, nat_lt, nat_le, is_some, ◌||◌, IsOk, IfOk}
-use Rattle.std.specs.List.{list_any}
-use Rattle.std.proofs.lemmas.Bool.{or_parts, ltb-false, leb-false}
+use Rattle.std.proofs.Common.{◌≡◌, ℕ, zero, suc, ◌+◌, ◌<◌, ◌≤◌, ◌-◌, ◌^◌, Bool, true, false, List, [], ◌∷◌, ◌++◌, length, take, drop, sum_by, refl, sym, arith, Option, Some, None, Result, Ok, Err}
+use Rattle.std.specs.Prelude.{nat_eq, nat_lt, nat_le, not, ◌&&◌, IsOk, IfOk, IfSome}
+use Rattle.std.specs.List.{list_any, list_all}
+use Rattle.std.proofs.lemmas.Bool.{or_parts, or_from, ltb-false, leb-false, leb-true, le-ltb}
 use Rattle.chain_rules.specs.declared.command.Command.{Command}
 use Rattle.chain_rules.specs.declared.command.Command.TheVariants.{Begin as BeginOf, Put as PutOf, End as EndOf}
 use Rattle.chain_rules.specs.declared.command.Begin.{Begin}
 use Rattle.chain_rules.specs.declared.command.Put.{Put}
 use Rattle.chain_rules.specs.declared.command.SkeletonHead.{SkeletonHead}
+use Rattle.chain_rules.specs.declared.command.NewStream.{NewStream}
+use Rattle.chain_rules.specs.Begun.{stream_count}
 use Rattle.chain_rules.specs.declared.refusal.Refusal.{Refusal}
-use Rattle.chain_rules.specs.ChainState.{ChainState}
+use Rattle.chain_rules.specs.ChainState.{ChainState, is_open}
 use Rattle.chain_rules.specs.Limits.{longest_file}
 use Rattle.chain_rules.specs.Progress.{next_in}
 use Rattle.chain_rules.specs.Rules.{first_broken}
-use Rattle.chain_rules.specs.Decision.{decision, answer, rules_for, begin_rules, item_rules, entries_rules, room_rules, size_of, header_bytes, has_many_headers}
-use Rattle.chain_rules.specs.Encoding.{pages_of_command, pages_of_runs, runs_of}
+use Rattle.chain_rules.specs.Decision.{decision, answer, rules_for, begin_rules, item_rules, parts_rules, streams_rules, entries_rules, room_rules, size_of, header_bytes, has_many_headers, has_long_media, is_media}
+use Rattle.chain_rules.specs.Encoding.{pages_of_begin, pages_of_command, pages_of_runs, runs_of}
 use Rattle.chain_rules.specs.Size.{has_no_number, size_of_pages}
-use Rattle.chain_rules.proofs.Chain.{no_rule_broken, Unbroken, all_split}
+use Rattle.chain_rules.proofs.Chain.{no_rule_broken, unbroken_all, Unbroken, all_split}
 
 -- the size that it is answered with
 pub kept_size : (r : Result ℕ Refusal) → IsOk r → (size : ℕ) × (r ≡ Ok size)
@@ -69,41 +71,81 @@ put_fits chain put ok =
 
 -- ---- a begin
 pub record BeginFits (chain : ChainState) (begin : Begin) : Type 0 where
-  pub plain : begin.skeleton ≡ None
-  pub streams : length begin.streams ≤ 64
+  pub closed : is_open chain ≡ false
+  pub streams : stream_count begin ≤ 64
   pub some : 0 < length begin.streams
   pub few : list_any has_many_headers begin.streams ≡ false
+  pub parts : Unbroken (item_rules chain begin)
+  pub media : IfSome begin.skeleton (λ _. list_any has_long_media begin.streams ≡ false)
   pub short : sum_by header_bytes begin.streams ≤ 16777216
+  pub numbered : list_any has_no_number (pages_of_begin begin.skeleton begin.streams) ≡ false
   pub links : chain.links < 65536
-  pub room : chain.length_of + size_of_pages (pages_of_command chain (BeginOf begin)) + 1 ≤ 2 ^ 40
-
-no_skeleton : (skeleton : Option SkeletonHead) → is_some skeleton ≡ false → skeleton ≡ None
-no_skeleton None e = refl
-no_skeleton (Some head) e = cc
+  pub room : chain.length_of + size_of_pages (pages_of_begin begin.skeleton begin.streams) + 1 ≤ 2 ^ 40
 
 not_none : (n : ℕ) → nat_eq n 0 ≡ false → 0 < n
 not_none zero e = cc
 not_none (suc n) e = omega arith
 
+not_not : (b : Bool) → not b ≡ false → b ≡ true
+not_not true e = refl
+not_not false e = cc
+
+-- a media type isn't long
+media_short : (stream : NewStream) → not (is_media stream.media) ≡ false → has_long_media stream ≡ false
+media_short stream e =
+    let media : List ℕ = stream.media in
+    let A : Bool = nat_le 1 (length media) in
+    let B : Bool = nat_le (length media) 255 in
+    let C : Bool = list_all (λ c. nat_le 0x20 c && nat_le c 0x7e) media in
+    let D : Bool = not (list_any (nat_eq 0x20) (take 1 media)) in
+    let E : Bool = not (list_any (nat_eq 0x20) (drop (length media - 1) media)) in
+    let few : B ≡ true = second A B C D E (not_not (is_media media) e) in
+    le-ltb 255 (length media) (leb-true (length media) 255 few)
+  where
+    second : (a b c d e : Bool) → (a && b && c && d && e) ≡ true → b ≡ true
+    second true true c d e h = refl
+    second true false true true true h = cc
+    second true false true true false h = cc
+    second true false true false e h = cc
+    second true false false d e h = cc
+    second false b c d e h = cc
+
+medias_short : (chain : ChainState) (earlier : List ℕ) (streams : List NewStream) → Unbroken (streams_rules chain true earlier streams) → list_any has_long_media streams ≡ false
+medias_short chain earlier [] h = refl
+medias_short chain earlier (stream ∷ streams) h =
+    or_from (has_long_media stream) (list_any has_long_media streams) (media_short stream h.1.1.1.1.0) (medias_short chain (stream.serial ∷ earlier) streams h.1.1.1.1.1.1)
+
+parts_short : (chain : ChainState) (skeleton : Option SkeletonHead) (streams : List NewStream) → Unbroken (parts_rules chain skeleton streams) →
+    IfSome skeleton (λ _. list_any has_long_media streams ≡ false)
+parts_short chain None streams h = tt
+parts_short chain (Some head) streams h = medias_short chain (head.serial ∷ []) streams h.1.1
+
+-- the same of rules of which the first broken one was looked for
+pub items_short : (chain : ChainState) (begin : Begin) → first_broken (item_rules chain begin) ≡ None → IfSome begin.skeleton (λ _. list_any has_long_media begin.streams ≡ false)
+items_short chain begin e = parts_short chain begin.skeleton begin.streams (unbroken_all (item_rules chain begin) e)
+
 pub begin_fits : (chain : ChainState) (begin : Begin) → IsOk (decision chain (BeginOf begin)) → BeginFits chain begin
+unfolding pages_of_command
 begin_fits chain begin ok =
     let size = kept_size (decision chain (BeginOf begin)) ok in
     let kept : Unbroken (rules_for chain (BeginOf begin)) = no_rule_broken chain (BeginOf begin) size.0 size.1 in
     let whole : Unbroken (begin_rules chain begin ++ item_rules chain begin) × Unbroken (room_rules chain (BeginOf begin)) =
     all_split (λ rule. rule.0 ≡ false) (begin_rules chain begin ++ item_rules chain begin) (room_rules chain (BeginOf begin)) kept in
     let room : Unbroken (room_rules chain (BeginOf begin)) = whole.1 in
-    let many : (nat_lt 64 (length begin.streams) || list_any has_many_headers begin.streams ≡ false) × (is_some begin.skeleton ≡ false) =
-    or_parts (nat_lt 64 (length begin.streams) || list_any has_many_headers begin.streams) (is_some begin.skeleton) whole.0.1.1.0 in
-    let parts : (nat_lt 64 (length begin.streams) ≡ false) × (list_any has_many_headers begin.streams ≡ false) =
-    or_parts (nat_lt 64 (length begin.streams)) (list_any has_many_headers begin.streams) many.0 in
+    let items : Unbroken (item_rules chain begin) = whole.0.1.1.1 in
+    let parts : (nat_lt 64 (stream_count begin) ≡ false) × (list_any has_many_headers begin.streams ≡ false) =
+    or_parts (nat_lt 64 (stream_count begin)) (list_any has_many_headers begin.streams) whole.0.1.1.0 in
     record {
-      plain = no_skeleton begin.skeleton many.1;
-      streams = ltb-false 64 (length begin.streams) parts.0;
+      closed = whole.0.0;
+      streams = ltb-false 64 (stream_count begin) parts.0;
       some = not_none (length begin.streams) whole.0.1.0;
       few = parts.1;
+      parts = items;
+      media = parts_short chain begin.skeleton begin.streams items;
       short = ltb-false 16777216 (sum_by header_bytes begin.streams) room.0;
+      numbered = room.1.0;
       links = leb-false 65536 chain.links room.1.1.0;
-      room = ltb-false (2 ^ 40) (chain.length_of + size_of_pages (pages_of_command chain (BeginOf begin)) + 1) room.1.1.1.0;
+      room = ltb-false (2 ^ 40) (chain.length_of + size_of_pages (pages_of_begin begin.skeleton begin.streams) + 1) room.1.1.1.0;
     }
 
 -- ---- any command
@@ -129,3 +171,6 @@ size_fits chain command = if_ok (decision chain command) (λ size e.
     let own : size ≡ size_of chain command = size_is_own chain command size e in
     let room : chain.length_of + size_of chain command < 2 ^ 40 = room_left chain command (room_is_kept chain command (no_rule_broken chain command size e)) in
     omega (arith, own, room))
+
+pub few_streams : (begin : Begin) → stream_count begin ≤ 64 → length begin.streams ≤ 64
+few_streams begin few = omega (arith, few)

@@ -10,6 +10,13 @@ pub mod Chain
 pub mod LastPage
 pub mod StateBehind
 pub mod Beginning
+pub mod Parts
+pub mod Still
+pub mod SkeletonPart
+pub mod NewLink
+pub mod Bones
+pub mod DescribedPages
+pub mod BeginHeld
 pub mod PutState
 pub mod EndState
 pub mod BeginState

@@ -1,11 +1,14 @@
 -- The definitions on small files.
-use Rattle.std.proofs.Common.{◌≡◌, ℕ, List, [], ◌∷◌, ◌++◌, refl, length, map, Result, Ok, Err, None, true}
+use Rattle.std.proofs.Common.{◌≡◌, ℕ, ℤ, List, [], ◌∷◌, ◌++◌, refl, length, map, replicate, codes, Result, Ok, Err, Some, None, true}
 use Rattle.std.specs.Prelude.{pos}
-use Rattle.ogg_page.specs.Page.{Page, page_bytes, fixed_part}
+use Rattle.ogg_page.specs.Page.{Page, page_bytes, page_size, fixed_part as page_head}
 use Rattle.ogg_page.specs.Lacing.{lacing_of}
 use Rattle.ogg_page.specs.Checksum.{checksum_of, message_bits, number_of, remainder, bits_of, divisor}
 use Rattle.ogg_page.specs.Checksum as crc
 use Rattle.packetiser.specs.Run.{pages_of_run, page_of_run, page_position, run_lacing, run_bytes, values_at, values_before}
+use Rattle.skeleton3.specs.Fisbone.{fixed_part}
+use Rattle.skeleton3.specs.Fishead.{fishead_with}
+use Rattle.skeleton3.specs.Numbers.{u16_bytes, u32_bytes, i64_bytes}
 use Rattle.chain_rules.specs.ChainState.{chain_state_of}
 use Rattle.chain_rules.specs.Encoding.{pages_of_command, command_bytes}
 use Rattle.chain_rules.specs.Decision.{decision}
@@ -13,8 +16,9 @@ use Rattle.chain_rules.specs.Recording.{after}
 use Rattle.chain_rules.specs.declared.command.Command.{Command}
 use Rattle.chain_rules.specs.declared.command.Command.TheVariants.{Begin as BeginOf, Put as PutOf, End as EndOf}
 use Rattle.chain_rules.specs.declared.command.NewStream.{NewStream}
+use Rattle.chain_rules.specs.declared.command.SkeletonHead.{SkeletonHead}
 use Rattle.chain_rules.specs.declared.refusal.Refusal.{Refusal}
-use Rattle.chain_rules.specs.declared.refusal.Refusal.TheVariants.{LinkOpen, NoLink, SerialTaken, UnknownSerial, StreamEnded, PositionBack}
+use Rattle.chain_rules.specs.declared.refusal.Refusal.TheVariants.{LinkOpen, NoLink, TooMany, SerialTaken, BadType, BadRate, UnknownSerial, StreamEnded, PositionBack}
 
 abbrev abc : List ℕ
 abc = 97 ∷ 98 ∷ 99 ∷ []
@@ -113,8 +117,59 @@ row_22_sequence = refl
 
 -- byte by byte: the page of row 1, without its checksum
 row_1_bytes : length (command_bytes (chain_state_of []) (begin (1 ∷ []))) ≡ 31
-unfolding pages_of_command pages_of_run page_of_run page_position run_lacing run_bytes values_at values_before lacing_of page_bytes fixed_part checksum_of message_bits number_of remainder bits_of divisor crc.add
+unfolding pages_of_command pages_of_run page_of_run page_position run_lacing run_bytes values_at values_before lacing_of page_bytes page_head checksum_of message_bits number_of remainder bits_of divisor crc.add
 row_1_bytes = refl
 
 recording : after [] (begin (1 ∷ []) ∷ put 1 5 hello ∷ EndOf 1 ∷ []) ≡ (record { serial = 1; packets = abc ∷ hello ∷ []; ended = true } ∷ []) ∷ []
 recording = refl
+
+-- with a Skeleton: its head has the serial 9, and all times are 0/1000
+abbrev head_of : ℕ → ℤ → SkeletonHead
+head_of serial denominator = record { serial = serial; presentation = (pos 0, pos 1000); base = (pos 0, denominator); utc = replicate 20 0 }
+
+abbrev described : ℕ → List (List ℕ) → List ℕ → ℤ → NewStream
+described serial headers media rate =
+    record { serial = serial; headers = headers; media = media; rate = (rate, pos 1); base_granule = pos 0; preroll = 0; shift = 0 }
+
+abbrev begin_with : SkeletonHead → List NewStream → Command
+begin_with head streams = BeginOf (record { skeleton = Some head; streams = streams })
+
+abbrev vorbis : NewStream
+vorbis = described 1 (abc ∷ []) (codes "audio/vorbis") (pos 44100)
+
+row_7 : answer [] (begin_with (head_of 9 (pos 1000)) (vorbis ∷ [])) ≡ Ok 259
+unfolding decision pages_of_command pages_of_run page_of_run page_position run_lacing run_bytes values_at values_before lacing_of fishead_with fixed_part u16_bytes u32_bytes i64_bytes
+row_7 = refl
+
+row_7_pages : map {B = ℕ × ℕ × ℕ} (λ (p : Page). (page_size p, p.serial, p.flags)) (pages_of_command (chain_state_of []) (begin_with (head_of 9 (pos 1000)) (vorbis ∷ [])))
+    ≡ (92, 9, 2) ∷ (31, 1, 2) ∷ (108, 9, 0) ∷ (28, 9, 4) ∷ []
+unfolding pages_of_command pages_of_run page_of_run page_position run_lacing run_bytes values_at values_before lacing_of fishead_with fixed_part u16_bytes u32_bytes i64_bytes
+row_7_pages = refl
+
+row_7_ended : answer (begin_with (head_of 9 (pos 1000)) (vorbis ∷ []) ∷ []) (EndOf 9) ≡ Err StreamEnded
+unfolding decision pages_of_command pages_of_run page_of_run page_position run_lacing run_bytes values_at values_before lacing_of fishead_with fixed_part u16_bytes u32_bytes i64_bytes
+row_7_ended = refl
+
+row_7_sequences : map (λ (p : Page). p.sequence) (pages_of_command (chain_state_of []) (begin_with (head_of 9 (pos 1000)) (vorbis ∷ stream_of 2 ∷ []))) ≡ 0 ∷ 0 ∷ 0 ∷ 1 ∷ 2 ∷ 3 ∷ []
+unfolding pages_of_command pages_of_run page_of_run page_position run_lacing run_bytes values_at values_before lacing_of fishead_with fixed_part u16_bytes u32_bytes i64_bytes
+row_7_sequences = refl
+
+row_32_type : answer [] (begin_with (head_of 9 (pos 1000)) (described 1 (abc ∷ []) [] (pos 44100) ∷ [])) ≡ Err BadType
+unfolding decision
+row_32_type = refl
+
+row_32_rate : answer [] (begin_with (head_of 9 (pos 1000)) (described 1 (abc ∷ []) (codes "audio/vorbis") (pos 0) ∷ [])) ≡ Err BadRate
+unfolding decision
+row_32_rate = refl
+
+row_32_base : answer [] (begin_with (head_of 9 (pos 0)) (described 1 [] (codes "audio/vorbis") (pos 44100) ∷ [])) ≡ Err BadRate
+unfolding decision
+row_32_base = refl
+
+row_32_serial : answer [] (begin_with (head_of 1 (pos 1000)) (vorbis ∷ [])) ≡ Err SerialTaken
+unfolding decision
+row_32_serial = refl
+
+row_32_many : answer [] (begin_with (head_of 9 (pos 1000)) (replicate 64 vorbis)) ≡ Err TooMany
+unfolding decision
+row_32_many = refl

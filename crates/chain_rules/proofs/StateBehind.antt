@@ -49,7 +49,7 @@ size_with (link ∷ []) pages some =
 size_with (link ∷ next ∷ links) pages some =
     omega (arith, sum_by-cons size_of_pages link (with_pages (next ∷ links) pages), sum_by-cons size_of_pages link (next ∷ links), size_with (next ∷ links) pages (λ e. cc))
 
-data_with : (link pages : List Page) → 0 < length pages → Unmarked pages → list_any (λ page. not (is_first page)) (link ++ pages) ≡ true
+pub data_with : (link pages : List Page) → 0 < length pages → Unmarked pages → list_any (λ page. not (is_first page)) (link ++ pages) ≡ true
 data_with link [] some h = absurd (omega arith)
 data_with link (page ∷ pages) some h =
     list_any-append (λ (p : Page). not (is_first p)) link (page ∷ pages)

@@ -1,14 +1,12 @@
 -- A new link's streams, looked at one after the other.
-use Rattle.std.proofs.Common.{◌≡◌, ℕ, Option, None, ◌+◌, ◌<◌, Bool, true, false, List, [], ◌∷◌, ◌++◌, length, map, take, drop, get_or, refl, sym, ◌∙◌, ap}
+use Rattle.std.proofs.Common.{◌≡◌, ℕ, ◌+◌, ◌<◌, Bool, true, false, List, [], ◌∷◌, ◌++◌, length, map, take, drop, get_or, refl, sym, ◌∙◌, ap}
 use Rattle.std.specs.Prelude.{nat_eq, reverse, ◌||◌}
 use Rattle.std.specs.List.{list_any}
 use Rattle.std.proofs.lemmas.List.{take_more, drop_more, reverse-append}
 use Rattle.std.proofs.lemmas.List.Folds.{list_any-append}
 use Rattle.chain_rules.specs.declared.command.NewStream.{NewStream}
-use Rattle.chain_rules.specs.declared.command.Begin.{Begin}
-use Rattle.chain_rules.specs.declared.command.SkeletonHead.{SkeletonHead}
 use Rattle.chain_rules.specs.ChainState.{ChainState}
-use Rattle.chain_rules.specs.Decision.{stream_rules, streams_rules, item_rules}
+use Rattle.chain_rules.specs.Decision.{stream_rules, streams_rules}
 
 abbrev pub serial_of : NewStream → ℕ
 serial_of stream = stream.serial
@@ -24,13 +22,13 @@ map-push (y ∷ xs) x = ap (λ l. y.serial ∷ l) (map-push xs x)
 before-push : (xs : List NewStream) (x : NewStream) → before (xs ++ x ∷ []) ≡ x.serial ∷ before xs
 before-push xs x = ap reverse (map-push xs x) ∙ reverse-append (map serial_of xs) (x.serial ∷ [])
 
-pub stream_next : (chain : ChainState) (streams : List NewStream) (i : ℕ) (stream : NewStream) → i < length streams → stream ≡ get_or streams i stream →
-    streams_rules chain false (before (take i streams)) (drop i streams)
-    ≡ stream_rules chain false (before (take i streams)) stream ++ streams_rules chain false (before (take (i + 1) streams)) (drop (i + 1) streams)
-stream_next chain streams i stream lt is =
+pub stream_next : (chain : ChainState) (described : Bool) (skeleton : List ℕ) (streams : List NewStream) (i : ℕ) (stream : NewStream) → i < length streams → stream ≡ get_or streams i stream →
+    streams_rules chain described (before (take i streams) ++ skeleton) (drop i streams)
+    ≡ stream_rules chain described (before (take i streams) ++ skeleton) stream ++ streams_rules chain described (before (take (i + 1) streams) ++ skeleton) (drop (i + 1) streams)
+stream_next chain described skeleton streams i stream lt is =
     let more : take (i + 1) streams ≡ take i streams ++ stream ∷ [] = take_more streams i stream lt ∙ ap (λ (s : NewStream). take i streams ++ s ∷ []) (sym is) in
-    ap (streams_rules chain false (before (take i streams))) (drop_more streams i stream lt ∙ ap (λ (s : NewStream). s ∷ drop (i + 1) streams) (sym is))
-    ∙ ap (λ l. stream_rules chain false (before (take i streams)) stream ++ streams_rules chain false l (drop (i + 1) streams))
+    ap (streams_rules chain described (before (take i streams) ++ skeleton)) (drop_more streams i stream lt ∙ ap (λ (s : NewStream). s ∷ drop (i + 1) streams) (sym is))
+    ∙ ap (λ l. stream_rules chain described (before (take i streams) ++ skeleton) stream ++ streams_rules chain described (l ++ skeleton) (drop (i + 1) streams))
     (sym (ap before more ∙ before-push (take i streams) stream))
 
 or_swap : (a b : Bool) → (a || (b || false)) ≡ (b || a)
@@ -46,7 +44,3 @@ any-before serial (stream ∷ streams) =
     ∙ list_any-append (nat_eq serial) (before streams) (stream.serial ∷ [])
     ∙ ap (λ b. b || (nat_eq serial stream.serial || false)) (any-before serial streams)
     ∙ or_swap (list_any (λ (s : NewStream). nat_eq serial s.serial) streams) (nat_eq serial stream.serial)
-
--- a link without a Skeleton has just its streams as items
-pub plain_items : (chain : ChainState) (begin : Begin) → begin.skeleton ≡ None → item_rules chain begin ≡ streams_rules chain false [] begin.streams
-plain_items chain begin e = ap (λ (s : Option SkeletonHead). item_rules chain (record begin { skeleton = s })) e

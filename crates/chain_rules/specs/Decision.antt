@@ -1,5 +1,5 @@
 -- Whether a command is refused, and why, or else its size. The rules and their order are ours.
-use Rattle.std.specs.Prelude.{ℕ, ◌+◌, ◌-◌, ◌^◌, ℤ, pos, int_lt, Bool, true, false, not, ◌&&◌, ◌||◌, nat_eq, nat_lt, nat_le, is_some, is_none, Option, Some, None, Result, Ok, Err, List, [], ◌∷◌, ◌++◌, length, take, drop, sum_by}
+use Rattle.std.specs.Prelude.{ℕ, ◌+◌, ◌-◌, ◌^◌, ℤ, pos, int_lt, Bool, true, false, not, ◌&&◌, ◌||◌, nat_eq, nat_lt, nat_le, is_none, Option, Some, None, Result, Ok, Err, List, [], ◌∷◌, ◌++◌, length, take, drop, sum_by}
 use Rattle.std.specs.List.{list_any, list_all}
 use Rattle.std.specs.Option.{option_map_or}
 use Rattle.chain_rules.specs.Size.{has_no_number, size_of_pages}
@@ -9,6 +9,7 @@ use Rattle.chain_rules.specs.Limits.{longest_first, longest_packet, longest_batc
 use Rattle.chain_rules.specs.Progress.{stream_in, position_in, with_position}
 use Rattle.chain_rules.specs.declared.stream_state.StreamState.{StreamState}
 use Rattle.chain_rules.specs.Encoding.{pages_of_command}
+use Rattle.chain_rules.specs.Begun.{stream_count}
 use Rattle.chain_rules.specs.declared.command.Command.{Command}
 use Rattle.chain_rules.specs.declared.command.Command.TheVariants.{Begin as BeginOf, Put as PutOf, End as EndOf}
 use Rattle.chain_rules.specs.declared.command.Begin.{Begin}
@@ -25,9 +26,12 @@ is_long most packet = nat_lt most (length packet)
 abbrev pub has_many_headers : NewStream → Bool
 has_many_headers stream = nat_lt most_headers (length stream.headers)
 
--- a link with a Skeleton isn't made yet, so each has too many streams
+abbrev pub has_long_media : NewStream → Bool
+has_long_media stream = nat_lt 255 (length stream.media)
+
+-- a Skeleton is a stream too
 abbrev pub has_many_parts : Begin → Bool
-has_many_parts begin = nat_lt most_streams (length begin.streams) || list_any has_many_headers begin.streams || is_some begin.skeleton
+has_many_parts begin = nat_lt most_streams (stream_count begin) || list_any has_many_headers begin.streams
 
 abbrev pub begin_rules : ChainState → Begin → List (Rule Refusal)
 begin_rules chain begin =
@@ -67,12 +71,13 @@ streams_rules chain has_skeleton earlier [] = []
 streams_rules chain has_skeleton earlier (stream ∷ streams) =
     stream_rules chain has_skeleton earlier stream ++ streams_rules chain has_skeleton (stream.serial ∷ earlier) streams
 
+-- the Skeleton first, where there is one, and then the streams
+abbrev pub parts_rules : ChainState → Option SkeletonHead → List NewStream → List (Rule Refusal)
+parts_rules chain None streams = streams_rules chain false [] streams
+parts_rules chain (Some head) streams = skeleton_rules chain head ++ streams_rules chain true (head.serial ∷ []) streams
+
 abbrev pub item_rules : ChainState → Begin → List (Rule Refusal)
-item_rules chain begin = of_skeleton chain begin.streams begin.skeleton
-  where
-    of_skeleton : ChainState → List NewStream → Option SkeletonHead → List (Rule Refusal)
-    of_skeleton chain streams None = streams_rules chain false [] streams
-    of_skeleton chain streams (Some head) = skeleton_rules chain head ++ streams_rules chain true (head.serial ∷ []) streams
+item_rules chain begin = parts_rules chain begin.skeleton begin.streams
 
 -- ---- Put
 abbrev pub put_rules : ChainState → List Entry → List (Rule Refusal)

@@ -1,13 +1,17 @@
 -- The pages that a command adds (RFC 3533, section 4): which pages, and in which order.
-use Rattle.std.specs.Prelude.{ℕ, ◌+◌, nat_eq, if◌then◌else◌, List, [], ◌∷◌, ◌++◌, length, map, take, drop}
+use Rattle.std.specs.Prelude.{ℕ, ◌+◌, nat_eq, if◌then◌else◌, pos, Option, None, Some, List, [], ◌∷◌, ◌++◌, length, map, take, drop}
 use Rattle.std.specs.List.{flat_map}
 use Rattle.ogg_page.specs.Page.{Page, bytes_of_pages}
 use Rattle.packetiser.specs.Run.{Timed, flagged, pages_of_run}
+use Rattle.skeleton3.specs.Fisbone.{Fisbone, fisbone_bytes}
+use Rattle.skeleton3.specs.Fishead.{fishead_bytes}
+use Rattle.skeleton3.specs.declared.fishead.Fishead.{Fishead}
 use Rattle.chain_rules.specs.ChainState.{ChainState, chain_state_of}
 use Rattle.chain_rules.specs.Progress.{next_in, position_in, brought_to}
 use Rattle.chain_rules.specs.declared.stream_state.StreamState.{StreamState}
 use Rattle.chain_rules.specs.declared.command.Command.{Command}
 use Rattle.chain_rules.specs.declared.command.Command.TheVariants.{Begin as BeginOf, Put as PutOf, End as EndOf}
+use Rattle.chain_rules.specs.declared.command.SkeletonHead.{SkeletonHead}
 use Rattle.chain_rules.specs.declared.command.NewStream.{NewStream}
 use Rattle.chain_rules.specs.declared.command.Entry.{Entry}
 
@@ -28,6 +32,56 @@ first_pages stream = flagged first_flag (pages_of_run stream.serial 0 (map heade
 
 abbrev pub header_pages : NewStream → List Page
 header_pages stream = pages_of_run stream.serial 1 (map header (drop 1 stream.headers))
+
+-- a Skeleton's head, and what it says of a stream (Ogg Skeleton 3.0)
+abbrev pub fishead_of : SkeletonHead → Fishead
+fishead_of head = record { presentation = head.presentation; base = head.base; utc = head.utc }
+
+abbrev pub fisbone_of : NewStream → Fisbone
+fisbone_of stream =
+    record {
+      serial = stream.serial;
+      headers = length stream.headers;
+      rate = stream.rate;
+      base_granule = stream.base_granule;
+      preroll = stream.preroll;
+      shift = stream.shift;
+      media = stream.media;
+    }
+
+abbrev pub fisbone_packet : NewStream → List ℕ
+fisbone_packet stream = fisbone_bytes (fisbone_of stream)
+
+-- A Skeleton as a stream of its link, before it ends: its packets are the fishead, and a fisbone for each stream.
+abbrev pub skeleton_stream : SkeletonHead → List NewStream → NewStream
+skeleton_stream head streams =
+    record {
+      serial = head.serial;
+      headers = fishead_bytes (fishead_of head) ∷ map fisbone_packet streams;
+      media = [];
+      rate = (pos 0, pos 0);
+      base_granule = pos 0;
+      preroll = 0;
+      shift = 0;
+    }
+
+-- the pages of the fisbones, each in a page of its own
+abbrev pub fisbone_pages : ℕ → ℕ → List NewStream → List Page
+fisbone_pages serial first [] = []
+fisbone_pages serial first (stream ∷ streams) =
+    pages_of_run serial first (header (fisbone_packet stream) ∷ []) ++ fisbone_pages serial (first + 1) streams
+
+-- a Skeleton's last page holds one packet, which is empty
+abbrev pub skeleton_end : ℕ → ℕ → List Page
+skeleton_end serial first = flagged last_flag (pages_of_run serial first (header [] ∷ []))
+
+-- The pages of a new link: the first page of each stream, and then the pages of its other headers. A Skeleton's first
+-- page comes before those of the streams, its other pages come behind them, and it ends with the last page of all.
+abbrev pub pages_of_begin : Option SkeletonHead → List NewStream → List Page
+pages_of_begin None streams = flat_map first_pages streams ++ flat_map header_pages streams
+pages_of_begin (Some head) streams =
+    (flat_map first_pages (skeleton_stream head streams ∷ streams) ++ (fisbone_pages head.serial 1 streams ++ flat_map header_pages streams))
+    ++ skeleton_end head.serial (length streams + 1)
 
 -- entries cut where the serial changes
 abbrev pub with_front : Entry → List (List Entry) → List (List Entry)
@@ -80,10 +134,9 @@ end_page chain serial =
       body = [];
     }
 
--- The pages of a command. A link's first pages come first, and then its other headers; the pages of a Skeleton would
--- come in here.
+-- the pages of a command
 unfoldable pub pages_of_command : ChainState → Command → List Page
-pages_of_command chain (BeginOf begin) = flat_map first_pages begin.streams ++ flat_map header_pages begin.streams
+pages_of_command chain (BeginOf begin) = pages_of_begin begin.skeleton begin.streams
 pages_of_command chain (PutOf put) = pages_of_runs chain.streams (runs_of put.entries)
 pages_of_command chain (EndOf serial) = end_page chain serial ∷ []
 

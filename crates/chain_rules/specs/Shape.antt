@@ -1,5 +1,6 @@
 -- What a shape keeps, and the room that it has.
-use Rattle.std.specs.Prelude.{ℕ, ◌≤◌, length, ⊤}
+use Rattle.std.specs.Prelude.{ℕ, ◌≤◌, ⊤}
+use Rattle.chain_rules.specs.Begun.{stream_count}
 use Rattle.chain_rules.specs.ChainState.{ChainState}
 use Rattle.chain_rules.specs.declared.command.Command.{Command}
 use Rattle.chain_rules.specs.declared.command.Command.TheVariants.{Begin as BeginOf, Put as PutOf, End as EndOf}
@@ -13,6 +14,6 @@ pub record ShapeState : Type 0 where
 
 -- there is room for what the command adds
 abbrev pub HasRoom : ShapeState → Command → Type 0
-HasRoom shape (BeginOf begin) = (length begin.streams ≤ shape.stream_room) × (length begin.streams ≤ shape.serial_room)
+HasRoom shape (BeginOf begin) = (stream_count begin ≤ shape.stream_room) × (stream_count begin ≤ shape.serial_room)
 HasRoom shape (PutOf put) = ⊤
 HasRoom shape (EndOf serial) = ⊤

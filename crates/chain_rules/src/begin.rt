@@ -1,19 +1,23 @@
 //! The streams of a new link, looked at one after the other.
-ghost use Rattle.std.specs.Prelude.{◌≡◌, ◌≤◌, ◌<◌, ◌+◌, ◌-◌, ◌*◌, ◌++◌, ℕ, [], ◌∷◌, false, length, sum_by, nat_lt, nat_eq, take, drop, map, reverse, List};
-ghost use Rattle.std.specs.List.{list_any, flat_map};
+ghost use Rattle.std.specs.Prelude.{◌≡◌, ◌≤◌, ◌<◌, ◌+◌, ◌-◌, ◌*◌, ◌++◌, ℕ, [], ◌∷◌, ◌&&◌, false, Some, IfSome, is_some, length, sum_by, nat_lt, nat_le, nat_eq, take, drop, map, reverse, List};
+ghost use Rattle.std.specs.List.{list_any, list_all, flat_map};
 ghost use Rattle.std.specs.Option.{SomeIff};
 ghost use Rattle.chain_rules.specs.Rules.{first_broken};
 ghost use Rattle.chain_rules.specs.ChainState.{ChainState};
-ghost use Rattle.chain_rules.specs.Decision.{stream_rules, streams_rules, has_many_parts, has_many_headers, header_bytes};
-ghost use Rattle.chain_rules.specs.Encoding.{first_pages, header_pages};
+ghost use Rattle.chain_rules.specs.Begun.{stream_count, skeleton_serial};
+ghost use Rattle.chain_rules.specs.Decision.{stream_rules, streams_rules, skeleton_rules, parts_rules, has_many_parts, has_many_headers, has_long_media, header_bytes, is_media, is_positive};
+ghost use Rattle.chain_rules.specs.Encoding.{first_pages, header_pages, pages_of_begin};
 ghost use Rattle.chain_rules.specs.Size.{has_no_number, size_of_pages};
 ghost use Rattle.chain_rules.specs.declared.command.NewStream.{NewStream as StreamOf};
 
-use crate::command::{Begin, NewStream};
-use crate::limits::{LONGEST_BATCH, LONGEST_FIRST, LONGEST_PACKET, MOST_HEADERS, MOST_STREAMS};
+use crate::command::{Begin, NewStream, SkeletonHead};
+use crate::limits::{
+    LONGEST_BATCH, LONGEST_FIRST, LONGEST_MEDIA, LONGEST_PACKET, MOST_HEADERS, MOST_STREAMS,
+};
 use crate::listed::Listed;
 use crate::refusal::Refusal;
 use crate::serials::Serials;
+use crate::skeleton::size_of_skeleton;
 use packetiser::{TimedPacket, size_of_run};
 
 impl TimedPacket for Listed<u8> {
@@ -31,18 +35,18 @@ impl TimedPacket for Listed<u8> {
     }
 }
 
+/// How many streams a link has, its Skeleton counted.
+pub fn stream_count(begin: &Begin) -> usize
+    ensures { result ≡ stream_count begin.now }
+{
+    begin.streams.as_slice().len() + usize::from(begin.skeleton.is_some())
+}
+
 /// Whether a link has more parts than it may have.
 pub fn has_many_parts(begin: &Begin) -> bool
     ensures { result ≡ has_many_parts begin.now }
 {
-    let streams = begin.streams.as_slice();
-    if streams.len() > MOST_STREAMS {
-        return true;
-    }
-    if have_many_headers(streams) {
-        return true;
-    }
-    begin.skeleton.is_some()
+    stream_count(begin) > MOST_STREAMS || have_many_headers(begin.streams.as_slice())
 }
 
 /// Whether one of the streams has more headers than it may have.
@@ -54,12 +58,63 @@ fn have_many_headers(streams: &[NewStream]) -> bool
         .any(|stream| stream.headers.len() > MOST_HEADERS)
 }
 
-/// The first rule that a stream breaks, behind the streams before it in its link.
-fn broken_by_stream(serials: &Serials, earlier: &[NewStream], stream: &NewStream) -> Option<Refusal>
-    ensures { (chain : ChainState) → chain.serials ≡ serials.now.listed →
-        result ≡ first_broken (stream_rules chain false (reverse (map (λ (s : StreamOf). s.serial) earlier.now)) stream.now) }
+/// Whether a number is above 0.
+fn is_positive(number: i64) -> bool
+    ensures { result ≡ is_positive number }
 {
-    if serials.contains(stream.serial) || has_serial(earlier, stream.serial) {
+    number > 0
+}
+
+/// Whether a text has just printing characters.
+fn is_printing(text: &[u8]) -> bool
+    ensures { result ≡ list_all (λ c. nat_le 0x20 c && nat_le c 0x7e) text.now }
+{
+    text.iter().all(|c| 0x20 <= *c && *c <= 0x7e)
+}
+
+/// Whether there is a space in a text.
+fn has_space(text: &[u8]) -> bool
+    ensures { result ≡ list_any (nat_eq 0x20) text.now }
+{
+    text.iter().any(|c| 0x20 == *c)
+}
+
+/// Whether a text can be a media type: 1 to 255 printing characters, with no space at the ends.
+fn is_media(media: &[u8]) -> bool
+    ensures { result ≡ is_media media.now }
+{
+    if media.is_empty() || media.len() > LONGEST_MEDIA {
+        return false;
+    }
+    let (first, _) = media.split_at(1);
+    let (_, last) = media.split_at(media.len() - 1);
+    is_printing(media) && !has_space(first) && !has_space(last)
+}
+
+/// The first rule that the head of a link's Skeleton breaks.
+fn broken_by_skeleton(serials: &Serials, head: &SkeletonHead) -> Option<Refusal>
+    ensures { (chain : ChainState) → chain.serials ≡ serials.now.listed → result ≡ first_broken (skeleton_rules chain head.now) }
+{
+    if serials.contains(head.serial) {
+        return Some(Refusal::SerialTaken);
+    }
+    if !(is_positive(head.presentation.1) && is_positive(head.base.1)) {
+        return Some(Refusal::BadRate);
+    }
+    None
+}
+
+/// The first rule that a stream breaks, behind the streams before it in its link.
+fn broken_by_stream(
+    serials: &Serials,
+    skeleton: Option<SkeletonHead>,
+    earlier: &[NewStream],
+    stream: &NewStream,
+) -> Option<Refusal>
+    ensures { (chain : ChainState) → chain.serials ≡ serials.now.listed →
+        result ≡ first_broken (stream_rules chain (is_some skeleton) (reverse (map (λ (s : StreamOf). s.serial) earlier.now) ++ skeleton_serial skeleton) stream.now) }
+{
+    if serials.contains(stream.serial) || is_earlier(skeleton, earlier, stream.serial) {
         return Some(Refusal::SerialTaken);
     }
     let headers = stream.headers.as_slice();
@@ -73,22 +128,70 @@ fn broken_by_stream(serials: &Serials, earlier: &[NewStream], stream: &NewStream
     if has_longer(others, LONGEST_PACKET) {
         return Some(Refusal::PacketTooLong);
     }
+    if skeleton.is_some() && !is_media(stream.media.as_slice()) {
+        return Some(Refusal::BadType);
+    }
+    if skeleton.is_some() && !(is_positive(stream.rate.0) && is_positive(stream.rate.1)) {
+        return Some(Refusal::BadRate);
+    }
     None
 }
 
 /// The first rule that one of a link's streams breaks.
-pub fn broken_by_streams(serials: &Serials, streams: &[NewStream]) -> Option<Refusal>
+fn broken_by_streams(
+    serials: &Serials,
+    skeleton: Option<SkeletonHead>,
+    streams: &[NewStream],
+) -> Option<Refusal>
     ensures { (chain : ChainState) → chain.serials ≡ serials.now.listed →
-        result ≡ first_broken (streams_rules chain false [] streams.now) }
+        result ≡ first_broken (streams_rules chain (is_some skeleton) (skeleton_serial skeleton) streams.now) }
 {
     for (i, stream) in streams.iter().enumerate() {
         let (earlier, _) = streams.split_at(i);
-        let broken = broken_by_stream(serials, earlier, stream);
+        let broken = broken_by_stream(serials, skeleton, earlier, stream);
         if broken.is_some() {
             return broken;
         }
     }
     None
+}
+
+/// The first rule that a Skeleton breaks, or else one of the streams that it describes.
+fn broken_by_described(
+    serials: &Serials,
+    head: SkeletonHead,
+    streams: &[NewStream],
+) -> Option<Refusal>
+    ensures { (chain : ChainState) → chain.serials ≡ serials.now.listed →
+        result ≡ first_broken (parts_rules chain (Some head) streams.now) }
+{
+    let broken = broken_by_skeleton(serials, &head);
+    if broken.is_some() {
+        return broken;
+    }
+    broken_by_streams(serials, Some(head), streams)
+}
+
+/// The first rule that the Skeleton of a link breaks, or else one of its streams.
+pub fn broken_by_parts(
+    serials: &Serials,
+    skeleton: Option<SkeletonHead>,
+    streams: &[NewStream],
+) -> Option<Refusal>
+    ensures { (chain : ChainState) → chain.serials ≡ serials.now.listed →
+        result ≡ first_broken (parts_rules chain skeleton streams.now) }
+{
+    match skeleton {
+        None => broken_by_streams(serials, None, streams),
+        Some(head) => broken_by_described(serials, head, streams),
+    }
+}
+
+/// Whether the Skeleton or one of the streams has this serial.
+fn is_earlier(skeleton: Option<SkeletonHead>, streams: &[NewStream], serial: u32) -> bool
+    ensures { result ≡ list_any (nat_eq serial) (reverse (map (λ (s : StreamOf). s.serial) streams.now) ++ skeleton_serial skeleton) }
+{
+    has_serial(streams, serial) || skeleton.is_some_and(|head| serial == head.serial)
 }
 
 /// Whether one of the streams has this serial.
@@ -155,8 +258,8 @@ fn size_of_stream(stream: &NewStream) -> u64
     size_of_run(first) + size_of_run(others)
 }
 
-/// How many bytes the pages of a new link have.
-pub fn size_of_begin(streams: &[NewStream]) -> u64
+/// How many bytes the pages of a new link's streams have.
+pub fn size_of_streams(streams: &[NewStream]) -> u64
     requires short { sum_by header_bytes streams.now ≤ 16777216 }
     requires few { list_any has_many_headers streams.now ≡ false }
     requires links { length streams.now ≤ 64 }
@@ -169,4 +272,21 @@ pub fn size_of_begin(streams: &[NewStream]) -> u64
         size += size_of_stream(stream);
     }
     size
+}
+
+/// How many bytes the pages of a new link have.
+pub fn size_of_begin(skeleton: Option<SkeletonHead>, streams: &[NewStream]) -> u64
+    requires short { sum_by header_bytes streams.now ≤ 16777216 }
+    requires few { list_any has_many_headers streams.now ≡ false }
+    requires links { length streams.now ≤ 64 }
+    requires media { IfSome skeleton (λ _. list_any has_long_media streams.now ≡ false) }
+    ensures value { result ≡ size_of_pages (pages_of_begin skeleton streams.now) }
+    ensures numbered { list_any has_no_number (pages_of_begin skeleton streams.now) ≡ false }
+    ensures small { result ≤ 486658048 + 29 * 256 * 64 + 50000 }
+    ensures time { IfSome skeleton (λ head. length head.utc ≡ 20) }
+{
+    match skeleton {
+        None => size_of_streams(streams),
+        Some(head) => size_of_streams(streams) + size_of_skeleton(&head, streams),
+    }
 }

@@ -1,5 +1,5 @@
 //! Whether a command is refused, and why, or else its size.
-ghost use Rattle.std.specs.Prelude.{◌≡◌, ◌≤◌, ◌<◌, ◌+◌, ◌^◌, ℕ, Option, Some, None, Ok, Err, IfSome, IfNone, false, length, sum_by, nat_lt, not};
+ghost use Rattle.std.specs.Prelude.{◌≡◌, ◌≤◌, ◌<◌, ◌+◌, ◌^◌, ℕ, Option, Some, None, Ok, Err, IfSome, false, length, sum_by, nat_lt, not};
 ghost use Rattle.std.specs.List.{list_any};
 ghost use Rattle.std.specs.Option.{option_map_or};
 ghost use Rattle.chain_rules.specs.Rules.{first_broken};
@@ -7,11 +7,11 @@ ghost use Rattle.chain_rules.specs.ChainState.{ChainState};
 ghost use Rattle.chain_rules.specs.Decision.{decision, put_rules, begin_rules, room_rules, entries_rules, size_of};
 ghost use Rattle.chain_rules.specs.Size.{numbered_size};
 ghost use Rattle.chain_rules.specs.Encoding.{runs_of, pages_of_runs};
-ghost use Rattle.chain_rules.specs.Decision.{answer, has_many_parts};
+ghost use Rattle.chain_rules.specs.Decision.{answer, has_many_parts, has_long_media};
 ghost use Rattle.chain_rules.specs.declared.command.Entry.{Entry as EntryOf};
 ghost use Rattle.chain_rules.specs.declared.stream_state.StreamState.{StreamState as State};
 
-use crate::begin::{broken_by_streams, has_many_parts, is_long_begin, size_of_begin};
+use crate::begin::{broken_by_parts, has_many_parts, is_long_begin, size_of_begin};
 use crate::command::{Begin, Command, Entry, Put};
 use crate::entries::{broken_by_entries, with_serial};
 use crate::limits::{LONGEST_FILE, MOST_ENTRIES, MOST_LINKS, MOST_STREAMS, SEQUENCES};
@@ -135,7 +135,6 @@ pub fn check_put(streams: &[StreamState], bytes: u64, put: &Put) -> Result<u64, 
 fn broken_by_begin(streams: &[StreamState], begin: &Begin) -> Option<Refusal>
     ensures rules { (chain : ChainState) → chain.streams ≡ streams.now → result ≡ first_broken (begin_rules chain begin.now) }
     ensures few { result ≡ None → has_many_parts begin.now ≡ false }
-    ensures plain { IfNone result (begin.now.skeleton ≡ None) }
 {
     if is_open(streams) {
         return Some(Refusal::LinkOpen);
@@ -153,6 +152,7 @@ fn broken_by_begin(streams: &[StreamState], begin: &Begin) -> Option<Refusal>
 #[tactic(auto, unfolding(crate::specs::Encoding::pages_of_command))]
 fn room_for_begin(links: u64, bytes: u64, begin: &Begin) -> Result<u64, Refusal>
     requires few { has_many_parts begin.now ≡ false }
+    requires media { IfSome begin.now.skeleton (λ _. list_any has_long_media begin.now.streams ≡ false) }
     requires counted { bytes < 2 ^ 63 }
     ensures { (chain : ChainState) → chain.links ≡ links → chain.length_of ≡ bytes
         → result ≡ answer (size_of chain (Command.Begin begin.now)) (first_broken (room_rules chain (Command.Begin begin.now))) }
@@ -162,7 +162,7 @@ fn room_for_begin(links: u64, bytes: u64, begin: &Begin) -> Result<u64, Refusal>
         return Err(Refusal::BatchTooLong);
     }
     // The pages of a link's headers are too few to use up the sequence numbers.
-    let size = size_of_begin(streams);
+    let size = size_of_begin(begin.skeleton, streams);
     if links >= MOST_LINKS {
         return Err(Refusal::LinksFull);
     }
@@ -187,7 +187,7 @@ pub fn check_begin(
     if let Some(refusal) = broken_by_begin(streams, begin) {
         return Err(refusal);
     }
-    if let Some(refusal) = broken_by_streams(serials, begin.streams.as_slice()) {
+    if let Some(refusal) = broken_by_parts(serials, begin.skeleton, begin.streams.as_slice()) {
         return Err(refusal);
     }
     room_for_begin(links, bytes, begin)

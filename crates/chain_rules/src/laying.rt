@@ -1,11 +1,11 @@
 //! The pages of a command as bytes.
-ghost use Rattle.std.specs.Prelude.{◌≡◌, ◌≤◌, ◌<◌, ◌+◌, ◌*◌, ◌++◌, ◌^◌, ℕ, [], ◌∷◌, false, OnOk, OnErr, length, map, sum_by, take, drop, vec_len, vec_capacity};
+ghost use Rattle.std.specs.Prelude.{◌≡◌, ◌≤◌, ◌<◌, ◌+◌, ◌*◌, ◌++◌, ◌^◌, ℕ, [], ◌∷◌, false, Some, IfSome, OnOk, OnErr, length, map, sum_by, take, drop, vec_len, vec_capacity};
 ghost use Rattle.std.specs.List.{list_any, flat_map};
 ghost use Rattle.ogg_page.specs.Page.{bytes_of_pages};
 ghost use Rattle.packetiser.specs.Run.{pages_of_run, pages_for, run_lacing, run_bytes, size_for, flagged, lengths};
 ghost use Rattle.chain_rules.specs.ChainState.{ChainState};
-ghost use Rattle.chain_rules.specs.Decision.{header_bytes, has_many_headers};
-ghost use Rattle.chain_rules.specs.Encoding.{first_pages, header_pages, end_page, runs_of, pages_of_runs};
+ghost use Rattle.chain_rules.specs.Decision.{header_bytes, has_many_headers, has_long_media};
+ghost use Rattle.chain_rules.specs.Encoding.{first_pages, header_pages, pages_of_begin, end_page, runs_of, pages_of_runs};
 ghost use Rattle.chain_rules.specs.Progress.{next_in};
 ghost use Rattle.chain_rules.specs.Size.{has_no_number, size_of_pages};
 ghost use Rattle.chain_rules.specs.declared.command.Entry.{Entry as EntryOf};
@@ -13,19 +13,20 @@ ghost use Rattle.chain_rules.specs.declared.command.Entry.{Entry as EntryOf};
 use crate::Memory;
 use crate::begin::{size_of_begin, split_headers};
 use crate::checks::size_of_put;
-use crate::command::{Entry, NewStream};
+use crate::command::{Entry, NewStream, SkeletonHead};
 use crate::entries::{bring_stream, with_serial};
 use crate::limits::MOST_STREAMS;
 use crate::runs::{next_sequence, run_length, run_position, run_serial};
+use crate::skeleton::{lay_fisbones, lay_fishead, lay_skeleton_end};
 use crate::stream_state::StreamState;
 use ogg_page::{PageHead, write_page};
 use packetiser::{TimedPacket, lay_run};
 
 /// The flag of a stream's first page (RFC 3533, section 6, field 3).
-const FIRST: u8 = 2;
+pub const FIRST: u8 = 2;
 
 /// The flag of a stream's last page.
-const LAST: u8 = 4;
+pub const LAST: u8 = 4;
 
 /// Appends the page that ends a stream.
 pub fn lay_end(streams: &[StreamState], serial: u32, out: &mut Vec<u8>) -> Result<(), Memory>
@@ -83,19 +84,65 @@ fn lay_runs(streams: &mut [StreamState], entries: &[Entry], out: &mut Vec<u8>)
 }
 
 /// Appends the pages of a new link.
-pub fn lay_begin(streams: &[NewStream], out: &mut Vec<u8>) -> Result<(), Memory>
+pub fn lay_begin(
+    skeleton: Option<SkeletonHead>,
+    streams: &[NewStream],
+    out: &mut Vec<u8>,
+) -> Result<(), Memory>
     requires short { sum_by header_bytes streams.now ≤ 16777216 }
     requires few { list_any has_many_headers streams.now ≡ false }
     requires links { length streams.now ≤ 64 }
-    ensures ok { OnOk result (out.new.items ≡ out.old.items ++ bytes_of_pages (flat_map first_pages streams.now ++ flat_map header_pages streams.now)) }
+    requires media { IfSome skeleton (λ _. list_any has_long_media streams.now ≡ false) }
+    ensures ok { OnOk result (out.new.items ≡ out.old.items ++ bytes_of_pages (pages_of_begin skeleton streams.now)) }
     ensures err { OnErr result (out.new.items ≡ out.old.items) }
-    ensures full { OnErr result (vec_capacity out.old < vec_len out.old + size_of_pages (flat_map first_pages streams.now ++ flat_map header_pages streams.now)) }
+    ensures full { OnErr result (vec_capacity out.old < vec_len out.old + size_of_pages (pages_of_begin skeleton streams.now)) }
 {
-    let size = size_of_begin(streams);
+    let size = size_of_begin(skeleton, streams);
     out.reserve(size as usize)?;
+    lay_parts(skeleton, streams, out);
+    Ok(())
+}
+
+/// Appends the pages of a new link, for which there is room.
+fn lay_parts(skeleton: Option<SkeletonHead>, streams: &[NewStream], out: &mut Vec<u8>)
+    requires short { sum_by header_bytes streams.now ≤ 16777216 }
+    requires few { list_any has_many_headers streams.now ≡ false }
+    requires links { length streams.now ≤ 64 }
+    requires media { IfSome skeleton (λ _. list_any has_long_media streams.now ≡ false) }
+    requires room { vec_len out.old + size_of_pages (pages_of_begin skeleton streams.now) ≤ vec_capacity out.old }
+    ensures items { out.new.items ≡ out.old.items ++ bytes_of_pages (pages_of_begin skeleton streams.now) }
+{
+    match skeleton {
+        None => lay_streams(streams, out),
+        Some(head) => lay_described(&head, streams, out),
+    }
+}
+
+/// Appends the pages of a new link without a Skeleton, for which there is room.
+fn lay_streams(streams: &[NewStream], out: &mut Vec<u8>)
+    requires short { sum_by header_bytes streams.now ≤ 16777216 }
+    requires few { list_any has_many_headers streams.now ≡ false }
+    requires room { vec_len out.old + size_of_pages (flat_map first_pages streams.now ++ flat_map header_pages streams.now) ≤ vec_capacity out.old }
+    ensures items { out.new.items ≡ out.old.items ++ bytes_of_pages (flat_map first_pages streams.now ++ flat_map header_pages streams.now) }
+{
     lay_firsts(streams, out);
     lay_others(streams, out);
-    Ok(())
+}
+
+/// Appends the pages of a new link with a Skeleton, for which there is room.
+fn lay_described(head: &SkeletonHead, streams: &[NewStream], out: &mut Vec<u8>)
+    requires short { sum_by header_bytes streams.now ≤ 16777216 }
+    requires few { list_any has_many_headers streams.now ≡ false }
+    requires links { length streams.now ≤ 64 }
+    requires media { list_any has_long_media streams.now ≡ false }
+    requires room { vec_len out.old + size_of_pages (pages_of_begin (Some head.now) streams.now) ≤ vec_capacity out.old }
+    ensures items { out.new.items ≡ out.old.items ++ bytes_of_pages (pages_of_begin (Some head.now) streams.now) }
+{
+    lay_fishead(head, streams, out);
+    lay_firsts(streams, out);
+    lay_fisbones(head.serial, streams, out);
+    lay_others(streams, out);
+    lay_skeleton_end(head.serial, streams.len(), out);
 }
 
 /// Appends the first pages of new streams, for which there is room.
@@ -131,6 +178,8 @@ fn lay_others(streams: &[NewStream], out: &mut Vec<u8>)
     requires few { list_any has_many_headers streams.now ≡ false }
     requires room { vec_len out.old + size_of_pages (flat_map header_pages streams.now) ≤ vec_capacity out.old }
     ensures items { out.new.items ≡ out.old.items ++ bytes_of_pages (flat_map header_pages streams.now) }
+    ensures len { vec_len out.new ≡ vec_len out.old + size_of_pages (flat_map header_pages streams.now) }
+    ensures capacity { vec_capacity out.old ≤ vec_capacity out.new }
 {
     for stream in streams {
         lay_other(stream, out);
@@ -151,7 +200,7 @@ fn lay_other(stream: &NewStream, out: &mut Vec<u8>)
 }
 
 /// Appends the pages of a run for which there is room, and gives their number.
-fn append_run<T: TimedPacket>(
+pub fn append_run<T: TimedPacket>(
     serial: u32,
     first_sequence: u32,
     flags: u8,

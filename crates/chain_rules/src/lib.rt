@@ -24,6 +24,7 @@ mod refusal;
 mod runs;
 mod serials;
 mod shape;
+mod skeleton;
 mod stream_state;
 mod taking;
 

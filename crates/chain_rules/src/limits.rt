@@ -6,6 +6,9 @@ pub const LONGEST_FIRST: usize = 65_024;
 /// Bytes of any other packet.
 pub const LONGEST_PACKET: usize = 1_048_576;
 
+/// Bytes of a media type.
+pub const LONGEST_MEDIA: usize = 255;
+
 /// Bytes of a command's packets together.
 pub const LONGEST_BATCH: u64 = 16_777_216;
 

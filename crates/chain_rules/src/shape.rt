@@ -1,10 +1,10 @@
 //! The chain of the links so far.
-ghost use Rattle.std.specs.Prelude.{◌≡◌, ◌≤◌, ◌<◌, ◌+◌, ◌++◌, ◌^◌, ℕ, List, [], true, false, OnOk, OnErr, IfOk, IsOk, Ok, Err, Option, Some, None, length, vec_len, vec_capacity};
+ghost use Rattle.std.specs.Prelude.{◌≡◌, ◌≤◌, ◌<◌, ◌+◌, ◌++◌, ◌^◌, ℕ, List, [], true, false, OnOk, OnErr, IfOk, IfSome, IsOk, Ok, Err, Option, Some, None, length, vec_len, vec_capacity};
 ghost use Rattle.ogg_page.specs.Page.{Page as PageValue, page_size};
 
 use crate::Memory;
-use crate::accepting::{add_runs, add_streams, end_stream, have_other_headers};
-use crate::begin::size_of_begin;
+use crate::accepting::{add_runs, add_streams, end_stream, has_more_pages};
+use crate::begin::{size_of_begin, stream_count};
 use crate::chain_fault::ChainFault;
 use crate::checks::{check_begin, check_end, check_put, is_open};
 use crate::command::{Begin, Command, Put};
@@ -118,7 +118,7 @@ impl Shape {
         ensures err { OnErr result (out.new.items ≡ out.old.items) }
         ensures full { OnErr result (vec_capacity out.old < vec_len out.old + length (command_bytes self.now.chain (Command.Begin begin.now))) }
     {
-        lay_begin(begin.streams.as_slice(), out)
+        lay_begin(begin.skeleton, begin.streams.as_slice(), out)
     }
 
     fn lay_put(&self, put: &Put, out: &mut Vec<u8>) -> Result<(), Memory>
@@ -147,7 +147,7 @@ impl Shape {
         ensures full { OnErr result (HasRoom self.old command.now → ⊥) }
     {
         if let Command::Begin(begin) = command {
-            let count = begin.streams.len();
+            let count = stream_count(begin);
             let more = count.saturating_sub(self.streams.len());
             self.streams.reserve(more)?;
             self.serials.reserve(count)?;
@@ -194,13 +194,19 @@ impl Shape {
     fn accept_begin(&mut self, begin: &Begin)
         requires kept { IsOk (decision self.old.chain (Command.Begin begin.now)) }
         requires room { HasRoom self.old (Command.Begin begin.now) }
-        ensures { (links : List (List PageValue)) → self.old.chain ≡ chain_state_of links
+        ensures links { (links : List (List PageValue)) → self.old.chain ≡ chain_state_of links
             → self.new.chain ≡ chain_state_of (links_after links (Command.Begin begin.now)) }
+        ensures time { IfSome begin.now.skeleton (λ head. length head.utc ≡ 20) }
     {
         let streams = begin.streams.as_slice();
-        let size = size_of_begin(streams);
-        add_streams(&mut self.streams, &mut self.serials, streams);
-        self.has_data = have_other_headers(streams);
+        let size = size_of_begin(begin.skeleton, streams);
+        add_streams(
+            &mut self.streams,
+            &mut self.serials,
+            begin.skeleton,
+            streams,
+        );
+        self.has_data = has_more_pages(begin.skeleton, streams);
         self.links += 1;
         self.bytes += size;
     }

@@ -1,13 +1,13 @@
 use Rattle.std.proofs.Common.{◌≡◌, ◌≤◌, ◌<◌, ◌+◌, ◌++◌, ℕ, false, List, length, sum_by, sym, ap, ◌∙◌, subst, vec_len}
-use Rattle.std.specs.Prelude.{OnOk, OnErr, vec_capacity}
-use Rattle.std.specs.List.{list_any, flat_map}
-use Rattle.ogg_page.specs.Page.{Page, bytes_of_pages}
+use Rattle.std.specs.Prelude.{OnOk, OnErr, IfSome, vec_capacity}
+use Rattle.std.specs.List.{list_any}
+use Rattle.ogg_page.specs.Page.{bytes_of_pages}
 use Rattle.chain_rules.specs.declared.command.NewStream.{NewStream}
-use Rattle.chain_rules.specs.Decision.{header_bytes, has_many_headers}
-use Rattle.chain_rules.specs.Encoding.{pages_of_command, first_pages, header_pages}
+use Rattle.chain_rules.specs.Decision.{header_bytes, has_many_headers, has_long_media}
+use Rattle.chain_rules.specs.Encoding.{pages_of_command, pages_of_begin}
 use Rattle.chain_rules.specs.Size.{size_of_pages}
 use Rattle.chain_rules.proofs.ByteSizes.{length-bytes_of_pages}
-use Rattle.chain_rules.proofs.Kept.{begin_fits}
+use Rattle.chain_rules.proofs.Kept.{begin_fits, few_streams}
 use Rattle.chain_rules.proofs.shape.Shape.lay_begin.Goals as goal
 
 pub lay_begin-requires-clause-short : goal.lay_begin-requires-clause-short
@@ -20,18 +20,22 @@ lay_begin-requires-clause-few c =
 
 pub lay_begin-requires-clause-links : goal.lay_begin-requires-clause-links
 lay_begin-requires-clause-links c =
-    subst (λ (l : List NewStream). length l ≤ 64) (sym c.as_slice.ensures) (begin_fits c.args.self.now.chain c.args.begin.now c.requires).streams
+    subst (λ (l : List NewStream). length l ≤ 64) (sym c.as_slice.ensures) (few_streams c.args.begin.now (begin_fits c.args.self.now.chain c.args.begin.now c.requires).streams)
 
-abbrev pages : List NewStream → List Page
-pages streams = flat_map first_pages streams ++ flat_map header_pages streams
+pub lay_begin-requires-clause-media : goal.lay_begin-requires-clause-media
+lay_begin-requires-clause-media c =
+    subst (λ (l : List NewStream). IfSome c.args.begin.now.skeleton (λ _. list_any has_long_media l ≡ false)) (sym c.as_slice.ensures)
+    (begin_fits c.args.self.now.chain c.args.begin.now c.requires).media
 
 pub returns-clause-ok : goal.returns-clause-ok
 unfolding pages_of_command
 returns-clause-ok c =
-    subst (λ (l : List NewStream). OnOk c.lay_begin.result (c.lay_begin.new.out.items ≡ c.args.out.now.items ++ bytes_of_pages (pages l))) c.as_slice.ensures c.lay_begin.ensures.ok
+    subst (λ (l : List NewStream). OnOk c.lay_begin.result (c.lay_begin.new.out.items ≡ c.args.out.now.items ++ bytes_of_pages (pages_of_begin c.args.begin.now.skeleton l)))
+    c.as_slice.ensures c.lay_begin.ensures.ok
 
 pub returns-clause-full : goal.returns-clause-full
 unfolding pages_of_command
 returns-clause-full c =
     subst (λ (n : ℕ). OnErr c.lay_begin.result (vec_capacity c.args.out.now < vec_len c.args.out.now + n))
-    (ap (λ l. size_of_pages (pages l)) c.as_slice.ensures ∙ sym (length-bytes_of_pages (pages c.args.begin.now.streams))) c.lay_begin.ensures.full
+    (ap (λ l. size_of_pages (pages_of_begin c.args.begin.now.skeleton l)) c.as_slice.ensures
+    ∙ sym (length-bytes_of_pages (pages_of_begin c.args.begin.now.skeleton c.args.begin.now.streams))) c.lay_begin.ensures.full

@@ -1,0 +1,187 @@
+-- A begin that is kept adds a link.
+use Rattle.std.proofs.Common.{◌≡◌, ◌≢◌, ℕ, ◌+◌, ◌<◌, ◌≤◌, ◌^◌, Bool, true, false, List, [], ◌∷◌, ◌++◌, length, map, refl, sym, ◌∙◌, ap, subst, arith, eq-eqb, inl, inr, Option, None, Some, Ok, length-append}
+use Rattle.std.specs.Prelude.{nat_eq, ◌||◌, not, IsOk, IfSome}
+use Rattle.std.specs.List.{AllByRecursion, IsDistinct, list_any, list_all, flat_map}
+use Rattle.std.proofs.lemmas.List.{append-nil}
+use Rattle.std.proofs.lemmas.List.Concat.{flat_map-append}
+use Rattle.std.proofs.lemmas.Bool.{ne_eqb, eqb-false, cases_eq, or_parts, or_left, or_right, and_from}
+use Rattle.ogg_page.specs.Page.{Page, IsPage, bytes_of_pages}
+use Rattle.ogg_page.specs.LogicalStream.{is_first}
+use Rattle.chain_rules.specs.declared.stream_state.StreamState.{StreamState}
+use Rattle.chain_rules.specs.declared.command.Command.TheVariants.{Begin as BeginOf}
+use Rattle.chain_rules.specs.declared.command.Begin.{Begin}
+use Rattle.chain_rules.specs.declared.command.NewStream.{NewStream}
+use Rattle.chain_rules.specs.Links.{IsLink, AreLinks, AllButLast, serials_of, has_stream, has_ended, all_ended}
+use Rattle.chain_rules.specs.Recording.{Stream, Recording, HoldsLink, HoldsLinks, begun_link, add}
+use Rattle.chain_rules.specs.ChainState.{ChainState, chain_state_of, state_of, last_link, is_open}
+use Rattle.chain_rules.specs.Encoding.{first_pages, header_pages, pages_of_begin, skeleton_stream, fisbone_pages, skeleton_end, pages_of_command, command_bytes, links_after}
+use Rattle.chain_rules.specs.Decision.{decision, has_long_media, streams_rules, parts_rules}
+use Rattle.chain_rules.specs.Command.{IsNewStream, IsSkeleton}
+use Rattle.chain_rules.specs.Begun.{states_of, serials_in, skeleton_serial, has_more_pages}
+use Rattle.chain_rules.specs.declared.command.SkeletonHead.{SkeletonHead}
+use Rattle.chain_rules.proofs.Grow.{all_weaker, all_both, filter_all, serials_same}
+use Rattle.chain_rules.proofs.Chain.{Unbroken, all_split, numbers_fit, any_map}
+use Rattle.chain_rules.proofs.Beginning.{IsGood, fresh, are_distinct, are_good, all_to_map, firsts_pages, laters_pages}
+use Rattle.chain_rules.proofs.Kept.{BeginFits, begin_fits}
+use Rattle.chain_rules.proofs.NewLink.{IsNewLink, CanBegin, plain_link, described_link}
+use Rattle.chain_rules.proofs.SkeletonPart.{fishead_page, bones_pages, end_is_page}
+
+-- ---- no link is open
+not_not : (b : Bool) → not b ≡ false → b ≡ true
+not_not true e = refl
+not_not false e = cc
+
+ended_serial : (ended : ℕ → Bool) (xs : List ℕ) → list_any (λ s. not (ended s)) xs ≡ false → (serial : ℕ) → list_any (nat_eq serial) xs ≡ true → ended serial ≡ true
+ended_serial ended [] e serial there = cc
+ended_serial ended (x ∷ xs) e serial there =
+    let parts : (not (ended x) ≡ false) × (list_any (λ s. not (ended s)) xs ≡ false) = or_parts (not (ended x)) (list_any (λ s. not (ended s)) xs) e in
+    elim (cases_eq serial x) [
+      | inl same ↦ ap ended same ∙ not_not (ended x) parts.0
+      | inr other ↦ ended_serial ended xs parts.1 serial (sym (ap (λ b. b || list_any (nat_eq serial) xs) (ne_eqb serial x other)) ∙ there)
+    ]
+
+all_true : (test : Page → Bool) (pages : List Page) → AllByRecursion (λ (p : Page). test p ≡ true) pages → list_all test pages ≡ true
+all_true test [] h = refl
+all_true test (page ∷ pages) h = and_from (test page) (list_all test pages) h.0 (all_true test pages h.1)
+
+first_known : (pages : List Page) → AllByRecursion (λ (p : Page). is_first p ≡ true) pages → AllByRecursion (λ (p : Page). has_stream pages p.serial ≡ true) pages
+first_known pages h =
+    all_weaker (λ (p : Page). list_any (nat_eq p.serial) (map (λ (q : Page). q.serial) pages) ≡ true) (λ (p : Page). has_stream pages p.serial ≡ true)
+    (λ p e. ap (λ (l : List Page). list_any (nat_eq p.serial) (map (λ (q : Page). q.serial) l)) (filter_all is_first pages h) ∙ e) pages (each pages)
+  where
+    each : (ps : List Page) → AllByRecursion (λ (p : Page). list_any (nat_eq p.serial) (map (λ (q : Page). q.serial) ps) ≡ true) ps
+    each [] = tt
+    each (p ∷ ps) = (
+      or_left (nat_eq p.serial p.serial) (list_any (nat_eq p.serial) (map (λ (q : Page). q.serial) ps)) (eq-eqb p.serial p.serial refl),
+      all_weaker (λ (q : Page). list_any (nat_eq q.serial) (map (λ (r : Page). r.serial) ps) ≡ true) (λ (q : Page). list_any (nat_eq q.serial) (map (λ (r : Page). r.serial) (p ∷ ps)) ≡ true)
+          (λ q e. or_right (nat_eq q.serial p.serial) (list_any (nat_eq q.serial) (map (λ (r : Page). r.serial) ps)) e) ps (each ps),
+    )
+
+pub each_known : (link : List Page) → IsLink link → AllByRecursion (λ (p : Page). has_stream link p.serial ≡ true) link
+each_known link l =
+    subst (λ (x : List Page). AllByRecursion (λ (p : Page). has_stream link p.serial ≡ true) x) (sym l.split)
+    (all_both (λ (p : Page). has_stream link p.serial ≡ true) l.first_pages l.others
+    (all_weaker (λ (p : Page). has_stream l.first_pages p.serial ≡ true) (λ (p : Page). has_stream link p.serial ≡ true)
+    (λ p e. ap (λ (x : List ℕ). list_any (nat_eq p.serial) x) (ap serials_of l.split ∙ serials_same l.first_pages l.others l.unmarked) ∙ e)
+    l.first_pages (first_known l.first_pages l.marked))
+    l.known)
+
+pub closed_link : (links : List (List Page)) → IsLink (last_link links) → is_open (chain_state_of links) ≡ false → all_ended (last_link links) ≡ true
+closed_link links l e =
+    let link : List Page = last_link links in
+    let none : list_any (λ s. not (has_ended link s)) (serials_of link) ≡ false =
+    sym (any_map (λ (s : StreamState). not s.ended) (state_of link) (serials_of link)) ∙ e in
+    all_true (λ (p : Page). has_ended link p.serial) link
+    (all_weaker (λ (p : Page). has_stream link p.serial ≡ true) (λ (p : Page). has_ended link p.serial ≡ true)
+    (λ p there. ended_serial (has_ended link) (serials_of link) none p.serial there) link (each_known link l))
+
+-- ---- a link more
+pub ended_links : (P : List Page → Type 0) (links : List (List Page)) (new : List Page) → AllButLast P links → (links ≢ [] → P (last_link links)) → AllButLast P (links ++ new ∷ [])
+ended_links P [] new h last = tt
+ended_links P (link ∷ []) new h last = (last (λ e. cc), tt)
+ended_links P (link ∷ next ∷ links) new h last = (h.0, ended_links P (next ∷ links) new h.1 (λ _. last (λ e. cc)))
+
+pub last_is_link : (links : List (List Page)) → AllByRecursion IsLink links → links ≢ [] → IsLink (last_link links)
+last_is_link [] h ne = absurd (ne refl)
+last_is_link (link ∷ []) h ne = h.0
+last_is_link (link ∷ next ∷ links) h ne = last_is_link (next ∷ links) h.1 (λ e. cc)
+
+zip_push : (links : List (List Page)) (recording : Recording) (link : List Page) (streams : List Stream) → HoldsLinks links recording → HoldsLink link streams →
+    HoldsLinks (links ++ link ∷ []) (recording ++ streams ∷ [])
+zip_push [] [] link streams h new = (new, tt)
+zip_push [] (r ∷ recording) link streams h new = absurd h
+zip_push (l ∷ links) [] link streams h new = absurd h
+zip_push (l ∷ links) (r ∷ recording) link streams h new = (h.0, zip_push links recording link streams h.1 new)
+
+-- a Skeleton's time in UTC has its length, as it has in every command of a program
+abbrev pub HasText : Option SkeletonHead → Type 0
+HasText skeleton = IfSome skeleton (λ head. length head.utc ≡ 20)
+
+-- what the rules leave of a Begin
+parts_can : (chain : ChainState) (skeleton : Option SkeletonHead) (streams : List NewStream) → Unbroken (parts_rules chain skeleton streams) → 0 < length streams →
+    length streams + length (skeleton_serial skeleton) ≤ 64 → CanBegin skeleton streams
+unfolding IsDistinct
+parts_can chain None streams h some few =
+    record { good = are_good chain false [] streams h; distinct = are_distinct chain false [] streams h; some = some; few = few }
+parts_can chain (Some head) streams h some few =
+    let rest : Unbroken (streams_rules chain true (head.serial ∷ []) streams) = h.1.1 in
+    record {
+      good = are_good chain true (head.serial ∷ []) streams rest;
+      distinct = (
+        all_to_map (λ y. nat_eq head.serial y ≡ false) (λ (s : NewStream). s.serial) streams
+            (all_weaker (λ (s : NewStream). list_any (nat_eq s.serial) (head.serial ∷ []) ≡ false) (λ (s : NewStream). nat_eq head.serial s.serial ≡ false)
+            (λ s e. ne_eqb head.serial s.serial (λ f. eqb-false s.serial head.serial (or_parts (nat_eq s.serial head.serial) false e).0 (sym f)))
+            streams (fresh chain true (head.serial ∷ []) streams rest)),
+        are_distinct chain true (head.serial ∷ []) streams rest,
+      );
+      some = some;
+      few = few;
+    }
+
+pub can_begin : (chain : ChainState) (begin : Begin) → IsOk (decision chain (BeginOf begin)) → CanBegin begin.skeleton begin.streams
+can_begin chain begin ok =
+    let fits : BeginFits chain begin = begin_fits chain begin ok in
+    parts_can chain begin.skeleton begin.streams fits.parts fits.some fits.streams
+
+-- the pages of a Begin that is kept are a new link
+pub begin_link : (chain : ChainState) (begin : Begin) → IsOk (decision chain (BeginOf begin)) → HasText begin.skeleton →
+    IsNewLink (pages_of_begin begin.skeleton begin.streams) (begun_link begin.skeleton begin.streams) (states_of begin.skeleton begin.streams)
+    (has_more_pages begin.skeleton begin.streams) (serials_in begin.skeleton begin.streams)
+begin_link chain begin ok text = by begin.skeleton begin.streams (can_begin chain begin ok) (begin_fits chain begin ok).media text
+  where
+    by : (skeleton : Option SkeletonHead) (streams : List NewStream) → CanBegin skeleton streams → IfSome skeleton (λ _. list_any has_long_media streams ≡ false) → HasText skeleton →
+        IsNewLink (pages_of_begin skeleton streams) (begun_link skeleton streams) (states_of skeleton streams) (has_more_pages skeleton streams) (serials_in skeleton streams)
+    by None streams can media text = plain_link streams can
+    by (Some head) streams can media text = described_link head streams can text media
+
+-- ---- its pages are pages
+begin_pages : (skeleton : Option SkeletonHead) (streams : List NewStream) → IsSkeleton skeleton → AllByRecursion IsNewStream streams → AllByRecursion IsGood streams →
+    AllByRecursion (λ (p : Page). p.sequence < 2 ^ 32) (pages_of_begin skeleton streams) → AllByRecursion IsPage (pages_of_begin skeleton streams)
+begin_pages None streams is new good numbers =
+    let split : AllByRecursion (λ (p : Page). p.sequence < 2 ^ 32) (flat_map first_pages streams) × AllByRecursion (λ (p : Page). p.sequence < 2 ^ 32) (flat_map header_pages streams) =
+    all_split (λ (p : Page). p.sequence < 2 ^ 32) (flat_map first_pages streams) (flat_map header_pages streams) numbers in
+    all_both IsPage (flat_map first_pages streams) (flat_map header_pages streams) (firsts_pages streams good new) (laters_pages streams new split.1)
+begin_pages (Some head) streams is new good numbers =
+    let N : Page → Type 0 = λ (p : Page). p.sequence < 2 ^ 32 in
+    let first : List Page = first_pages (skeleton_stream head streams) in
+    let bones : List Page = fisbone_pages head.serial 1 streams in
+    let body : List Page = (first ++ flat_map first_pages streams) ++ (bones ++ flat_map header_pages streams) in
+    let ends : List Page = skeleton_end head.serial (length streams + 1) in
+    let whole : AllByRecursion N body × AllByRecursion N ends = all_split N body ends numbers in
+    let later : AllByRecursion N (bones ++ flat_map header_pages streams) =
+    (all_split N (first ++ flat_map first_pages streams) (bones ++ flat_map header_pages streams) whole.0).1 in
+    let split : AllByRecursion N bones × AllByRecursion N (flat_map header_pages streams) = all_split N bones (flat_map header_pages streams) later in
+    all_both IsPage body ends
+    (all_both IsPage (first ++ flat_map first_pages streams) (bones ++ flat_map header_pages streams)
+    (all_both IsPage first (flat_map first_pages streams) (fishead_page head streams is) (firsts_pages streams good new))
+    (all_both IsPage bones (flat_map header_pages streams) (bones_pages head.serial 1 streams is.serial new split.0) (laters_pages streams new split.1)))
+    (end_is_page head.serial (length streams + 1) is.serial whole.1)
+
+text_of : (skeleton : Option SkeletonHead) → IsSkeleton skeleton → HasText skeleton
+text_of None is = tt
+text_of (Some head) is = is.utc_length
+
+pub begin_is_held : (bytes : List ℕ) (links : List (List Page)) (recording : Recording) (begin : Begin) (size : ℕ) → IsSkeleton begin.skeleton → AllByRecursion IsNewStream begin.streams →
+    AreLinks bytes links → HoldsLinks links recording → decision (chain_state_of links) (BeginOf begin) ≡ Ok size →
+    AreLinks (bytes ++ command_bytes (chain_state_of links) (BeginOf begin)) (links_after links (BeginOf begin))
+    × HoldsLinks (links_after links (BeginOf begin)) (add recording (BeginOf begin))
+unfolding pages_of_command
+begin_is_held bytes links recording begin size described new l h e =
+    let chain : ChainState = chain_state_of links in
+    let link : List Page = pages_of_begin begin.skeleton begin.streams in
+    let ok : IsOk (decision chain (BeginOf begin)) = subst (λ r. IsOk r) (sym e) refl in
+    let fits : BeginFits chain begin = begin_fits chain begin ok in
+    let is = begin_link chain begin ok (text_of begin.skeleton described) in
+    let room : length links < 65536 = fits.links in
+    let is_pages : AllByRecursion IsPage link =
+    begin_pages begin.skeleton begin.streams described new (can_begin chain begin ok).good (numbers_fit link fits.numbered) in (
+      record {
+        spelled = ap (λ b. b ++ bytes_of_pages link) l.spelled ∙ ap (λ b. flat_map bytes_of_pages links ++ b) (sym (append-nil (bytes_of_pages link)))
+            ∙ sym (flat_map-append bytes_of_pages links (link ∷ []));
+        pages = all_both (AllByRecursion IsPage) links (link ∷ []) l.pages (is_pages, tt);
+        few = omega (arith, length-append links (link ∷ []));
+        each = all_both IsLink links (link ∷ []) l.each (is.link_is, tt);
+        ended = ended_links (λ x. all_ended x ≡ true) links link l.ended (λ ne. closed_link links (last_is_link links l.each ne) fits.closed);
+      },
+      zip_push links recording link (begun_link begin.skeleton begin.streams) h is.holds,
+    )
