@@ -4,3 +4,4 @@ pub mod Opened
 pub mod Slices
 pub mod PageHolds
 pub mod AllHeld
+pub mod Examples

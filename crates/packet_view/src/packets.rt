@@ -10,7 +10,9 @@ use crate::place::{Behind, Place};
 use crate::unread::Unread;
 use std::marker::Model;
 
-/// The packets of one stream in bytes, in order.
+/// The packets of one stream in bytes, in order: those that end before the first page at fault, and
+/// then that fault. Pages of other streams are passed over, but one of them that is broken is a
+/// fault too. What a stream's first page may be isn't asked: it may have any number.
 #[derive(Debug, Drop)]
 pub struct Packets<'a> {
     serial: u32,
@@ -36,7 +38,7 @@ impl<'a> Model for Packets<'a> {
 }
 
 impl<'a> Packets<'a> {
-    /// The packets of the stream with this serial, in all of these bytes.
+    /// The packets of the stream with this serial, in all of these bytes. Nothing is read yet.
     pub fn of(bytes: &'a [u8], serial: u32) -> Packets<'a>
         ensures { result ≡ packets_of serial bytes.now }
     {
@@ -62,8 +64,8 @@ impl<'a> Packets<'a> {
         }
     }
 
-    /// The stream's next packet that ends before the first page at fault, or `None` at the end of the
-    /// bytes. After a fault each call gives that fault.
+    /// The stream's next packet, or `None` at the end of the bytes. A fault is the first in the order
+    /// of [`ViewFault`]; each later call gives it again.
     pub fn next(&mut self) -> Result<Option<Packet<'a>>, ViewFault>
         ensures { TakesFirst self.old result self.new }
     {
