@@ -26,6 +26,7 @@ is_long most packet = nat_lt most (length packet)
 abbrev pub has_many_headers : NewStream → Bool
 has_many_headers stream = nat_lt most_headers (length stream.headers)
 
+-- so long that no media type is
 abbrev pub has_long_media : NewStream → Bool
 has_long_media stream = nat_lt 255 (length stream.media)
 

@@ -75,8 +75,9 @@ fisbone_pages serial first (stream ∷ streams) =
 abbrev pub skeleton_end : ℕ → ℕ → List Page
 skeleton_end serial first = flagged last_flag (pages_of_run serial first (header [] ∷ []))
 
--- The pages of a new link: the first page of each stream, and then the pages of its other headers. A Skeleton's first
--- page comes before those of the streams, its other pages come behind them, and it ends with the last page of all.
+-- The pages of a new link: the first page of each stream, and then those of its other headers. Of a Skeleton the first
+-- page comes before all, those of the fisbones stand between the first pages and the other headers, and the last page
+-- comes behind all (Ogg Skeleton 3.0).
 abbrev pub pages_of_begin : Option SkeletonHead → List NewStream → List Page
 pages_of_begin None streams = flat_map first_pages streams ++ flat_map header_pages streams
 pages_of_begin (Some head) streams =
