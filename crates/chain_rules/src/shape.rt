@@ -223,6 +223,7 @@ impl Shape {
         ensures memory { fault_of_page self.old.chain page.now ≡ None → OnErr result ((result ≡ Err ChainFault.Memory) × (HasRoomFor self.old page.now → ⊥)) }
         ensures links { OnOk result ((links : List (List PageValue)) → self.old.chain ≡ chain_state_of links
             → self.new.chain ≡ chain_state_of (links_with links page.now)) }
+        ensures grows { OnOk result (self.new.chain.length_of ≡ self.old.chain.length_of + page_size page.now) }
         ensures same { OnErr result (self.new.chain ≡ self.old.chain) }
     {
         let streams = self.streams.as_slice();
