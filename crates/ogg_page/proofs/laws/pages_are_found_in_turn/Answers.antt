@@ -1,4 +1,4 @@
-use Rattle.std.proofs.Common.{◌≡◌, ◌++◌, ◌≤◌, ◌<◌, length, ap, ◌∙◌, zero-add, arith}
+use Rattle.std.proofs.Common.{◌++◌, length, ap, ◌∙◌, zero-add, arith}
 use Rattle.ogg_page.specs.Page.{bytes_of_pages}
 use Rattle.ogg_page.specs.Pages.{located, fault_at, found_in}
 use Rattle.ogg_page.proofs.Walk.{FoundFrom}

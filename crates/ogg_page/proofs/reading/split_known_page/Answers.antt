@@ -1,8 +1,8 @@
-use Rattle.std.proofs.Common.{◌≡◌, ◌+◌, ◌++◌, ◌∙◌, ap, sym, refl, subst, ℕ, List, take, drop, sum, arith, Ok, Result}
+use Rattle.std.proofs.Common.{◌≡◌, ◌+◌, ◌++◌, ◌∙◌, ap, sym, refl, subst, ℕ, List, drop, sum, arith}
 use Rattle.std.specs.Prelude.{slice_index}
 use Rattle.std.proofs.lemmas.List.{take-append-drop}
-use Rattle.ogg_page.specs.Page.{Page, IsPage, page_bytes}
-use Rattle.ogg_page.specs.Reading.{page_at, fields_at, lacing_at, IsPageOf}
+use Rattle.ogg_page.specs.Page.{IsPage, page_bytes}
+use Rattle.ogg_page.specs.Reading.{fields_at, lacing_at, IsPageOf}
 use Rattle.ogg_page.proofs.ReadAgain.{known_sizes, read_is_page, front_is_page, AreBytes, ok_same}
 use Rattle.ogg_page.proofs.reading.split_known_page.Goals as goal
 
