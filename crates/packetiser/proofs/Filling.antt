@@ -167,16 +167,23 @@ joined_push pieces count piece lt =
     ∙ flat_map-append (λ (p : Bor (List ℕ)). p.now) (take count pieces) (piece ∷ [])
     ∙ ap (λ l. joined (take count pieces) ++ l) (append-nil piece.now)
 
--- ---- the page is full, or nothing is left
+-- ---- the page has all its values, or nothing is left
+-- a front that has as many values as a page of all could take
+front_fits : (n : ℕ) (xs ys : List ℕ) → length (take n (xs ++ ys)) ≤ length xs → length xs ≤ n → (take n (xs ++ ys) ≡ xs) × (drop n (xs ++ ys) ≡ ys)
+front_fits zero [] ys few most = (refl, refl)
+front_fits (suc n) [] [] few most = (refl, refl)
+front_fits (suc n) [] (y ∷ ys) few most = absurd (omega (arith, few))
+front_fits zero (x ∷ xs) ys few most = absurd (omega (arith, most))
+front_fits (suc n) (x ∷ xs) ys few most =
+    let rest : (take n (xs ++ ys) ≡ xs) × (drop n (xs ++ ys) ≡ ys) = front_fits n xs ys (omega (arith, few)) (omega (arith, most)) in
+    (ap (λ l. x ∷ l) rest.0, rest.1)
+
 pub full_values : (run : List Timed) (begun : ℕ) (lacing body : List ℕ) (position : ℕ) (rest : List Timed) (done : ℕ) → IsFilled run begun lacing body position rest done →
-    length lacing ≡ 255 → (lacing ≡ take 255 (values_left begun run)) × (values_left done rest ≡ drop 255 (values_left begun run))
-full_values run begun lacing body position rest done h full = (
-  sym (ap (take 255) h.values ∙ take-append-le 255 lacing (values_left done rest) (omega (arith, full)) ∙ take_all 255 lacing (omega (arith, full))),
-  sym (ap (drop 255) h.values ∙ drop-append-le 255 lacing (values_left done rest) (omega (arith, full)) ∙ ap (λ l. l ++ values_left done rest) (all_gone lacing 255 (sym full))),
-)
-  where
-    all_gone : (xs : List ℕ) (n : ℕ) → n ≡ length xs → drop n xs ≡ []
-    all_gone xs n e = ap (λ k. drop k xs) e ∙ drop_whole xs
+    length (take 255 (values_left begun run)) ≤ length lacing → length lacing ≤ 255 → (lacing ≡ take 255 (values_left begun run)) × (values_left done rest ≡ drop 255 (values_left begun run))
+full_values run begun lacing body position rest done h fits most =
+    let own : (take 255 (lacing ++ values_left done rest) ≡ lacing) × (drop 255 (lacing ++ values_left done rest) ≡ values_left done rest) =
+    front_fits 255 lacing (values_left done rest) (omega (arith, fits, ap (λ l. length (take 255 l)) h.values)) most in
+    (sym (ap (take 255) h.values ∙ own.0), sym (ap (drop 255) h.values ∙ own.1))
 
 pub last_values : (run : List Timed) (begun : ℕ) (lacing body : List ℕ) (position : ℕ) (rest : List Timed) (done : ℕ) → IsFilled run begun lacing body position rest done →
     length rest ≡ 0 → length lacing ≤ 255 → (lacing ≡ take 255 (values_left begun run)) × (values_left done rest ≡ drop 255 (values_left begun run))

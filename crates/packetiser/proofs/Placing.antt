@@ -7,7 +7,7 @@ use Rattle.std.proofs.lemmas.List.Sums.{sum_by-append, sum_by-cons}
 use Rattle.ogg_page.specs.Page.{Page, page_size}
 use Rattle.ogg_page.specs.Lacing.{lacing_of, ends_open}
 use Rattle.packetiser.specs.Run.{Timed, counted, run_lacing, run_bytes, values_at, values_before, packets_ended, position_of, no_position, page_position, page_of_run, pages_of_run, pages_for, size_for, flagged}
-use Rattle.packetiser.specs.Place.{values_left, bytes_left, next_values, next_page, added, IsWithin}
+use Rattle.packetiser.specs.Place.{values_left, bytes_left, next_values, next_page, added, IsWithin, IsBehind}
 use Rattle.packetiser.proofs.Behind.{ends_open-at}
 use Rattle.packetiser.proofs.Pieces.{sum_app, sum-run, sum-lacing_of, before_more, run_bytes_all}
 use Rattle.packetiser.proofs.Ranges.{front_sum}
@@ -41,14 +41,6 @@ at_start run = record { values = sym (none_done run); bytes = refl; ended = refl
     start : (run : List Timed) → IsWithin 0 run
     start [] = refl
     start (item ∷ run) = omega arith
-
--- what is left behind the next page
-pub record IsBehind (done : ℕ) (rest : List Timed) (done' : ℕ) (rest' : List Timed) : Type 0 where
-  pub values : values_left done' rest' ≡ drop 255 (values_left done rest)
-  pub bytes : bytes_left done' rest' ≡ drop (sum (next_values done rest)) (bytes_left done rest)
-  pub ended : rest' ≡ drop (packets_ended (next_values done rest)) rest
-  pub within : IsWithin done' rest'
-  pub open_is : 0 < length (next_values done rest) → nat_lt 0 done' ≡ ends_open (next_values done rest)
 
 values_are : (run : List Timed) (k done : ℕ) (rest : List Timed) → IsAt run k done rest → values_at k (run_lacing run) ≡ next_values done rest
 unfolding values_at

@@ -1,7 +1,7 @@
 -- What is left of a run behind some of its pages.
-use Rattle.std.specs.Prelude.{ℕ, zero, suc, ◌+◌, ◌-◌, ◌≤◌, ◌≡◌, nat_lt, if◌then◌else◌, List, [], ◌∷◌, ◌++◌, length, take, drop, sum}
+use Rattle.std.specs.Prelude.{ℕ, zero, suc, ◌+◌, ◌-◌, ◌<◌, ◌≤◌, ◌≡◌, nat_lt, if◌then◌else◌, List, [], ◌∷◌, ◌++◌, length, take, drop, sum}
 use Rattle.ogg_page.specs.Page.{Page}
-use Rattle.ogg_page.specs.Lacing.{lacing_of}
+use Rattle.ogg_page.specs.Lacing.{lacing_of, ends_open}
 use Rattle.packetiser.specs.Run.{Timed, run_lacing, run_bytes, packets_ended, position_of}
 
 -- the lacing values that are left, where so many bytes of the first packet are done
@@ -33,6 +33,14 @@ next_page serial sequence flags done rest =
       lacing = next_values done rest;
       body = take (sum (next_values done rest)) (bytes_left done rest);
     }
+
+-- these packets are left behind the next page, and so many bytes of the first of them are done
+pub record IsBehind (done : ℕ) (rest : List Timed) (done' : ℕ) (rest' : List Timed) : Type 0 where
+  pub values : values_left done' rest' ≡ drop 255 (values_left done rest)
+  pub bytes : bytes_left done' rest' ≡ drop (sum (next_values done rest)) (bytes_left done rest)
+  pub ended : rest' ≡ drop (packets_ended (next_values done rest)) rest
+  pub within : IsWithin done' rest'
+  pub open_is : 0 < length (next_values done rest) → nat_lt 0 done' ≡ ends_open (next_values done rest)
 
 -- of flags, those that are added to page k: to the first alone
 abbrev pub added : ℕ → ℕ → ℕ

@@ -1,14 +1,13 @@
 //! The pages of a run as bytes.
-ghost use Rattle.std.specs.Prelude.{◌≡◌, ◌≤◌, ◌<◌, ◌+◌, ◌++◌, ◌^◌, ℕ, IfOk, OnOk, OnErr, length, map, drop, sum, nat_lt, vec_len, vec_capacity};
+ghost use Rattle.std.specs.Prelude.{◌≡◌, ◌≤◌, ◌<◌, ◌+◌, ◌++◌, ◌^◌, ℕ, IfOk, OnOk, OnErr, length, map, sum, vec_len, vec_capacity};
 ghost use Rattle.ogg_page.specs.Page.{bytes_of_pages, page_bytes};
-ghost use Rattle.ogg_page.specs.Lacing.{ends_open};
-ghost use Rattle.packetiser.specs.Run.{pages_of_run, pages_for, run_lacing, run_bytes, size_for, flagged, lengths, packets_ended};
-ghost use Rattle.packetiser.specs.Place.{values_left, bytes_left, next_values, next_page, added, IsWithin};
+ghost use Rattle.packetiser.specs.Run.{pages_of_run, pages_for, run_lacing, run_bytes, size_for, flagged, lengths};
+ghost use Rattle.packetiser.specs.Place.{values_left, next_values, next_page, added, IsWithin, IsBehind};
 
 use crate::Memory;
 use crate::item::TimedPacket;
-use crate::place::fill;
-use crate::size::{pages_of_run, size_of_run};
+use crate::place::{FEW_VALUES, MOST_VALUES, fill};
+use crate::size::{pages_of, size_of, values_and_bytes};
 use ogg_page::{PageHead, write_page_of};
 
 /// Appends the pages of a run, and gives their number. `flags` are added to those of the first page.
@@ -34,24 +33,24 @@ pub fn lay_run<T: TimedPacket>(
         + size_for (length (run_lacing (map T.timed run.now))) (length (run_bytes (map T.timed run.now)))) }
     ensures capacity { vec_capacity out.old ≤ vec_capacity out.new }
 {
-    let pages = pages_of_run(run);
-    let size = size_of_run(run);
+    let (values, bytes) = values_and_bytes(run);
+    let size = size_of(values, bytes);
     out.reserve(size as usize)?;
-    append_pages(serial, first_sequence, flags, run, pages, out);
-    Ok(pages as u32)
+    append_pages(serial, first_sequence, flags, run, values, out);
+    Ok(pages_of(values) as u32)
 }
 
-/// Appends the pages of a run, of which there are so many and for which there is room.
+/// Appends the pages of a run, which has so many lacing values and for which there is room.
 fn append_pages<T: TimedPacket>(
     serial: u32,
     first_sequence: u32,
     flags: u8,
     run: &[T],
-    pages: u64,
+    values: u64,
     out: &mut Vec<u8>,
 )
-    requires count { pages ≡ pages_for (length (run_lacing (map T.timed run.now))) }
-    requires numbers { first_sequence + pages ≤ 2 ^ 32 }
+    requires values { values ≡ length (run_lacing (map T.timed run.now)) }
+    requires numbers { first_sequence + pages_for values ≤ 2 ^ 32 }
     requires flags { flags < 255 }
     requires room { vec_len out.old + size_for (length (run_lacing (map T.timed run.now))) (length (run_bytes (map T.timed run.now))) ≤ vec_capacity out.old }
     ensures items { out.new.items ≡ out.old.items ++ bytes_of_pages (flagged flags (pages_of_run serial first_sequence (map T.timed run.now))) }
@@ -60,10 +59,11 @@ fn append_pages<T: TimedPacket>(
 {
     let mut rest = run;
     let mut done = 0;
-    for k in 0..pages {
+    for k in 0..pages_of(values) {
         let added = added_flags(flags, k);
         let sequence = (u64::from(first_sequence) + k) as u32;
-        (rest, done) = append_page(serial, sequence, added, rest, done, out);
+        let left = values - 255 * k;
+        (rest, done) = append_page(serial, sequence, added, rest, done, left, out);
     }
 }
 
@@ -76,8 +76,68 @@ fn added_flags(flags: u8, k: u64) -> u8
     if k == 0 { flags } else { 0 }
 }
 
-/// Appends the next page of a run of which these packets are left, and gives what is left behind it.
+/// Appends the next page of a run of which these packets are left, with so many lacing values, and gives what is left
+/// behind it.
 fn append_page<'a, T: TimedPacket>(
+    serial: u32,
+    sequence: u32,
+    flags: u8,
+    from: &'a [T],
+    begun: usize,
+    values: u64,
+    out: &mut Vec<u8>,
+) -> (&'a [T], usize)
+    requires values { values ≡ length (values_left begun (map T.timed from.now)) }
+    requires within { IsWithin begun (map T.timed from.now) }
+    requires flags { flags < 255 }
+    requires room { vec_len out.old + (27 + length (next_values begun (map T.timed from.now)) + sum (next_values begun (map T.timed from.now))) ≤ vec_capacity out.old }
+    ensures items { out.new.items ≡ out.old.items ++ page_bytes (next_page serial sequence flags begun (map T.timed from.now)) }
+    ensures len { vec_len out.new ≡ vec_len out.old + (27 + length (next_values begun (map T.timed from.now)) + sum (next_values begun (map T.timed from.now))) }
+    ensures capacity { vec_capacity out.old ≤ vec_capacity out.new }
+    ensures behind { IsBehind begun (map T.timed from.now) result.1 (map T.timed result.0.now) }
+{
+    // Room is cleared before it is filled, so that a page of few values takes little.
+    if values <= FEW_VALUES as u64 {
+        append_small_page(serial, sequence, flags, from, begun, out)
+    } else {
+        append_large_page(serial, sequence, flags, from, begun, out)
+    }
+}
+
+/// Appends the next page of a run, where it has few lacing values.
+fn append_small_page<'a, T: TimedPacket>(
+    serial: u32,
+    sequence: u32,
+    flags: u8,
+    from: &'a [T],
+    begun: usize,
+    out: &mut Vec<u8>,
+) -> (&'a [T], usize)
+    requires values { length (next_values begun (map T.timed from.now)) ≤ 8 }
+    requires within { IsWithin begun (map T.timed from.now) }
+    requires flags { flags < 255 }
+    requires room { vec_len out.old + (27 + length (next_values begun (map T.timed from.now)) + sum (next_values begun (map T.timed from.now))) ≤ vec_capacity out.old }
+    ensures items { out.new.items ≡ out.old.items ++ page_bytes (next_page serial sequence flags begun (map T.timed from.now)) }
+    ensures len { vec_len out.new ≡ vec_len out.old + (27 + length (next_values begun (map T.timed from.now)) + sum (next_values begun (map T.timed from.now))) }
+    ensures capacity { vec_capacity out.old ≤ vec_capacity out.new }
+    ensures behind { IsBehind begun (map T.timed from.now) result.1 (map T.timed result.0.now) }
+{
+    let mut lacing = [0; FEW_VALUES];
+    let mut pieces: [&[u8]; FEW_VALUES] = [&[]; FEW_VALUES];
+    append_page_by(
+        serial,
+        sequence,
+        flags,
+        from,
+        begun,
+        &mut lacing,
+        &mut pieces,
+        out,
+    )
+}
+
+/// Appends the next page of a run, whatever number of lacing values it has.
+fn append_large_page<'a, T: TimedPacket>(
     serial: u32,
     sequence: u32,
     flags: u8,
@@ -91,21 +151,53 @@ fn append_page<'a, T: TimedPacket>(
     ensures items { out.new.items ≡ out.old.items ++ page_bytes (next_page serial sequence flags begun (map T.timed from.now)) }
     ensures len { vec_len out.new ≡ vec_len out.old + (27 + length (next_values begun (map T.timed from.now)) + sum (next_values begun (map T.timed from.now))) }
     ensures capacity { vec_capacity out.old ≤ vec_capacity out.new }
-    ensures values { values_left result.1 (map T.timed result.0.now) ≡ drop 255 (values_left begun (map T.timed from.now)) }
-    ensures bytes { bytes_left result.1 (map T.timed result.0.now) ≡ drop (sum (next_values begun (map T.timed from.now))) (bytes_left begun (map T.timed from.now)) }
-    ensures ended { map T.timed result.0.now ≡ drop (packets_ended (next_values begun (map T.timed from.now))) (map T.timed from.now) }
-    ensures within { IsWithin result.1 (map T.timed result.0.now) }
-    ensures open { 0 < length (next_values begun (map T.timed from.now)) → nat_lt 0 result.1 ≡ ends_open (next_values begun (map T.timed from.now)) }
+    ensures behind { IsBehind begun (map T.timed from.now) result.1 (map T.timed result.0.now) }
 {
-    let page = fill(from, begun);
+    let mut lacing = [0; MOST_VALUES];
+    let mut pieces: [&[u8]; MOST_VALUES] = [&[]; MOST_VALUES];
+    append_page_by(
+        serial,
+        sequence,
+        flags,
+        from,
+        begun,
+        &mut lacing,
+        &mut pieces,
+        out,
+    )
+}
+
+/// Appends the next page of a run by way of room for its lacing values and its pieces.
+fn append_page_by<'a, T: TimedPacket>(
+    serial: u32,
+    sequence: u32,
+    flags: u8,
+    from: &'a [T],
+    begun: usize,
+    lacing: &mut [u8],
+    pieces: &mut [&'a [u8]],
+    out: &mut Vec<u8>,
+) -> (&'a [T], usize)
+    requires pairs { length pieces.old ≡ length lacing.old }
+    requires most { length lacing.old ≤ 255 }
+    requires values { length (next_values begun (map T.timed from.now)) ≤ length lacing.old }
+    requires within { IsWithin begun (map T.timed from.now) }
+    requires flags { flags < 255 }
+    requires room { vec_len out.old + (27 + length (next_values begun (map T.timed from.now)) + sum (next_values begun (map T.timed from.now))) ≤ vec_capacity out.old }
+    ensures items { out.new.items ≡ out.old.items ++ page_bytes (next_page serial sequence flags begun (map T.timed from.now)) }
+    ensures len { vec_len out.new ≡ vec_len out.old + (27 + length (next_values begun (map T.timed from.now)) + sum (next_values begun (map T.timed from.now))) }
+    ensures capacity { vec_capacity out.old ≤ vec_capacity out.new }
+    ensures behind { IsBehind begun (map T.timed from.now) result.1 (map T.timed result.0.now) }
+{
+    let page = fill(from, begun, lacing, pieces);
     let head = PageHead {
         flags: u8::from(begun > 0) + flags,
         position: page.position,
         serial,
         sequence,
     };
-    let (lacing, _) = page.lacing.split_at(page.count);
-    let (pieces, _) = page.pieces.split_at(page.count);
+    let (lacing, _) = lacing.split_at(page.count);
+    let (pieces, _) = pieces.split_at(page.count);
     write_page_of(&head, lacing, pieces, out).unwrap();
     (page.rest, page.done)
 }

@@ -3,23 +3,23 @@ ghost use Rattle.std.specs.Prelude.{◌≡◌, ◌≤◌, ◌<◌, ◌+◌, ◌*
 ghost use Rattle.ogg_page.specs.Page.{joined};
 ghost use Rattle.ogg_page.specs.Lacing.{ends_open};
 ghost use Rattle.packetiser.specs.Run.{packets_ended, position_of};
-ghost use Rattle.packetiser.specs.Place.{values_left, bytes_left, IsWithin};
+ghost use Rattle.packetiser.specs.Place.{values_left, bytes_left, next_values, IsWithin};
 
 use crate::item::TimedPacket;
 
 /// How many lacing values a page has at most (RFC 3533, section 6, field 8).
 pub const MOST_VALUES: usize = 255;
 
+/// A page with at most so many lacing values has few.
+pub const FEW_VALUES: usize = 8;
+
 /// The position of a page in which no packet ends: -1 (RFC 3533, section 6, field 4).
 pub const NO_POSITION: u64 = u64::MAX;
 
-/// What the next page of a run holds, and what is left behind it.
+/// The next page of a run, whose lacing values and pieces lie elsewhere, and what is left behind it.
 #[derive(Drop)]
 pub struct Filled<'a, T> {
-    /// The page's lacing values, of which the first `count` count.
-    pub lacing: [u8; MOST_VALUES],
-    /// The piece of the body that each value stands for.
-    pub pieces: [&'a [u8]; MOST_VALUES],
+    /// How many lacing values the page has.
     pub count: usize,
     /// The position of the last packet that ends in the page.
     pub position: u64,
@@ -29,30 +29,38 @@ pub struct Filled<'a, T> {
     pub done: usize,
 }
 
-/// The next page of a run of which these packets are left, where `begun` bytes of the first are done.
-pub fn fill<T: TimedPacket>(from: &[T], begun: usize) -> Filled<'_, T>
-    requires { IsWithin begun (map T.timed from.now) }
-    ensures values { take result.count result.lacing ≡ take 255 (values_left begun (map T.timed from.now)) }
-    ensures count { result.count ≤ 255 }
-    ensures pieces { joined (take result.count result.pieces) ≡ take (sum (take result.count result.lacing)) (bytes_left begun (map T.timed from.now)) }
+/// The next page of a run of which these packets are left, where `begun` bytes of the first are done. Its lacing values
+/// come to the front of `lacing`, and the piece of the body that each value stands for to the same place in `pieces`.
+pub fn fill<'a, T: TimedPacket>(
+    from: &'a [T],
+    begun: usize,
+    lacing: &mut [u8],
+    pieces: &mut [&'a [u8]],
+) -> Filled<'a, T>
+    requires within { IsWithin begun (map T.timed from.now) }
+    requires pairs { length pieces.old ≡ length lacing.old }
+    requires most { length lacing.old ≤ 255 }
+    requires room { length (next_values begun (map T.timed from.now)) ≤ length lacing.old }
+    ensures values { take result.count lacing.new ≡ next_values begun (map T.timed from.now) }
+    ensures count { result.count ≤ length lacing.old }
+    ensures lacing_room { length lacing.new ≡ length lacing.old }
+    ensures pieces_room { length pieces.new ≡ length pieces.old }
+    ensures pieces { joined (take result.count pieces.new) ≡ take (sum (take result.count lacing.new)) (bytes_left begun (map T.timed from.now)) }
     ensures values_behind { values_left result.done (map T.timed result.rest.now) ≡ drop 255 (values_left begun (map T.timed from.now)) }
     ensures bytes_behind { bytes_left result.done (map T.timed result.rest.now)
-        ≡ drop (sum (take result.count result.lacing)) (bytes_left begun (map T.timed from.now)) }
-    ensures ended { map T.timed result.rest.now ≡ drop (packets_ended (take result.count result.lacing)) (map T.timed from.now) }
-    ensures position { result.position ≡ position_of (packets_ended (take result.count result.lacing)) (map T.timed from.now) }
+        ≡ drop (sum (take result.count lacing.new)) (bytes_left begun (map T.timed from.now)) }
+    ensures ended { map T.timed result.rest.now ≡ drop (packets_ended (take result.count lacing.new)) (map T.timed from.now) }
+    ensures position { result.position ≡ position_of (packets_ended (take result.count lacing.new)) (map T.timed from.now) }
     ensures within { IsWithin result.done (map T.timed result.rest.now) }
-    ensures open { 0 < result.count → nat_lt 0 result.done ≡ ends_open (take result.count result.lacing) }
+    ensures open { 0 < result.count → nat_lt 0 result.done ≡ ends_open (take result.count lacing.new) }
 {
-    let mut lacing = [0; MOST_VALUES];
-    let mut pieces: [&[u8]; MOST_VALUES] = [&[]; MOST_VALUES];
     let mut position = NO_POSITION;
     let mut rest = from;
     let mut done = begun;
-    for count in 0..MOST_VALUES {
+    let room = lacing.len();
+    for count in 0..room {
         let Some((item, others)) = rest.split_first() else {
             return Filled {
-                lacing,
-                pieces,
                 count,
                 position,
                 rest,
@@ -73,9 +81,7 @@ pub fn fill<T: TimedPacket>(from: &[T], begun: usize) -> Filled<'_, T>
         }
     }
     Filled {
-        lacing,
-        pieces,
-        count: MOST_VALUES,
+        count: room,
         position,
         rest,
         done,

@@ -1,11 +1,11 @@
-use Rattle.std.proofs.Common.{◌≡◌, ◌<◌, ◌+◌, ◌++◌, ℕ, List, [], ◌∷◌, length, map, sum, sum_by, sym, ap, ◌∙◌, arith, append_assoc, vec_len}
+use Rattle.std.proofs.Common.{◌≡◌, ◌<◌, ◌+◌, ◌*◌, ◌++◌, ℕ, List, [], ◌∷◌, length, map, sum, sum_by, sym, ap, ◌∙◌, arith, append_assoc, length-drop, vec_len}
 use Rattle.std.proofs.lemmas.List.{append-nil}
 use Rattle.std.proofs.lemmas.List.Concat.{flat_map-append}
 use Rattle.ogg_page.specs.Page.{Page, page_size, page_bytes, bytes_of_pages}
 use Rattle.packetiser.specs.Run.{Timed, run_lacing, page_of_run, pages_of_run, pages_for, flagged}
 use Rattle.packetiser.specs.Place.{next_values, next_page, added}
 use Rattle.packetiser.proofs.Pieces.{run_bytes_all}
-use Rattle.packetiser.proofs.Placing.{IsAt, IsBehind, at_start, at_next, page_there, page_with, pages_to, flagged_more, room_of, size_more, next_whole}
+use Rattle.packetiser.proofs.Placing.{IsAt, at_start, at_next, page_there, page_with, pages_to, flagged_more, room_of, size_more, next_whole}
 use Rattle.packetiser.proofs.encoding.append_pages.Goals as goal
 
 pub loop-k-init : goal.loop-k-init
@@ -18,11 +18,17 @@ size_there : (serial first : ℕ) (run : List Timed) (k done : ℕ) (rest : List
 size_there serial first run k done rest at =
     ap (λ n. 27 + length (next_values done rest) + n) (next_whole done rest at.within) ∙ ap page_size (page_there serial first run k done rest at)
 
+-- the values of the pages so far are written
+pub append_page-requires-clause-values : goal.append_page-requires-clause-values
+append_page-requires-clause-values g c =
+    let run : List Timed = map g.T.TimedPacket.timed c.args.run.now in
+    omega (arith, c.requires.values, length-drop (255 * c.loop-k.k) (run_lacing run), ap length c.loop-k.invariant.place.values)
+
 pub append_page-requires-clause-room : goal.append_page-requires-clause-room
 append_page-requires-clause-room g c =
     let run : List Timed = map g.T.TimedPacket.timed c.args.run.now in
     let rest : List Timed = map g.T.TimedPacket.timed c.loop-k.rest.now in
-    let lt : c.loop-k.k < pages_for (length (run_lacing run)) = omega (arith, c.requires.count, c.loop-k-test.true) in
+    let lt : c.loop-k.k < pages_for (length (run_lacing run)) = omega (arith, c.pages_of-k-end.ensures, ap pages_for c.requires.values, c.loop-k-test.true) in
     omega (
       arith,
       c.loop-k.invariant.length_is,
@@ -44,19 +50,12 @@ loop-k-preserved g c =
     let first : ℕ = c.args.first_sequence in
     let k : ℕ = c.loop-k.k in
     let done : ℕ = c.loop-k.done in
-    let lt : k < pages_for (length (run_lacing run)) = omega (arith, c.requires.count, c.loop-k-test.true) in
-    let behind : IsBehind done rest c.append_page.result.1 (map g.T.TimedPacket.timed c.append_page.result.0.now) = record {
-      values = c.append_page.ensures.values;
-      bytes = c.append_page.ensures.bytes;
-      ended = c.append_page.ensures.ended;
-      within = c.append_page.ensures.within;
-      open_is = c.append_page.ensures.open;
-    } in
+    let lt : k < pages_for (length (run_lacing run)) = omega (arith, c.pages_of-k-end.ensures, ap pages_for c.requires.values, c.loop-k-test.true) in
     let page : next_page serial (first + k) c.added_flags-added.result done rest
     ≡ record (page_of_run serial first run k) { flags = (page_of_run serial first run k).flags + added c.args.flags k } =
     ap (λ f. next_page serial (first + k) f done rest) c.added_flags-added.ensures.value ∙ page_with serial first (added c.args.flags k) run k done rest c.loop-k.invariant.place in
     record {
-      place = at_next run k done rest c.append_page.result.1 (map g.T.TimedPacket.timed c.append_page.result.0.now) lt c.loop-k.invariant.place behind;
+      place = at_next run k done rest c.append_page.result.1 (map g.T.TimedPacket.timed c.append_page.result.0.now) lt c.loop-k.invariant.place c.append_page.ensures.behind;
       items = c.append_page.ensures.items
           ∙ ap (λ n. c.loop-k.out.items ++ page_bytes (next_page serial (n + k) c.added_flags-added.result done rest)) c.from.ensures
           ∙ ap (λ (p : Page). c.loop-k.out.items ++ page_bytes p) page
@@ -71,7 +70,7 @@ pub returns-clause-items : goal.returns-clause-items
 unfolding pages_of_run
 returns-clause-items g c =
     let run : List Timed = map g.T.TimedPacket.timed c.args.run.now in
-    let all : c.loop-k.k ≡ pages_for (length (run_lacing run)) = omega (arith, c.requires.count, c.loop-k-test.false, c.loop-k.auto.k-end) in
+    let all : c.loop-k.k ≡ pages_for (length (run_lacing run)) = omega (arith, c.pages_of-k-end.ensures, ap pages_for c.requires.values, c.loop-k-test.false, c.loop-k.auto.k-end) in
     c.loop-k.invariant.items
     ∙ ap (λ n. c.args.out.now.items ++ bytes_of_pages (flagged c.args.flags (pages_to c.args.serial c.args.first_sequence run n))) all
 
@@ -79,7 +78,7 @@ pub returns-clause-len : goal.returns-clause-len
 unfolding pages_of_run
 returns-clause-len g c =
     let run : List Timed = map g.T.TimedPacket.timed c.args.run.now in
-    let all : c.loop-k.k ≡ pages_for (length (run_lacing run)) = omega (arith, c.requires.count, c.loop-k-test.false, c.loop-k.auto.k-end) in
+    let all : c.loop-k.k ≡ pages_for (length (run_lacing run)) = omega (arith, c.pages_of-k-end.ensures, ap pages_for c.requires.values, c.loop-k-test.false, c.loop-k.auto.k-end) in
     c.loop-k.invariant.length_is
     ∙ ap (λ n. vec_len c.args.out.now + sum_by page_size (pages_to c.args.serial c.args.first_sequence run n)) all
     ∙ ap (λ n. vec_len c.args.out.now + n) (run_bytes_all c.args.serial c.args.first_sequence run)

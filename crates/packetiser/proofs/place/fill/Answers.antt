@@ -65,23 +65,25 @@ returns-in_default-clause-values_behind g c =
     (last_values (map timed c.args.from.now) c.args.begun _ _ _ _ _ c.loop-count.invariant.filled (length-map c.loop-count.rest.now timed ∙ c.in_default.ensures.cases)
     (omega (arith, length-take c.loop-count.count c.loop-count.lacing, c.loop-count.auto.count-end))).1
 
--- the loop ended with all values filled in
-at_255 : (n : ℕ) → n ≤ 255 → 255 ≤ n → n ≡ 255
-at_255 n low high = omega arith
+-- the loop ended with all the room filled in
+at_end : (n room : ℕ) → n ≤ room → room ≤ n → n ≡ room
+at_end n room low high = omega arith
 
 pub returns-clause-values : goal.returns-clause-values
 returns-clause-values g c =
     let n : ℕ = c.loop-count.count in
     let lacing : List ℕ = c.loop-count.lacing in
-    let all : n ≡ 255 = at_255 n c.loop-count.auto.count-end c.loop-count-test.false in
+    let all : n ≡ length c.args.lacing.now = at_end n (length c.args.lacing.now) c.loop-count.auto.count-end c.loop-count-test.false in
+    let size : length (take n lacing) ≡ n = length-take-le n lacing (omega (arith, all, c.loop-count.invariant.lacing_room)) in
     ap (λ k. take k lacing) (sym all)
     ∙ (full_values (map g.T.TimedPacket.timed c.args.from.now) c.args.begun _ _ _ _ _ c.loop-count.invariant.filled
-    (length-take-le n lacing (omega (arith, all, c.loop-count.invariant.lacing_room)) ∙ all)).0
+    (omega (arith, size, all, c.requires.room)) (omega (arith, size, all, c.requires.most))).0
 
 pub returns-clause-values_behind : goal.returns-clause-values_behind
 returns-clause-values_behind g c =
     let n : ℕ = c.loop-count.count in
     let lacing : List ℕ = c.loop-count.lacing in
-    let all : n ≡ 255 = at_255 n c.loop-count.auto.count-end c.loop-count-test.false in
+    let all : n ≡ length c.args.lacing.now = at_end n (length c.args.lacing.now) c.loop-count.auto.count-end c.loop-count-test.false in
+    let size : length (take n lacing) ≡ n = length-take-le n lacing (omega (arith, all, c.loop-count.invariant.lacing_room)) in
     (full_values (map g.T.TimedPacket.timed c.args.from.now) c.args.begun _ _ _ _ _ c.loop-count.invariant.filled
-    (length-take-le n lacing (omega (arith, all, c.loop-count.invariant.lacing_room)) ∙ all)).1
+    (omega (arith, size, all, c.requires.room)) (omega (arith, size, all, c.requires.most))).1
