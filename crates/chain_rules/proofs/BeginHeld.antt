@@ -24,7 +24,7 @@ use Rattle.chain_rules.proofs.Chain.{Unbroken, all_split, numbers_fit, any_map}
 use Rattle.chain_rules.proofs.Beginning.{IsGood, fresh, are_distinct, are_good, all_to_map, firsts_pages, laters_pages}
 use Rattle.chain_rules.proofs.Kept.{BeginFits, begin_fits}
 use Rattle.chain_rules.proofs.NewLink.{IsNewLink, CanBegin, plain_link, described_link}
-use Rattle.chain_rules.proofs.SkeletonPart.{fishead_page, bones_pages, end_is_page}
+use Rattle.chain_rules.proofs.SkeletonPart.{fishead_page, fisbones_pages, end_is_page}
 
 -- ---- no link is open
 not_not : (b : Bool) → not b ≡ false → b ≡ true
@@ -144,17 +144,17 @@ begin_pages None streams is new good numbers =
 begin_pages (Some head) streams is new good numbers =
     let N : Page → Type 0 = λ (p : Page). p.sequence < 2 ^ 32 in
     let first : List Page = first_pages (skeleton_stream head streams) in
-    let bones : List Page = fisbone_pages head.serial 1 streams in
-    let body : List Page = (first ++ flat_map first_pages streams) ++ (bones ++ flat_map header_pages streams) in
+    let fisbones : List Page = fisbone_pages head.serial 1 streams in
+    let body : List Page = (first ++ flat_map first_pages streams) ++ (fisbones ++ flat_map header_pages streams) in
     let ends : List Page = skeleton_end head.serial (length streams + 1) in
     let whole : AllByRecursion N body × AllByRecursion N ends = all_split N body ends numbers in
-    let later : AllByRecursion N (bones ++ flat_map header_pages streams) =
-    (all_split N (first ++ flat_map first_pages streams) (bones ++ flat_map header_pages streams) whole.0).1 in
-    let split : AllByRecursion N bones × AllByRecursion N (flat_map header_pages streams) = all_split N bones (flat_map header_pages streams) later in
+    let later : AllByRecursion N (fisbones ++ flat_map header_pages streams) =
+    (all_split N (first ++ flat_map first_pages streams) (fisbones ++ flat_map header_pages streams) whole.0).1 in
+    let split : AllByRecursion N fisbones × AllByRecursion N (flat_map header_pages streams) = all_split N fisbones (flat_map header_pages streams) later in
     all_both IsPage body ends
-    (all_both IsPage (first ++ flat_map first_pages streams) (bones ++ flat_map header_pages streams)
+    (all_both IsPage (first ++ flat_map first_pages streams) (fisbones ++ flat_map header_pages streams)
     (all_both IsPage first (flat_map first_pages streams) (fishead_page head streams is) (firsts_pages streams good new))
-    (all_both IsPage bones (flat_map header_pages streams) (bones_pages head.serial 1 streams is.serial new split.0) (laters_pages streams new split.1)))
+    (all_both IsPage fisbones (flat_map header_pages streams) (fisbones_pages head.serial 1 streams is.serial new split.0) (laters_pages streams new split.1)))
     (end_is_page head.serial (length streams + 1) is.serial whole.1)
 
 text_of : (skeleton : Option SkeletonHead) → IsSkeleton skeleton → HasText skeleton

@@ -22,27 +22,27 @@ both_numbered xs ys a b = list_any-append has_no_number xs ys ∙ or_from (list_
 alone_numbered : (serial first : ℕ) (packet : List ℕ) → length packet ≤ 65024 → first + 1 ≤ 2 ^ 32 → list_any has_no_number (pages_of_run serial first (header packet ∷ [])) ≡ false
 alone_numbered serial first packet short few = within serial first (header packet ∷ []) (omega (arith, one_each packet short, few))
 
-bones_numbered : (serial first : ℕ) (streams : List NewStream) → list_any has_long_media streams ≡ false → first + length streams ≤ 2 ^ 32 →
+fisbones_numbered : (serial first : ℕ) (streams : List NewStream) → list_any has_long_media streams ≡ false → first + length streams ≤ 2 ^ 32 →
     list_any has_no_number (fisbone_pages serial first streams) ≡ false
-bones_numbered serial first [] short few = refl
-bones_numbered serial first (s ∷ streams) short few =
+fisbones_numbered serial first [] short few = refl
+fisbones_numbered serial first (s ∷ streams) short few =
     let parts : (has_long_media s ≡ false) × (list_any has_long_media streams ≡ false) = or_parts (has_long_media s) (list_any has_long_media streams) short in
     both_numbered (pages_of_run serial first (header (fisbone_packet s) ∷ [])) (fisbone_pages serial (first + 1) streams)
     (alone_numbered serial first (fisbone_packet s) (short_fisbone s parts.0) (omega (arith, few)))
-    (bones_numbered serial (first + 1) streams parts.1 (omega (arith, few)))
+    (fisbones_numbered serial (first + 1) streams parts.1 (omega (arith, few)))
 
 pub described_numbered : (head : SkeletonHead) (streams : List NewStream) → AllByRecursion IsSmall streams → length head.utc ≡ 20 → list_any has_long_media streams ≡ false →
     length streams ≤ 64 → list_any has_no_number (pages_of_begin (Some head) streams) ≡ false
 described_numbered head streams small size short few =
     let first : List Page = first_pages (skeleton_stream head streams) in
-    let bones : List Page = fisbone_pages head.serial 1 streams in
+    let fisbones : List Page = fisbone_pages head.serial 1 streams in
     let ends : List Page = skeleton_end head.serial (length streams + 1) in
-    both_numbered ((first ++ flat_map first_pages streams) ++ (bones ++ flat_map header_pages streams)) ends
-    (both_numbered (first ++ flat_map first_pages streams) (bones ++ flat_map header_pages streams)
+    both_numbered ((first ++ flat_map first_pages streams) ++ (fisbones ++ flat_map header_pages streams)) ends
+    (both_numbered (first ++ flat_map first_pages streams) (fisbones ++ flat_map header_pages streams)
     (both_numbered first (flat_map first_pages streams)
     (flagged_numbers first_flag (pages_of_run head.serial 0 (header (fishead_bytes (fishead_of head)) ∷ []))
     ∙ alone_numbered head.serial 0 (fishead_bytes (fishead_of head)) (short_fishead head size) (omega arith))
     (all_numbered first_pages first_numbered streams small))
-    (both_numbered bones (flat_map header_pages streams) (bones_numbered head.serial 1 streams short (omega (arith, few))) (all_numbered header_pages headers_numbered streams small)))
+    (both_numbered fisbones (flat_map header_pages streams) (fisbones_numbered head.serial 1 streams short (omega (arith, few))) (all_numbered header_pages headers_numbered streams small)))
     (flagged_numbers last_flag (pages_of_run head.serial (length streams + 1) (header [] ∷ []))
     ∙ alone_numbered head.serial (length streams + 1) [] (omega arith) (omega (arith, few)))

@@ -20,7 +20,7 @@ use Rattle.chain_rules.proofs.Grow.{filter_all, stream_some, all_both}
 use Rattle.chain_rules.proofs.ByteSizes.{length-page_bytes}
 use Rattle.chain_rules.proofs.TakenLinks.{taken}
 use Rattle.chain_rules.proofs.Chain.{found_at, known_stream, open_link}
-use Rattle.chain_rules.proofs.Beginning.{closed_link}
+use Rattle.chain_rules.proofs.BeginHeld.{closed_link}
 use Rattle.chain_rules.proofs.PageRules.{later_none, joining_none, opening_none}
 use Rattle.chain_rules.proofs.PageState.{last_is, open_with, begins_here, goes_on_open}
 use Rattle.chain_rules.proofs.Fronts.{behind_at, push_not_nil, front_is_link, page_fits, first_behind, later_behind}

@@ -18,7 +18,8 @@ use Rattle.chain_rules.specs.Rules.{first_broken}
 use Rattle.chain_rules.specs.Decision.{decision, answer, rules_for, begin_rules, item_rules, parts_rules, streams_rules, entries_rules, room_rules, size_of, header_bytes, has_many_headers, has_long_media, is_media}
 use Rattle.chain_rules.specs.Encoding.{pages_of_begin, pages_of_command, pages_of_runs, runs_of}
 use Rattle.chain_rules.specs.Size.{has_no_number, size_of_pages}
-use Rattle.chain_rules.proofs.Chain.{no_rule_broken, unbroken_all, Unbroken, all_split}
+use Rattle.chain_rules.proofs.Chain.{no_rule_broken, Unbroken, all_split}
+use Rattle.chain_rules.proofs.Rules.{none_broken}
 
 -- the size that it is answered with
 pub kept_size : (r : Result ℕ Refusal) → IsOk r → (size : ℕ) × (r ≡ Ok size)
@@ -122,7 +123,7 @@ parts_short chain (Some head) streams h = medias_short chain (head.serial ∷ []
 
 -- the same of rules of which the first broken one was looked for
 pub items_short : (chain : ChainState) (begin : Begin) → first_broken (item_rules chain begin) ≡ None → IfSome begin.skeleton (λ _. list_any has_long_media begin.streams ≡ false)
-items_short chain begin e = parts_short chain begin.skeleton begin.streams (unbroken_all (item_rules chain begin) e)
+items_short chain begin e = parts_short chain begin.skeleton begin.streams (none_broken (item_rules chain begin) e)
 
 pub begin_fits : (chain : ChainState) (begin : Begin) → IsOk (decision chain (BeginOf begin)) → BeginFits chain begin
 unfolding pages_of_command

@@ -14,7 +14,7 @@ pub mod Parts
 pub mod Still
 pub mod SkeletonPart
 pub mod NewLink
-pub mod Bones
+pub mod FisbonePages
 pub mod DescribedPages
 pub mod BeginHeld
 pub mod PutState

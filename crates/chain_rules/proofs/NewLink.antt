@@ -25,7 +25,7 @@ use Rattle.chain_rules.proofs.Grow.{GoOn, Unmarked, all_both, all_weaker, not_en
 use Rattle.chain_rules.proofs.Beginning.{IsGood, serials, first_page, is_first_page, number_of_first, marked_first, not_last, first_held, headers_held, headers_own, all_of_map, all_to_map}
 use Rattle.chain_rules.proofs.Parts.{Part, IsPart, IsStill, plain_part, page_of, first_of, later_of, begun_of, firsts, laters, part_serials, new_link, new_holds, its_pages, serials_are, stream_held, all_first, firsts_are, laters_unmarked, all_go_on, none_ends}
 use Rattle.chain_rules.proofs.RunPages.{some_values, length-map}
-use Rattle.chain_rules.proofs.SkeletonPart.{skeleton_part, is_skeleton_part, last_page, end_is, bones_count}
+use Rattle.chain_rules.proofs.SkeletonPart.{skeleton_part, is_skeleton_part, last_page, end_is, fisbones_count}
 use Rattle.chain_rules.proofs.StateBehind.{state, state_other, data_with, run_unmarked, run_goes_on}
 use Rattle.chain_rules.proofs.Still.{run_still, flagged_still, still_position}
 
@@ -277,7 +277,7 @@ described_link head streams can size short =
     let packets : List (List ℕ) = (skeleton_stream head streams).headers in
     let held : HoldsPackets own packets 0 [] = subst (λ (l : List Page). HoldsPackets l packets 0 []) (sym its.0) (stream_held skeleton is) in
     let closed : ends_open (joined_lacing own) ≡ false = finished own packets held in
-    let number : number_behind own ≡ length streams + 1 = ap number_behind its.0 ∙ number_of skeleton is ∙ omega (arith, bones_count serial 1 streams short) in
+    let number : number_behind own ≡ length streams + 1 = ap number_behind its.0 ∙ number_of skeleton is ∙ omega (arith, fisbones_count serial 1 streams short) in
     let fits : FitsBehind own page = record {
       continued = sym closed;
       sequence = λ _. sym number;

@@ -137,39 +137,39 @@ begin_with head streams = BeginOf (record { skeleton = Some head; streams = stre
 abbrev vorbis : NewStream
 vorbis = described 1 (abc ∷ []) (codes "audio/vorbis") (pos 44100)
 
-row_7 : answer [] (begin_with (head_of 9 (pos 1000)) (vorbis ∷ [])) ≡ Ok 259
+size_with_a_skeleton : answer [] (begin_with (head_of 9 (pos 1000)) (vorbis ∷ [])) ≡ Ok 259
 unfolding decision pages_of_command pages_of_run page_of_run page_position run_lacing run_bytes values_at values_before lacing_of fishead_with fixed_part u16_bytes u32_bytes i64_bytes
-row_7 = refl
+size_with_a_skeleton = refl
 
-row_7_pages : map {B = ℕ × ℕ × ℕ} (λ (p : Page). (page_size p, p.serial, p.flags)) (pages_of_command (chain_state_of []) (begin_with (head_of 9 (pos 1000)) (vorbis ∷ [])))
+pages_with_a_skeleton : map {B = ℕ × ℕ × ℕ} (λ (p : Page). (page_size p, p.serial, p.flags)) (pages_of_command (chain_state_of []) (begin_with (head_of 9 (pos 1000)) (vorbis ∷ [])))
     ≡ (92, 9, 2) ∷ (31, 1, 2) ∷ (108, 9, 0) ∷ (28, 9, 4) ∷ []
 unfolding pages_of_command pages_of_run page_of_run page_position run_lacing run_bytes values_at values_before lacing_of fishead_with fixed_part u16_bytes u32_bytes i64_bytes
-row_7_pages = refl
+pages_with_a_skeleton = refl
 
-row_7_ended : answer (begin_with (head_of 9 (pos 1000)) (vorbis ∷ []) ∷ []) (EndOf 9) ≡ Err StreamEnded
+skeleton_has_ended : answer (begin_with (head_of 9 (pos 1000)) (vorbis ∷ []) ∷ []) (EndOf 9) ≡ Err StreamEnded
 unfolding decision pages_of_command pages_of_run page_of_run page_position run_lacing run_bytes values_at values_before lacing_of fishead_with fixed_part u16_bytes u32_bytes i64_bytes
-row_7_ended = refl
+skeleton_has_ended = refl
 
-row_7_sequences : map (λ (p : Page). p.sequence) (pages_of_command (chain_state_of []) (begin_with (head_of 9 (pos 1000)) (vorbis ∷ stream_of 2 ∷ []))) ≡ 0 ∷ 0 ∷ 0 ∷ 1 ∷ 2 ∷ 3 ∷ []
+numbers_with_a_skeleton : map (λ (p : Page). p.sequence) (pages_of_command (chain_state_of []) (begin_with (head_of 9 (pos 1000)) (vorbis ∷ stream_of 2 ∷ []))) ≡ 0 ∷ 0 ∷ 0 ∷ 1 ∷ 2 ∷ 3 ∷ []
 unfolding pages_of_command pages_of_run page_of_run page_position run_lacing run_bytes values_at values_before lacing_of fishead_with fixed_part u16_bytes u32_bytes i64_bytes
-row_7_sequences = refl
+numbers_with_a_skeleton = refl
 
-row_32_type : answer [] (begin_with (head_of 9 (pos 1000)) (described 1 (abc ∷ []) [] (pos 44100) ∷ [])) ≡ Err BadType
+no_media_type : answer [] (begin_with (head_of 9 (pos 1000)) (described 1 (abc ∷ []) [] (pos 44100) ∷ [])) ≡ Err BadType
 unfolding decision
-row_32_type = refl
+no_media_type = refl
 
-row_32_rate : answer [] (begin_with (head_of 9 (pos 1000)) (described 1 (abc ∷ []) (codes "audio/vorbis") (pos 0) ∷ [])) ≡ Err BadRate
+rate_of_zero : answer [] (begin_with (head_of 9 (pos 1000)) (described 1 (abc ∷ []) (codes "audio/vorbis") (pos 0) ∷ [])) ≡ Err BadRate
 unfolding decision
-row_32_rate = refl
+rate_of_zero = refl
 
-row_32_base : answer [] (begin_with (head_of 9 (pos 0)) (described 1 [] (codes "audio/vorbis") (pos 44100) ∷ [])) ≡ Err BadRate
+base_of_zero_comes_first : answer [] (begin_with (head_of 9 (pos 0)) (described 1 [] (codes "audio/vorbis") (pos 44100) ∷ [])) ≡ Err BadRate
 unfolding decision
-row_32_base = refl
+base_of_zero_comes_first = refl
 
-row_32_serial : answer [] (begin_with (head_of 1 (pos 1000)) (vorbis ∷ [])) ≡ Err SerialTaken
+serial_of_the_skeleton : answer [] (begin_with (head_of 1 (pos 1000)) (vorbis ∷ [])) ≡ Err SerialTaken
 unfolding decision
-row_32_serial = refl
+serial_of_the_skeleton = refl
 
-row_32_many : answer [] (begin_with (head_of 9 (pos 1000)) (replicate 64 vorbis)) ≡ Err TooMany
+too_many_with_the_skeleton : answer [] (begin_with (head_of 9 (pos 1000)) (replicate 64 vorbis)) ≡ Err TooMany
 unfolding decision
-row_32_many = refl
+too_many_with_the_skeleton = refl

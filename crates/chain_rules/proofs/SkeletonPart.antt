@@ -47,70 +47,70 @@ pub one_each : (packet : List ℕ) → length packet ≤ 65024 → pages_for (le
 one_each packet short = omega (arith, length-run_lacing (header packet ∷ []), sum_by-cons values_in (header packet) [])
 
 -- ---- the fisbones' pages
-pub bones_own : (serial first : ℕ) (streams : List NewStream) → Own serial (fisbone_pages serial first streams)
-bones_own serial first [] = tt
-bones_own serial first (s ∷ streams) =
+pub fisbones_own : (serial first : ℕ) (streams : List NewStream) → Own serial (fisbone_pages serial first streams)
+fisbones_own serial first [] = tt
+fisbones_own serial first (s ∷ streams) =
     all_both (λ (p : Page). p.serial ≡ serial) (pages_of_run serial first (header (fisbone_packet s) ∷ [])) (fisbone_pages serial (first + 1) streams)
-    (run_own serial first (header (fisbone_packet s) ∷ [])) (bones_own serial (first + 1) streams)
+    (run_own serial first (header (fisbone_packet s) ∷ [])) (fisbones_own serial (first + 1) streams)
 
-bones_unmarked : (serial first : ℕ) (streams : List NewStream) → Unmarked (fisbone_pages serial first streams)
-bones_unmarked serial first [] = tt
-bones_unmarked serial first (s ∷ streams) =
+fisbones_unmarked : (serial first : ℕ) (streams : List NewStream) → Unmarked (fisbone_pages serial first streams)
+fisbones_unmarked serial first [] = tt
+fisbones_unmarked serial first (s ∷ streams) =
     all_both (λ (p : Page). is_first p ≡ false) (pages_of_run serial first (header (fisbone_packet s) ∷ [])) (fisbone_pages serial (first + 1) streams)
-    (run_unmarked serial first (header (fisbone_packet s) ∷ [])) (bones_unmarked serial (first + 1) streams)
+    (run_unmarked serial first (header (fisbone_packet s) ∷ [])) (fisbones_unmarked serial (first + 1) streams)
 
-pub bones_go_on : (serial first : ℕ) (streams : List NewStream) → GoOn (fisbone_pages serial first streams)
-bones_go_on serial first [] = tt
-bones_go_on serial first (s ∷ streams) =
+pub fisbones_go_on : (serial first : ℕ) (streams : List NewStream) → GoOn (fisbone_pages serial first streams)
+fisbones_go_on serial first [] = tt
+fisbones_go_on serial first (s ∷ streams) =
     all_both (λ (p : Page). is_last p ≡ false) (pages_of_run serial first (header (fisbone_packet s) ∷ [])) (fisbone_pages serial (first + 1) streams)
-    (run_goes_on serial first (header (fisbone_packet s) ∷ [])) (bones_go_on serial (first + 1) streams)
+    (run_goes_on serial first (header (fisbone_packet s) ∷ [])) (fisbones_go_on serial (first + 1) streams)
 
-bones_still : (serial first : ℕ) (streams : List NewStream) → AllByRecursion IsStill (fisbone_pages serial first streams)
-bones_still serial first [] = tt
-bones_still serial first (s ∷ streams) =
+fisbones_still : (serial first : ℕ) (streams : List NewStream) → AllByRecursion IsStill (fisbone_pages serial first streams)
+fisbones_still serial first [] = tt
+fisbones_still serial first (s ∷ streams) =
     all_both IsStill (pages_of_run serial first (header (fisbone_packet s) ∷ [])) (fisbone_pages serial (first + 1) streams)
-    (run_still serial first (fisbone_packet s ∷ [])) (bones_still serial (first + 1) streams)
+    (run_still serial first (fisbone_packet s ∷ [])) (fisbones_still serial (first + 1) streams)
 
-bones_held : (serial first : ℕ) (streams : List NewStream) → HoldsPackets (fisbone_pages serial first streams) (map fisbone_packet streams) 0 []
-bones_held serial first [] = record { lacing = refl; bodies = refl; rest_size = refl }
-bones_held serial first (s ∷ streams) =
+fisbones_held : (serial first : ℕ) (streams : List NewStream) → HoldsPackets (fisbone_pages serial first streams) (map fisbone_packet streams) 0 []
+fisbones_held serial first [] = record { lacing = refl; bodies = refl; rest_size = refl }
+fisbones_held serial first (s ∷ streams) =
     held_both (pages_of_run serial first (header (fisbone_packet s) ∷ [])) (fisbone_pages serial (first + 1) streams) (fisbone_packet s ∷ []) (map fisbone_packet streams)
-    (run_is_held serial first (header (fisbone_packet s) ∷ [])) (bones_held serial (first + 1) streams)
+    (run_is_held serial first (header (fisbone_packet s) ∷ [])) (fisbones_held serial (first + 1) streams)
 
 some_more : (xs ys : List Page) → xs ≢ [] → xs ++ ys ≢ []
 some_more [] ys ne e = absurd (ne refl)
 some_more (x ∷ xs) ys ne e = cc
 
-bones_fit : (serial first : ℕ) (streams : List NewStream) (before : List Page) → list_any has_long_media streams ≡ false →
+fisbones_fit : (serial first : ℕ) (streams : List NewStream) (before : List Page) → list_any has_long_media streams ≡ false →
     before ≢ [] → ends_open (joined_lacing before) ≡ false → list_any is_last before ≡ false → number_behind before ≡ first →
     EachBehind FitsBehind before (fisbone_pages serial first streams)
-bones_fit serial first [] before short some closed unended number = tt
-bones_fit serial first (s ∷ streams) before short some closed unended number =
+fisbones_fit serial first [] before short some closed unended number = tt
+fisbones_fit serial first (s ∷ streams) before short some closed unended number =
     let parts : (has_long_media s ≡ false) × (list_any has_long_media streams ≡ false) = or_parts (has_long_media s) (list_any has_long_media streams) short in
     let run : List Timed = header (fisbone_packet s) ∷ [] in
     let own : List Page = pages_of_run serial first run in
     let held : HoldsPackets own (fisbone_packet s ∷ []) 0 [] = run_is_held serial first run in
     behind_both FitsBehind before own (fisbone_pages serial (first + 1) streams) (run_fits serial first run before some closed unended number)
-    (bones_fit serial (first + 1) streams (before ++ own) parts.1 (some_more before own some)
+    (fisbones_fit serial (first + 1) streams (before ++ own) parts.1 (some_more before own some)
     (ap ends_open (flat_map-append (λ (p : Page). p.lacing) before own) ∙ ends_open-append (joined_lacing before) (joined_lacing own) closed ∙ finished own (fisbone_packet s ∷ []) held)
     (list_any-append is_last before own ∙ or_from (list_any is_last before) (list_any is_last own) unended (any_none is_last own (run_goes_on serial first run)))
     (number_behind_run serial first run before number ∙ ap (λ n. first + n) (one_each (fisbone_packet s) (short_fisbone s parts.0))))
 
-bones_number : (serial first : ℕ) (streams : List NewStream) (before : List Page) → list_any has_long_media streams ≡ false → number_behind before ≡ first →
+fisbones_number : (serial first : ℕ) (streams : List NewStream) (before : List Page) → list_any has_long_media streams ≡ false → number_behind before ≡ first →
     number_behind (before ++ fisbone_pages serial first streams) ≡ first + length streams
-bones_number serial first [] before short number = ap number_behind (append-nil before) ∙ omega (arith, number)
-bones_number serial first (s ∷ streams) before short number =
+fisbones_number serial first [] before short number = ap number_behind (append-nil before) ∙ omega (arith, number)
+fisbones_number serial first (s ∷ streams) before short number =
     let parts : (has_long_media s ≡ false) × (list_any has_long_media streams ≡ false) = or_parts (has_long_media s) (list_any has_long_media streams) short in
     let run : List Timed = header (fisbone_packet s) ∷ [] in
     let own : List Page = pages_of_run serial first run in
     ap number_behind (sym (append_assoc before own (fisbone_pages serial (first + 1) streams)))
-    ∙ bones_number serial (first + 1) streams (before ++ own) parts.1
+    ∙ fisbones_number serial (first + 1) streams (before ++ own) parts.1
     (number_behind_run serial first run before number ∙ ap (λ n. first + n) (one_each (fisbone_packet s) (short_fisbone s parts.0)))
     ∙ omega arith
 
-pub bones_count : (serial first : ℕ) (streams : List NewStream) → list_any has_long_media streams ≡ false → length (fisbone_pages serial first streams) ≡ length streams
-bones_count serial first [] short = refl
-bones_count serial first (s ∷ streams) short =
+pub fisbones_count : (serial first : ℕ) (streams : List NewStream) → list_any has_long_media streams ≡ false → length (fisbone_pages serial first streams) ≡ length streams
+fisbones_count serial first [] short = refl
+fisbones_count serial first (s ∷ streams) short =
     let parts : (has_long_media s ≡ false) × (list_any has_long_media streams ≡ false) = or_parts (has_long_media s) (list_any has_long_media streams) short in
     let run : List Timed = header (fisbone_packet s) ∷ [] in
     omega (
@@ -118,7 +118,7 @@ bones_count serial first (s ∷ streams) short =
       length-append (pages_of_run serial first run) (fisbone_pages serial (first + 1) streams),
       run_pages serial first run,
       one_each (fisbone_packet s) (short_fisbone s parts.0),
-      bones_count serial (first + 1) streams parts.1,
+      fisbones_count serial (first + 1) streams parts.1,
     )
 
 -- ---- the Skeleton as a part
@@ -142,13 +142,13 @@ is_skeleton_part head streams size short =
     (subst (λ (l : List Page). HoldsPackets l (fishead_bytes (fishead_of head) ∷ []) 0 []) (is_first_page stream good).alone (first_held stream)) in
     record {
       good = good;
-      own = bones_own head.serial 1 streams;
-      unmarked = bones_unmarked head.serial 1 streams;
-      goes_on = bones_go_on head.serial 1 streams;
-      fits = bones_fit head.serial 1 streams (page ∷ []) short (λ e. cc) closed (ap (λ b. b || false) (not_last stream)) number;
-      held = bones_held head.serial 1 streams;
-      number = bones_number head.serial 1 streams (page ∷ []) short number ∙ ap (λ n. 1 + n) (sym (bones_count head.serial 1 streams short));
-      still = bones_still head.serial 1 streams;
+      own = fisbones_own head.serial 1 streams;
+      unmarked = fisbones_unmarked head.serial 1 streams;
+      goes_on = fisbones_go_on head.serial 1 streams;
+      fits = fisbones_fit head.serial 1 streams (page ∷ []) short (λ e. cc) closed (ap (λ b. b || false) (not_last stream)) number;
+      held = fisbones_held head.serial 1 streams;
+      number = fisbones_number head.serial 1 streams (page ∷ []) short number ∙ ap (λ n. 1 + n) (sym (fisbones_count head.serial 1 streams short));
+      still = fisbones_still head.serial 1 streams;
     }
 
 -- ---- the last page
@@ -219,16 +219,16 @@ fisbone_is_bytes stream is =
     (bytes_around stream.media is.media)
 
 -- ---- the pages are pages
-pub bones_pages : (serial first : ℕ) (streams : List NewStream) → serial < 2 ^ 32 → AllByRecursion IsNewStream streams → AllByRecursion (λ (p : Page). p.sequence < 2 ^ 32) (fisbone_pages serial first streams) →
+pub fisbones_pages : (serial first : ℕ) (streams : List NewStream) → serial < 2 ^ 32 → AllByRecursion IsNewStream streams → AllByRecursion (λ (p : Page). p.sequence < 2 ^ 32) (fisbone_pages serial first streams) →
     AllByRecursion IsPage (fisbone_pages serial first streams)
-bones_pages serial first [] small new numbers = tt
-bones_pages serial first (s ∷ streams) small new numbers =
+fisbones_pages serial first [] small new numbers = tt
+fisbones_pages serial first (s ∷ streams) small new numbers =
     let own : List Page = pages_of_run serial first (header (fisbone_packet s) ∷ []) in
     let both : AllByRecursion (λ (p : Page). p.sequence < 2 ^ 32) own × AllByRecursion (λ (p : Page). p.sequence < 2 ^ 32) (fisbone_pages serial (first + 1) streams) =
     all_split (λ (p : Page). p.sequence < 2 ^ 32) own (fisbone_pages serial (first + 1) streams) numbers in
     all_both IsPage own (fisbone_pages serial (first + 1) streams)
     (run_is_pages serial first (header (fisbone_packet s) ∷ []) small (headers_timed (fisbone_packet s ∷ []) (fisbone_is_bytes s new.0, tt)) both.0)
-    (bones_pages serial (first + 1) streams small new.1 both.1)
+    (fisbones_pages serial (first + 1) streams small new.1 both.1)
 
 -- the Skeleton's first page
 pub fishead_page : (head : SkeletonHead) (streams : List NewStream) → IsSkeletonHead head → AllByRecursion IsPage (first_pages (skeleton_stream head streams))

@@ -18,7 +18,7 @@ use Rattle.chain_rules.specs.Encoding.{with_pages}
 use Rattle.chain_rules.specs.Taking.{fault_of_page, later_rules, joining_rules, opening_rules, links_with, AreTaken, is_one_packet, is_whole_packet, leaves_open}
 use Rattle.chain_rules.proofs.Grow.{grow_link, all_weaker, all_both, stream_some, with_own, with_other, filter_all, filter_none}
 use Rattle.chain_rules.proofs.Chain.{not_false, open_link, open_some, known_stream, spelled_more, pages_more, length_more, ended_more, some_open}
-use Rattle.chain_rules.proofs.Beginning.{each_known, ended_links, last_is_link, closed_link}
+use Rattle.chain_rules.proofs.BeginHeld.{each_known, ended_links, last_is_link, closed_link}
 use Rattle.chain_rules.proofs.Rules.{NoneBroken}
 use Rattle.chain_rules.proofs.PageRules.{later_kept, joining_kept, opening_kept}
 use Rattle.chain_rules.proofs.PageState.{begins_here, goes_on_open, goes_on_later, not_zero, open_with, absent, all_first, serials_both}

@@ -65,6 +65,10 @@ skeleton_stream head streams =
       shift = 0;
     }
 
+-- its first page, which holds the fishead
+abbrev pub fishead_pages : SkeletonHead → List Page
+fishead_pages head = flagged first_flag (pages_of_run head.serial 0 (header (fishead_bytes (fishead_of head)) ∷ []))
+
 -- the pages of the fisbones, each in a page of its own
 abbrev pub fisbone_pages : ℕ → ℕ → List NewStream → List Page
 fisbone_pages serial first [] = []
@@ -81,7 +85,7 @@ skeleton_end serial first = flagged last_flag (pages_of_run serial first (header
 abbrev pub pages_of_begin : Option SkeletonHead → List NewStream → List Page
 pages_of_begin None streams = flat_map first_pages streams ++ flat_map header_pages streams
 pages_of_begin (Some head) streams =
-    (flat_map first_pages (skeleton_stream head streams ∷ streams) ++ (fisbone_pages head.serial 1 streams ++ flat_map header_pages streams))
+    ((fishead_pages head ++ flat_map first_pages streams) ++ (fisbone_pages head.serial 1 streams ++ flat_map header_pages streams))
     ++ skeleton_end head.serial (length streams + 1)
 
 -- entries cut where the serial changes

@@ -138,7 +138,7 @@ fn lay_described(head: &SkeletonHead, streams: &[NewStream], out: &mut Vec<u8>)
     requires room { vec_len out.old + size_of_pages (pages_of_begin (Some head.now) streams.now) ≤ vec_capacity out.old }
     ensures items { out.new.items ≡ out.old.items ++ bytes_of_pages (pages_of_begin (Some head.now) streams.now) }
 {
-    lay_fishead(head, streams, out);
+    lay_fishead(head, out);
     lay_firsts(streams, out);
     lay_fisbones(head.serial, streams, out);
     lay_others(streams, out);

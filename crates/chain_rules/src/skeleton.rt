@@ -5,9 +5,8 @@ ghost use Rattle.ogg_page.specs.Page.{bytes_of_pages};
 ghost use Rattle.packetiser.specs.Run.{pages_of_run, flagged};
 ghost use Rattle.skeleton3.specs.Fisbone.{fisbone_of as lent_fisbone};
 ghost use Rattle.chain_rules.specs.Decision.{has_many_headers, has_long_media};
-ghost use Rattle.chain_rules.specs.Encoding.{header, fishead_of, fisbone_of, fisbone_packet, skeleton_stream, first_pages, fisbone_pages, skeleton_end};
+ghost use Rattle.chain_rules.specs.Encoding.{header, fishead_of, fisbone_of, fisbone_packet, fishead_pages, fisbone_pages, skeleton_end};
 ghost use Rattle.chain_rules.specs.Size.{size_of_pages};
-ghost use Rattle.chain_rules.specs.declared.command.NewStream.{NewStream as StreamOf};
 
 use crate::command::{NewStream, SkeletonHead};
 use crate::laying::{FIRST, LAST, append_run};
@@ -54,7 +53,7 @@ fn size_of_packet(len: u64) -> u64
 
 /// How many bytes the first page of a Skeleton has.
 fn size_of_fishead(head: &SkeletonHead) -> u64
-    ensures value { (streams : List StreamOf) → result ≡ size_of_pages (first_pages (skeleton_stream head.now streams)) }
+    ensures value { result ≡ size_of_pages (fishead_pages head.now) }
     ensures small { result ≤ 200 }
     ensures time { length head.now.utc ≡ 20 }
 {
@@ -99,7 +98,7 @@ pub fn size_of_skeleton(head: &SkeletonHead, streams: &[NewStream]) -> u64
     requires links { length streams.now ≤ 64 }
     requires few { list_any has_many_headers streams.now ≡ false }
     requires media { list_any has_long_media streams.now ≡ false }
-    ensures value { result ≡ size_of_pages (first_pages (skeleton_stream head.now streams.now))
+    ensures value { result ≡ size_of_pages (fishead_pages head.now)
         + size_of_pages (fisbone_pages head.now.serial 1 streams.now)
         + size_of_pages (skeleton_end head.now.serial (length streams.now + 1)) }
     ensures small { result ≤ 50000 }
@@ -130,10 +129,10 @@ fn lay_packet(serial: u32, sequence: u32, flags: u8, packet: &[u8], out: &mut Ve
 }
 
 /// Appends the first page of a Skeleton, for which there is room.
-pub fn lay_fishead(head: &SkeletonHead, streams: &[NewStream], out: &mut Vec<u8>)
-    requires room { vec_len out.old + size_of_pages (first_pages (skeleton_stream head.now streams.now)) ≤ vec_capacity out.old }
-    ensures items { out.new.items ≡ out.old.items ++ bytes_of_pages (first_pages (skeleton_stream head.now streams.now)) }
-    ensures len { vec_len out.new ≡ vec_len out.old + size_of_pages (first_pages (skeleton_stream head.now streams.now)) }
+pub fn lay_fishead(head: &SkeletonHead, out: &mut Vec<u8>)
+    requires room { vec_len out.old + size_of_pages (fishead_pages head.now) ≤ vec_capacity out.old }
+    ensures items { out.new.items ≡ out.old.items ++ bytes_of_pages (fishead_pages head.now) }
+    ensures len { vec_len out.new ≡ vec_len out.old + size_of_pages (fishead_pages head.now) }
     ensures capacity { vec_capacity out.old ≤ vec_capacity out.new }
 {
     lay_packet(head.serial, 0, FIRST, &fishead_of(head).packet(), out);

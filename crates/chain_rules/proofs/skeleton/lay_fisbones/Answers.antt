@@ -5,7 +5,7 @@ use Rattle.packetiser.specs.Run.{pages_of_run}
 use Rattle.chain_rules.specs.declared.command.NewStream.{NewStream}
 use Rattle.chain_rules.specs.Encoding.{header, fisbone_packet, fisbone_pages}
 use Rattle.chain_rules.specs.Size.{size_of_pages}
-use Rattle.chain_rules.proofs.Bones.{pages_more, size_more, size_behind}
+use Rattle.chain_rules.proofs.FisbonePages.{pages_more, size_more, size_behind}
 use Rattle.chain_rules.proofs.skeleton.lay_fisbones.Goals as goal
 
 abbrev own : ℕ → ℕ → NewStream → List Page

@@ -1,5 +1,5 @@
 use Rattle.std.proofs.Common.{arith}
-use Rattle.chain_rules.proofs.Bones.{values_alone, bytes_alone, size_alone}
+use Rattle.chain_rules.proofs.FisbonePages.{values_alone, bytes_alone, size_alone}
 use Rattle.chain_rules.proofs.skeleton.lay_packet.Goals as goal
 
 pub append_run-requires-clause-numbers : goal.append_run-requires-clause-numbers

@@ -3,7 +3,7 @@ use Rattle.packetiser.specs.Run.{pages_of_run}
 use Rattle.chain_rules.specs.declared.command.NewStream.{NewStream}
 use Rattle.chain_rules.specs.Encoding.{header, fisbone_packet}
 use Rattle.chain_rules.specs.Size.{size_of_pages}
-use Rattle.chain_rules.proofs.Bones.{size_more}
+use Rattle.chain_rules.proofs.FisbonePages.{size_more}
 use Rattle.chain_rules.proofs.skeleton.size_of_fisbones.Goals as goal
 
 pub loop-stream-preserved : goal.loop-stream-preserved

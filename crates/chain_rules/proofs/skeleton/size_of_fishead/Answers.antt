@@ -12,7 +12,7 @@ size_of_packet-requires c =
     omega (arith, size, length-fishead c.args.head.now c.fishead_of.ensures.time)
 
 pub returns-clause-value : goal.returns-clause-value
-returns-clause-value c = λ streams.
+returns-clause-value c =
     let size : c.size.result ≡ length (fishead_bytes (fishead_of c.args.head.now)) = c.size.ensures ∙ ap (λ f. length (fishead_bytes f)) c.fishead_of.ensures.value in
     c.size_of_packet.ensures.value c.args.head.now.serial 0 (fishead_bytes (fishead_of c.args.head.now)) (sym size)
     ∙ sym (flagged_size first_flag (pages_of_run c.args.head.now.serial 0 (header (fishead_bytes (fishead_of c.args.head.now)) ∷ [])))

@@ -1,6 +1,6 @@
 use Rattle.std.proofs.Common.{◌+◌, ◌/◌, sym, ◌∙◌, ap}
 use Rattle.packetiser.specs.Run.{size_for}
-use Rattle.chain_rules.proofs.Bones.{size_alone}
+use Rattle.chain_rules.proofs.FisbonePages.{size_alone}
 use Rattle.chain_rules.proofs.skeleton.size_of_packet.Goals as goal
 
 pub returns-clause-value : goal.returns-clause-value

@@ -5,7 +5,7 @@ pub returns-clause-value : goal.returns-clause-value
 returns-clause-value c =
     omega (
       arith,
-      c.size_of_fishead.ensures.value c.args.streams.now,
+      c.size_of_fishead.ensures.value,
       c.size_of_fisbones.ensures.value c.args.head.now.serial,
       c.size_of_skeleton_end.ensures.value c.args.head.now.serial (length c.args.streams.now + 1),
     )
