@@ -2,6 +2,8 @@
 """Makes a feed from lines: examples/feed.py < FILE.txt > FILE.feed
 
     begin STREAM [; STREAM] ..     STREAM: SERIAL HEADER [HEADER] ..
+    skeleton SERIAL ; STREAM ..    a begin with a Skeleton of this serial; STREAM: SERIAL MEDIA RATE HEADER [HEADER] ..,
+                                   RATE as 44100/1
     put ENTRY [; ENTRY] ..         ENTRY: SERIAL POSITION PACKET
     end SERIAL
 
@@ -35,6 +37,12 @@ def stream(serial, *headers):
     return struct.pack("<IH", int(serial), len(headers)) + packets + struct.pack("<HqqqIB", 0, 0, 0, 0, 0, 0)
 
 
+def described(serial, media, rate, *headers):
+    packets = b"".join(listed(packet(header)) for header in headers)
+    front = struct.pack("<IH", int(serial), len(headers)) + packets + struct.pack("<H", len(media.encode())) + media.encode()
+    return front + struct.pack("<qqqIB", *map(int, rate.split("/")), 0, 0, 0)
+
+
 def entry(serial, position, word):
     return struct.pack("<IQ", int(serial), int(position)) + listed(packet(word))
 
@@ -62,6 +70,11 @@ def feed_of(text):
         if words[0] == "begin":
             streams = [stream(*item) for item in items(words[1:])]
             feed += record(1, b"\0" + struct.pack("<H", len(streams)) + b"".join(streams))
+        elif words[0] == "skeleton":
+            head, *rest = items(words[1:])
+            streams = [described(*item) for item in rest]
+            front = struct.pack("<BIqqqq20x", 1, int(head[0]), 0, 1, 0, 1)
+            feed += record(1, front + struct.pack("<H", len(streams)) + b"".join(streams))
         elif words[0] == "put":
             entries = [entry(*item) for item in items(words[1:])]
             feed += record(2, struct.pack("<H", len(entries)) + b"".join(entries))

@@ -1,9 +1,10 @@
 #!/usr/bin/env python3
-"""Makes a feed from an Ogg file: examples/from_ogg.py < FILE.ogg > FILE.feed
+"""Makes a feed from an Ogg file: examples/from_ogg.py [--skeleton SERIAL] < FILE.ogg > FILE.feed
 
 Each link becomes a begin with its streams' headers, each page's packets a put, at the page's position, and each page
 with the flag for a stream's end also an end. The number of headers is known for Vorbis, Opus, Theora, Speex and FLAC;
-other streams have one. Checksums aren't looked at: this is a toy that gives a recorder something real to record.
+other streams have one. With --skeleton each link gets a Skeleton, with serials from this one on; that is for Vorbis, Opus,
+Theora and FLAC. Checksums aren't looked at: this is a toy that gives a recorder something real to record.
 """
 import struct
 import sys
@@ -41,11 +42,23 @@ def header_count(first):
     return next((count for front, count in HEADERS if first.startswith(front)), 1)
 
 
+def media_and_rate(first):
+    if first.startswith(b"\x01vorbis"):
+        return b"audio/vorbis", struct.unpack_from("<I", first, 12)[0], 1
+    if first.startswith(b"OpusHead"):
+        return b"audio/opus", 48000, 1
+    if first.startswith(b"\x80theora"):
+        return b"video/theora", *struct.unpack_from(">II", first, 22)
+    if first.startswith(b"\x7fFLAC"):
+        return b"audio/flac", int.from_bytes(first[27:30], "big") >> 4, 1
+    sys.exit("from_ogg.py: no media type is known for a stream")
+
+
 def record(kind, payload):
     return struct.pack("<BI", kind, len(payload)) + payload
 
 
-def feed_of_link(link):
+def feed_of_link(link, skeleton=None):
     headers, rest, puts = {}, {}, []
     for flags, position, serial, lacing, body in link:
         ended, at = [], 0
@@ -62,15 +75,19 @@ def feed_of_link(link):
             puts.append(record(2, struct.pack("<H", len(entries)) + b"".join(entries)))
         if flags & 4:
             puts.append(record(3, struct.pack("<I", serial)))
-    begin = b"\0" + struct.pack("<H", len(headers))
+    begin = b"\0" if skeleton is None else struct.pack("<BIqqqq20x", 1, skeleton, 0, 1000, 0, 1000)
+    begin += struct.pack("<H", len(headers))
     for serial, packets in headers.items():
+        media, *rate = (b"", 0, 0) if skeleton is None else media_and_rate(packets[0])
         begin += struct.pack("<IH", serial, len(packets))
-        begin += b"".join(struct.pack("<I", len(packet)) + packet for packet in packets) + bytes(31)
+        begin += b"".join(struct.pack("<I", len(packet)) + packet for packet in packets)
+        begin += struct.pack("<H", len(media)) + media + struct.pack("<qqqIB", *rate, 0, 0, 0)
     return record(1, begin) + b"".join(puts)
 
 
 if __name__ == "__main__":
-    if len(sys.argv) > 1:
+    arguments = sys.argv[1:]
+    if arguments and (len(arguments) != 2 or arguments[0] != "--skeleton"):
         sys.exit(__doc__)
-    for link in links(sys.stdin.buffer.read()):
-        sys.stdout.buffer.write(feed_of_link(link))
+    for number, link in enumerate(links(sys.stdin.buffer.read())):
+        sys.stdout.buffer.write(feed_of_link(link, int(arguments[1]) + number if arguments else None))

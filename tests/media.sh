@@ -81,5 +81,18 @@ for name in vorbis opus flac theora chain; do
     again "$name"
 done
 
+# With a Skeleton the packets are the same, and other programs know what it is.
+for name in vorbis opus flac theora chain; do
+    python3 "$top/examples/from_ogg.py" --skeleton 5000 <"$work/$name.ogg" >"$work/$name.feed"
+    "$program" mux <"$work/$name.feed" >"$work/$name.described.ogg" 2>"$work/$name.replies"
+    check "$name with a Skeleton: every command is kept" replies_keep "$work/$name.replies"
+    check "$name with a Skeleton: ogginfo finds it" grep -q -i skeleton <(ogginfo "$work/$name.described.ogg")
+    check "$name with a Skeleton: ogginfo warns of no more than of the encoder's file" \
+        same_warnings "$work/$name.ogg" "$work/$name.described.ogg"
+    packets "$work/$name.described.ogg" | cut -f 2 | sort >"$work/$name.found"
+    cut -f 2 "$work/$name.want" | sort >"$work/$name.sorted"
+    check "$name with a Skeleton: the packets are the same" cmp "$work/$name.sorted" <(grep -F -f "$work/$name.sorted" "$work/$name.found")
+done
+
 echo "$passed passed, $failed failed"
 [ "$failed" -eq 0 ]

@@ -37,19 +37,18 @@ class Reader:
 
 
 def begin_of(reader):
+    """The Skeleton's head, if there is one, and the streams."""
     has_skeleton = reader.number(1)
     if has_skeleton > 1:
         raise Fault
-    if has_skeleton:
-        reader.take(56)
+    skeleton = struct.unpack("<Iqqqq20s", reader.take(56)) if has_skeleton else None
     streams = []
     for _ in range(reader.number(2)):
         serial = reader.number(4)
         headers = [reader.take(reader.number(4)) for _ in range(reader.number(2))]
-        reader.take(reader.number(2))
-        reader.take(29)
-        streams.append((serial, headers))
-    return has_skeleton, streams
+        media = reader.take(reader.number(2))
+        streams.append((serial, headers, media, struct.unpack("<qqqIB", reader.take(29))))
+    return skeleton, streams
 
 
 def put_of(reader):
@@ -102,6 +101,16 @@ def run_pages(serial, sequence, flags, items):
     return pages
 
 
+def is_media(media):
+    return 1 <= len(media) <= 255 and all(0x20 <= byte <= 0x7E for byte in media) and media == media.strip(b" ")
+
+
+def fisbone(serial, headers, media, numbers):
+    numerator, denominator, base, preroll, shift = numbers
+    front = struct.pack("<8sIIIqqqIB3x", b"fisbone", 44, serial, len(headers), numerator, denominator, base, preroll, shift)
+    return front + b"Content-Type: " + media + b"\r\n"
+
+
 class Model:
     def __init__(self):
         # of the last link, by serial: [next sequence, last position, ended]
@@ -114,16 +123,22 @@ class Model:
         return not all(ended for _, _, ended in self.streams.values())
 
     def begin(self, value):
-        has_skeleton, streams = value
+        skeleton, streams = value
         if self.is_open():
             return "2 LinkOpen"
         if not streams:
             return "4 Empty"
-        # A Skeleton is counted among too many, for now.
-        if has_skeleton or len(streams) > 64 or any(len(headers) > 256 for _, headers in streams):
+        if len(streams) + (skeleton is not None) > 64 or any(len(headers) > 256 for _, headers, _, _ in streams):
             return "5 TooMany"
         seen = set(self.serials)
-        for serial, headers in streams:
+        if skeleton:
+            serial, _, presentation, _, base, _ = skeleton
+            if serial in seen:
+                return "6 SerialTaken"
+            if presentation <= 0 or base <= 0:
+                return "11 BadRate"
+            seen.add(serial)
+        for serial, headers, media, (numerator, denominator, _, _, _) in streams:
             if serial in seen:
                 return "6 SerialTaken"
             if not headers:
@@ -132,16 +147,28 @@ class Model:
                 return "8 HeadTooLong"
             if any(len(header) > 1048576 for header in headers[1:]):
                 return "9 PacketTooLong"
+            if skeleton and not is_media(media):
+                return "10 BadType"
+            if skeleton and (numerator <= 0 or denominator <= 0):
+                return "11 BadRate"
             seen.add(serial)
-        if sum(len(header) for _, headers in streams for header in headers) > 16777216:
+        if sum(len(header) for _, headers, _, _ in streams for header in headers) > 16777216:
             return "16 BatchTooLong"
         self.serials = seen
-        self.streams = {serial: [1, 0, False] for serial, _ in streams}
-        pages = [run_pages(serial, 0, 2, [(0, headers[0])])[0] for serial, headers in streams]
-        for serial, headers in streams:
+        self.streams = {serial: [1, 0, False] for serial, _, _, _ in streams}
+        pages = [run_pages(serial, 0, 2, [(0, headers[0])])[0] for serial, headers, _, _ in streams]
+        if skeleton:
+            own, times, utc = skeleton[0], skeleton[1:5], skeleton[5]
+            self.streams[own] = [len(streams) + 2, 0, True]
+            pages = run_pages(own, 0, 2, [(0, struct.pack("<8sHHqqqq20s", b"fishead", 3, 0, *times, utc))]) + pages
+            for number, stream in enumerate(streams):
+                pages += run_pages(own, 1 + number, 0, [(0, fisbone(*stream))])
+        for serial, headers, _, _ in streams:
             more = run_pages(serial, 1, 0, [(0, header) for header in headers[1:]])
             self.streams[serial][0] += len(more)
             pages += more
+        if skeleton:
+            pages += run_pages(own, len(streams) + 1, 4, [(0, b"")])
         return b"".join(pages)
 
     def put(self, entries):
@@ -223,15 +250,17 @@ def random_feed(chance):
     for _ in range(chance.randrange(1, 14)):
         draw = chance.random()
         if draw < 0.2 or not begun and draw < 0.9:
-            payload = bytes([chance.random() < 0.03])
-            payload += bytes(56) if payload[0] else b""
+            payload = bytes([chance.random() < 0.3])
+            if payload[0]:
+                payload += struct.pack("<Iqqqq20s", chance.choice(serials), *(chance.choice((0, 1000)) if chance.random() < 0.1 else 1000 for _ in range(4)), b"")
             begun = [chance.choice(serials) for _ in range(chance.choice((0, 1, 1, 1, 2, 2, 3)))]
             payload += struct.pack("<H", len(begun))
             for serial in begun:
                 headers = [packet(sizes) for _ in range(chance.choice((1, 1, 1, 1, 2, 3, chance.randrange(2))))]
                 payload += struct.pack("<IH", serial, len(headers)) + b"".join(map(listed, headers))
-                media = chance.randbytes(chance.randrange(4))
-                payload += struct.pack("<H", len(media)) + media + chance.randbytes(29)
+                media = chance.choice((b"", b" a/b", b"a/b ", b"a\nb", b"m" * 255, b"m" * 256)) if chance.random() < 0.1 else b"audio/vorbis"
+                rate = [chance.randrange(-1, 2) if chance.random() < 0.1 else chance.randrange(1, 2**63) for _ in range(2)]
+                payload += struct.pack("<H", len(media)) + media + struct.pack("<qq", *rate) + chance.randbytes(13)
             kind = 1
         elif draw < 0.8:
             count = chance.choice((0, 1, 1, 2, 3, 5, 10, 254, 255, 256, 300))

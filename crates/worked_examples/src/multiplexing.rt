@@ -1,9 +1,13 @@
 //! Feeds that are run whole, and feeds that end in a fault: each answer, and the pages.
 use crate::records::Packet::{Text, Zeros};
-use crate::records::Record::{Begin, BeginMany, Bytes, End, Put, PutMany};
-use crate::records::{Packet, Record, append};
+use crate::records::Record::{
+    Begin, BeginMany, BeginManyWithSkeleton, BeginWithSkeleton, Bytes, End, Put, PutMany,
+};
+use crate::records::{Described, Packet, Record, append};
 use feed_codec::{FeedFault, RunFault};
 use multiplexer::mux;
+use ogg_page::Pages;
+use packet_view::Packets;
 use std::test::Fail;
 
 /// The page of a stream with serial 1 whose first header is `abc`.
@@ -21,6 +25,14 @@ const ONE: Record = Begin(&[(1, &[Text(b"abc")])]);
 /// A put of `hello` at position 5.
 const HELLO: Record = Put(&[(1, 5, Text(b"hello"))]);
 
+/// A stream with serial 1 and the header `abc`, as a Skeleton describes it.
+const VORBIS: Described = Described {
+    serial: 1,
+    headers: &[Text(b"abc")],
+    media: b"audio/vorbis",
+    rate: (44_100, 1),
+};
+
 /// The longest packet of a put.
 const LONG: (u32, u64, Packet) = (1, 0, Zeros(1_048_576));
 
@@ -35,7 +47,7 @@ struct Example {
 }
 
 /// Feeds without a fault.
-const EXAMPLES: [Example; 16] = [
+const EXAMPLES: [Example; 18] = [
     // No command.
     Example {
         turns: &[],
@@ -249,6 +261,79 @@ const EXAMPLES: [Example; 16] = [
         end: 0,
         found: &[],
     },
+    // A link that says what is in it: the fishead's page, the stream's first, the fisbone's, and the
+    // Skeleton's last, with one empty packet.
+    Example {
+        turns: &[
+            (
+                BeginWithSkeleton(9, (1000, 1000), &[VORBIS]),
+                "kept 1 259\n",
+            ),
+            (End(9), "refused 13 StreamEnded\n"),
+            (HELLO, "kept 2 292\n"),
+        ],
+        end: 292,
+        found: &[
+            (0, b"OggS\0\x02\0\0\0\0\0\0\0\0\x09\0\0\0\0\0\0\0"),
+            (27, b"\x40fishead\0\x03\0\0\0"),
+            (92, FIRST),
+            (123, b"OggS\0\0\0\0\0\0\0\0\0\0\x09\0\0\0\x01\0\0\0"),
+            (
+                150,
+                b"\x50fisbone\0\x2c\0\0\0\x01\0\0\0\x01\0\0\0\x44\xac\0\0",
+            ),
+            (203, b"Content-Type: audio/vorbis\r\n"),
+            (231, b"OggS\0\x04\0\0\0\0\0\0\0\0\x09\0\0\0\x02\0\0\0"),
+            (257, b"\x01\0"),
+            (259, SECOND),
+        ],
+    },
+    // What a Skeleton can't say, in the order in which it is looked at; it counts as a stream.
+    Example {
+        turns: &[
+            (
+                BeginWithSkeleton(
+                    9,
+                    (1000, 1000),
+                    &[Described {
+                        media: b"",
+                        ..VORBIS
+                    }],
+                ),
+                "refused 10 BadType\n",
+            ),
+            (
+                BeginWithSkeleton(
+                    9,
+                    (1000, 1000),
+                    &[Described {
+                        rate: (0, 1),
+                        ..VORBIS
+                    }],
+                ),
+                "refused 11 BadRate\n",
+            ),
+            (
+                BeginWithSkeleton(
+                    9,
+                    (1000, 0),
+                    &[Described {
+                        headers: &[],
+                        ..VORBIS
+                    }],
+                ),
+                "refused 11 BadRate\n",
+            ),
+            (
+                BeginWithSkeleton(1, (1000, 1000), &[VORBIS]),
+                "refused 6 SerialTaken\n",
+            ),
+            (BeginManyWithSkeleton(64), "refused 5 TooMany\n"),
+            (BeginManyWithSkeleton(63), "kept 1 8877\n"),
+        ],
+        end: 8877,
+        found: &[],
+    },
 ];
 
 #[test]
@@ -266,12 +351,23 @@ fn each_command_is_answered_and_its_pages_are_written(rt: HostRuntime) -> Result
         assert_eq!(rt; replies.as_slice(), lines.as_slice());
         assert_eq!(rt; tally.commands, example.turns.len() as u64);
         assert_eq!(rt; (tally.end, pages.len() as u64), (example.end, example.end));
+        assert_eq!(rt; end_of_pages(pages.as_slice()), Some(example.end));
         for (at, bytes) in example.found {
             let stands = pages.get(*at..).is_some_and(|rest| rest.starts_with(bytes));
             assert!(rt; stands, "{bytes:?} at {at}");
         }
     }
     Ok(())
+}
+
+/// Where the pages end, if the bytes are pages and nothing else.
+fn end_of_pages(bytes: &[u8]) -> Option<u64> {
+    let mut end = 0u64;
+    for found in Pages::of(bytes) {
+        let (offset, page) = found.ok()?;
+        end = offset.saturating_add(page.whole().len() as u64);
+    }
+    Some(end)
 }
 
 /// The begin of the stream with serial 1 and the header `abc`, whose payload is said to be one byte
@@ -303,6 +399,61 @@ fn what_stands_before_a_fault_of_the_feed_is_run(rt: HostRuntime) -> Result<(), 
         assert_eq!(rt; run, Err(RunFault::Feed(fault)));
         assert_eq!(rt; pages.as_slice(), FIRST);
         assert_eq!(rt; replies.as_slice(), b"kept 1 31\n".as_slice());
+    }
+    Ok(())
+}
+
+/// What is put to the stream with serial 1, each time from its beginning, and the packets that are read
+/// back behind the header: how long each is, in how many parts, and its position.
+const READ_BACK: [(Record, &[(usize, usize, Option<u64>)]); 4] = [
+    (HELLO, &[(5, 1, Some(5))]),
+    (
+        Put(&[
+            (1, 1, Zeros(0)),
+            (1, 2, Zeros(254)),
+            (1, 3, Zeros(255)),
+            (1, 4, Zeros(510)),
+        ]),
+        &[
+            (0, 0, None),
+            (254, 1, None),
+            (255, 1, None),
+            (510, 1, Some(4)),
+        ],
+    ),
+    (Put(&[(1, 7, Zeros(65_024))]), &[(65_024, 1, Some(7))]),
+    (
+        Put(&[(1, 8, Zeros(65_025)), (1, 9, Zeros(130_051))]),
+        &[(65_025, 1, Some(8)), (130_051, 3, Some(9))],
+    ),
+];
+
+#[test]
+fn what_was_put_is_read_back(rt: HostRuntime) -> Result<(), Fail> {
+    for (record, wanted) in READ_BACK {
+        let mut feed = Vec::new(rt.alloc());
+        append(ONE, &mut feed)?;
+        append(record, &mut feed)?;
+        let mut pages = Vec::new(rt.alloc());
+        let mut replies = Vec::new(rt.alloc());
+        mux(rt.alloc(), &mut feed.as_slice(), &mut pages, &mut replies)?;
+        let mut packets = Packets::of(pages.as_slice(), 1);
+        let header = packets.next()?.ok_or("no header")?;
+        assert_eq!(rt; header.as_slice(), Some(b"abc".as_slice()));
+        for (length, parts, position) in wanted {
+            let packet = packets.next()?.ok_or("a packet is missing")?;
+            let mut found = 0usize;
+            for _ in packet.parts() {
+                found = found.saturating_add(1);
+            }
+            assert_eq!(rt;
+                (packet.len(), found, packet.position()),
+                (*length, *parts, *position)
+            );
+        }
+        assert!(rt; packets.next()?.is_none(), "one packet too many");
+        let mut others = Packets::of(pages.as_slice(), 2);
+        assert!(rt; others.next()?.is_none(), "a packet of another stream");
     }
     Ok(())
 }

@@ -11,11 +11,26 @@ pub enum Packet {
     Zeros(u32),
 }
 
+/// A stream that a Skeleton describes.
+#[derive(Clone, Copy)]
+pub struct Described {
+    pub serial: u32,
+    pub headers: &'static [Packet],
+    pub media: &'static [u8],
+    pub rate: (i64, i64),
+}
+
 /// A record of a feed.
 #[derive(Clone, Copy)]
 pub enum Record {
     /// A begin of streams with these serials, each with these headers.
     Begin(&'static [(u32, &'static [Packet])]),
+    /// A begin with a Skeleton: its serial, the denominators of its presentation and base times, whose
+    /// numerators are 0, and the streams that it describes.
+    BeginWithSkeleton(u32, (i64, i64), &'static [Described]),
+    /// A begin with a Skeleton of serial 1000 and of so many streams, with the serials from 1 on and the
+    /// header `abc`.
+    BeginManyWithSkeleton(u16),
     /// A begin of so many streams, with the serials from 1 on and the header `abc`.
     BeginMany(u16),
     /// A put of packets, each with its serial and its position.
@@ -36,6 +51,26 @@ pub fn append(record: Record, feed: &mut Vec<u8>) -> Result<(), Fail> {
             let mut payload = begin_of(alloc, u16::try_from(streams.len())?)?;
             for (serial, headers) in streams {
                 append_stream(*serial, headers, &mut payload)?;
+            }
+            append_payload(1, payload.as_slice(), feed)
+        }
+        Record::BeginWithSkeleton(serial, times, streams) => {
+            let mut payload = skeleton_of(alloc, serial, times, u16::try_from(streams.len())?)?;
+            for stream in streams {
+                append_described(stream, &mut payload)?;
+            }
+            append_payload(1, payload.as_slice(), feed)
+        }
+        Record::BeginManyWithSkeleton(count) => {
+            let mut payload = skeleton_of(alloc, 1000, (1, 1), count)?;
+            for serial in 1..=u32::from(count) {
+                let stream = Described {
+                    serial,
+                    headers: &[Packet::Text(b"abc")],
+                    media: b"audio/vorbis",
+                    rate: (1, 1),
+                };
+                append_described(&stream, &mut payload)?;
             }
             append_payload(1, payload.as_slice(), feed)
         }
@@ -75,15 +110,51 @@ fn begin_of(alloc: Global, streams: u16) -> Result<Vec<u8>, Fail> {
     Ok(payload)
 }
 
+/// The front of the payload of a begin with a Skeleton, up to the number of streams.
+fn skeleton_of(
+    alloc: Global,
+    serial: u32,
+    times: (i64, i64),
+    streams: u16,
+) -> Result<Vec<u8>, Fail> {
+    let mut payload = Vec::from_slice(alloc, &[1])?;
+    payload.extend_from_slice(&serial.to_le_bytes())?;
+    for denominator in [times.0, times.1] {
+        payload.extend_from_slice(&0i64.to_le_bytes())?;
+        payload.extend_from_slice(&denominator.to_le_bytes())?;
+    }
+    payload.extend_from_slice(&[0; 20])?;
+    payload.extend_from_slice(&streams.to_le_bytes())?;
+    Ok(payload)
+}
+
+/// Appends a stream that a Skeleton describes.
+fn append_described(stream: &Described, payload: &mut Vec<u8>) -> Result<(), Fail> {
+    append_headers(stream.serial, stream.headers, payload)?;
+    payload.extend_from_slice(&u16::try_from(stream.media.len())?.to_le_bytes())?;
+    payload.extend_from_slice(stream.media)?;
+    payload.extend_from_slice(&stream.rate.0.to_le_bytes())?;
+    payload.extend_from_slice(&stream.rate.1.to_le_bytes())?;
+    // The base granule, the preroll and the shift.
+    payload.extend_from_slice(&[0; 13])?;
+    Ok(())
+}
+
 /// Appends a stream without a media type, with zeros for the rest.
 fn append_stream(serial: u32, headers: &[Packet], payload: &mut Vec<u8>) -> Result<(), Fail> {
+    append_headers(serial, headers, payload)?;
+    // The media type's length, three numbers of eight bytes, one of four and one of one.
+    payload.extend_from_slice(&[0; 31])?;
+    Ok(())
+}
+
+/// Appends a stream's serial and its headers.
+fn append_headers(serial: u32, headers: &[Packet], payload: &mut Vec<u8>) -> Result<(), Fail> {
     payload.extend_from_slice(&serial.to_le_bytes())?;
     payload.extend_from_slice(&u16::try_from(headers.len())?.to_le_bytes())?;
     for header in headers {
         append_packet(*header, payload)?;
     }
-    // The media type's length, three numbers of eight bytes, one of four and one of one.
-    payload.extend_from_slice(&[0; 31])?;
     Ok(())
 }
 
