@@ -51,7 +51,8 @@ packets() {
         sed -n 's/.*stream_index=//p; s/.*data_hash=//p' | paste - - | sort -s -k 1,1
 }
 
-warnings() { ogginfo "$1" | grep -i 'warning\|error' | sed 's/serial: [0-9a-f]*//'; }
+# Without serials and numbers of streams, which a Skeleton moves.
+warnings() { ogginfo "$1" | grep -i 'warning\|error' | sed 's/serial: [0-9a-f]*//; s/stream ([0-9]*)/stream/'; }
 same_warnings() { [ "$(warnings "$1")" = "$(warnings "$2")" ]; }
 replies_keep() { ! grep -v '^kept ' "$1"; }
 
@@ -81,7 +82,8 @@ for name in vorbis opus flac theora chain; do
     again "$name"
 done
 
-# With a Skeleton the packets are the same, and other programs know what it is.
+# With a Skeleton the packets are the same, and other programs know what it is. (ffprobe doesn't read on where a chain's next
+# link begins with a Skeleton, so the chain isn't asked for its packets.)
 for name in vorbis opus flac theora chain; do
     python3 "$top/examples/from_ogg.py" --skeleton 5000 <"$work/$name.ogg" >"$work/$name.feed"
     "$program" mux <"$work/$name.feed" >"$work/$name.described.ogg" 2>"$work/$name.replies"
@@ -89,6 +91,7 @@ for name in vorbis opus flac theora chain; do
     check "$name with a Skeleton: ogginfo finds it" grep -q -i skeleton <(ogginfo "$work/$name.described.ogg")
     check "$name with a Skeleton: ogginfo warns of no more than of the encoder's file" \
         same_warnings "$work/$name.ogg" "$work/$name.described.ogg"
+    [ "$name" != chain ] || continue
     packets "$work/$name.described.ogg" | cut -f 2 | sort >"$work/$name.found"
     cut -f 2 "$work/$name.want" | sort >"$work/$name.sorted"
     check "$name with a Skeleton: the packets are the same" cmp "$work/$name.sorted" <(grep -F -f "$work/$name.sorted" "$work/$name.found")
