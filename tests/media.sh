@@ -6,6 +6,7 @@
 set -u
 top=$(cd "$(dirname "$0")/.." && pwd)
 program=${PROGRAM:-$top/crates/ogg_main/out/ogg_main}
+reader=${READ_OGG:-$top/crates/read_ogg/out/read_ogg}
 work=$(mktemp -d)
 trap 'rm -rf "$work"' EXIT
 passed=0
@@ -17,7 +18,9 @@ for tool in ffmpeg ffprobe ogginfo oggz; do
         break
     fi
 done >"$work/install" 2>&1 || { tail -n 5 "$work/install"; exit 1; }
-[ -x "$program" ] || { echo "no program at $program: ./kudzuturret builds it" >&2; exit 1; }
+for built in "$program" "$reader"; do
+    [ -x "$built" ] || { echo "no program at $built: ./check builds it" >&2; exit 1; }
+done
 
 check() {
     local name=$1
@@ -78,8 +81,37 @@ again() {
         "$(stat -c %s "$work/$name.ogg")" "$(stat -c %s "$work/$name.again.ogg")" "$(wc -l <"$work/$name.found")"
 }
 
+serials() {
+    python3 -c '
+import struct, sys
+data, at, seen = open(sys.argv[1], "rb").read(), 0, []
+while at < len(data):
+    serial, = struct.unpack_from("<I", data, at + 14)
+    seen += [] if serial in seen else [serial]
+    at += 27 + data[at + 26] + sum(data[at + 27 : at + 27 + data[at + 26]])
+print(*seen)' "$1"
+}
+
+# read_whole NAME FILE: the pages are a chain, and what another program reads of its packets is among those that are read here,
+# which have the headers too.
+read_whole() {
+    local name=$1 file=$2 serial
+    check "$name: its pages are a chain" "$reader" chain <"$file" >"$work/chain"
+    : >"$work/read"
+    for serial in $(serials "$file"); do
+        check "$name: the packets of $serial" "$reader" "$serial" <"$file" >"$work/stream"
+        sed -n 's/^\([0-9a-f]*\) .*/"MD5:\1"/p' "$work/stream" >>"$work/read"
+    done
+    packets "$file" | cut -f 2 | sort >"$work/want"
+    sort "$work/read" >"$work/found"
+    check "$name: each packet that ffprobe reads" [ -z "$(comm -23 "$work/want" "$work/found")" ]
+    printf '%-8s %6d packets read, %6d of them by ffprobe\n' "$name" "$(wc -l <"$work/found")" "$(wc -l <"$work/want")"
+}
+
 for name in vorbis opus flac theora chain; do
     again "$name"
+    read_whole "$name" "$work/$name.ogg"
+    read_whole "$name" "$work/$name.again.ogg"
 done
 
 # With a Skeleton the packets are the same, and other programs know what it is. (ffprobe doesn't read on where a chain's next

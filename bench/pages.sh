@@ -1,0 +1,42 @@
+#!/usr/bin/env bash
+# Reading and checking the pages of large files: `read_ogg` and a small program over libogg's sync layer, which must count the
+# same, and the CPU seconds (user and system) of both, each the best of three runs that take turns. Not part of the tests.
+#
+#     apt-get install libogg-dev && bench/pages.sh [SHAPE ..]      tiny, audio, streams, frames, large; none: all
+set -u
+here=$(cd "$(dirname "$0")" && pwd)
+mux=${PROGRAM:-$here/../crates/ogg_main/out/ogg_main}
+reader=${READ_OGG:-$here/../crates/read_ogg/out/read_ogg}
+work=$(mktemp -d "${TMPDIR:-/tmp}/pages-bench.XXXXXX")
+trap 'rm -rf "$work"' EXIT
+
+for program in "$mux" "$reader"; do
+    [ -x "$program" ] || { echo "no program at $program: ./check builds it" >&2; exit 1; }
+done
+cc -O2 -o "$work/pages_libogg" "$here/pages_libogg.c" -logg || exit 1
+
+# cpu FILE COMMAND ..: runs the command on the pages, what it prints to FILE, and prints its CPU seconds.
+cpu() {
+    local file=$1
+    shift
+    TIMEFORMAT='%U %S'
+    { time "$@" <"$work/pages" >"$file"; } 2>&1 | awk '{ printf "%.3f\n", $1 + $2 }'
+}
+
+printf '%-8s %12s %12s %10s %7s\n' shape 'pages, MB' 'read_ogg, s' 'libogg, s' ratio
+status=0
+for shape in "${@:-tiny audio streams frames large}"; do
+    for shape in $shape; do
+        python3 "$here/feeds.py" "$shape" | "$mux" mux >"$work/pages" 2>"$work/replies" || exit 1
+        ours='' theirs=''
+        for _ in 1 2 3; do
+            ours+="$(cpu "$work/ours" "$reader") "
+            theirs+="$(cpu "$work/theirs" "$work/pages_libogg") "
+        done
+        cmp "$work/ours" "$work/theirs" || status=1
+        echo "$shape $(stat -c %s "$work/pages") $(printf '%s\n' $ours | sort -n | head -n 1) $(printf '%s\n' $theirs | sort -n | head -n 1)" |
+            awk '{ printf "%-8s %12.1f %12.2f %10.2f %7.2f\n", $1, $2 / 1e6, $3, $4, $3 / $4 }'
+    done
+done
+[ "$status" -eq 0 ] || echo "they differ"
+exit "$status"

@@ -1,0 +1,16 @@
+#!/usr/bin/env bash
+# Pages, packets and chains in bytes of all kinds, read by the program and by a plain program of the tests' own.
+here=$(cd "$(dirname "${BASH_SOURCE[0]}")" && pwd)
+program=${READ_OGG:-$here/../../crates/read_ogg/out/read_ogg}
+passed=0
+failed=0
+for files in damage foreign random; do
+    if timeout 300 python3 "$here/reading.py" "$program" "$files"; then
+        passed=$((passed + 1))
+    else
+        failed=$((failed + 1))
+        echo "FAILED: $files"
+    fi
+done
+echo "$passed passed, $failed failed"
+[ "$failed" -eq 0 ]
