@@ -4,4 +4,5 @@ pub mod Opened
 pub mod Slices
 pub mod PageHolds
 pub mod AllHeld
+pub mod Placed
 pub mod Examples

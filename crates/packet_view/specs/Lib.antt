@@ -3,6 +3,7 @@ pub mod Packets
 pub mod Front
 pub mod Walking
 pub mod Packet
+pub mod Placed
 pub mod Giving
 pub mod Reading
 pub mod Whole

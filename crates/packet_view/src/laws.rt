@@ -3,10 +3,17 @@ ghost use Rattle.std.specs.Prelude.{◌<◌, List, ℕ, slice_index};
 ghost use Rattle.ogg_page.specs.Pages.{found_in};
 ghost use Rattle.packet_view.specs.Packets.{packets_of};
 ghost use Rattle.packet_view.specs.Held.{AreHeld};
+ghost use Rattle.packet_view.specs.Placed.{AreInOrder, parts_of_all};
 
 /// The packets that [`Packets`](crate::Packets) gives are those that the stream's pages before the
 /// first page at fault hold, in order and whole; each of those pages fits the stream's pages before
 /// it, and the fault is that of what comes next.
 pub fn packets_are_held()
     ensures { (serial : ℕ) (bytes : List ℕ) → ((i : ℕ) → slice_index bytes i < 256) → AreHeld serial (found_in 0 bytes) (packets_of serial bytes) }
+{}
+
+/// The parts of these packets are the source's bytes at their places. None is empty, and none begins
+/// before the end of the one before it, in the same packet or in an earlier one.
+pub fn parts_are_in_order()
+    ensures { (serial : ℕ) (bytes : List ℕ) → ((i : ℕ) → slice_index bytes i < 256) → AreInOrder bytes 0 (parts_of_all (packets_of serial bytes).packets) }
 {}

@@ -20,7 +20,7 @@ mod unread;
 mod walking;
 
 pub use fault::ViewFault;
-pub use laws::packets_are_held;
+pub use laws::{packets_are_held, parts_are_in_order};
 pub use packet::Packet;
 pub use packets::Packets;
 pub use parts::Parts;
