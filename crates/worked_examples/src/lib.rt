@@ -10,3 +10,5 @@
 mod multiplexing;
 #[cfg(test)]
 mod records;
+#[cfg(test)]
+mod taking;

@@ -4,9 +4,9 @@ use crate::records::Record::{
     Begin, BeginMany, BeginManyWithSkeleton, BeginWithSkeleton, Bytes, End, Put, PutMany,
 };
 use crate::records::{Described, Packet, Record, append};
+use crate::taking::take_pages;
 use feed_codec::{FeedFault, RunFault};
 use multiplexer::mux;
-use ogg_page::Pages;
 use packet_view::Packets;
 use std::test::Fail;
 
@@ -351,23 +351,15 @@ fn each_command_is_answered_and_its_pages_are_written(rt: HostRuntime) -> Result
         assert_eq!(rt; replies.as_slice(), lines.as_slice());
         assert_eq!(rt; tally.commands, example.turns.len() as u64);
         assert_eq!(rt; (tally.end, pages.len() as u64), (example.end, example.end));
-        assert_eq!(rt; end_of_pages(pages.as_slice()), Some(example.end));
+        let taken = take_pages(rt.alloc(), pages.as_slice())?;
+        assert_eq!(rt; (taken.end, taken.fault), (example.end, None));
+        assert_eq!(rt; taken.shape.unfinished(), None);
         for (at, bytes) in example.found {
             let stands = pages.get(*at..).is_some_and(|rest| rest.starts_with(bytes));
             assert!(rt; stands, "{bytes:?} at {at}");
         }
     }
     Ok(())
-}
-
-/// Where the pages end, if the bytes are pages and nothing else.
-fn end_of_pages(bytes: &[u8]) -> Option<u64> {
-    let mut end = 0u64;
-    for found in Pages::of(bytes) {
-        let (offset, page) = found.ok()?;
-        end = offset.saturating_add(page.whole().len() as u64);
-    }
-    Some(end)
 }
 
 /// The begin of the stream with serial 1 and the header `abc`, whose payload is said to be one byte

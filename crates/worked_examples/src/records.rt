@@ -31,6 +31,8 @@ pub enum Record {
     /// A begin with a Skeleton of serial 1000 and of so many streams, with the serials from 1 on and the
     /// header `abc`.
     BeginManyWithSkeleton(u16),
+    /// A begin of the stream with this serial and the header `abc`.
+    BeginOne(u32),
     /// A begin of so many streams, with the serials from 1 on and the header `abc`.
     BeginMany(u16),
     /// A put of packets, each with its serial and its position.
@@ -72,6 +74,11 @@ pub fn append(record: Record, feed: &mut Vec<u8>) -> Result<(), Fail> {
                 };
                 append_described(&stream, &mut payload)?;
             }
+            append_payload(1, payload.as_slice(), feed)
+        }
+        Record::BeginOne(serial) => {
+            let mut payload = begin_of(alloc, 1)?;
+            append_stream(serial, &[Packet::Text(b"abc")], &mut payload)?;
             append_payload(1, payload.as_slice(), feed)
         }
         Record::BeginMany(count) => {
