@@ -1,14 +1,15 @@
--- A message of eight bytes more, by the checksum of what came before and of each byte.
-use Rattle.std.proofs.Common.{◌≡◌, ℕ, zero, suc, ◌+◌, ◌*◌, ◌%◌, ◌^◌, ◌<◌, Bool, false, List, [], ◌∷◌, ◌++◌, length, replicate, get_or, refl, sym, ◌∙◌, ap, subst, arith, append_assoc, length-append}
+-- A message of words more, by the checksum of what came before and of each byte.
+use Rattle.std.proofs.Common.{◌≡◌, ℕ, zero, suc, ◌+◌, ◌*◌, ◌^◌, ◌<◌, Bool, false, List, [], ◌∷◌, ◌++◌, length, replicate, get_or, refl, sym, ◌∙◌, ap, subst, arith, append_assoc, length-append, take, drop}
 use Rattle.std.specs.Prelude.{bit_xor}
-use Rattle.std.specs.Int.{byte_at}
-use Rattle.std.specs.Int.Bits.{xor_assoc, xor_zero_r}
-use Rattle.std.specs.List.{flat_map, AllByRecursion}
-use Rattle.std.proofs.lemmas.List.{length-replicate, replicate-append-replicate}
+use Rattle.std.specs.Int.{byte_at, to_be_bytes, from_be_bytes, w32}
+use Rattle.std.specs.Int.Bits.{xor_assoc}
+use Rattle.std.specs.List.{flat_map}
+use Rattle.std.proofs.lemmas.List.{length-replicate, replicate-append-replicate, take-append-drop}
+use Rattle.std.proofs.lemmas.Nat.{be_bytes_4, xor_comm}
 use Rattle.std.proofs.lemmas.Grind.{flat_map-append}
 use Rattle.ogg_page.specs.Checksum.{bits_of, number_of, message_bits, add, remainder, checksum_of, entry_before}
 use Rattle.ogg_page.proofs.Division.{zeros, add_parts, add-zeros, zeros-add, remainder-add, remainder-zeros, remainder-append, remainder-more, length-add}
-use Rattle.ogg_page.proofs.BitNumbers.{number-add, number-append, number-bits_of, bits_of-number, length-bits_of, number_lt, small_mod, same_number}
+use Rattle.ogg_page.proofs.BitNumbers.{number-add, number-append, number-bits_of, length-bits_of, number_lt, small_mod, same_number}
 use Rattle.ogg_page.proofs.ByteStep.{left_of, length-left_of}
 
 -- ---- bytes as bits
@@ -16,6 +17,10 @@ pub length-message_bits : (bytes : List ℕ) → length (message_bits bytes) ≡
 unfolding message_bits
 length-message_bits [] = refl
 length-message_bits (b ∷ bytes) = omega (arith, length-append (bits_of 8 b) (flat_map (bits_of 8) bytes), length-bits_of 8 b, length-message_bits bytes)
+
+joined : (xs ys : List ℕ) → message_bits (xs ++ ys) ≡ message_bits xs ++ message_bits ys
+unfolding message_bits
+joined xs ys = flat_map-append (bits_of 8) xs ys
 
 zero_bits : (n : ℕ) → message_bits (replicate n 0) ≡ zeros (8 * n)
 unfolding message_bits bits_of
@@ -53,15 +58,18 @@ left_of-front front rest =
     ∙ ap (λ n. add (remainder n padding) (remainder (f + r) behind)) padded_whole
     ∙ ap (λ l. add (remainder (length (front ++ zeros r)) padding) l) (remainder-more f r behind ∙ ap (remainder r) (remainder-zeros f (rest ++ zeros 32)))
 
-pub checksum-first : (byte : ℕ) (rest : List ℕ) → checksum_of (byte ∷ rest) ≡ bit_xor (entry_before (length rest) byte) (checksum_of rest)
-unfolding checksum_of message_bits left_of
-checksum-first byte rest =
-    let own : List Bool = bits_of 8 byte in
-    let behind : List Bool = flat_map (bits_of 8) rest in
-    let blank : zeros (length behind) ≡ flat_map (bits_of 8) (replicate (length rest) 0) = ap zeros (length-message_bits rest) ∙ sym (zero_bits (length rest)) in
-    ap number_of (left_of-front own behind)
+-- a message in two parts: the first with zeros in the place of the second, and the second
+checksum-apart : (front rest : List ℕ) → checksum_of (front ++ rest) ≡ bit_xor (checksum_of (front ++ replicate (length rest) 0)) (checksum_of rest)
+unfolding checksum_of left_of
+checksum-apart front rest =
+    let own : List Bool = message_bits front in
+    let behind : List Bool = message_bits rest in
+    let blank : own ++ zeros (length behind) ≡ message_bits (front ++ replicate (length rest) 0) =
+    ap (λ l. own ++ l) (ap zeros (length-message_bits rest) ∙ sym (zero_bits (length rest))) ∙ sym (joined front (replicate (length rest) 0)) in
+    ap (λ l. number_of (left_of l)) (joined front rest)
+    ∙ ap number_of (left_of-front own behind)
     ∙ number-add (left_of (own ++ zeros (length behind))) (left_of behind) (length-left_of (own ++ zeros (length behind)) ∙ sym (length-left_of behind))
-    ∙ ap (λ l. bit_xor (number_of (left_of (own ++ l))) (number_of (left_of behind))) blank
+    ∙ ap (λ l. bit_xor (number_of (left_of l)) (number_of (left_of behind))) blank
 
 -- ---- what came before, folded into the first 32 coefficients of what follows
 message_apart : (message word : List Bool) →
@@ -131,134 +139,185 @@ number_of_four a b c d ha hb hc hd =
     ∙ ap (λ n. number_of (bits a) * 2 ^ n + number_of (bits b ++ (bits c ++ (bits d ++ [])))) first_long
     ∙ omega (arith, one a ha, first)
 
-abbrev pub four_of : ℕ → List ℕ
-four_of sum = byte_at 3 sum ∷ byte_at 2 sum ∷ byte_at 1 sum ∷ byte_at 0 sum ∷ []
-
-small_byte : (n : ℕ) → n % 256 < 256
-small_byte n = omega arith
+word_number : (n : ℕ) → n < 2 ^ 32 → number_of (message_bits (to_be_bytes w32 n)) ≡ n
+word_number n small =
+    let spelled : number_of (message_bits (to_be_bytes w32 n)) ≡ byte_at 3 n * 2 ^ 24 + byte_at 2 n * 2 ^ 16 + byte_at 1 n * 2 ^ 8 + byte_at 0 n =
+    number_of_four (byte_at 3 n) (byte_at 2 n) (byte_at 1 n) (byte_at 0 n) (omega arith) (omega arith) (omega arith) (omega arith) in
+    omega (arith, small, spelled)
 
 -- 32 coefficients are the bits of their number's bytes
-pub as_four : (bits : List Bool) → length bits ≡ 32 → bits ≡ message_bits (four_of (number_of bits))
-as_four bits h =
+word_bits : (bits : List Bool) → length bits ≡ 32 → bits ≡ message_bits (to_be_bytes w32 (number_of bits))
+word_bits bits h =
     let n : ℕ = number_of bits in
     let small : n < 2 ^ 32 = subst (λ k. n < 2 ^ k) h (number_lt bits) in
-    let spelled : number_of (message_bits (four_of n)) ≡ byte_at 3 n * 2 ^ 24 + byte_at 2 n * 2 ^ 16 + byte_at 1 n * 2 ^ 8 + byte_at 0 n =
-    number_of_four (byte_at 3 n) (byte_at 2 n) (byte_at 1 n) (byte_at 0 n) (omega arith) (omega arith) (omega arith) (omega arith) in
-    same_number bits (message_bits (four_of n)) (h ∙ sym (length-message_bits (four_of n))) (omega (arith, small, spelled))
-
--- ---- bytes added
-xor_bytes : (x y : ℕ) → x < 256 → y < 256 → add (bits_of 8 x) (bits_of 8 y) ≡ bits_of 8 (bit_xor x y)
-xor_bytes x y hx hy =
-    let sum : List Bool = add (bits_of 8 x) (bits_of 8 y) in
-    sym (bits_of-number 8 sum (length-add (bits_of 8 x) (bits_of 8 y) ∙ length-bits_of 8 x))
-    ∙ ap (bits_of 8) (number-add (bits_of 8 x) (bits_of 8 y) (length-bits_of 8 x ∙ sym (length-bits_of 8 y))
-    ∙ ap (λ n. bit_xor n (number_of (bits_of 8 y))) (number-bits_of 8 x ∙ small_mod x 256 hx)
-    ∙ ap (λ n. bit_xor x n) (number-bits_of 8 y ∙ small_mod y 256 hy))
-
--- byte by byte
-pub xor_each : List ℕ → List ℕ → List ℕ
-xor_each [] ys = []
-xor_each (x ∷ xs) [] = x ∷ xs
-xor_each (x ∷ xs) (y ∷ ys) = bit_xor x y ∷ xor_each xs ys
-
-add_messages : (xs ys : List ℕ) → length xs ≡ length ys → AllByRecursion (λ x. x < 256) xs → AllByRecursion (λ y. y < 256) ys →
-    add (message_bits xs) (message_bits ys) ≡ message_bits (xor_each xs ys)
-unfolding message_bits add xor_each
-add_messages [] [] h hx hy = refl
-add_messages [] (y ∷ ys) h hx hy = absurd (omega arith)
-add_messages (x ∷ xs) [] h hx hy = absurd (omega arith)
-add_messages (x ∷ xs) (y ∷ ys) h (hx, all_x) (hy, all_y) =
-    add_parts (bits_of 8 x) (flat_map (bits_of 8) xs) (bits_of 8 y) (flat_map (bits_of 8) ys) (length-bits_of 8 x ∙ sym (length-bits_of 8 y))
-    ∙ ap (λ l. l ++ add (flat_map (bits_of 8) xs) (flat_map (bits_of 8) ys)) (xor_bytes x y hx hy)
-    ∙ ap (λ l. bits_of 8 (bit_xor x y) ++ l) (add_messages xs ys (omega arith) all_x all_y)
+    same_number bits (message_bits (to_be_bytes w32 n)) (h ∙ sym (length-message_bits (to_be_bytes w32 n))) (sym (word_number n small))
 
 is_number : (bytes : List ℕ) → checksum_of bytes ≡ number_of (left_of (message_bits bytes))
 unfolding checksum_of left_of
 is_number bytes = refl
 
-joined : (xs ys : List ℕ) → message_bits (xs ++ ys) ≡ message_bits xs ++ message_bits ys
-unfolding message_bits
-joined xs ys = flat_map-append (bits_of 8) xs ys
+-- these four bytes spell this number
+pub record IsWord (bytes : List ℕ) (word : ℕ) : Type 0 where
+  pub long : length bytes ≡ 4
+  pub fits : word < 2 ^ 32
+  pub spelled : to_be_bytes w32 word ≡ bytes
 
--- ---- a checksum is folded into the four bytes that follow it
-pub checksum-folded : (front four rest : List ℕ) → length four ≡ 4 → AllByRecursion (λ y. y < 256) four →
-    checksum_of (front ++ (four ++ rest)) ≡ checksum_of (xor_each (four_of (checksum_of front)) four ++ rest)
-checksum-folded front four rest h small =
+-- ---- a checksum is folded into the word that follows it
+checksum-folded : (front bytes rest : List ℕ) (sum word : ℕ) → sum ≡ checksum_of front → IsWord bytes word →
+    checksum_of (front ++ (bytes ++ rest)) ≡ checksum_of (to_be_bytes w32 (bit_xor sum word) ++ rest)
+checksum-folded front bytes rest sum word is four =
     let message : List Bool = message_bits front in
-    let sum : ℕ = checksum_of front in
-    let left : left_of message ≡ message_bits (four_of sum) = as_four (left_of message) (length-left_of message) ∙ ap (λ n. message_bits (four_of n)) (sym (is_number front)) in
-    let word : length (message_bits four) ≡ 32 = omega (arith, length-message_bits four, h) in
-    is_number (front ++ (four ++ rest))
-    ∙ ap (λ l. number_of (left_of l)) (joined front (four ++ rest) ∙ ap (λ l. message ++ l) (joined four rest))
-    ∙ ap number_of (left_of-folded message (message_bits four) (message_bits rest) word)
-    ∙ ap (λ l. number_of (left_of (add l (message_bits four) ++ message_bits rest))) left
-    ∙ ap (λ l. number_of (left_of (l ++ message_bits rest)))
-    (add_messages (four_of sum) four (sym h) (omega arith, (omega arith, (omega arith, (omega arith, tt)))) small)
-    ∙ ap (λ l. number_of (left_of l)) (sym (joined (xor_each (four_of sum) four) rest))
-    ∙ sym (is_number (xor_each (four_of sum) four ++ rest))
+    let own : List Bool = message_bits bytes in
+    let long : length own ≡ 32 = omega (arith, length-message_bits bytes, four.long) in
+    let left : List Bool = left_of message in
+    let left_long : length left ≡ 32 = length-left_of message in
+    let number : number_of (add left own) ≡ bit_xor sum word =
+    number-add left own (left_long ∙ sym long)
+    ∙ ap (λ n. bit_xor n (number_of own)) (sym (is ∙ is_number front))
+    ∙ ap (λ l. bit_xor sum (number_of (message_bits l))) (sym four.spelled)
+    ∙ ap (bit_xor sum) (word_number word four.fits) in
+    let bits : add left own ≡ message_bits (to_be_bytes w32 (bit_xor sum word)) =
+    word_bits (add left own) (length-add left own ∙ left_long) ∙ ap (λ n. message_bits (to_be_bytes w32 n)) number in
+    is_number (front ++ (bytes ++ rest))
+    ∙ ap (λ l. number_of (left_of l)) (joined front (bytes ++ rest) ∙ ap (λ l. message ++ l) (joined bytes rest))
+    ∙ ap number_of (left_of-folded message own (message_bits rest) long)
+    ∙ ap (λ l. number_of (left_of (l ++ message_bits rest))) bits
+    ∙ ap (λ l. number_of (left_of l)) (sym (joined (to_be_bytes w32 (bit_xor sum word)) rest))
+    ∙ sym (is_number (to_be_bytes w32 (bit_xor sum word) ++ rest))
 
--- ---- eight bytes, each with the zeros behind it
+-- ---- words, each with the zeros behind it
+abbrev pub word_before : ℕ → ℕ → ℕ
+word_before zeros word = checksum_of (to_be_bytes w32 word ++ replicate zeros 0)
+
+word_apart : (bytes rest : List ℕ) (word : ℕ) → IsWord bytes word → checksum_of (bytes ++ rest) ≡ bit_xor (word_before (length rest) word) (checksum_of rest)
+word_apart bytes rest word four =
+    checksum-apart bytes rest ∙ ap (λ l. bit_xor (checksum_of (l ++ replicate (length rest) 0)) (checksum_of rest)) (sym four.spelled)
+
+first_apart : (front bytes rest : List ℕ) (sum word : ℕ) → sum ≡ checksum_of front → IsWord bytes word →
+    checksum_of (front ++ (bytes ++ rest)) ≡ bit_xor (word_before (length rest) (bit_xor sum word)) (checksum_of rest)
+first_apart front bytes rest sum word is four =
+    checksum-folded front bytes rest sum word is four ∙ checksum-apart (to_be_bytes w32 (bit_xor sum word)) rest
+
 no_checksum : checksum_of [] ≡ 0
 unfolding checksum_of message_bits remainder number_of
 no_checksum = refl
 
-in_order : (a b c d e f g h : ℕ) →
-    bit_xor a (bit_xor b (bit_xor c (bit_xor d (bit_xor e (bit_xor f (bit_xor g h))))))
-    ≡ bit_xor (bit_xor (bit_xor (bit_xor (bit_xor (bit_xor (bit_xor a b) c) d) e) f) g) h
-in_order a b c d e f g h =
-    sym (xor_assoc a b (bit_xor c (bit_xor d (bit_xor e (bit_xor f (bit_xor g h))))))
-    ∙ sym (xor_assoc (bit_xor a b) c (bit_xor d (bit_xor e (bit_xor f (bit_xor g h)))))
-    ∙ sym (xor_assoc (bit_xor (bit_xor a b) c) d (bit_xor e (bit_xor f (bit_xor g h))))
-    ∙ sym (xor_assoc (bit_xor (bit_xor (bit_xor a b) c) d) e (bit_xor f (bit_xor g h)))
-    ∙ sym (xor_assoc (bit_xor (bit_xor (bit_xor (bit_xor a b) c) d) e) f (bit_xor g h))
-    ∙ sym (xor_assoc (bit_xor (bit_xor (bit_xor (bit_xor (bit_xor a b) c) d) e) f) g h)
+last_word : (bytes : List ℕ) (word : ℕ) → IsWord bytes word → checksum_of (bytes ++ []) ≡ word_before 0 word
+last_word bytes word four = ap (λ l. checksum_of (l ++ [])) (sym four.spelled)
 
-last_one : (h : ℕ) → bit_xor (entry_before 0 h) (checksum_of []) ≡ entry_before 0 h
-last_one h = ap (λ n. bit_xor (entry_before 0 h) n) no_checksum ∙ xor_zero_r (entry_before 0 h)
+-- one word behind a message with this checksum, two words and four
+pub checksum-on_four : (front a : List ℕ) (sum v : ℕ) → sum ≡ checksum_of front → IsWord a v →
+    word_before 0 (bit_xor sum v) ≡ checksum_of (front ++ (a ++ []))
+checksum-on_four front a sum v is h = sym (checksum-folded front a [] sum v is h)
 
-pub checksum-eight : (a b c d e f g h : ℕ) → checksum_of (a ∷ b ∷ c ∷ d ∷ e ∷ f ∷ g ∷ h ∷ [])
-    ≡ bit_xor (bit_xor (bit_xor (bit_xor (bit_xor (bit_xor (bit_xor (entry_before 7 a) (entry_before 6 b)) (entry_before 5 c)) (entry_before 4 d)) (entry_before 3 e)) (entry_before 2 f)) (entry_before 1 g)) (entry_before 0 h)
-checksum-eight a b c d e f g h =
-    checksum-first a (b ∷ c ∷ d ∷ e ∷ f ∷ g ∷ h ∷ [])
-    ∙ ap (λ n. bit_xor (entry_before 7 a) n) (checksum-first b (c ∷ d ∷ e ∷ f ∷ g ∷ h ∷ [])
-    ∙ ap (λ n. bit_xor (entry_before 6 b) n) (checksum-first c (d ∷ e ∷ f ∷ g ∷ h ∷ [])
-    ∙ ap (λ n. bit_xor (entry_before 5 c) n) (checksum-first d (e ∷ f ∷ g ∷ h ∷ [])
-    ∙ ap (λ n. bit_xor (entry_before 4 d) n) (checksum-first e (f ∷ g ∷ h ∷ [])
-    ∙ ap (λ n. bit_xor (entry_before 3 e) n) (checksum-first f (g ∷ h ∷ [])
-    ∙ ap (λ n. bit_xor (entry_before 2 f) n) (checksum-first g (h ∷ [])
-    ∙ ap (λ n. bit_xor (entry_before 1 g) n) (checksum-first h [] ∙ last_one h)))))))
-    ∙ in_order (entry_before 7 a) (entry_before 6 b) (entry_before 5 c) (entry_before 4 d) (entry_before 3 e) (entry_before 2 f) (entry_before 1 g) (entry_before 0 h)
+pub checksum-on_eight : (front a b : List ℕ) (sum v w : ℕ) → sum ≡ checksum_of front → IsWord a v → IsWord b w →
+    bit_xor (word_before 0 w) (word_before 4 (bit_xor sum v)) ≡ checksum_of (front ++ (a ++ (b ++ [])))
+checksum-on_eight front a b sum v w is ha hb =
+    let four : length (b ++ []) ≡ 4 = omega (arith, length-append b [], hb.long) in
+    xor_comm (word_before 0 w) (word_before 4 (bit_xor sum v))
+    ∙ ap (λ n. bit_xor (word_before 4 (bit_xor sum v)) n) (sym (last_word b w hb))
+    ∙ ap (λ n. bit_xor (word_before n (bit_xor sum v)) (checksum_of (b ++ []))) (sym four)
+    ∙ sym (first_apart front a (b ++ []) sum v is ha)
 
--- eight bytes behind a message with this checksum
-pub checksum-on_eight : (front : List ℕ) (sum a b c d e f g h : ℕ) → sum ≡ checksum_of front → a < 256 → b < 256 → c < 256 → d < 256 →
-    checksum_of (front ++ a ∷ b ∷ c ∷ d ∷ e ∷ f ∷ g ∷ h ∷ [])
-    ≡ bit_xor (bit_xor (bit_xor (bit_xor (bit_xor (bit_xor (bit_xor (entry_before 7 (bit_xor (byte_at 3 sum) a)) (entry_before 6 (bit_xor (byte_at 2 sum) b))) (entry_before 5 (bit_xor (byte_at 1 sum) c))) (entry_before 4 (bit_xor (byte_at 0 sum) d))) (entry_before 3 e)) (entry_before 2 f)) (entry_before 1 g)) (entry_before 0 h)
-unfolding xor_each
-checksum-on_eight front sum a b c d e f g h is ha hb hc hd =
-    checksum-folded front (a ∷ b ∷ c ∷ d ∷ []) (e ∷ f ∷ g ∷ h ∷ []) refl (ha, (hb, (hc, (hd, tt))))
-    ∙ ap (λ n. checksum_of (xor_each (four_of n) (a ∷ b ∷ c ∷ d ∷ []) ++ e ∷ f ∷ g ∷ h ∷ [])) (sym is)
-    ∙ checksum-eight (bit_xor (byte_at 3 sum) a) (bit_xor (byte_at 2 sum) b) (bit_xor (byte_at 1 sum) c) (bit_xor (byte_at 0 sum) d) e f g h
+pub checksum-on_sixteen : (front a b c d : List ℕ) (sum v w x y : ℕ) → sum ≡ checksum_of front → IsWord a v → IsWord b w → IsWord c x → IsWord d y →
+    bit_xor (bit_xor (bit_xor (word_before 8 w) (word_before 4 x)) (word_before 0 y)) (word_before 12 (bit_xor sum v))
+    ≡ checksum_of (front ++ (a ++ (b ++ (c ++ (d ++ [])))))
+checksum-on_sixteen front a b c d sum v w x y is ha hb hc hd =
+    let four : length (d ++ []) ≡ 4 = omega (arith, length-append d [], hd.long) in
+    let eight : length (c ++ (d ++ [])) ≡ 8 = omega (arith, length-append c (d ++ []), hc.long, four) in
+    let twelve : length (b ++ (c ++ (d ++ []))) ≡ 12 = omega (arith, length-append b (c ++ (d ++ [])), hb.long, eight) in
+    let third : checksum_of (c ++ (d ++ [])) ≡ bit_xor (word_before 4 x) (word_before 0 y) =
+    word_apart c (d ++ []) x hc
+    ∙ ap (λ n. bit_xor (word_before n x) (checksum_of (d ++ []))) four
+    ∙ ap (bit_xor (word_before 4 x)) (last_word d y hd) in
+    let second : checksum_of (b ++ (c ++ (d ++ []))) ≡ bit_xor (word_before 8 w) (bit_xor (word_before 4 x) (word_before 0 y)) =
+    word_apart b (c ++ (d ++ [])) w hb
+    ∙ ap (λ n. bit_xor (word_before n w) (checksum_of (c ++ (d ++ [])))) eight
+    ∙ ap (bit_xor (word_before 8 w)) third in
+    let first : checksum_of (front ++ (a ++ (b ++ (c ++ (d ++ [])))))
+    ≡ bit_xor (word_before 12 (bit_xor sum v)) (bit_xor (word_before 8 w) (bit_xor (word_before 4 x) (word_before 0 y))) =
+    first_apart front a (b ++ (c ++ (d ++ []))) sum v is ha
+    ∙ ap (λ n. bit_xor (word_before n (bit_xor sum v)) (checksum_of (b ++ (c ++ (d ++ []))))) twelve
+    ∙ ap (bit_xor (word_before 12 (bit_xor sum v))) second in
+    xor_comm (bit_xor (bit_xor (word_before 8 w) (word_before 4 x)) (word_before 0 y)) (word_before 12 (bit_xor sum v))
+    ∙ ap (bit_xor (word_before 12 (bit_xor sum v))) (xor_assoc (word_before 8 w) (word_before 4 x) (word_before 0 y))
+    ∙ sym first
 
--- ---- eight bytes, one by one
-abbrev pub added_up : ℕ → ℕ → ℕ → ℕ → ℕ → ℕ → ℕ → ℕ → ℕ
-added_up a b c d e f g h = bit_xor (bit_xor (bit_xor (bit_xor (bit_xor (bit_xor (bit_xor a b) c) d) e) f) g) h
+-- ---- the bytes of a word, each with the zeros behind it
+checksum-first : (byte : ℕ) (rest : List ℕ) → checksum_of (byte ∷ rest) ≡ bit_xor (entry_before (length rest) byte) (checksum_of rest)
+checksum-first byte rest = checksum-apart (byte ∷ []) rest
 
-pub same_sum : (a b c d e f g h a' b' c' d' e' f' g' h' : ℕ) → a ≡ a' → b ≡ b' → c ≡ c' → d ≡ d' → e ≡ e' → f ≡ f' → g ≡ g' → h ≡ h' →
-    added_up a b c d e f g h ≡ added_up a' b' c' d' e' f' g' h'
-same_sum a b c d e f g h a' b' c' d' e' f' g' h' pa pb pc pd pe pf pg ph =
-    ap (λ x. added_up x b c d e f g h) pa ∙ ap (λ x. added_up a' x c d e f g h) pb ∙ ap (λ x. added_up a' b' x d e f g h) pc
-    ∙ ap (λ x. added_up a' b' c' x e f g h) pd ∙ ap (λ x. added_up a' b' c' d' x f g h) pe ∙ ap (λ x. added_up a' b' c' d' e' x g h) pf
-    ∙ ap (λ x. added_up a' b' c' d' e' f' x h) pg ∙ ap (λ x. added_up a' b' c' d' e' f' g' x) ph
+pub entries_of_word : (a b c d zeros : ℕ) →
+    bit_xor (bit_xor (bit_xor (entry_before (zeros + 3) a) (entry_before (zeros + 2) b)) (entry_before (zeros + 1) c)) (entry_before zeros d)
+    ≡ checksum_of (a ∷ b ∷ c ∷ d ∷ replicate zeros 0)
+entries_of_word a b c d zeros =
+    let blank : List ℕ = replicate zeros 0 in
+    let long : length blank ≡ zeros = length-replicate zeros 0 in
+    let one : length (d ∷ blank) ≡ zeros + 1 = omega (arith, long) in
+    let two : length (c ∷ d ∷ blank) ≡ zeros + 2 = omega (arith, long) in
+    let three : length (b ∷ c ∷ d ∷ blank) ≡ zeros + 3 = omega (arith, long) in
+    let third : checksum_of (c ∷ d ∷ blank) ≡ bit_xor (entry_before (zeros + 1) c) (entry_before zeros d) =
+    checksum-first c (d ∷ blank) ∙ ap (λ n. bit_xor (entry_before n c) (checksum_of (d ∷ blank))) one in
+    let second : checksum_of (b ∷ c ∷ d ∷ blank) ≡ bit_xor (entry_before (zeros + 2) b) (checksum_of (c ∷ d ∷ blank)) =
+    checksum-first b (c ∷ d ∷ blank) ∙ ap (λ n. bit_xor (entry_before n b) (checksum_of (c ∷ d ∷ blank))) two in
+    let first : checksum_of (a ∷ b ∷ c ∷ d ∷ blank) ≡ bit_xor (entry_before (zeros + 3) a) (checksum_of (b ∷ c ∷ d ∷ blank)) =
+    checksum-first a (b ∷ c ∷ d ∷ blank) ∙ ap (λ n. bit_xor (entry_before n a) (checksum_of (b ∷ c ∷ d ∷ blank))) three in
+    let e : ℕ → ℕ → ℕ = entry_before in
+    ap (λ n. bit_xor n (e zeros d)) (xor_assoc (e (zeros + 3) a) (e (zeros + 2) b) (e (zeros + 1) c))
+    ∙ xor_assoc (e (zeros + 3) a) (bit_xor (e (zeros + 2) b) (e (zeros + 1) c)) (e zeros d)
+    ∙ ap (bit_xor (e (zeros + 3) a)) (xor_assoc (e (zeros + 2) b) (e (zeros + 1) c) (e zeros d) ∙ ap (bit_xor (e (zeros + 2) b)) (sym third) ∙ sym second)
+    ∙ sym first
 
-pub eight_are : (xs : List ℕ) → length xs ≡ 8 → xs
-    ≡ get_or xs 0 0 ∷ get_or xs 1 0 ∷ get_or xs 2 0 ∷ get_or xs 3 0 ∷ get_or xs 4 0 ∷ get_or xs 5 0 ∷ get_or xs 6 0 ∷ get_or xs 7 0 ∷ []
-eight_are [] l = absurd (omega arith)
-eight_are (a ∷ []) l = absurd (omega arith)
-eight_are (a ∷ b ∷ []) l = absurd (omega arith)
-eight_are (a ∷ b ∷ c ∷ []) l = absurd (omega arith)
-eight_are (a ∷ b ∷ c ∷ d ∷ []) l = absurd (omega arith)
-eight_are (a ∷ b ∷ c ∷ d ∷ e ∷ []) l = absurd (omega arith)
-eight_are (a ∷ b ∷ c ∷ d ∷ e ∷ f ∷ []) l = absurd (omega arith)
-eight_are (a ∷ b ∷ c ∷ d ∷ e ∷ f ∷ g ∷ []) l = absurd (omega arith)
-eight_are (a ∷ b ∷ c ∷ d ∷ e ∷ f ∷ g ∷ h ∷ []) l = refl
-eight_are (a ∷ b ∷ c ∷ d ∷ e ∷ f ∷ g ∷ h ∷ i ∷ rest) l = absurd (omega arith)
+-- ---- an array, byte by byte
+abbrev pub gets : ℕ → ℕ → List ℕ → List ℕ
+gets k zero xs = []
+gets k (suc n) xs = get_or xs k 0 ∷ gets (suc k) n xs
+
+gets-behind : (k n x : ℕ) (xs : List ℕ) → gets (suc k) n (x ∷ xs) ≡ gets k n xs
+gets-behind k zero x xs = refl
+gets-behind k (suc n) x xs = ap (λ l. get_or xs k 0 ∷ l) (gets-behind (suc k) n x xs)
+
+all_got : (xs : List ℕ) → gets 0 (length xs) xs ≡ xs
+all_got [] = refl
+all_got (x ∷ xs) = ap (λ l. x ∷ l) (gets-behind 0 (length xs) x xs ∙ all_got xs)
+
+pub bytes_are : (n : ℕ) (xs : List ℕ) → length xs ≡ n → gets 0 n xs ≡ xs
+bytes_are n xs h = ap (λ k. gets 0 k xs) (sym h) ∙ all_got xs
+
+four_small : (k : ℕ) (xs : List ℕ) → ((i : ℕ) → get_or xs i 0 < 256) → (i : ℕ) → get_or (gets k 4 xs) i 0 < 256
+four_small k xs h zero = h k
+four_small k xs h (suc zero) = h (suc k)
+four_small k xs h (suc (suc zero)) = h (suc (suc k))
+four_small k xs h (suc (suc (suc zero))) = h (suc (suc (suc k)))
+four_small k xs h (suc (suc (suc (suc i)))) = omega arith
+
+-- the four bytes from this one on are a word
+pub word_of : (k : ℕ) (xs : List ℕ) (word : ℕ) → ((i : ℕ) → get_or xs i 0 < 256) → word ≡ from_be_bytes w32 (gets k 4 xs) → IsWord (gets k 4 xs) word
+word_of k xs word small is =
+    let each : (i : ℕ) → get_or (gets k 4 xs) i 0 < 256 = four_small k xs small in
+    record {
+      long = refl;
+      fits = omega (arith, is, small k, small (suc k), small (suc (suc k)), small (suc (suc (suc k))));
+      spelled = be_bytes_4 (gets k 4 xs) word refl each is;
+    }
+
+-- ---- piece by piece
+-- the sum is that of what came before and of the bytes that are gone
+abbrev pub IsSumSoFar : ℕ → List ℕ → List ℕ → ℕ → Type 0
+IsSumSoFar before bytes rest sum =
+    (front : List ℕ) → before ≡ checksum_of front → (gone : List ℕ) × (bytes ≡ gone ++ rest) × (sum ≡ checksum_of (front ++ gone))
+
+one_more : (front bytes rest piece others : List ℕ) (sum next : ℕ) → (gone : List ℕ) × (bytes ≡ gone ++ rest) × (sum ≡ checksum_of (front ++ gone)) →
+    rest ≡ piece ++ others → ((f : List ℕ) → sum ≡ checksum_of f → next ≡ checksum_of (f ++ piece)) →
+    (gone : List ℕ) × (bytes ≡ gone ++ others) × (next ≡ checksum_of (front ++ gone))
+one_more front bytes rest piece others sum next (gone, all, is) split step = (
+  gone ++ piece,
+  all ∙ ap (λ l. gone ++ l) split ∙ sym (append_assoc gone piece others),
+  step (front ++ gone) is ∙ ap checksum_of (append_assoc front gone piece),
+)
+
+pub piece_on : (before n : ℕ) (bytes rest piece others : List ℕ) (sum next : ℕ) → IsSumSoFar before bytes rest sum →
+    piece ≡ take n rest → others ≡ drop n rest → ((f : List ℕ) → sum ≡ checksum_of f → next ≡ checksum_of (f ++ piece)) → IsSumSoFar before bytes others next
+piece_on before n bytes rest piece others sum next so_far first behind step = λ front is.
+    let split : rest ≡ piece ++ others = sym (take-append-drop n rest) ∙ ap (λ l. l ++ drop n rest) (sym first) ∙ ap (λ l. piece ++ l) (sym behind) in
+    one_more front bytes rest piece others sum next (so_far front is) split step

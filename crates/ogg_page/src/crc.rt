@@ -1,8 +1,9 @@
 //! The checksum of a page.
-ghost use Rattle.std.specs.Prelude.{◌≡◌, ◌<◌, ◌++◌, List, ℕ};
+ghost use Rattle.std.specs.Prelude.{◌≡◌, ◌<◌, ◌≤◌, ◌++◌, replicate, List, ℕ};
+ghost use Rattle.std.specs.Int.{to_be_bytes, w32};
 ghost use Rattle.ogg_page.specs.Checksum.{checksum_of, entry_before};
 
-use crate::table::{FAR, NEAR};
+use crate::table::ENTRIES;
 
 /// The checksum of the bytes: a cyclic redundancy check of 32 bits with the generator 0x04C11DB7,
 /// most significant bit first, from 0 on (RFC 3533, section 6, field 7).
@@ -18,40 +19,68 @@ pub fn checksum_on(before: u32, bytes: &[u8]) -> u32
 {
     let mut sum = before;
     let mut rest = bytes;
+    while let Some((sixteen, others)) = rest.split_first_chunk::<16>() {
+        sum = checksum_on_sixteen(sum, sixteen);
+        rest = others;
+    }
     while let Some((eight, others)) = rest.split_first_chunk::<8>() {
         sum = checksum_on_eight(sum, eight);
+        rest = others;
+    }
+    while let Some((four, others)) = rest.split_first_chunk::<4>() {
+        sum = checksum_on_four(sum, four);
         rest = others;
     }
     checksum_on_each(sum, rest)
 }
 
-/// The same of eight bytes: what came before adds to the first four, and then each byte adds the
-/// checksum that it has with the bytes behind it as zeros.
+/// The same of sixteen bytes: what came before adds to the first word, and then each word adds the
+/// checksum that it has with the words behind it as zeros.
+fn checksum_on_sixteen(before: u32, bytes: &[u8; 16]) -> u32
+    ensures { (front : List ℕ) → before ≡ checksum_of front → result ≡ checksum_of (front ++ bytes.now) }
+{
+    let first = before ^ u32::from_be_bytes([bytes[0], bytes[1], bytes[2], bytes[3]]);
+    let second = u32::from_be_bytes([bytes[4], bytes[5], bytes[6], bytes[7]]);
+    let third = u32::from_be_bytes([bytes[8], bytes[9], bytes[10], bytes[11]]);
+    let fourth = u32::from_be_bytes([bytes[12], bytes[13], bytes[14], bytes[15]]);
+    // The first word is the last to be added, since it alone waits for the bytes before.
+    checksum_of_word(second, 8)
+        ^ checksum_of_word(third, 4)
+        ^ checksum_of_word(fourth, 0)
+        ^ checksum_of_word(first, 12)
+}
+
+/// The same of eight bytes.
 fn checksum_on_eight(before: u32, bytes: &[u8; 8]) -> u32
     ensures { (front : List ℕ) → before ≡ checksum_of front → result ≡ checksum_of (front ++ bytes.now) }
 {
-    let [s0, s1, s2, s3] = before.to_be_bytes();
-    let [b0, b1, b2, b3, b4, b5, b6, b7] = *bytes;
-    entry(s0 ^ b0, 7)
-        ^ entry(s1 ^ b1, 6)
-        ^ entry(s2 ^ b2, 5)
-        ^ entry(s3 ^ b3, 4)
-        ^ entry(b4, 3)
-        ^ entry(b5, 2)
-        ^ entry(b6, 1)
-        ^ entry(b7, 0)
+    let first = before ^ u32::from_be_bytes([bytes[0], bytes[1], bytes[2], bytes[3]]);
+    let second = u32::from_be_bytes([bytes[4], bytes[5], bytes[6], bytes[7]]);
+    checksum_of_word(second, 0) ^ checksum_of_word(first, 4)
+}
+
+/// The same of four bytes.
+fn checksum_on_four(before: u32, bytes: &[u8; 4]) -> u32
+    ensures { (front : List ℕ) → before ≡ checksum_of front → result ≡ checksum_of (front ++ bytes.now) }
+{
+    checksum_of_word(before ^ u32::from_be_bytes(*bytes), 0)
+}
+
+/// The checksum of a word's bytes, the highest first, with so many zeros behind them.
+fn checksum_of_word(word: u32, zeros: usize) -> u32
+    requires { zeros ≤ 12 }
+    ensures { result ≡ checksum_of (to_be_bytes w32 word ++ replicate zeros 0) }
+{
+    let [b0, b1, b2, b3] = word.to_be_bytes();
+    entry(b0, zeros + 3) ^ entry(b1, zeros + 2) ^ entry(b2, zeros + 1) ^ entry(b3, zeros)
 }
 
 /// The checksum of a byte with so many zeros behind it.
 fn entry(byte: u8, zeros: usize) -> u32
-    requires { zeros < 8 }
+    requires { zeros < 16 }
     ensures { result ≡ entry_before zeros byte }
 {
-    if zeros < 4 {
-        NEAR[usize::from(byte)][zeros]
-    } else {
-        FAR[usize::from(byte)][zeros - 4]
-    }
+    ENTRIES[zeros][usize::from(byte)]
 }
 
 /// The same, byte by byte.

@@ -3,12 +3,13 @@ use super::*;
 use std::test::Fail;
 
 /// Bytes and their checksum, as libogg has it.
-const CHECKSUMS: [(&[u8], u32); 5] = [
+const CHECKSUMS: [(&[u8], u32); 6] = [
     (b"", 0),
     (&[0x01], 0x04C1_1DB7),
     (&[0x02], 0x0982_3B6E),
     (&[0x80], 0x690C_E0EE),
     (b"123456789", 0x89A1_897F),
+    (b"abcdefghijklmnopqrstuvwxyz01234", 0xF3AF_5714),
 ];
 
 #[test]
