@@ -2,7 +2,6 @@
 use Rattle.std.specs.Prelude.{◌≡◌, ℕ, ◌+◌, ◌<◌, ◌≤◌, ◌^◌, List, [], ◌∷◌, ◌++◌, length, sum}
 use Rattle.std.specs.List.{AllByRecursion, flat_map}
 use Rattle.std.specs.Prelude.{codes}
-use Rattle.std.specs.Borrow.{Bor}
 use Rattle.byteorder.specs.Endian.{little_bytes}
 use Rattle.ogg_page.specs.declared.head.PageHead.{PageHead}
 use Rattle.ogg_page.specs.Checksum.{checksum_of}
@@ -56,7 +55,3 @@ bytes_of_pages pages = flat_map page_bytes pages
 abbrev pub page_of : PageHead → List ℕ → List ℕ → Page
 page_of head lacing body =
     record { flags = head.flags; position = head.position; serial = head.serial; sequence = head.sequence; lacing = lacing; body = body }
-
--- the bytes of slices, one after the other
-abbrev pub joined : List (Bor (List ℕ)) → List ℕ
-joined pieces = flat_map (λ (piece : Bor (List ℕ)). piece.now) pieces

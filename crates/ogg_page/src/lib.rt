@@ -33,7 +33,7 @@ pub use page::Page;
 pub use pages::Pages;
 pub use reading::{read_page, split_known_page, split_page};
 pub use std::alloc::AllocError as Memory;
-pub use writing::{write_page, write_page_of};
+pub use writing::{close_page, open_page, write_page};
 
 #[cfg(test)]
 mod tests;

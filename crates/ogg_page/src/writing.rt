@@ -1,12 +1,11 @@
 //! Pages as bytes.
-ghost use Rattle.std.specs.Prelude.{◌≡◌, ◌+◌, ◌≤◌, ◌<◌, ◌++◌, length, sum, OnOk, OnErr, List, ℕ, vec_len, vec_capacity, take};
-ghost use Rattle.ogg_page.specs.Checksum.{checksum_of};
-ghost use Rattle.ogg_page.specs.Page.{page_of, page_bytes, fixed_part, joined};
+ghost use Rattle.std.specs.Prelude.{◌≡◌, ◌+◌, ◌≤◌, ◌<◌, ◌++◌, length, sum, OnOk, OnErr, List, ℕ, vec_len, vec_capacity};
+ghost use Rattle.byteorder.specs.Endian.{little_bytes};
+ghost use Rattle.ogg_page.specs.Page.{Page, page_of, page_bytes, bytes_with, fixed_part};
 
 use crate::Memory;
-use crate::crc::{checksum, checksum_on};
+use crate::crc::checksum;
 use crate::head::{FIXED, PageHead};
-use crate::lacing::body_size;
 use byteorder::{ByteOrder, LittleEndian};
 
 /// Appends a page (RFC 3533, section 6). After `Memory` the vector is unchanged.
@@ -23,43 +22,54 @@ pub fn write_page(
     ensures full { OnErr result (vec_capacity out.old < vec_len out.old + (27 + length lacing.now + length body.now)) }
     ensures capacity { vec_capacity out.old ≤ vec_capacity out.new }
 {
-    write_page_of(head, lacing, &[body], out)
-}
-
-/// Appends a page whose body lies in pieces. After `Memory` the vector is unchanged.
-pub fn write_page_of(
-    head: &PageHead,
-    lacing: &[u8],
-    pieces: &[&[u8]],
-    out: &mut Vec<u8>,
-) -> Result<(), Memory>
-    requires values { length lacing.now ≤ 255 }
-    requires whole { sum lacing.now ≡ length (joined pieces.now) }
-    ensures ok { OnOk result (out.new.items ≡ out.old.items ++ page_bytes (page_of head.now lacing.now (joined pieces.now))) }
-    ensures err { OnErr result (out.new.items ≡ out.old.items) }
-    ensures full { OnErr result (vec_capacity out.old < vec_len out.old + (27 + length lacing.now + sum lacing.now)) }
-    ensures len { OnOk result (vec_len out.new ≡ vec_len out.old + (27 + length lacing.now + sum lacing.now)) }
-    ensures capacity { vec_capacity out.old ≤ vec_capacity out.new }
-{
-    out.reserve(FIXED + lacing.len() + body_size(lacing))?;
-    let values = lacing.len() as u8;
-    let blank = fixed_part(head, 0, values);
-    let sum = checksum_of_pieces(checksum_on(checksum(&blank), lacing), pieces);
-    append(out, &fixed_part(head, sum, values));
-    append(out, lacing);
-    append_pieces(out, pieces);
+    out.reserve(FIXED + lacing.len() + body.len())?;
+    let start = out.len();
+    open_page(head, lacing, out);
+    append(out, body);
+    close_page(start, out);
     Ok(())
 }
 
-/// The checksum of some bytes and then the pieces, from the checksum of the bytes before.
-fn checksum_of_pieces(before: u32, pieces: &[&[u8]]) -> u32
-    ensures { (front : List ℕ) → before ≡ checksum_of front → result ≡ checksum_of (front ++ joined pieces.now) }
+/// Appends what a page has before its body, with zero as the checksum, and for which there is room.
+/// The body belongs behind it, and then `close_page` makes them the page.
+pub fn open_page(head: &PageHead, lacing: &[u8], out: &mut Vec<u8>)
+    requires values { length lacing.now ≤ 255 }
+    requires room { vec_len out.old + (27 + length lacing.now) ≤ vec_capacity out.old }
+    ensures items { (body : List ℕ) →
+        out.new.items ≡ out.old.items ++ (fixed_part 0 (page_of head.now lacing.now body) ++ lacing.now) }
+    ensures len { vec_len out.new ≡ vec_len out.old + (27 + length lacing.now) }
+    ensures capacity { vec_capacity out.old ≤ vec_capacity out.new }
 {
-    let mut sum = before;
-    for piece in pieces {
-        sum = checksum_on(sum, piece);
-    }
-    sum
+    append(out, &blank_fixed_part(head, lacing.len() as u8));
+    append(out, lacing);
+}
+
+/// Puts its checksum into the page that begins at `start` and ends with the vector.
+pub fn close_page(start: usize, out: &mut Vec<u8>)
+    requires { start + 27 ≤ vec_len out.old }
+    ensures items { (front : List ℕ) (page : Page) → length front ≡ start →
+        out.old.items ≡ front ++ bytes_with 0 page → out.new.items ≡ front ++ page_bytes page }
+    ensures len { vec_len out.new ≡ vec_len out.old }
+    ensures capacity { vec_capacity out.new ≡ vec_capacity out.old }
+{
+    let (_, page) = out.as_slice().split_at(start);
+    let sum = checksum(page);
+    put_number(sum, start + 22, out);
+}
+
+/// Puts a number over the four bytes at a place, the lowest byte first.
+fn put_number(number: u32, at: usize, out: &mut Vec<u8>)
+    requires { at + 4 ≤ vec_len out.old }
+    ensures items { (front four rest : List ℕ) → length front ≡ at → length four ≡ 4 →
+        out.old.items ≡ front ++ (four ++ rest) → out.new.items ≡ front ++ (little_bytes 4 number ++ rest) }
+    ensures len { vec_len out.new ≡ vec_len out.old }
+    ensures capacity { vec_capacity out.new ≡ vec_capacity out.old }
+{
+    let [b0, b1, b2, b3] = number.to_le_bytes();
+    out[at] = b0;
+    out[at + 1] = b1;
+    out[at + 2] = b2;
+    out[at + 3] = b3;
 }
 
 /// Appends bytes for which there is room.
@@ -72,22 +82,10 @@ fn append(out: &mut Vec<u8>, bytes: &[u8])
     out.extend_from_slice(bytes).unwrap();
 }
 
-/// Appends pieces for which there is room.
-fn append_pieces(out: &mut Vec<u8>, pieces: &[&[u8]])
-    requires { vec_len out.old + length (joined pieces.now) ≤ vec_capacity out.old }
-    ensures items { out.new.items ≡ out.old.items ++ joined pieces.now }
-    ensures len { vec_len out.new ≡ vec_len out.old + length (joined pieces.now) }
-    ensures capacity { vec_capacity out.old ≤ vec_capacity out.new }
-{
-    for piece in pieces {
-        append(out, piece);
-    }
-}
-
-/// The bytes of a page before its lacing values.
+/// The bytes of a page before its lacing values, with zero as the checksum.
 #[tactic(auto, unfolding(crate::specs::Page::fixed_part))]
-fn fixed_part(head: &PageHead, checksum: u32, values: u8) -> [u8; FIXED]
-    ensures { (lacing body : List ℕ) → length lacing ≡ values → result ≡ fixed_part checksum (page_of head.now lacing body) }
+fn blank_fixed_part(head: &PageHead, values: u8) -> [u8; FIXED]
+    ensures { (lacing body : List ℕ) → length lacing ≡ values → result ≡ fixed_part 0 (page_of head.now lacing body) }
 {
     let mut bytes = [0u8; FIXED];
     bytes[..4].copy_from_slice(b"OggS");
@@ -95,7 +93,6 @@ fn fixed_part(head: &PageHead, checksum: u32, values: u8) -> [u8; FIXED]
     LittleEndian::write_u64(&mut bytes[6..], head.position);
     LittleEndian::write_u32(&mut bytes[14..], head.serial);
     LittleEndian::write_u32(&mut bytes[18..], head.sequence);
-    LittleEndian::write_u32(&mut bytes[22..], checksum);
     bytes[26] = values;
     bytes
 }

@@ -1,13 +1,9 @@
 -- A page of a run, filled value by value.
-use Rattle.std.proofs.Common.{◌≡◌, ℕ, zero, suc, ◌+◌, ◌-◌, ◌/◌, ◌%◌, ◌<◌, ◌≤◌, cond, List, [], ◌∷◌, ◌++◌, length, take, drop, set, sum, replicate, refl, sym, ◌∙◌, ap, subst, arith, append_assoc, length-drop}
+use Rattle.std.proofs.Common.{◌≡◌, ℕ, zero, suc, ◌+◌, ◌-◌, ◌/◌, ◌%◌, ◌<◌, ◌≤◌, cond, List, [], ◌∷◌, ◌++◌, length, take, drop, sum, replicate, refl, sym, ◌∙◌, ap, subst, arith, append_assoc, length-drop, length-take}
 use Rattle.std.specs.Prelude.{nat_lt, nat_eq}
-use Rattle.std.proofs.Math.Seq.{take-add}
 use Rattle.std.proofs.lemmas.Bool.{lt-ltb, ne_eqb}
-use Rattle.std.proofs.lemmas.List.{append-nil, take-append-le, drop-append-le, take_all, drop-drop, take_more_set}
-use Rattle.std.proofs.lemmas.List.Concat.{flat_map-append}
+use Rattle.std.proofs.lemmas.List.{append-nil, drop-append-le, take_all, drop-drop}
 use Rattle.std.proofs.lemmas.List.Sums.{sum_by-append, sum_by-cons}
-use Rattle.std.specs.Borrow.{Bor}
-use Rattle.ogg_page.specs.Page.{joined}
 use Rattle.ogg_page.specs.Lacing.{lacing_of, ends_open}
 use Rattle.packetiser.specs.Run.{Timed, run_lacing, run_bytes, packets_ended, position_of, no_position}
 use Rattle.packetiser.specs.Place.{values_left, bytes_left, IsWithin}
@@ -15,18 +11,17 @@ use Rattle.packetiser.proofs.Behind.{ends_open-at}
 use Rattle.packetiser.proofs.Pieces.{sum_app}
 
 -- what a page holds so far of the run of which `run` was left, and what is left now
-pub record IsFilled (run : List Timed) (begun : ℕ) (lacing body : List ℕ) (position : ℕ) (rest : List Timed) (done : ℕ) : Type 0 where
+pub record IsFilled (run : List Timed) (begun : ℕ) (lacing : List ℕ) (position : ℕ) (rest : List Timed) (done : ℕ) : Type 0 where
   pub values : values_left begun run ≡ lacing ++ values_left done rest
   pub bytes : bytes_left done rest ≡ drop (sum lacing) (bytes_left begun run)
-  pub pieces : body ≡ take (sum lacing) (bytes_left begun run)
   pub ended : rest ≡ drop (packets_ended lacing) run
   pub position_is : position ≡ position_of (packets_ended lacing) run
   pub within : IsWithin done rest
   pub open_is : 0 < length lacing → nat_lt 0 done ≡ ends_open lacing
 
-pub nothing_filled : (run : List Timed) (begun : ℕ) → IsWithin begun run → IsFilled run begun [] [] no_position run begun
+pub nothing_filled : (run : List Timed) (begun : ℕ) → IsWithin begun run → IsFilled run begun [] no_position run begun
 nothing_filled run begun h =
-    record { values = refl; bytes = refl; pieces = refl; ended = refl; position_is = refl; within = h; open_is = λ some. absurd (omega arith) }
+    record { values = refl; bytes = refl; ended = refl; position_is = refl; within = h; open_is = λ some. absurd (omega arith) }
 
 -- ---- lacing values
 small_lacing : (n : ℕ) → n < 255 → lacing_of n ≡ n ∷ []
@@ -62,7 +57,7 @@ position_at (suc n) (first ∷ run) item rest e = position_at n run item rest e
 open_push : (lacing : List ℕ) (value : ℕ) → ends_open (lacing ++ value ∷ []) ≡ nat_eq value 255
 open_push lacing value = ends_open-at lacing value []
 
-sum_push : (lacing : List ℕ) (value : ℕ) → sum (lacing ++ value ∷ []) ≡ sum lacing + value
+pub sum_push : (lacing : List ℕ) (value : ℕ) → sum (lacing ++ value ∷ []) ≡ sum lacing + value
 sum_push lacing value = sum_app lacing (value ∷ []) ∙ ap (λ n. sum lacing + n) (sum_by-cons (λ x. x) value [] ∙ omega arith)
 
 drop_whole : (xs : List ℕ) → drop (length xs) xs ≡ []
@@ -80,35 +75,28 @@ drop_all (suc n) (x ∷ xs) h = drop_all n xs (omega arith)
 
 -- ---- one value more
 -- a packet that ends in the page
-pub ends_here : (run : List Timed) (begun : ℕ) (lacing body : List ℕ) (position : ℕ) (item : Timed) (others : List Timed) (done value : ℕ) →
-    IsFilled run begun lacing body position (item ∷ others) done → value ≡ length (drop done item.packet) → value < 255 →
-    IsFilled run begun (lacing ++ value ∷ []) (body ++ drop done item.packet) item.position others 0
+pub ends_here : (run : List Timed) (begun : ℕ) (lacing : List ℕ) (position : ℕ) (item : Timed) (others : List Timed) (done value : ℕ) →
+    IsFilled run begun lacing position (item ∷ others) done → value ≡ length item.packet - done → value < 255 →
+    IsFilled run begun (lacing ++ value ∷ []) item.position others 0
 unfolding run_bytes
-ends_here run begun lacing body position item others done value h is small =
+ends_here run begun lacing position item others done value h is small =
     let whole : List ℕ = bytes_left begun run in
-    let left : length item.packet - done ≡ value = omega (arith, is, length-drop done item.packet) in
+    let size : value ≡ length (drop done item.packet) = omega (arith, is, length-drop done item.packet) in
     let total : sum (lacing ++ value ∷ []) ≡ sum lacing + value = sum_push lacing value in
-    let behind : drop done (item.packet ++ run_bytes others) ≡ drop done item.packet ++ run_bytes others = drop-append-le done item.packet (run_bytes others) h.within in
+    let behind : drop done (item.packet ++ run_bytes others) ≡ drop done item.packet ++ run_bytes others =
+    drop-append-le done item.packet (run_bytes others) h.within in
     let ended : packets_ended (lacing ++ value ∷ []) ≡ suc (packets_ended lacing) =
     ended_push lacing value ∙ ap (λ b. packets_ended lacing + cond b 1 0) (lt-ltb value 255 small) ∙ omega arith in
     record {
-      values = h.values ∙ ap (λ l. lacing ++ (l ++ run_lacing others)) (ap lacing_of left ∙ small_lacing value small)
+      values = h.values ∙ ap (λ l. lacing ++ (l ++ run_lacing others)) (ap lacing_of (sym is) ∙ small_lacing value small)
           ∙ sym (append_assoc lacing (value ∷ []) (run_lacing others)) ∙ ap (λ l. lacing ++ value ∷ [] ++ l) (sym (none_done others));
       bytes = sym (
           ap (λ n. drop n whole) total
           ∙ sym (drop-drop value (sum lacing) whole)
           ∙ ap (drop value) (sym h.bytes ∙ behind)
-          ∙ ap (λ n. drop n (drop done item.packet ++ run_bytes others)) is
+          ∙ ap (λ n. drop n (drop done item.packet ++ run_bytes others)) size
           ∙ drop-append-le (length (drop done item.packet)) (drop done item.packet) (run_bytes others) (omega arith)
           ∙ ap (λ l. l ++ run_bytes others) (drop_whole (drop done item.packet)));
-      pieces = ap (λ l. l ++ drop done item.packet) h.pieces
-          ∙ ap (λ l. take (sum lacing) whole ++ l) (sym (
-          ap (take value) (sym h.bytes ∙ behind)
-          ∙ ap (λ n. take n (drop done item.packet ++ run_bytes others)) is
-          ∙ take-append-le (length (drop done item.packet)) (drop done item.packet) (run_bytes others) (omega arith)
-          ∙ take_all (length (drop done item.packet)) (drop done item.packet) (omega arith)))
-          ∙ sym (take-add (sum lacing) value whole)
-          ∙ ap (λ n. take n whole) (sym total);
       ended = sym (ap (λ n. drop n run) (ended ∙ omega arith) ∙ sym (drop-drop 1 (packets_ended lacing) run) ∙ ap (drop 1) (sym h.ended));
       position_is = sym (ap (λ n. position_of n run) ended ∙ position_at (packets_ended lacing) run item others (sym h.ended));
       within = start others;
@@ -120,15 +108,14 @@ ends_here run begun lacing body position item others done value h is small =
     start (item ∷ others) = omega arith
 
 -- a packet that goes on in the page
-pub goes_on : (run : List Timed) (begun : ℕ) (lacing body : List ℕ) (position : ℕ) (item : Timed) (others : List Timed) (done : ℕ) →
-    IsFilled run begun lacing body position (item ∷ others) done → 255 ≤ length (drop done item.packet) →
-    IsFilled run begun (lacing ++ 255 ∷ []) (body ++ take 255 (drop done item.packet)) position (item ∷ others) (done + 255)
+pub goes_on : (run : List Timed) (begun : ℕ) (lacing : List ℕ) (position : ℕ) (item : Timed) (others : List Timed) (done : ℕ) →
+    IsFilled run begun lacing position (item ∷ others) done → 255 ≤ length item.packet - done →
+    IsFilled run begun (lacing ++ 255 ∷ []) position (item ∷ others) (done + 255)
 unfolding run_bytes
-goes_on run begun lacing body position item others done h long =
+goes_on run begun lacing position item others done h long =
     let whole : List ℕ = bytes_left begun run in
-    let left : length item.packet - done ≡ (length item.packet - (done + 255)) + 255 = omega (arith, long, length-drop done item.packet) in
+    let left : length item.packet - done ≡ (length item.packet - (done + 255)) + 255 = omega (arith, long) in
     let total : sum (lacing ++ 255 ∷ []) ≡ sum lacing + 255 = sum_push lacing 255 in
-    let behind : drop done (item.packet ++ run_bytes others) ≡ drop done item.packet ++ run_bytes others = drop-append-le done item.packet (run_bytes others) h.within in
     let ended : packets_ended (lacing ++ 255 ∷ []) ≡ packets_ended lacing = ended_push lacing 255 ∙ omega arith in
     record {
       values = h.values ∙ ap (λ l. lacing ++ (l ++ run_lacing others)) (more_lacing (length item.packet - done) (length item.packet - (done + 255)) left)
@@ -138,34 +125,21 @@ goes_on run begun lacing body position item others done h long =
           ∙ sym (drop-drop 255 (sum lacing) whole)
           ∙ ap (drop 255) (sym h.bytes)
           ∙ drop-drop 255 done (item.packet ++ run_bytes others));
-      pieces = ap (λ l. l ++ take 255 (drop done item.packet)) h.pieces
-          ∙ ap (λ l. take (sum lacing) whole ++ l) (sym (
-          ap (take 255) (sym h.bytes ∙ behind) ∙ take-append-le 255 (drop done item.packet) (run_bytes others) long))
-          ∙ sym (take-add (sum lacing) 255 whole)
-          ∙ ap (λ n. take n whole) (sym total);
       ended = h.ended ∙ ap (λ n. drop n run) (sym ended);
       position_is = h.position_is ∙ ap (λ n. position_of n run) (sym ended);
-      within = omega (arith, long, length-drop done item.packet);
+      within = omega (arith, long);
       open_is = λ some. lt-ltb 0 (done + 255) (omega arith) ∙ sym (open_push lacing 255);
     }
 
 -- the same by other names
-pub filled_same : (run : List Timed) (begun : ℕ) (lacing lacing' body body' : List ℕ) (position position' : ℕ) (rest rest' : List Timed) (done done' : ℕ) →
-    lacing ≡ lacing' → body ≡ body' → position ≡ position' → rest ≡ rest' → done ≡ done' →
-    IsFilled run begun lacing' body' position' rest' done' → IsFilled run begun lacing body position rest done
-filled_same run begun lacing lacing' body body' position position' rest rest' done done' a b c d e h =
-    subst (λ (l : List ℕ). IsFilled run begun l body position rest done) (sym a)
-    (subst (λ (l : List ℕ). IsFilled run begun lacing' l position rest done) (sym b)
-    (subst (λ (n : ℕ). IsFilled run begun lacing' body' n rest done) (sym c)
-    (subst (λ (l : List Timed). IsFilled run begun lacing' body' position' l done) (sym d)
-    (subst (λ (n : ℕ). IsFilled run begun lacing' body' position' rest' n) (sym e) h))))
-
-pub joined_push : (pieces : List (Bor (List ℕ))) (count : ℕ) (piece : Bor (List ℕ)) → count < length pieces →
-    joined (take (count + 1) (set pieces count piece)) ≡ joined (take count pieces) ++ piece.now
-joined_push pieces count piece lt =
-    ap joined (take_more_set pieces count piece lt)
-    ∙ flat_map-append (λ (p : Bor (List ℕ)). p.now) (take count pieces) (piece ∷ [])
-    ∙ ap (λ l. joined (take count pieces) ++ l) (append-nil piece.now)
+pub filled_same : (run : List Timed) (begun : ℕ) (lacing lacing' : List ℕ) (position position' : ℕ) (rest rest' : List Timed) (done done' : ℕ) →
+    lacing ≡ lacing' → position ≡ position' → rest ≡ rest' → done ≡ done' →
+    IsFilled run begun lacing' position' rest' done' → IsFilled run begun lacing position rest done
+filled_same run begun lacing lacing' position position' rest rest' done done' a b c d h =
+    subst (λ (l : List ℕ). IsFilled run begun l position rest done) (sym a)
+    (subst (λ (n : ℕ). IsFilled run begun lacing' n rest done) (sym b)
+    (subst (λ (l : List Timed). IsFilled run begun lacing' position' l done) (sym c)
+    (subst (λ (n : ℕ). IsFilled run begun lacing' position' rest' n) (sym d) h)))
 
 -- ---- the page has all its values, or nothing is left
 -- a front that has as many values as a page of all could take
@@ -178,16 +152,18 @@ front_fits (suc n) (x ∷ xs) ys few most =
     let rest : (take n (xs ++ ys) ≡ xs) × (drop n (xs ++ ys) ≡ ys) = front_fits n xs ys (omega (arith, few)) (omega (arith, most)) in
     (ap (λ l. x ∷ l) rest.0, rest.1)
 
-pub full_values : (run : List Timed) (begun : ℕ) (lacing body : List ℕ) (position : ℕ) (rest : List Timed) (done : ℕ) → IsFilled run begun lacing body position rest done →
-    length (take 255 (values_left begun run)) ≤ length lacing → length lacing ≤ 255 → (lacing ≡ take 255 (values_left begun run)) × (values_left done rest ≡ drop 255 (values_left begun run))
-full_values run begun lacing body position rest done h fits most =
+pub full_values : (run : List Timed) (begun : ℕ) (lacing : List ℕ) (position : ℕ) (rest : List Timed) (done : ℕ) →
+    IsFilled run begun lacing position rest done → length lacing ≡ 255 →
+    (lacing ≡ take 255 (values_left begun run)) × (values_left done rest ≡ drop 255 (values_left begun run))
+full_values run begun lacing position rest done h size =
     let own : (take 255 (lacing ++ values_left done rest) ≡ lacing) × (drop 255 (lacing ++ values_left done rest) ≡ values_left done rest) =
-    front_fits 255 lacing (values_left done rest) (omega (arith, fits, ap (λ l. length (take 255 l)) h.values)) most in
+    front_fits 255 lacing (values_left done rest) (omega (arith, size, length-take 255 (lacing ++ values_left done rest))) (omega (arith, size)) in
     (sym (ap (take 255) h.values ∙ own.0), sym (ap (drop 255) h.values ∙ own.1))
 
-pub last_values : (run : List Timed) (begun : ℕ) (lacing body : List ℕ) (position : ℕ) (rest : List Timed) (done : ℕ) → IsFilled run begun lacing body position rest done →
-    length rest ≡ 0 → length lacing ≤ 255 → (lacing ≡ take 255 (values_left begun run)) × (values_left done rest ≡ drop 255 (values_left begun run))
-last_values run begun lacing body position [] done h none few =
+pub last_values : (run : List Timed) (begun : ℕ) (lacing : List ℕ) (position : ℕ) (rest : List Timed) (done : ℕ) →
+    IsFilled run begun lacing position rest done → length rest ≡ 0 → length lacing ≤ 255 →
+    (lacing ≡ take 255 (values_left begun run)) × (values_left done rest ≡ drop 255 (values_left begun run))
+last_values run begun lacing position [] done h none few =
     let whole : values_left begun run ≡ lacing = h.values ∙ append-nil lacing in
     (sym (ap (take 255) whole ∙ take_all 255 lacing few), sym (ap (drop 255) whole ∙ drop_all 255 lacing few))
-last_values run begun lacing body position (item ∷ rest) done h none few = absurd (omega arith)
+last_values run begun lacing position (item ∷ rest) done h none few = absurd (omega arith)

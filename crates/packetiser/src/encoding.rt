@@ -1,14 +1,14 @@
 //! The pages of a run as bytes.
-ghost use Rattle.std.specs.Prelude.{◌≡◌, ◌≤◌, ◌<◌, ◌+◌, ◌++◌, ◌^◌, ℕ, IfOk, OnOk, OnErr, length, map, sum, vec_len, vec_capacity};
+ghost use Rattle.std.specs.Prelude.{◌≡◌, ◌≤◌, ◌<◌, ◌+◌, ◌++◌, ◌^◌, ℕ, IfOk, OnOk, OnErr, length, map, sum, vec_len, vec_capacity, take};
 ghost use Rattle.ogg_page.specs.Page.{bytes_of_pages, page_bytes};
 ghost use Rattle.packetiser.specs.Run.{pages_of_run, pages_for, run_lacing, run_bytes, size_for, flagged, lengths};
-ghost use Rattle.packetiser.specs.Place.{values_left, next_values, next_page, added, IsWithin, IsBehind};
+ghost use Rattle.packetiser.specs.Place.{bytes_left, next_values, next_page, added, IsWithin, IsBehind};
 
 use crate::Memory;
 use crate::item::TimedPacket;
-use crate::place::{FEW_VALUES, MOST_VALUES, fill};
+use crate::place::{MOST_VALUES, fill};
 use crate::size::{pages_of, size_of, values_and_bytes};
-use ogg_page::{PageHead, write_page_of};
+use ogg_page::{PageHead, close_page, open_page};
 
 /// Appends the pages of a run, and gives their number. `flags` are added to those of the first page.
 /// After `Memory` the vector is unchanged.
@@ -62,8 +62,7 @@ fn append_pages<T: TimedPacket>(
     for k in 0..pages_of(values) {
         let added = added_flags(flags, k);
         let sequence = (u64::from(first_sequence) + k) as u32;
-        let left = values - 255 * k;
-        (rest, done) = append_page(serial, sequence, added, rest, done, left, out);
+        (rest, done) = append_page(serial, sequence, added, rest, done, out);
     }
 }
 
@@ -76,68 +75,8 @@ fn added_flags(flags: u8, k: u64) -> u8
     if k == 0 { flags } else { 0 }
 }
 
-/// Appends the next page of a run of which these packets are left, with so many lacing values, and gives what is left
-/// behind it.
+/// Appends the next page of a run of which these packets are left, and gives what is left behind it.
 fn append_page<'a, T: TimedPacket>(
-    serial: u32,
-    sequence: u32,
-    flags: u8,
-    from: &'a [T],
-    begun: usize,
-    values: u64,
-    out: &mut Vec<u8>,
-) -> (&'a [T], usize)
-    requires values { values ≡ length (values_left begun (map T.timed from.now)) }
-    requires within { IsWithin begun (map T.timed from.now) }
-    requires flags { flags < 255 }
-    requires room { vec_len out.old + (27 + length (next_values begun (map T.timed from.now)) + sum (next_values begun (map T.timed from.now))) ≤ vec_capacity out.old }
-    ensures items { out.new.items ≡ out.old.items ++ page_bytes (next_page serial sequence flags begun (map T.timed from.now)) }
-    ensures len { vec_len out.new ≡ vec_len out.old + (27 + length (next_values begun (map T.timed from.now)) + sum (next_values begun (map T.timed from.now))) }
-    ensures capacity { vec_capacity out.old ≤ vec_capacity out.new }
-    ensures behind { IsBehind begun (map T.timed from.now) result.1 (map T.timed result.0.now) }
-{
-    // Room is cleared before it is filled, so that a page of few values takes little.
-    if values <= FEW_VALUES as u64 {
-        append_small_page(serial, sequence, flags, from, begun, out)
-    } else {
-        append_large_page(serial, sequence, flags, from, begun, out)
-    }
-}
-
-/// Appends the next page of a run, where it has few lacing values.
-fn append_small_page<'a, T: TimedPacket>(
-    serial: u32,
-    sequence: u32,
-    flags: u8,
-    from: &'a [T],
-    begun: usize,
-    out: &mut Vec<u8>,
-) -> (&'a [T], usize)
-    requires values { length (next_values begun (map T.timed from.now)) ≤ 8 }
-    requires within { IsWithin begun (map T.timed from.now) }
-    requires flags { flags < 255 }
-    requires room { vec_len out.old + (27 + length (next_values begun (map T.timed from.now)) + sum (next_values begun (map T.timed from.now))) ≤ vec_capacity out.old }
-    ensures items { out.new.items ≡ out.old.items ++ page_bytes (next_page serial sequence flags begun (map T.timed from.now)) }
-    ensures len { vec_len out.new ≡ vec_len out.old + (27 + length (next_values begun (map T.timed from.now)) + sum (next_values begun (map T.timed from.now))) }
-    ensures capacity { vec_capacity out.old ≤ vec_capacity out.new }
-    ensures behind { IsBehind begun (map T.timed from.now) result.1 (map T.timed result.0.now) }
-{
-    let mut lacing = [0; FEW_VALUES];
-    let mut pieces: [&[u8]; FEW_VALUES] = [&[]; FEW_VALUES];
-    append_page_by(
-        serial,
-        sequence,
-        flags,
-        from,
-        begun,
-        &mut lacing,
-        &mut pieces,
-        out,
-    )
-}
-
-/// Appends the next page of a run, whatever number of lacing values it has.
-fn append_large_page<'a, T: TimedPacket>(
     serial: u32,
     sequence: u32,
     flags: u8,
@@ -154,50 +93,43 @@ fn append_large_page<'a, T: TimedPacket>(
     ensures behind { IsBehind begun (map T.timed from.now) result.1 (map T.timed result.0.now) }
 {
     let mut lacing = [0; MOST_VALUES];
-    let mut pieces: [&[u8]; MOST_VALUES] = [&[]; MOST_VALUES];
-    append_page_by(
-        serial,
-        sequence,
-        flags,
-        from,
-        begun,
-        &mut lacing,
-        &mut pieces,
-        out,
-    )
-}
-
-/// Appends the next page of a run by way of room for its lacing values and its pieces.
-fn append_page_by<'a, T: TimedPacket>(
-    serial: u32,
-    sequence: u32,
-    flags: u8,
-    from: &'a [T],
-    begun: usize,
-    lacing: &mut [u8],
-    pieces: &mut [&'a [u8]],
-    out: &mut Vec<u8>,
-) -> (&'a [T], usize)
-    requires pairs { length pieces.old ≡ length lacing.old }
-    requires most { length lacing.old ≤ 255 }
-    requires values { length (next_values begun (map T.timed from.now)) ≤ length lacing.old }
-    requires within { IsWithin begun (map T.timed from.now) }
-    requires flags { flags < 255 }
-    requires room { vec_len out.old + (27 + length (next_values begun (map T.timed from.now)) + sum (next_values begun (map T.timed from.now))) ≤ vec_capacity out.old }
-    ensures items { out.new.items ≡ out.old.items ++ page_bytes (next_page serial sequence flags begun (map T.timed from.now)) }
-    ensures len { vec_len out.new ≡ vec_len out.old + (27 + length (next_values begun (map T.timed from.now)) + sum (next_values begun (map T.timed from.now))) }
-    ensures capacity { vec_capacity out.old ≤ vec_capacity out.new }
-    ensures behind { IsBehind begun (map T.timed from.now) result.1 (map T.timed result.0.now) }
-{
-    let page = fill(from, begun, lacing, pieces);
+    let page = fill(from, begun, &mut lacing);
+    let (lacing, _) = lacing.split_at(page.count);
     let head = PageHead {
         flags: u8::from(begun > 0) + flags,
         position: page.position,
         serial,
         sequence,
     };
-    let (lacing, _) = lacing.split_at(page.count);
-    let (pieces, _) = pieces.split_at(page.count);
-    write_page_of(&head, lacing, pieces, out).unwrap();
+    let start = out.len();
+    open_page(&head, lacing, out);
+    append_bytes(from, begun, page.size, out);
+    close_page(start, out);
     (page.rest, page.done)
+}
+
+/// Appends the first bytes, so many, of what is left of a run where `begun` bytes of the first packet are done, and for
+/// which there is room.
+fn append_bytes<T: TimedPacket>(from: &[T], begun: usize, size: usize, out: &mut Vec<u8>)
+    requires within { IsWithin begun (map T.timed from.now) }
+    requires enough { size ≤ length (bytes_left begun (map T.timed from.now)) }
+    requires room { vec_len out.old + size ≤ vec_capacity out.old }
+    ensures items { out.new.items ≡ out.old.items ++ take size (bytes_left begun (map T.timed from.now)) }
+    ensures len { vec_len out.new ≡ vec_len out.old + size }
+    ensures capacity { vec_capacity out.old ≤ vec_capacity out.new }
+{
+    let mut rest = from;
+    let mut done = begun;
+    let mut left = size;
+    while left > 0 {
+        let Some((item, others)) = rest.split_first() else {
+            return;
+        };
+        let packet = item.packet().split_at(done).1;
+        let piece = packet.split_at(packet.len().min(left)).0;
+        out.extend_from_slice(piece).unwrap();
+        left -= piece.len();
+        rest = others;
+        done = 0;
+    }
 }

@@ -1,6 +1,5 @@
 //! A place in a run, between two of its pages.
 ghost use Rattle.std.specs.Prelude.{◌≡◌, ◌≤◌, ◌<◌, ◌+◌, ◌*◌, ◌++◌, ℕ, List, [], length, map, take, drop, sum, nat_eq, nat_lt};
-ghost use Rattle.ogg_page.specs.Page.{joined};
 ghost use Rattle.ogg_page.specs.Lacing.{ends_open};
 ghost use Rattle.packetiser.specs.Run.{packets_ended, position_of};
 ghost use Rattle.packetiser.specs.Place.{values_left, bytes_left, next_values, IsWithin};
@@ -10,17 +9,16 @@ use crate::item::TimedPacket;
 /// How many lacing values a page has at most (RFC 3533, section 6, field 8).
 pub const MOST_VALUES: usize = 255;
 
-/// A page with at most so many lacing values has few.
-pub const FEW_VALUES: usize = 8;
-
 /// The position of a page in which no packet ends: -1 (RFC 3533, section 6, field 4).
 pub const NO_POSITION: u64 = u64::MAX;
 
-/// The next page of a run, whose lacing values and pieces lie elsewhere, and what is left behind it.
+/// The next page of a run, whose lacing values lie elsewhere, and what is left behind it.
 #[derive(Drop)]
 pub struct Filled<'a, T> {
     /// How many lacing values the page has.
     pub count: usize,
+    /// How many bytes its body has.
+    pub size: usize,
     /// The position of the last packet that ends in the page.
     pub position: u64,
     /// The packets that don't end in the page or before it.
@@ -30,22 +28,16 @@ pub struct Filled<'a, T> {
 }
 
 /// The next page of a run of which these packets are left, where `begun` bytes of the first are done. Its lacing values
-/// come to the front of `lacing`, and the piece of the body that each value stands for to the same place in `pieces`.
+/// come to the front of `lacing`.
 pub fn fill<'a, T: TimedPacket>(
     from: &'a [T],
     begun: usize,
-    lacing: &mut [u8],
-    pieces: &mut [&'a [u8]],
+    lacing: &mut [u8; MOST_VALUES],
 ) -> Filled<'a, T>
     requires within { IsWithin begun (map T.timed from.now) }
-    requires pairs { length pieces.old ≡ length lacing.old }
-    requires most { length lacing.old ≤ 255 }
-    requires room { length (next_values begun (map T.timed from.now)) ≤ length lacing.old }
     ensures values { take result.count lacing.new ≡ next_values begun (map T.timed from.now) }
-    ensures count { result.count ≤ length lacing.old }
-    ensures lacing_room { length lacing.new ≡ length lacing.old }
-    ensures pieces_room { length pieces.new ≡ length pieces.old }
-    ensures pieces { joined (take result.count pieces.new) ≡ take (sum (take result.count lacing.new)) (bytes_left begun (map T.timed from.now)) }
+    ensures count { result.count ≤ 255 }
+    ensures size { result.size ≡ sum (take result.count lacing.new) }
     ensures values_behind { values_left result.done (map T.timed result.rest.now) ≡ drop 255 (values_left begun (map T.timed from.now)) }
     ensures bytes_behind { bytes_left result.done (map T.timed result.rest.now)
         ≡ drop (sum (take result.count lacing.new)) (bytes_left begun (map T.timed from.now)) }
@@ -54,44 +46,46 @@ pub fn fill<'a, T: TimedPacket>(
     ensures within { IsWithin result.done (map T.timed result.rest.now) }
     ensures open { 0 < result.count → nat_lt 0 result.done ≡ ends_open (take result.count lacing.new) }
 {
+    let mut size = 0;
     let mut position = NO_POSITION;
     let mut rest = from;
     let mut done = begun;
-    let room = lacing.len();
-    for count in 0..room {
+    for count in 0..MOST_VALUES {
         let Some((item, others)) = rest.split_first() else {
             return Filled {
                 count,
+                size,
                 position,
                 rest,
                 done,
             };
         };
-        let left = item.packet().split_at(done).1;
+        let left = item.packet().len() - done;
         if ends_here(left) {
-            lacing[count] = left.len() as u8;
-            pieces[count] = left;
+            lacing[count] = left as u8;
+            size += left;
             position = item.position();
             rest = others;
             done = 0;
         } else {
             lacing[count] = 255;
-            pieces[count] = left.split_at(255).0;
+            size += 255;
             done += 255;
         }
     }
     Filled {
-        count: room,
+        count: MOST_VALUES,
+        size,
         position,
         rest,
         done,
     }
 }
 
-/// Whether what is left of a packet ends with the next lacing value, which is then less than 255
+/// Whether a packet of which so many bytes are left ends with the next lacing value, which is then less than 255
 /// (RFC 3533, section 5).
-fn ends_here(left: &[u8]) -> bool
-    ensures { result ≡ nat_lt (length left.now) 255 }
+fn ends_here(left: usize) -> bool
+    ensures { result ≡ nat_lt left 255 }
 {
-    left.len() < 255
+    left < 255
 }

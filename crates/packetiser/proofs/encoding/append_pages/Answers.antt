@@ -1,4 +1,4 @@
-use Rattle.std.proofs.Common.{◌≡◌, ◌<◌, ◌+◌, ◌*◌, ◌++◌, ℕ, List, [], ◌∷◌, length, map, sum, sum_by, sym, ap, ◌∙◌, arith, append_assoc, length-drop, vec_len}
+use Rattle.std.proofs.Common.{◌≡◌, ◌<◌, ◌+◌, ◌++◌, ℕ, List, [], ◌∷◌, length, map, sum, sum_by, sym, ap, ◌∙◌, arith, append_assoc, vec_len}
 use Rattle.std.proofs.lemmas.List.{append-nil}
 use Rattle.std.proofs.lemmas.List.Concat.{flat_map-append}
 use Rattle.ogg_page.specs.Page.{Page, page_size, page_bytes, bytes_of_pages}
@@ -17,12 +17,6 @@ size_there : (serial first : ℕ) (run : List Timed) (k done : ℕ) (rest : List
     27 + length (next_values done rest) + sum (next_values done rest) ≡ page_size (page_of_run serial first run k)
 size_there serial first run k done rest at =
     ap (λ n. 27 + length (next_values done rest) + n) (next_whole done rest at.within) ∙ ap page_size (page_there serial first run k done rest at)
-
--- the values of the pages so far are written
-pub append_page-requires-clause-values : goal.append_page-requires-clause-values
-append_page-requires-clause-values g c =
-    let run : List Timed = map g.T.TimedPacket.timed c.args.run.now in
-    omega (arith, c.requires.values, length-drop (255 * c.loop-k.k) (run_lacing run), ap length c.loop-k.invariant.place.values)
 
 pub append_page-requires-clause-room : goal.append_page-requires-clause-room
 append_page-requires-clause-room g c =
