@@ -25,16 +25,31 @@ const FIRST_PAGE: [u8; 31] = [
     0x00, 0x00, 0x00, 0x00, 0x00, 0x00, 0x92, 0xDD, 0xF6, 0x15, 0x01, 0x03, 0x61, 0x62, 0x63,
 ];
 
+/// What the writer of that page chooses.
+const FIRST_HEAD: PageHead = PageHead {
+    flags: 2,
+    position: 0,
+    serial: 1,
+    sequence: 0,
+};
+
 #[test]
 fn a_page_is_appended_byte_for_byte(rt: HostRuntime) -> Result<(), Fail> {
     let mut out = [7u8].to_vec(rt.alloc())?;
-    let head = PageHead {
-        flags: 2,
-        position: 0,
-        serial: 1,
-        sequence: 0,
-    };
-    write_page(&head, &[3], b"abc", &mut out)?;
+    write_page(&FIRST_HEAD, &[3], b"abc", &mut out)?;
+    let (kept, page) = out.as_slice().split_at(1);
+    assert_eq!(rt; kept, [7].as_slice());
+    assert_eq!(rt; page, FIRST_PAGE.as_slice());
+    Ok(())
+}
+
+#[test]
+fn a_page_is_closed_behind_its_body(rt: HostRuntime) -> Result<(), Fail> {
+    let mut out = [7u8].to_vec(rt.alloc())?;
+    out.reserve(FIRST_PAGE.len())?;
+    open_page(&FIRST_HEAD, &[3], &mut out);
+    out.extend_from_slice(b"abc")?;
+    close_page(1, &mut out);
     let (kept, page) = out.as_slice().split_at(1);
     assert_eq!(rt; kept, [7].as_slice());
     assert_eq!(rt; page, FIRST_PAGE.as_slice());
