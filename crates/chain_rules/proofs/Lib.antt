@@ -37,3 +37,4 @@ pub mod TakenRows
 pub mod TakenLinks
 pub mod Fronts
 pub mod InTurn
+pub mod OwnSerials

@@ -17,12 +17,14 @@ use Rattle.chain_rules.specs.Links.{pages_with, serials_of, has_stream, has_ende
 use Rattle.chain_rules.specs.ChainState.{ChainState, chain_state_of, state_of, last_link, last_position, is_open, stream_at}
 use Rattle.chain_rules.specs.Encoding.{with_pages}
 use Rattle.chain_rules.specs.Size.{size_of_pages}
+use Rattle.chain_rules.specs.Progress.{stream_in}
 use Rattle.chain_rules.specs.Taking.{fault_of_page, begins_link, links_with, leaves_open, later_rules, joining_rules}
 use Rattle.chain_rules.specs.Followed.{followed, without_pages, entered, opened, joined, continued}
 use Rattle.chain_rules.proofs.Grow.{with_own, ended_both, or_false, filter_all, filter_none}
 use Rattle.chain_rules.proofs.Chain.{not_false, any_map, open_some, length_more, found_at}
 use Rattle.chain_rules.proofs.StateBehind.{state, chain_of, behind, state_behind, state_other, last_with, size_with, size_of_links}
 use Rattle.chain_rules.proofs.Rules.{NoneBroken}
+use Rattle.chain_rules.proofs.Turns.{none_if}
 use Rattle.chain_rules.proofs.PageRules.{later_kept, joining_kept, opening_kept}
 
 -- ---- the links with the page
@@ -213,6 +215,9 @@ joined_state links page first open' e =
 -- ---- room
 pub joins_few : (chain : ChainState) (page : Page) → is_first page ≡ true → is_open chain ≡ true → fault_of_page chain page ≡ None → length chain.streams < 64
 joins_few chain page first open' e = leb-false 64 (length chain.streams) (joining_kept chain page first open' e).1.1.1.0
+
+pub joins_fresh : (chain : ChainState) (page : Page) → is_first page ≡ true → is_open chain ≡ true → fault_of_page chain page ≡ None → stream_in chain.streams page.serial ≡ None
+joins_fresh chain page first open' e = none_if (stream_in chain.streams page.serial) (joining_kept chain page first open' e).1.0
 
 pub opens_few : (chain : ChainState) (page : Page) → is_first page ≡ true → is_open chain ≡ false → fault_of_page chain page ≡ None → chain.links < 65536
 opens_few chain page first closed e = leb-false 65536 chain.links (opening_kept chain page first closed e).1.0

@@ -1,5 +1,5 @@
 -- Rules that are looked at group by group.
-use Rattle.std.proofs.Common.{◌≡◌, ℕ, Bool, true, false, cond, List, [], ◌∷◌, ◌++◌, refl, sym, ◌∙◌, ap, Option, Some, None, Err}
+use Rattle.std.proofs.Common.{◌≡◌, ℕ, Bool, true, false, cond, List, [], ◌∷◌, ◌++◌, refl, sym, ◌∙◌, ap, append_assoc, Option, Some, None, Err}
 use Rattle.std.specs.Prelude.{is_some}
 use Rattle.chain_rules.specs.declared.refusal.Refusal.{Refusal}
 use Rattle.chain_rules.specs.Rules.{Rule, first_broken}
@@ -38,6 +38,11 @@ pub by_room : (size : ℕ) (whole items room : List (Rule Refusal)) → first_br
     answer size (first_broken room) ≡ answer size (first_broken (whole ++ items ++ room))
 by_room size whole items room w e =
     sym (ap (answer size) (passes (whole ++ items) room (passes whole items w ∙ e)))
+
+pub behind_whole : (size : ℕ) (whole items room : List (Rule Refusal)) → first_broken whole ≡ None →
+    answer size (first_broken (items ++ room)) ≡ answer size (first_broken (whole ++ items ++ room))
+behind_whole size whole items room w =
+    sym (ap (λ l. answer size (first_broken l)) (append_assoc whole items room) ∙ ap (answer size) (passes whole (items ++ room) w))
 
 -- the same, where it was asked whether a rule is broken
 pub none_if : {X : Type 0} (o : Option X) → is_some o ≡ false → o ≡ None

@@ -16,3 +16,4 @@ pub mod Taking
 pub mod Followed
 pub mod Progress
 pub mod Commands
+pub mod Places

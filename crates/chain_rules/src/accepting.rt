@@ -3,6 +3,7 @@ ghost use Rattle.std.specs.Prelude.{◌≡◌, ◌≤◌, ◌<◌, ◌+◌, ◌+
 ghost use Rattle.std.specs.List.{list_any, fold};
 ghost use Rattle.chain_rules.specs.Begun.{new_state, skeleton_state, skeleton_serial, states_of, serials_in, has_other_headers, has_more_pages};
 ghost use Rattle.chain_rules.specs.Encoding.{runs_of, pages_of_runs, with_run};
+ghost use Rattle.chain_rules.specs.Places.{HaveOwnSerials};
 ghost use Rattle.chain_rules.specs.Progress.{change_at, ended_by, next_in};
 ghost use Rattle.chain_rules.specs.Size.{has_no_number, size_of_pages};
 ghost use Rattle.chain_rules.specs.Decision.{header_bytes, has_many_headers};
@@ -43,6 +44,7 @@ fn ended(stream: StreamState, serial: u32, sequence: u64) -> StreamState
 
 /// Counts the packets of a put in, and gives the size of its pages in bytes.
 pub fn add_runs(streams: &mut [StreamState], put: &Put) -> u64
+    requires distinct { HaveOwnSerials streams.old }
     requires few { length put.now.entries ≤ 4096 }
     requires short { sum_by (λ (entry : EntryOf). length entry.packet) put.now.entries ≤ 16777216 }
     requires numbered { list_any has_no_number (pages_of_runs streams.old (runs_of put.now.entries)) ≡ false }

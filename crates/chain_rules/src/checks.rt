@@ -1,7 +1,8 @@
 //! Whether a command is refused, and why, or else its size.
-ghost use Rattle.std.specs.Prelude.{◌≡◌, ◌≤◌, ◌<◌, ◌+◌, ◌^◌, ℕ, Option, Some, None, Ok, Err, IfSome, false, length, sum_by, nat_lt, not};
+ghost use Rattle.std.specs.Prelude.{◌≡◌, ◌≤◌, ◌<◌, ◌+◌, ◌++◌, ◌^◌, ℕ, Option, Some, None, Ok, Err, IfSome, false, length, sum_by, nat_lt, not};
 ghost use Rattle.std.specs.List.{list_any};
 ghost use Rattle.std.specs.Option.{option_map_or};
+ghost use Rattle.chain_rules.specs.Places.{HaveOwnSerials};
 ghost use Rattle.chain_rules.specs.Rules.{first_broken};
 ghost use Rattle.chain_rules.specs.ChainState.{ChainState};
 ghost use Rattle.chain_rules.specs.Decision.{decision, put_rules, begin_rules, room_rules, entries_rules, size_of};
@@ -14,7 +15,7 @@ ghost use Rattle.chain_rules.specs.declared.stream_state.StreamState.{StreamStat
 use crate::begin::{broken_by_parts, has_many_parts, is_long_begin, size_of_begin};
 use crate::command::{Begin, Command, Entry, Put};
 use crate::entries::{broken_by_entries, with_serial};
-use crate::limits::{LONGEST_FILE, MOST_ENTRIES, MOST_LINKS, MOST_STREAMS, SEQUENCES};
+use crate::limits::{FEW_STREAMS, LONGEST_FILE, MOST_ENTRIES, MOST_LINKS, MOST_STREAMS, SEQUENCES};
 use crate::refusal::Refusal;
 use crate::runs::{is_long_batch, size_of_runs};
 use crate::serials::Serials;
@@ -68,45 +69,21 @@ fn broken_by_put(streams: &[StreamState], entries: &[Entry]) -> Option<Refusal>
     None
 }
 
-/// The first rule that one of the entries breaks.
-fn broken_by_each(streams: &[StreamState], entries: &[Entry]) -> Option<Refusal>
-    requires { length streams.now ≤ 64 }
-    ensures { result ≡ first_broken (entries_rules streams.now entries.now) }
-{
-    let mut scratch = [StreamState::NOBODY; MOST_STREAMS];
-    let (scratch, _) = scratch.split_at_mut(streams.len());
-    scratch.copy_from_slice(streams);
-    broken_by_entries(scratch, entries)
-}
-
-/// How many bytes the pages of a put have, where each page can have a number.
-pub fn size_of_put(streams: &[StreamState], entries: &[Entry]) -> Option<u64>
-    requires streams { length streams.now ≤ 64 }
-    requires few { length entries.now ≤ 4096 }
-    requires short { sum_by (λ (entry : EntryOf). length entry.packet) entries.now ≤ 16777216 }
-    ensures value { result ≡ numbered_size (pages_of_runs streams.now (runs_of entries.now)) }
-    ensures small { IfSome result (λ size. size ≤ 486658048) }
-{
-    let mut scratch = [StreamState::NOBODY; MOST_STREAMS];
-    let (scratch, _) = scratch.split_at_mut(streams.len());
-    scratch.copy_from_slice(streams);
-    size_of_runs(scratch, entries)
-}
-
-/// Whether there is room for a put whose entries break no rule, and its size.
+/// Whether there is room for a put whose entries break no rule, and its size. The streams are brought
+/// on.
 #[tactic(auto, unfolding(crate::specs::Encoding::pages_of_command))]
-fn room_for_put(streams: &[StreamState], bytes: u64, put: &Put) -> Result<u64, Refusal>
-    requires streams { length streams.now ≤ 64 }
+fn room_for_put(streams: &mut [StreamState], bytes: u64, put: &Put) -> Result<u64, Refusal>
+    requires distinct { HaveOwnSerials streams.old }
     requires few { length put.now.entries ≤ 4096 }
     requires counted { bytes < 2 ^ 63 }
-    ensures { (chain : ChainState) → chain.streams ≡ streams.now → chain.length_of ≡ bytes
+    ensures { (chain : ChainState) → chain.streams ≡ streams.old → chain.length_of ≡ bytes
         → result ≡ answer (size_of chain (Command.Put put.now)) (first_broken (room_rules chain (Command.Put put.now))) }
 {
     let entries = put.entries.as_slice();
     if is_long_batch(entries) {
         return Err(Refusal::BatchTooLong);
     }
-    let Some(size) = size_of_put(streams, entries) else {
+    let Some(size) = size_of_runs(streams, entries) else {
         return Err(Refusal::SequenceEnd);
     };
     if bytes + size + 1 > LONGEST_FILE {
@@ -115,20 +92,48 @@ fn room_for_put(streams: &[StreamState], bytes: u64, put: &Put) -> Result<u64, R
     Ok(size)
 }
 
+/// The entries of a put, and the room for it, by way of room for a copy of the streams.
+fn check_by(
+    copy: &mut [StreamState],
+    streams: &[StreamState],
+    bytes: u64,
+    put: &Put,
+) -> Result<u64, Refusal>
+    requires streams { length streams.now ≤ length copy.old }
+    requires distinct { HaveOwnSerials streams.now }
+    requires few { length put.now.entries ≤ 4096 }
+    requires counted { bytes < 2 ^ 63 }
+    ensures { (chain : ChainState) → chain.streams ≡ streams.now → chain.length_of ≡ bytes
+        → result ≡ answer (size_of chain (Command.Put put.now))
+        (first_broken (entries_rules chain.streams put.now.entries ++ room_rules chain (Command.Put put.now))) }
+{
+    let (copy, _) = copy.split_at_mut(streams.len());
+    copy.copy_from_slice(streams);
+    if let Some(refusal) = broken_by_entries(copy, put.entries.as_slice()) {
+        return Err(refusal);
+    }
+    copy.copy_from_slice(streams);
+    room_for_put(copy, bytes, put)
+}
+
 /// A put.
 pub fn check_put(streams: &[StreamState], bytes: u64, put: &Put) -> Result<u64, Refusal>
     requires streams { length streams.now ≤ 64 }
+    requires distinct { HaveOwnSerials streams.now }
     requires counted { bytes < 2 ^ 63 }
     ensures { (chain : ChainState) → chain.streams ≡ streams.now → chain.length_of ≡ bytes → result ≡ decision chain (Command.Put put.now) }
 {
-    let entries = put.entries.as_slice();
-    if let Some(refusal) = broken_by_put(streams, entries) {
+    if let Some(refusal) = broken_by_put(streams, put.entries.as_slice()) {
         return Err(refusal);
     }
-    if let Some(refusal) = broken_by_each(streams, entries) {
-        return Err(refusal);
+    // Room is cleared before it is filled, so that a link of few streams takes little.
+    if streams.len() <= FEW_STREAMS {
+        let mut copy = [StreamState::NOBODY; FEW_STREAMS];
+        check_by(&mut copy, streams, bytes, put)
+    } else {
+        let mut copy = [StreamState::NOBODY; MOST_STREAMS];
+        check_by(&mut copy, streams, bytes, put)
     }
-    room_for_put(streams, bytes, put)
 }
 
 /// The first rule that a new link breaks as a whole.

@@ -4,10 +4,12 @@ ghost use Rattle.chain_rules.specs.declared.command.Entry.{Entry as EntryOf};
 ghost use Rattle.std.specs.List.{list_any};
 ghost use Rattle.chain_rules.specs.Rules.{first_broken};
 ghost use Rattle.chain_rules.specs.Decision.{entry_rules, entries_rules};
+ghost use Rattle.chain_rules.specs.Places.{HaveOwnSerials, IsPlace};
 ghost use Rattle.chain_rules.specs.Progress.{stream_in, change_at, moved_to, advanced, with_position, brought_to};
 
 use crate::command::Entry;
 use crate::limits::{LONGEST_PACKET, POSITIONS};
+use crate::places::{place_of, stream_at};
 use crate::refusal::Refusal;
 use crate::stream_state::StreamState;
 use packetiser::TimedPacket;
@@ -36,15 +38,14 @@ pub fn with_serial(streams: &[StreamState], serial: u32) -> Option<StreamState>
         .find(|stream| stream.serial == serial)
 }
 
-/// Brings the stream with this serial to a position.
-pub fn move_stream(streams: &mut [StreamState], serial: u32, position: u64)
-    ensures { streams.new ≡ with_position serial position streams.old }
+/// Brings the stream at this place to a position.
+pub fn move_stream(streams: &mut [StreamState], place: usize, position: u64)
+    ensures { (serial : ℕ) → HaveOwnSerials streams.old → IsPlace streams.old serial place → streams.new ≡ with_position serial position streams.old }
 {
-    for stream in streams.iter_mut() {
-        if stream.serial == serial {
-            *stream = moved(*stream, position);
-        }
+    if place >= streams.len() {
+        return;
     }
+    streams[place] = moved(streams[place], position);
 }
 
 fn moved(stream: StreamState, position: u64) -> StreamState
@@ -56,15 +57,14 @@ fn moved(stream: StreamState, position: u64) -> StreamState
     }
 }
 
-/// Brings the stream with this serial to a position by whole packets; its next page has this number.
-pub fn bring_stream(streams: &mut [StreamState], serial: u32, sequence: u64, position: u64)
-    ensures { streams.new ≡ brought_to serial sequence position streams.old }
+/// Brings the stream at this place to a position by whole packets; its next page has this number.
+pub fn bring_stream(streams: &mut [StreamState], place: usize, sequence: u64, position: u64)
+    ensures { (serial : ℕ) → HaveOwnSerials streams.old → IsPlace streams.old serial place → streams.new ≡ brought_to serial sequence position streams.old }
 {
-    for stream in streams.iter_mut() {
-        if stream.serial == serial {
-            *stream = brought(*stream, sequence, position);
-        }
+    if place >= streams.len() {
+        return;
     }
+    streams[place] = brought(streams[place], sequence, position);
 }
 
 fn brought(stream: StreamState, sequence: u64, position: u64) -> StreamState
@@ -78,14 +78,15 @@ fn brought(stream: StreamState, sequence: u64, position: u64) -> StreamState
     }
 }
 
-/// The first rule that an entry breaks.
-fn broken_by_entry(streams: &[StreamState], entry: &Entry) -> Option<Refusal>
+/// The first rule that an entry of the stream at this place breaks.
+fn broken_by_entry(streams: &[StreamState], place: usize, entry: &Entry) -> Option<Refusal>
+    requires { IsPlace streams.now entry.now.serial place }
     ensures { result ≡ first_broken (entry_rules streams.now entry.now) }
 {
     if entry.packet.len() > LONGEST_PACKET {
         return Some(Refusal::PacketTooLong);
     }
-    let Some(stream) = with_serial(streams, entry.serial) else {
+    let Some(stream) = stream_at(streams, place) else {
         return Some(Refusal::UnknownSerial);
     };
     if stream.ended {
@@ -103,14 +104,17 @@ fn broken_by_entry(streams: &[StreamState], entry: &Entry) -> Option<Refusal>
 /// The first rule that one of the entries breaks. The streams are left where the entries before it
 /// have brought them.
 pub fn broken_by_entries(streams: &mut [StreamState], entries: &[Entry]) -> Option<Refusal>
+    requires { HaveOwnSerials streams.old }
     ensures { result ≡ first_broken (entries_rules streams.old entries.now) }
 {
+    let mut place = 0;
     for entry in entries {
-        let broken = broken_by_entry(streams, entry);
+        place = place_of(streams, place, entry.serial);
+        let broken = broken_by_entry(streams, place, entry);
         if broken.is_some() {
             return broken;
         }
-        move_stream(streams, entry.serial, entry.position);
+        move_stream(streams, place, entry.position);
     }
     None
 }

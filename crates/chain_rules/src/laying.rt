@@ -1,22 +1,23 @@
 //! The pages of a command as bytes.
-ghost use Rattle.std.specs.Prelude.{◌≡◌, ◌≤◌, ◌<◌, ◌+◌, ◌*◌, ◌++◌, ◌^◌, ℕ, [], ◌∷◌, false, Some, IfSome, OnOk, OnErr, length, map, sum_by, take, drop, vec_len, vec_capacity};
+ghost use Rattle.std.specs.Prelude.{◌≡◌, ◌≤◌, ◌<◌, ◌+◌, ◌*◌, ◌++◌, ◌^◌, ℕ, List, [], ◌∷◌, false, Some, IfSome, OnOk, OnErr, length, map, sum_by, take, drop, vec_len, vec_capacity};
 ghost use Rattle.std.specs.List.{list_any, flat_map};
 ghost use Rattle.ogg_page.specs.Page.{bytes_of_pages};
 ghost use Rattle.packetiser.specs.Run.{pages_of_run, pages_for, run_lacing, run_bytes, size_for, flagged, lengths};
 ghost use Rattle.chain_rules.specs.ChainState.{ChainState};
 ghost use Rattle.chain_rules.specs.Decision.{header_bytes, has_many_headers, has_long_media};
 ghost use Rattle.chain_rules.specs.Encoding.{first_pages, header_pages, pages_of_begin, end_page, runs_of, pages_of_runs};
+ghost use Rattle.chain_rules.specs.Places.{HaveOwnSerials};
 ghost use Rattle.chain_rules.specs.Progress.{next_in};
 ghost use Rattle.chain_rules.specs.Size.{has_no_number, size_of_pages};
 ghost use Rattle.chain_rules.specs.declared.command.Entry.{Entry as EntryOf};
 
 use crate::Memory;
 use crate::begin::{size_of_begin, split_headers};
-use crate::checks::size_of_put;
 use crate::command::{Entry, NewStream, SkeletonHead};
 use crate::entries::{bring_stream, with_serial};
-use crate::limits::MOST_STREAMS;
-use crate::runs::{next_sequence, run_length, run_position, run_serial};
+use crate::limits::{FEW_STREAMS, MOST_STREAMS};
+use crate::places::place_of;
+use crate::runs::{next_at, next_sequence, run_length, run_position, run_serial};
 use crate::skeleton::{lay_fisbones, lay_fishead, lay_skeleton_end};
 use crate::stream_state::StreamState;
 use ogg_page::{PageHead, write_page};
@@ -45,9 +46,10 @@ pub fn lay_end(streams: &[StreamState], serial: u32, out: &mut Vec<u8>) -> Resul
     write_page(&head, &[], &[], out)
 }
 
-/// Appends the pages of a put.
+/// Appends the pages of a put. After `Memory` the vector is unchanged.
 pub fn lay_put(streams: &[StreamState], entries: &[Entry], out: &mut Vec<u8>) -> Result<(), Memory>
     requires streams { length streams.now ≤ 64 }
+    requires distinct { HaveOwnSerials streams.now }
     requires few { length entries.now ≤ 4096 }
     requires short { sum_by (λ (entry : EntryOf). length entry.packet) entries.now ≤ 16777216 }
     requires numbered { list_any has_no_number (pages_of_runs streams.now (runs_of entries.now)) ≡ false }
@@ -55,32 +57,85 @@ pub fn lay_put(streams: &[StreamState], entries: &[Entry], out: &mut Vec<u8>) ->
     ensures err { OnErr result (out.new.items ≡ out.old.items) }
     ensures full { OnErr result (vec_capacity out.old < vec_len out.old + size_of_pages (pages_of_runs streams.now (runs_of entries.now))) }
 {
-    let size = size_of_put(streams, entries).unwrap();
-    out.reserve(size as usize)?;
-    let mut scratch = [StreamState::NOBODY; MOST_STREAMS];
-    let (scratch, _) = scratch.split_at_mut(streams.len());
-    scratch.copy_from_slice(streams);
-    lay_runs(scratch, entries, out);
-    Ok(())
+    let len = out.len();
+    match lay_copied(streams, entries, out) {
+        Ok(()) => Ok(()),
+        Err(memory) => {
+            out.truncate(len);
+            Err(memory)
+        }
+    }
 }
 
-/// Appends the pages of a put for which there is room.
-fn lay_runs(streams: &mut [StreamState], entries: &[Entry], out: &mut Vec<u8>)
+/// Appends the pages of a put. After `Memory` a part of them stands in the vector.
+fn lay_copied(streams: &[StreamState], entries: &[Entry], out: &mut Vec<u8>) -> Result<(), Memory>
+    requires streams { length streams.now ≤ 64 }
+    requires distinct { HaveOwnSerials streams.now }
+    requires few { length entries.now ≤ 4096 }
+    requires short { sum_by (λ (entry : EntryOf). length entry.packet) entries.now ≤ 16777216 }
+    requires numbered { list_any has_no_number (pages_of_runs streams.now (runs_of entries.now)) ≡ false }
+    ensures ok { OnOk result (out.new.items ≡ out.old.items ++ bytes_of_pages (pages_of_runs streams.now (runs_of entries.now))) }
+    ensures kept { (added : List ℕ) × (out.new.items ≡ out.old.items ++ added) }
+    ensures full { OnErr result (vec_capacity out.old < vec_len out.old + size_of_pages (pages_of_runs streams.now (runs_of entries.now))) }
+{
+    // Room is cleared before it is filled, so that a link of few streams takes little.
+    if streams.len() <= FEW_STREAMS {
+        let mut copy = [StreamState::NOBODY; FEW_STREAMS];
+        lay_by(&mut copy, streams, entries, out)
+    } else {
+        let mut copy = [StreamState::NOBODY; MOST_STREAMS];
+        lay_by(&mut copy, streams, entries, out)
+    }
+}
+
+/// Appends the pages of a put by way of room for a copy of the streams. After `Memory` a part of them
+/// stands in the vector.
+fn lay_by(
+    copy: &mut [StreamState],
+    streams: &[StreamState],
+    entries: &[Entry],
+    out: &mut Vec<u8>,
+) -> Result<(), Memory>
+    requires streams { length streams.now ≤ length copy.old }
+    requires distinct { HaveOwnSerials streams.now }
+    requires few { length entries.now ≤ 4096 }
+    requires short { sum_by (λ (entry : EntryOf). length entry.packet) entries.now ≤ 16777216 }
+    requires numbered { list_any has_no_number (pages_of_runs streams.now (runs_of entries.now)) ≡ false }
+    ensures ok { OnOk result (out.new.items ≡ out.old.items ++ bytes_of_pages (pages_of_runs streams.now (runs_of entries.now))) }
+    ensures kept { (added : List ℕ) × (out.new.items ≡ out.old.items ++ added) }
+    ensures full { OnErr result (vec_capacity out.old < vec_len out.old + size_of_pages (pages_of_runs streams.now (runs_of entries.now))) }
+{
+    let (copy, _) = copy.split_at_mut(streams.len());
+    copy.copy_from_slice(streams);
+    lay_runs(copy, entries, out)
+}
+
+/// Appends the pages of a put, run after run. After `Memory` those of the runs before stand in the
+/// vector.
+fn lay_runs(streams: &mut [StreamState], entries: &[Entry], out: &mut Vec<u8>) -> Result<(), Memory>
+    requires distinct { HaveOwnSerials streams.old }
     requires few { length entries.now ≤ 4096 }
     requires short { sum_by (λ (entry : EntryOf). length entry.packet) entries.now ≤ 16777216 }
     requires numbered { list_any has_no_number (pages_of_runs streams.old (runs_of entries.now)) ≡ false }
-    requires room { vec_len out.old + size_of_pages (pages_of_runs streams.old (runs_of entries.now)) ≤ vec_capacity out.old }
-    ensures items { out.new.items ≡ out.old.items ++ bytes_of_pages (pages_of_runs streams.old (runs_of entries.now)) }
+    ensures ok { OnOk result (out.new.items ≡ out.old.items ++ bytes_of_pages (pages_of_runs streams.old (runs_of entries.now))) }
+    ensures kept { (added : List ℕ) × (out.new.items ≡ out.old.items ++ added) }
+    ensures full { OnErr result (vec_capacity out.old < vec_len out.old + size_of_pages (pages_of_runs streams.old (runs_of entries.now))) }
 {
     let mut rest = entries;
+    let mut place = 0;
     while !rest.is_empty() {
         let (run, others) = rest.split_at(run_length(rest));
         let serial = run_serial(run);
-        let next = next_sequence(streams, serial);
-        let pages = append_run(serial, next as u32, 0, run, out);
-        bring_stream(streams, serial, next + u64::from(pages), run_position(run));
+        place = place_of(streams, place, serial);
+        let next = next_at(streams, place);
+        let pages = match lay_run(serial, next as u32, 0, run, out) {
+            Ok(pages) => pages,
+            Err(memory) => return Err(memory),
+        };
+        bring_stream(streams, place, next + u64::from(pages), run_position(run));
         rest = others;
     }
+    Ok(())
 }
 
 /// Appends the pages of a new link.

@@ -20,6 +20,7 @@ mod laws;
 mod laying;
 mod limits;
 mod listed;
+mod places;
 mod refusal;
 mod runs;
 mod serials;

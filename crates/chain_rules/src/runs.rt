@@ -4,6 +4,7 @@ ghost use Rattle.std.specs.List.{fold};
 ghost use Rattle.std.specs.Option.{SomeIff};
 ghost use Rattle.packetiser.specs.Run.{pages_for, run_lacing, run_bytes};
 ghost use Rattle.chain_rules.specs.Encoding.{runs_of, run_serial, run_position, pages_of_runs, with_run, timed};
+ghost use Rattle.chain_rules.specs.Places.{HaveOwnSerials, IsPlace};
 ghost use Rattle.chain_rules.specs.Progress.{next_in};
 ghost use Rattle.chain_rules.specs.Size.{numbered_size};
 ghost use Rattle.chain_rules.specs.declared.command.Entry.{Entry as EntryOf};
@@ -11,6 +12,7 @@ ghost use Rattle.chain_rules.specs.declared.command.Entry.{Entry as EntryOf};
 use crate::command::Entry;
 use crate::entries::{bring_stream, with_serial};
 use crate::limits::{LONGEST_BATCH, SEQUENCES};
+use crate::places::{place_of, stream_at};
 use crate::stream_state::StreamState;
 use packetiser::{pages_of, size_of, values_and_bytes};
 
@@ -62,8 +64,16 @@ pub fn next_sequence(streams: &[StreamState], serial: u32) -> u64
     with_serial(streams, serial).map_or(0, |stream| stream.next_sequence)
 }
 
+/// The number of the next page of the stream at this place.
+pub fn next_at(streams: &[StreamState], place: usize) -> u64
+    ensures { (serial : ℕ) → IsPlace streams.now serial place → result ≡ next_in streams.now serial }
+{
+    stream_at(streams, place).map_or(0, |stream| stream.next_sequence)
+}
+
 /// How many bytes the pages of a put have, where each page can have a number.
 pub fn size_of_runs(streams: &mut [StreamState], entries: &[Entry]) -> Option<u64>
+    requires distinct { HaveOwnSerials streams.old }
     requires few { length entries.now ≤ 4096 }
     requires short { sum_by (λ (entry : EntryOf). length entry.packet) entries.now ≤ 16777216 }
     ensures value { result ≡ numbered_size (pages_of_runs streams.old (runs_of entries.now)) }
@@ -72,15 +82,16 @@ pub fn size_of_runs(streams: &mut [StreamState], entries: &[Entry]) -> Option<u6
 {
     let mut rest = entries;
     let mut size = 0;
+    let mut place = 0;
     while !rest.is_empty() {
         let (run, others) = rest.split_at(run_length(rest));
-        let serial = run_serial(run);
+        place = place_of(streams, place, run_serial(run));
         let (values, bytes) = values_and_bytes(run);
-        let next = next_sequence(streams, serial);
+        let next = next_at(streams, place);
         let Some(sequence) = number_behind(next, pages_of(values)) else {
             return None;
         };
-        bring_stream(streams, serial, sequence, run_position(run));
+        bring_stream(streams, place, sequence, run_position(run));
         size += size_of(values, bytes);
         rest = others;
     }

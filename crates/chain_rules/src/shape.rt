@@ -30,6 +30,7 @@ pub struct Shape {
 
 impl Model for Shape {
     ghost use Rattle.std.specs.Prelude.{◌≤◌, ◌<◌, ◌^◌, vec_len, vec_capacity};
+    ghost use Rattle.chain_rules.specs.Places.{HaveOwnSerials};
     ghost use Rattle.chain_rules.specs.Shape.{ShapeState};
 
     ghost Value = { ShapeState };
@@ -46,7 +47,7 @@ impl Model for Shape {
       serial_room = s.serials.room;
     } };
 
-    ghost invariant = { λ s. (vec_len s.streams ≤ 64) × (s.bytes < 2 ^ 63) };
+    ghost invariant = { λ s. (vec_len s.streams ≤ 64) × (s.bytes < 2 ^ 63) × HaveOwnSerials s.streams.items };
 }
 
 impl Shape {
@@ -57,6 +58,7 @@ impl Shape {
     ghost use Rattle.chain_rules.specs.Encoding.{command_bytes, links_after};
     ghost use Rattle.chain_rules.specs.Taking.{fault_of_page, links_with, unfinished_stream, HasRoomFor};
     ghost use Rattle.chain_rules.specs.Followed.{opened, joined, continued};
+    ghost use Rattle.chain_rules.specs.Progress.{stream_in};
     ghost use Rattle.chain_rules.specs.declared.chain_fault.ChainFault.{ChainFault as ChainFaultOf};
     ghost use Rattle.ogg_page.specs.LogicalStream.{is_first};
 
@@ -252,6 +254,7 @@ impl Shape {
     fn join_link(&mut self, page: &Page<'_>) -> Result<(), Memory>
         requires long { self.old.chain.length_of + page_size page.now < 2 ^ 63 }
         requires few { length self.old.chain.streams < 64 }
+        requires fresh { stream_in self.old.chain.streams page.now.serial ≡ None }
         ensures ok { OnOk result (self.new.chain ≡ joined self.old.chain page.now) }
         ensures err { OnErr result (self.new.chain ≡ self.old.chain) }
         ensures full { OnErr result (length self.old.chain.streams + 1 ≤ self.old.stream_room → 1 ≤ self.old.serial_room → ⊥) }

@@ -1,20 +1,18 @@
-use Rattle.std.proofs.Common.{◌<◌, ℕ, List, length, ◌∙◌, ap, arith}
+use Rattle.std.proofs.Common.{List, get_or, sym, ◌∙◌, ap}
 use Rattle.std.specs.Prelude.{slice_set}
+use Rattle.std.proofs.lemmas.Option.{slice_get-get_or}
 use Rattle.chain_rules.specs.declared.stream_state.StreamState.{StreamState}
 use Rattle.chain_rules.specs.Progress.{advanced}
-use Rattle.chain_rules.proofs.Progress.{one_changed, one_passed}
+use Rattle.chain_rules.proofs.Progress.{nobody}
+use Rattle.chain_rules.proofs.OwnSerials.{change_one, change_none}
 use Rattle.chain_rules.proofs.entries.bring_stream.Goals as goal
-use Rattle.chain_rules.proofs.entries.bring_stream.Goals.{then-stream-serial, else-stream-serial}
 
-pub loop-stream-preserved : goal.loop-stream-preserved
-loop-stream-preserved c =
-    let now : List StreamState = c.loop-stream.streams in
-    let i : ℕ = c.loop-stream.stream-index in
-    let inside : i < length now = omega (arith, c.loop-stream.auto.streams, c.loop-stream-test.true) in
-    elim c.if-stream-serial.branch [
-      | then-stream-serial w ↦
-          w.streams-is ∙ ap (slice_set now i) w.brought.ensures
-          ∙ one_changed c.args.serial (advanced c.args.sequence c.args.position) c.args.streams.now now i c.loop-stream-test.true inside c.loop-stream.invariant w.if-stream-serial.true
-      | else-stream-serial w ↦
-          w.streams-is ∙ one_passed c.args.serial (advanced c.args.sequence c.args.position) c.args.streams.now now i c.loop-stream-test.true inside c.loop-stream.invariant w.if-stream-serial.false
-    ]
+pub returns-then-place-streams : goal.returns-then-place-streams
+returns-then-place-streams c = λ serial own is. sym (change_none serial (advanced c.args.sequence c.args.position) c.args.streams.now c.args.place is c.if-place-streams.true)
+
+pub returns : goal.returns
+returns c = λ serial own is.
+    let streams : List StreamState = c.args.streams.now in
+    let stream : StreamState = get_or streams c.args.place nobody in
+    ap (slice_set streams c.args.place) c.brought.ensures
+    ∙ sym (change_one serial (advanced c.args.sequence c.args.position) streams c.args.place stream own is (slice_get-get_or streams c.args.place nobody c.if-place-streams.false))

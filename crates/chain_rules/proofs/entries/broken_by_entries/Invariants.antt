@@ -1,9 +1,11 @@
 use Rattle.std.proofs.Common.{◌≡◌, drop}
 use Rattle.chain_rules.specs.Rules.{first_broken}
 use Rattle.chain_rules.specs.Decision.{entries_rules}
+use Rattle.chain_rules.specs.Places.{HaveOwnSerials}
 use Rattle.chain_rules.proofs.entries.broken_by_entries.Given as goal
 
 -- the entries so far broke no rule, and the streams are where they have brought them
 abbrev pub invariant-loop-entry : goal.invariant-loop-entry
 invariant-loop-entry l =
-    first_broken (entries_rules l.initial.streams l.entries) ≡ first_broken (entries_rules l.streams (drop l.entry-index l.entries))
+    (first_broken (entries_rules l.initial.streams l.entries) ≡ first_broken (entries_rules l.streams (drop l.entry-index l.entries)))
+    × HaveOwnSerials l.streams

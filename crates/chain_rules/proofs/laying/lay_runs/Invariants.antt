@@ -1,18 +1,22 @@
-use Rattle.std.proofs.Common.{◌≡◌, ◌≤◌, ◌+◌, ◌++◌, false, length, sum_by, vec_len}
+use Rattle.std.proofs.Common.{◌≡◌, ◌≤◌, ◌+◌, ◌++◌, ℕ, List, false, length, sum_by, vec_len}
 use Rattle.std.specs.Prelude.{vec_capacity}
 use Rattle.std.specs.List.{list_any}
 use Rattle.ogg_page.specs.Page.{bytes_of_pages}
 use Rattle.chain_rules.specs.declared.command.Entry.{Entry}
 use Rattle.chain_rules.specs.Encoding.{runs_of, pages_of_runs}
 use Rattle.chain_rules.specs.Size.{has_no_number, size_of_pages}
+use Rattle.chain_rules.specs.Places.{HaveOwnSerials}
 use Rattle.chain_rules.proofs.laying.lay_runs.Given as goal
 
--- with the pages that are left it will be all pages, each has a number, and there is room for them
+-- with the pages that are left it will be all pages, and each has a number; what stood in the vector stays
 abbrev pub invariant-loop-rest : goal.invariant-loop-rest
 invariant-loop-rest l = record {
   items : l.out.items ++ bytes_of_pages (pages_of_runs l.streams (runs_of l.rest)) ≡ l.fn.out.items ++ bytes_of_pages (pages_of_runs l.initial.streams (runs_of l.entries));
   numbered : list_any has_no_number (pages_of_runs l.streams (runs_of l.rest)) ≡ false;
-  room : vec_len l.out + size_of_pages (pages_of_runs l.streams (runs_of l.rest)) ≤ vec_capacity l.out;
+  counted : vec_len l.out + size_of_pages (pages_of_runs l.streams (runs_of l.rest)) ≡ vec_len l.fn.out + size_of_pages (pages_of_runs l.initial.streams (runs_of l.entries));
+  capacity : vec_capacity l.fn.out ≤ vec_capacity l.out;
+  kept : (added : List ℕ) × (l.out.items ≡ l.fn.out.items ++ added);
+  own : HaveOwnSerials l.streams;
   small : sum_by (λ (entry : Entry). length entry.packet) l.rest + length l.rest ≤ 16777216 + 4096;
 }
 

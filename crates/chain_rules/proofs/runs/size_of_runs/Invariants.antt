@@ -3,11 +3,13 @@ use Rattle.std.specs.List.{list_any, fold}
 use Rattle.chain_rules.specs.declared.command.Entry.{Entry}
 use Rattle.chain_rules.specs.Encoding.{runs_of, pages_of_runs, with_run}
 use Rattle.chain_rules.specs.Size.{has_no_number, size_of_pages}
+use Rattle.chain_rules.specs.Places.{HaveOwnSerials}
 use Rattle.chain_rules.proofs.runs.size_of_runs.Given as goal
 
--- the runs so far have their numbers and are counted
+-- the streams have serials of their own, and the runs so far have their numbers and are counted
 abbrev pub invariant-loop-rest : goal.invariant-loop-rest
 invariant-loop-rest l = record {
+  own : HaveOwnSerials l.streams;
   numbered : list_any has_no_number (pages_of_runs l.initial.streams (runs_of l.entries)) ≡ list_any has_no_number (pages_of_runs l.streams (runs_of l.rest));
   counted : size_of_pages (pages_of_runs l.initial.streams (runs_of l.entries)) ≡ l.size + size_of_pages (pages_of_runs l.streams (runs_of l.rest));
   after : fold with_run l.initial.streams (runs_of l.entries) ≡ fold with_run l.streams (runs_of l.rest);

@@ -12,6 +12,9 @@ use Rattle.chain_rules.specs.Shape.{ShapeState}
 use Rattle.chain_rules.specs.Size.{size_of_pages}
 use Rattle.chain_rules.specs.Decision.{decision, header_bytes, has_many_headers, has_long_media}
 use Rattle.chain_rules.specs.Encoding.{pages_of_begin}
+use Rattle.chain_rules.specs.Places.{HaveOwnSerials}
+use Rattle.chain_rules.proofs.BeginHeld.{can_begin}
+use Rattle.chain_rules.proofs.OwnSerials.{own_begun}
 use Rattle.chain_rules.proofs.BeginState.{begin_state, behind_begin}
 use Rattle.chain_rules.proofs.Kept.{BeginFits, begin_fits, few_streams, kept_size}
 use Rattle.chain_rules.proofs.StateBehind.{chain_of}
@@ -54,7 +57,12 @@ invariant_of-self c =
     let bytes : c.self.inside.bytes ≡ c.args.self.now.chain.length_of = ap (λ (s : ShapeState). s.chain.length_of) c.self.view_is in
     let count : vec_len c.add_streams.new.streams ≡ stream_count c.args.begin.now =
     c.add_streams.ensures.count ∙ ap (λ (l : List NewStream). length l + length (skeleton_serial c.args.begin.now.skeleton)) c.as_slice-streams.ensures in
-    (omega (arith, count, fits.streams), omega (arith, bytes, fits.room, c.size_of_begin-size.ensures.small))
+    let skeleton : Option SkeletonHead = c.args.begin.now.skeleton in
+    let streams : c.add_streams.new.streams.items ≡ states_of skeleton c.args.begin.now.streams = c.add_streams.ensures.streams ∙ ap (states_of skeleton) c.as_slice-streams.ensures in (
+      omega (arith, count, fits.streams),
+      omega (arith, bytes, fits.room, c.size_of_begin-size.ensures.small),
+      subst HaveOwnSerials (sym streams) (own_begun skeleton c.args.begin.now.streams (can_begin c.args.self.now.chain c.args.begin.now c.requires.kept).distinct),
+    )
 
 pub returns-clause-time : goal.returns-clause-time
 returns-clause-time c = c.size_of_begin-size.ensures.time

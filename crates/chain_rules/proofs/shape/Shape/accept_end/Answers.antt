@@ -1,4 +1,4 @@
-use Rattle.std.proofs.Common.{◌≡◌, ◌<◌, ◌+◌, ◌^◌, ℕ, true, List, length, map, sym, ap, ◌∙◌, subst, arith, vec_len}
+use Rattle.std.proofs.Common.{◌≡◌, ◌<◌, ◌+◌, ◌^◌, ℕ, true, List, length, map, refl, sym, ap, ◌∙◌, subst, arith, vec_len}
 use Rattle.chain_rules.specs.declared.command.Command.TheVariants.{End as EndOf}
 use Rattle.chain_rules.specs.declared.stream_state.StreamState.{StreamState}
 use Rattle.chain_rules.specs.ChainState.{ChainState}
@@ -7,6 +7,8 @@ use Rattle.chain_rules.specs.Progress.{change_at, ended_by, next_in}
 use Rattle.chain_rules.specs.Decision.{decision}
 use Rattle.chain_rules.proofs.EndState.{end_state}
 use Rattle.chain_rules.proofs.Kept.{EndFits, end_fits, kept_size}
+use Rattle.chain_rules.specs.Places.{HaveOwnSerials}
+use Rattle.chain_rules.proofs.OwnSerials.{own_stay}
 use Rattle.chain_rules.proofs.Lent.{given_back}
 use Rattle.chain_rules.proofs.StateBehind.{behind, chain_of}
 use Rattle.chain_rules.proofs.shape.Shape.accept_end.Goals as goal
@@ -21,7 +23,15 @@ pub invariant_of-self : goal.invariant_of-self
 invariant_of-self c =
     let fits : EndFits c.args.self.now.chain c.args.serial = end_fits c.args.self.now.chain c.args.serial c.requires in
     let bytes : c.self.inside.bytes ≡ c.args.self.now.chain.length_of = ap (λ (s : ShapeState). s.chain.length_of) c.self.view_is in
-    (c.self.invariant.0, omega (arith, bytes, fits.room))
+    let streams : List StreamState = c.self.inside.streams.items in
+    let after : c.end_stream.new.streams ≡ map (change_at c.args.serial (ended_by (next_in streams c.args.serial + 1))) streams =
+    c.end_stream.ensures ∙ ap (λ (l : List StreamState). map (change_at c.args.serial (ended_by (next_in l c.args.serial + 1))) l) c.as_mut_slice.ensures.value in
+    let as_long : length c.end_stream.new.streams ≡ vec_len c.self.inside.streams = c.end_stream.auto.streams ∙ c.as_mut_slice.ensures.len in (
+      c.self.invariant.0,
+      omega (arith, bytes, fits.room),
+      subst HaveOwnSerials (sym (given_back c.end_stream.new.streams streams (vec_len c.self.inside.streams) as_long ∙ after))
+          (own_stay c.args.serial (ended_by (next_in streams c.args.serial + 1)) streams (λ s. refl) c.self.invariant.2),
+    )
 
 pub returns : goal.returns
 returns c = λ links e.

@@ -10,6 +10,9 @@ use Rattle.chain_rules.specs.Size.{has_no_number, size_of_pages}
 use Rattle.chain_rules.specs.Decision.{decision}
 use Rattle.chain_rules.proofs.PutState.{put_state, grown}
 use Rattle.chain_rules.proofs.Kept.{PutFits, put_fits, kept_size}
+use Rattle.chain_rules.specs.declared.command.Entry.{Entry}
+use Rattle.chain_rules.specs.Places.{HaveOwnSerials}
+use Rattle.chain_rules.proofs.OwnSerials.{own_runs}
 use Rattle.chain_rules.proofs.Lent.{given_back}
 use Rattle.chain_rules.proofs.StateBehind.{chain_of}
 use Rattle.chain_rules.proofs.shape.Shape.accept_put.Goals as goal
@@ -30,7 +33,15 @@ pub invariant_of-self : goal.invariant_of-self
 invariant_of-self c =
     let fits : PutFits c.args.self.now.chain c.args.put.now = put_fits c.args.self.now.chain c.args.put.now c.requires in
     let bytes : c.self.inside.bytes ≡ c.args.self.now.chain.length_of = ap (λ (s : ShapeState). s.chain.length_of) c.self.view_is in
-    (c.self.invariant.0, omega (arith, bytes, fits.room, c.add_runs-size.ensures.small))
+    let runs : List (List Entry) = runs_of c.args.put.now.entries in
+    let after : c.add_runs-size.new.streams ≡ fold with_run c.self.inside.streams.items runs =
+    c.add_runs-size.ensures.after ∙ ap (λ (l : List StreamState). fold with_run l runs) c.as_mut_slice.ensures.value in
+    let as_long : length c.add_runs-size.new.streams ≡ vec_len c.self.inside.streams = c.add_runs-size.auto.streams ∙ c.as_mut_slice.ensures.len in (
+      c.self.invariant.0,
+      omega (arith, bytes, fits.room, c.add_runs-size.ensures.small),
+      subst HaveOwnSerials (sym (given_back c.add_runs-size.new.streams c.self.inside.streams.items (vec_len c.self.inside.streams) as_long ∙ after))
+          (own_runs c.self.inside.streams.items runs c.self.invariant.2),
+    )
 
 pub returns : goal.returns
 returns c = λ links e.

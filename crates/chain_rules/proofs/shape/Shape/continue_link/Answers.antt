@@ -1,4 +1,4 @@
-use Rattle.std.proofs.Common.{◌≡◌, ◌+◌, true, List, length, map, ◌∙◌, ap, arith, vec_len}
+use Rattle.std.proofs.Common.{◌≡◌, ◌+◌, true, List, length, map, refl, sym, ◌∙◌, ap, subst, arith, vec_len}
 use Rattle.ogg_page.specs.Page.{Page, page_size}
 use Rattle.chain_rules.specs.declared.stream_state.StreamState.{StreamState}
 use Rattle.chain_rules.specs.ChainState.{ChainState}
@@ -6,6 +6,8 @@ use Rattle.chain_rules.specs.Shape.{ShapeState}
 use Rattle.chain_rules.specs.Progress.{change_at}
 use Rattle.chain_rules.specs.Followed.{followed}
 use Rattle.chain_rules.proofs.ByteSizes.{length-page_bytes}
+use Rattle.chain_rules.specs.Places.{HaveOwnSerials}
+use Rattle.chain_rules.proofs.OwnSerials.{own_stay}
 use Rattle.chain_rules.proofs.Lent.{given_back}
 use Rattle.chain_rules.proofs.StateBehind.{chain_of}
 use Rattle.chain_rules.proofs.shape.Shape.continue_link.Goals as goal
@@ -14,7 +16,15 @@ pub invariant_of-self : goal.invariant_of-self
 invariant_of-self c =
     let bytes : c.self.inside.bytes ≡ c.args.self.now.chain.length_of = ap (λ (s : ShapeState). s.chain.length_of) c.self.view_is in
     let size : length c.whole.result.now ≡ page_size c.args.page.now = ap length c.whole.ensures.bytes ∙ length-page_bytes c.args.page.now in
-    (c.self.invariant.0, omega (arith, bytes, size, c.requires))
+    let page : Page = c.args.page.now in
+    let streams : List StreamState = c.self.inside.streams.items in
+    let after : c.follow.new.streams ≡ map (change_at page.serial (followed page)) streams = c.follow.ensures ∙ ap (map (change_at page.serial (followed page))) c.as_mut_slice.ensures.value in
+    let as_long : length c.follow.new.streams ≡ vec_len c.self.inside.streams = c.follow.auto.streams ∙ c.as_mut_slice.ensures.len in (
+      c.self.invariant.0,
+      omega (arith, bytes, size, c.requires),
+      subst HaveOwnSerials (sym (given_back c.follow.new.streams streams (vec_len c.self.inside.streams) as_long ∙ after))
+          (own_stay page.serial (followed page) streams (λ s. refl) c.self.invariant.2),
+    )
 
 pub returns : goal.returns
 returns c =

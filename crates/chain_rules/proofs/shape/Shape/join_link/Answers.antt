@@ -1,9 +1,12 @@
-use Rattle.std.proofs.Common.{◌≡◌, ◌+◌, ◌++◌, [], ◌∷◌, List, ℕ, length, ◌∙◌, ap, arith}
+use Rattle.std.proofs.Common.{◌≡◌, ◌+◌, ◌++◌, [], ◌∷◌, List, ℕ, length, None, sym, ◌∙◌, ap, subst, arith}
 use Rattle.ogg_page.specs.Page.{Page, page_size}
 use Rattle.chain_rules.specs.declared.stream_state.StreamState.{StreamState}
 use Rattle.chain_rules.specs.Shape.{ShapeState}
 use Rattle.chain_rules.specs.Followed.{entered}
 use Rattle.chain_rules.proofs.ByteSizes.{length-page_bytes}
+use Rattle.chain_rules.specs.Progress.{stream_in}
+use Rattle.chain_rules.specs.Places.{HaveOwnSerials}
+use Rattle.chain_rules.proofs.OwnSerials.{own_push}
 use Rattle.chain_rules.proofs.StateBehind.{chain_of}
 use Rattle.chain_rules.proofs.shape.Shape.join_link.Goals as goal
 
@@ -12,7 +15,12 @@ invariant_of-self-2 c =
     let bytes : c.self.inside.bytes ≡ c.args.self.now.chain.length_of = ap (λ (s : ShapeState). s.chain.length_of) c.self.view_is in
     let count : length c.self.inside.streams.items ≡ length c.args.self.now.chain.streams = ap (λ (s : ShapeState). length s.chain.streams) c.self.view_is in
     let size : length c.whole.result.now ≡ page_size c.args.page.now = ap length c.whole.ensures.bytes ∙ length-page_bytes c.args.page.now in
-    (omega (arith, c.in_ok-join_link.ensures.count, count, c.self.inside.streams.ok.0, c.requires.few), omega (arith, bytes, size, c.requires.long))
+    let page : Page = c.args.page.now in
+    let fresh : stream_in c.self.inside.streams.items page.serial ≡ None = ap (λ (s : ShapeState). stream_in s.chain.streams page.serial) c.self.view_is ∙ c.requires.fresh in (
+      omega (arith, c.in_ok-join_link.ensures.count, count, c.self.inside.streams.ok.0, c.requires.few),
+      omega (arith, bytes, size, c.requires.long),
+      subst HaveOwnSerials (sym c.in_ok-join_link.ensures.streams) (own_push c.self.inside.streams.items (entered page) c.self.invariant.2 fresh),
+    )
 
 pub returns-clause-ok : goal.returns-clause-ok
 returns-clause-ok c =

@@ -1,17 +1,22 @@
-use Rattle.std.proofs.Common.{◌≡◌, ◌+◌, ◌++◌, [], ◌∷◌, false, List, ℕ, length, ◌∙◌, ap, arith}
+use Rattle.std.proofs.Common.{◌≡◌, ◌+◌, ◌++◌, [], ◌∷◌, false, List, ℕ, length, sym, ◌∙◌, ap, subst, arith}
 use Rattle.ogg_page.specs.Page.{Page, page_size}
 use Rattle.chain_rules.specs.declared.stream_state.StreamState.{StreamState}
 use Rattle.chain_rules.specs.Shape.{ShapeState}
 use Rattle.chain_rules.specs.Followed.{entered}
 use Rattle.chain_rules.proofs.ByteSizes.{length-page_bytes}
+use Rattle.chain_rules.specs.Places.{HaveOwnSerials}
+use Rattle.chain_rules.proofs.OwnSerials.{own_one}
 use Rattle.chain_rules.proofs.StateBehind.{chain_of}
 use Rattle.chain_rules.proofs.shape.Shape.open_link.Goals as goal
 
 pub invariant_of-self-2 : goal.invariant_of-self-2
 invariant_of-self-2 c =
     let bytes : c.self.inside.bytes ≡ c.args.self.now.chain.length_of = ap (λ (s : ShapeState). s.chain.length_of) c.self.view_is in
-    let size : length c.whole.result.now ≡ page_size c.args.page.now = ap length c.whole.ensures.bytes ∙ length-page_bytes c.args.page.now in
-    (omega (arith, c.in_ok-open_link.ensures.count), omega (arith, bytes, size, c.requires.long))
+    let size : length c.whole.result.now ≡ page_size c.args.page.now = ap length c.whole.ensures.bytes ∙ length-page_bytes c.args.page.now in (
+      omega (arith, c.in_ok-open_link.ensures.count),
+      omega (arith, bytes, size, c.requires.long),
+      subst HaveOwnSerials (sym c.in_ok-open_link.ensures.streams) (own_one (entered c.args.page.now)),
+    )
 
 pub returns-clause-ok : goal.returns-clause-ok
 returns-clause-ok c =

@@ -8,7 +8,7 @@ use Rattle.chain_rules.specs.ChainState.{ChainState, is_open}
 use Rattle.chain_rules.specs.Shape.{ShapeState}
 use Rattle.chain_rules.specs.Taking.{fault_of_page}
 use Rattle.chain_rules.specs.Followed.{opened, joined, continued}
-use Rattle.chain_rules.proofs.PageState.{later_state, opened_state, joined_state, joins_few, opens_few}
+use Rattle.chain_rules.proofs.PageState.{later_state, opened_state, joined_state, joins_few, joins_fresh, opens_few}
 use Rattle.chain_rules.proofs.shape.Shape.take_page.Goals as goal
 
 pub join_link-requires-clause-few : goal.join_link-requires-clause-few
@@ -21,6 +21,17 @@ join_link-requires-clause-few c =
     let first : is_first page ≡ true = sym c.is_first.ensures ∙ c.if-not-is_first.false in
     let is : is_open chain ≡ true = ap (list_any (λ (s : StreamState). not s.ended)) lent ∙ sym c.is_open.ensures ∙ c.if-is_open.true in
     joins_few chain page first is none
+
+pub join_link-requires-clause-fresh : goal.join_link-requires-clause-fresh
+join_link-requires-clause-fresh c =
+    let chain : ChainState = c.args.self.now.chain in
+    let page : Page = c.args.page.now in
+    let lent : chain.streams ≡ c.as_slice-streams.result.now = sym (c.as_slice-streams.ensures.value ∙ ap (λ (s : ShapeState). s.chain.streams) c.self.view_is) in
+    let none : fault_of_page chain page ≡ None =
+    sym (c.broken_by_page.ensures chain lent (sym (ap (λ (s : ShapeState). s.chain.has_data) c.self.view_is)) (sym (ap (λ (s : ShapeState). s.chain.links) c.self.view_is))) ∙ c.in_default.is in
+    let first : is_first page ≡ true = sym c.is_first.ensures ∙ c.if-not-is_first.false in
+    let is : is_open chain ≡ true = ap (list_any (λ (s : StreamState). not s.ended)) lent ∙ sym c.is_open.ensures ∙ c.if-is_open.true in
+    joins_fresh chain page first is none
 
 pub open_link-requires-clause-few : goal.open_link-requires-clause-few
 open_link-requires-clause-few c =

@@ -1,7 +1,0 @@
-use Rattle.std.proofs.Common.{◌≡◌, ◌++◌, map, take, drop}
-use Rattle.chain_rules.specs.Progress.{change_at, moved_to}
-use Rattle.chain_rules.proofs.entries.move_stream.Given as goal
-
--- the streams so far are changed
-abbrev pub invariant-loop-stream : goal.invariant-loop-stream
-invariant-loop-stream l = l.streams ≡ map (change_at l.serial (moved_to l.position)) (take l.stream-index l.initial.streams) ++ drop l.stream-index l.initial.streams
