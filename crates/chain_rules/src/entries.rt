@@ -45,16 +45,7 @@ pub fn move_stream(streams: &mut [StreamState], place: usize, position: u64)
     if place >= streams.len() {
         return;
     }
-    streams[place] = moved(streams[place], position);
-}
-
-fn moved(stream: StreamState, position: u64) -> StreamState
-    ensures { result ≡ moved_to position stream }
-{
-    StreamState {
-        last_position: position,
-        ..stream
-    }
+    streams[place].last_position = position;
 }
 
 /// Brings the stream at this place to a position by whole packets; its next page has this number.
@@ -64,18 +55,10 @@ pub fn bring_stream(streams: &mut [StreamState], place: usize, sequence: u64, po
     if place >= streams.len() {
         return;
     }
-    streams[place] = brought(streams[place], sequence, position);
-}
-
-fn brought(stream: StreamState, sequence: u64, position: u64) -> StreamState
-    ensures { result ≡ advanced sequence position stream }
-{
-    StreamState {
-        next_sequence: sequence,
-        last_position: position,
-        finished: true,
-        ..stream
-    }
+    let stream = &mut streams[place];
+    stream.next_sequence = sequence;
+    stream.last_position = position;
+    stream.finished = true;
 }
 
 /// The first rule that an entry of the stream at this place breaks.

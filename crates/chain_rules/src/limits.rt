@@ -16,7 +16,7 @@ pub const LONGEST_BATCH: u64 = 16_777_216;
 pub const MOST_STREAMS: usize = 64;
 
 /// A link with at most so many streams has few.
-pub const FEW_STREAMS: usize = 8;
+pub const FEW_STREAMS: usize = 4;
 
 /// Headers of a stream.
 pub const MOST_HEADERS: usize = 256;

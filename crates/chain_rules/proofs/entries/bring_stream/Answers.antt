@@ -1,5 +1,4 @@
-use Rattle.std.proofs.Common.{List, get_or, sym, ◌∙◌, ap}
-use Rattle.std.specs.Prelude.{slice_set}
+use Rattle.std.proofs.Common.{List, get_or, sym}
 use Rattle.std.proofs.lemmas.Option.{slice_get-get_or}
 use Rattle.chain_rules.specs.declared.stream_state.StreamState.{StreamState}
 use Rattle.chain_rules.specs.Progress.{advanced}
@@ -14,5 +13,4 @@ pub returns : goal.returns
 returns c = λ serial own is.
     let streams : List StreamState = c.args.streams.now in
     let stream : StreamState = get_or streams c.args.place nobody in
-    ap (slice_set streams c.args.place) c.brought.ensures
-    ∙ sym (change_one serial (advanced c.args.sequence c.args.position) streams c.args.place stream own is (slice_get-get_or streams c.args.place nobody c.if-place-streams.false))
+    sym (change_one serial (advanced c.args.sequence c.args.position) streams c.args.place stream own is (slice_get-get_or streams c.args.place nobody c.if-place-streams.false))
