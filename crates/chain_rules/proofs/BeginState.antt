@@ -13,18 +13,13 @@ use Rattle.chain_rules.specs.declared.command.Begin.{Begin}
 use Rattle.chain_rules.specs.declared.command.NewStream.{NewStream}
 use Rattle.chain_rules.specs.declared.command.SkeletonHead.{SkeletonHead}
 use Rattle.chain_rules.specs.Links.{serials_of}
-use Rattle.chain_rules.specs.ChainState.{ChainState, chain_state_of, state_of, last_link}
+use Rattle.chain_rules.specs.ChainState.{ChainState, chain_state_of, state_of}
 use Rattle.chain_rules.specs.Decision.{decision}
 use Rattle.chain_rules.specs.Encoding.{pages_of_begin, pages_of_command, links_after}
 use Rattle.chain_rules.specs.Size.{size_of_pages}
 use Rattle.chain_rules.specs.Begun.{states_of, serials_in, has_more_pages}
 use Rattle.chain_rules.proofs.BeginHeld.{HasText, begin_link}
-use Rattle.chain_rules.proofs.StateBehind.{chain_of, size_of_links}
-
-last_is : (done : List (List Page)) (link : List Page) → last_link (done ++ link ∷ []) ≡ link
-last_is [] link = refl
-last_is (d ∷ []) link = refl
-last_is (d ∷ e ∷ done) link = last_is (e ∷ done) link
+use Rattle.chain_rules.proofs.StateBehind.{last_is, chain_of, size_of_links}
 
 abbrev pub behind_begin : ChainState → Option SkeletonHead → List NewStream → ChainState
 behind_begin chain skeleton streams =

@@ -22,7 +22,8 @@ use Rattle.chain_rules.proofs.TakenLinks.{taken}
 use Rattle.chain_rules.proofs.Chain.{found_at, known_stream, open_link}
 use Rattle.chain_rules.proofs.BeginHeld.{closed_link}
 use Rattle.chain_rules.proofs.PageRules.{later_none, joining_none, opening_none}
-use Rattle.chain_rules.proofs.PageState.{last_is, open_with, begins_here, goes_on_open}
+use Rattle.chain_rules.proofs.StateBehind.{last_is}
+use Rattle.chain_rules.proofs.PageState.{open_with, begins_here, goes_on_open}
 use Rattle.chain_rules.proofs.Fronts.{behind_at, push_not_nil, front_is_link, page_fits, first_behind, later_behind}
 
 and_no : (b c : Bool) → c ≡ false → (b && c) ≡ false

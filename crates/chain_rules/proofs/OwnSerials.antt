@@ -22,7 +22,8 @@ serial_in stream = stream.serial
 abbrev pub Lacks : ℕ → List StreamState → Type 0
 Lacks serial streams = AllByRecursion (λ y. nat_eq serial y ≡ false) (map serial_in streams)
 
-pub lacking_stay : (serial : ℕ) (change : StreamState → StreamState) (streams : List StreamState) → Lacks serial streams → map (change_at serial change) streams ≡ streams
+pub lacking_stay : (serial : ℕ) (change : StreamState → StreamState) (streams : List StreamState) → Lacks serial streams →
+    map (change_at serial change) streams ≡ streams
 lacking_stay serial change [] h = refl
 lacking_stay serial change (s ∷ streams) h =
     ap (λ x. x ∷ map (change_at serial change) streams)
@@ -45,7 +46,8 @@ apart t s (u ∷ streams) zero h e = ap (λ (o : Option StreamState). nat_eq t.s
 apart t s (u ∷ streams) (suc i) h e = apart t s streams i h.1 e
 
 -- a stream at any place is the one with its serial
-pub found_there : (serial : ℕ) (streams : List StreamState) (i : ℕ) (s : StreamState) → HaveOwnSerials streams → slice_get streams i ≡ Some s → s.serial ≡ serial → IsPlace streams serial i
+pub found_there : (serial : ℕ) (streams : List StreamState) (i : ℕ) (s : StreamState) → HaveOwnSerials streams → slice_get streams i ≡ Some s →
+    s.serial ≡ serial → IsPlace streams serial i
 unfolding IsDistinct
 found_there serial [] i s d e same = cc
 found_there serial (t ∷ streams) zero s d e same =
@@ -56,7 +58,8 @@ found_there serial (t ∷ streams) (suc i) s d e same =
     ∙ sym (cond-false (nat_eq t.serial serial) (Some t) (stream_in streams serial) (ap (nat_eq t.serial) (sym same) ∙ apart t s streams i d.0 e))
 
 -- a change of it is a change at its place
-pub changed_there : (serial : ℕ) (change : StreamState → StreamState) (streams : List StreamState) (i : ℕ) (s : StreamState) → HaveOwnSerials streams → slice_get streams i ≡ Some s
+pub changed_there : (serial : ℕ) (change : StreamState → StreamState) (streams : List StreamState) (i : ℕ) (s : StreamState) → HaveOwnSerials streams →
+    slice_get streams i ≡ Some s
     → s.serial ≡ serial → map (change_at serial change) streams ≡ slice_set streams i (change s)
 unfolding IsDistinct
 changed_there serial change [] i s d e same = cc
@@ -81,7 +84,8 @@ found_serial serial (t ∷ streams) s e =
     ]
 
 -- the stream at the place of a serial is changed
-pub change_one : (serial : ℕ) (change : StreamState → StreamState) (streams : List StreamState) (i : ℕ) (s : StreamState) → HaveOwnSerials streams → IsPlace streams serial i
+pub change_one : (serial : ℕ) (change : StreamState → StreamState) (streams : List StreamState) (i : ℕ) (s : StreamState) → HaveOwnSerials streams →
+    IsPlace streams serial i
     → slice_get streams i ≡ Some s → map (change_at serial change) streams ≡ slice_set streams i (change s)
 change_one serial change streams i s d is e = changed_there serial change streams i s d e (found_serial serial streams s (sym is ∙ e))
 
@@ -96,7 +100,8 @@ pub hinted : (serial : ℕ) (streams : List StreamState) (i : ℕ) → HaveOwnSe
     → option_map_or (λ (stream : StreamState). nat_eq stream.serial serial) (slice_get streams i) false ≡ true → IsPlace streams serial i
 hinted serial streams i d h = by_case (slice_get streams i) refl h
   where
-    by_case : (o : Option StreamState) → slice_get streams i ≡ o → option_map_or (λ (stream : StreamState). nat_eq stream.serial serial) o false ≡ true → IsPlace streams serial i
+    by_case : (o : Option StreamState) → slice_get streams i ≡ o →
+        option_map_or (λ (stream : StreamState). nat_eq stream.serial serial) o false ≡ true → IsPlace streams serial i
     by_case None e h = cc
     by_case (Some s) e h = found_there serial streams i s d e (eqb-true s.serial serial h)
 
@@ -119,7 +124,8 @@ first_or_end serial streams =
     ]
 
 -- ---- serials stay
-serial_stays : (serial : ℕ) (change : StreamState → StreamState) (s : StreamState) (b : Bool) → ((s : StreamState) → (change s).serial ≡ s.serial) → (cond b (change s) s).serial ≡ s.serial
+serial_stays : (serial : ℕ) (change : StreamState → StreamState) (s : StreamState) (b : Bool) → ((s : StreamState) → (change s).serial ≡ s.serial) →
+    (cond b (change s) s).serial ≡ s.serial
 serial_stays serial change s true keeps = keeps s
 serial_stays serial change s false keeps = refl
 
@@ -143,16 +149,19 @@ own_runs streams [] d = d
 own_runs streams (run ∷ runs) d = own_runs (with_run streams run) runs (own_run streams run d)
 
 -- one stream more, whose serial no other has
-pub own_push : (streams : List StreamState) (stream : StreamState) → HaveOwnSerials streams → stream_in streams stream.serial ≡ None → HaveOwnSerials (streams ++ stream ∷ [])
+pub own_push : (streams : List StreamState) (stream : StreamState) → HaveOwnSerials streams → stream_in streams stream.serial ≡ None →
+    HaveOwnSerials (streams ++ stream ∷ [])
 unfolding IsDistinct
 own_push [] stream d none = (tt, tt)
 own_push (s ∷ streams) stream d none =
     let lacks : Lacks stream.serial (s ∷ streams) = not_found stream.serial (s ∷ streams) none in
+    let other : nat_eq s.serial stream.serial ≡ false = ne_eqb s.serial stream.serial (λ e. eqb-false stream.serial s.serial lacks.0 (sym e)) in
     let rest : stream_in streams stream.serial ≡ None =
-    sym (cond-false (nat_eq s.serial stream.serial) (Some s) (stream_in streams stream.serial) (ne_eqb s.serial stream.serial (λ e. eqb-false stream.serial s.serial lacks.0 (sym e)))) ∙ none in
-    (pushed s.serial stream streams d.0 (ne_eqb s.serial stream.serial (λ e. eqb-false stream.serial s.serial lacks.0 (sym e))), own_push streams stream d.1 rest)
+    sym (cond-false (nat_eq s.serial stream.serial) (Some s) (stream_in streams stream.serial) other) ∙ none in
+    (pushed s.serial stream streams d.0 other, own_push streams stream d.1 rest)
   where
-    pushed : (serial : ℕ) (stream : StreamState) (streams : List StreamState) → Lacks serial streams → nat_eq serial stream.serial ≡ false → Lacks serial (streams ++ stream ∷ [])
+    pushed : (serial : ℕ) (stream : StreamState) (streams : List StreamState) → Lacks serial streams → nat_eq serial stream.serial ≡ false →
+        Lacks serial (streams ++ stream ∷ [])
     pushed serial stream [] h e = (e, tt)
     pushed serial stream (s ∷ streams) h e = (h.0, pushed serial stream streams h.1 e)
 
@@ -165,7 +174,8 @@ states_serials : (skeleton : Option SkeletonHead) (streams : List NewStream) →
 states_serials None streams = begun_serials streams
 states_serials (Some head) streams = ap (λ l. head.serial ∷ l) (begun_serials streams)
 
-pub own_begun : (skeleton : Option SkeletonHead) (streams : List NewStream) → IsDistinct nat_eq (serials_in skeleton streams) → HaveOwnSerials (states_of skeleton streams)
+pub own_begun : (skeleton : Option SkeletonHead) (streams : List NewStream) → IsDistinct nat_eq (serials_in skeleton streams) →
+    HaveOwnSerials (states_of skeleton streams)
 own_begun skeleton streams d = subst (λ l. IsDistinct nat_eq l) (sym (states_serials skeleton streams)) d
 
 pub own_none : HaveOwnSerials []

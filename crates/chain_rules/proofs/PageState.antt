@@ -22,17 +22,12 @@ use Rattle.chain_rules.specs.Taking.{fault_of_page, begins_link, links_with, lea
 use Rattle.chain_rules.specs.Followed.{followed, without_pages, entered, opened, joined, continued}
 use Rattle.chain_rules.proofs.Grow.{with_own, ended_both, or_false, filter_all, filter_none}
 use Rattle.chain_rules.proofs.Chain.{not_false, any_map, open_some, length_more, found_at}
-use Rattle.chain_rules.proofs.StateBehind.{state, chain_of, behind, state_behind, state_other, last_with, size_with, size_of_links}
+use Rattle.chain_rules.proofs.StateBehind.{last_is, state, chain_of, behind, state_behind, state_other, last_with, size_with, size_of_links}
 use Rattle.chain_rules.proofs.Rules.{NoneBroken}
 use Rattle.chain_rules.proofs.Turns.{none_if}
 use Rattle.chain_rules.proofs.PageRules.{later_kept, joining_kept, opening_kept}
 
 -- ---- the links with the page
-pub last_is : (done : List (List Page)) (link : List Page) → last_link (done ++ link ∷ []) ≡ link
-last_is [] link = refl
-last_is (d ∷ []) link = refl
-last_is (d ∷ e ∷ done) link = last_is (e ∷ done) link
-
 pub and_no : (b : Bool) → (b && false) ≡ false
 and_no true = refl
 and_no false = refl
@@ -216,7 +211,8 @@ joined_state links page first open' e =
 pub joins_few : (chain : ChainState) (page : Page) → is_first page ≡ true → is_open chain ≡ true → fault_of_page chain page ≡ None → length chain.streams < 64
 joins_few chain page first open' e = leb-false 64 (length chain.streams) (joining_kept chain page first open' e).1.1.1.0
 
-pub joins_fresh : (chain : ChainState) (page : Page) → is_first page ≡ true → is_open chain ≡ true → fault_of_page chain page ≡ None → stream_in chain.streams page.serial ≡ None
+pub joins_fresh : (chain : ChainState) (page : Page) → is_first page ≡ true → is_open chain ≡ true → fault_of_page chain page ≡ None →
+    stream_in chain.streams page.serial ≡ None
 joins_fresh chain page first open' e = none_if (stream_in chain.streams page.serial) (joining_kept chain page first open' e).1.0
 
 pub opens_few : (chain : ChainState) (page : Page) → is_first page ≡ true → is_open chain ≡ false → fault_of_page chain page ≡ None → chain.links < 65536

@@ -24,6 +24,11 @@ use Rattle.chain_rules.proofs.Chain.{length_more}
 use Rattle.chain_rules.proofs.LastPage.{run_reaches, end_position, closed_run, EndsClosed}
 
 -- ---- what pages more for the last link leave
+pub last_is : (done : List (List Page)) (link : List Page) → last_link (done ++ link ∷ []) ≡ link
+last_is [] link = refl
+last_is (d ∷ []) link = refl
+last_is (d ∷ e ∷ done) link = last_is (e ∷ done) link
+
 pub last_with : (links : List (List Page)) (pages : List Page) → links ≢ [] → last_link (with_pages links pages) ≡ last_link links ++ pages
 last_with [] pages some = absurd (some refl)
 last_with (link ∷ []) pages some = refl

@@ -1,15 +1,12 @@
 //! Whether a command is refused, and why, or else its size.
-ghost use Rattle.std.specs.Prelude.{◌≡◌, ◌≤◌, ◌<◌, ◌+◌, ◌++◌, ◌^◌, ℕ, Option, Some, None, Ok, Err, IfSome, false, length, sum_by, nat_lt, not};
+ghost use Rattle.std.specs.Prelude.{◌≡◌, ◌≤◌, ◌<◌, ◌+◌, ◌++◌, ◌^◌, Option, Some, None, Ok, Err, IfSome, false, length, nat_lt, not};
 ghost use Rattle.std.specs.List.{list_any};
 ghost use Rattle.std.specs.Option.{option_map_or};
 ghost use Rattle.chain_rules.specs.Places.{HaveOwnSerials};
 ghost use Rattle.chain_rules.specs.Rules.{first_broken};
 ghost use Rattle.chain_rules.specs.ChainState.{ChainState};
 ghost use Rattle.chain_rules.specs.Decision.{decision, put_rules, begin_rules, room_rules, entries_rules, size_of};
-ghost use Rattle.chain_rules.specs.Size.{numbered_size};
-ghost use Rattle.chain_rules.specs.Encoding.{runs_of, pages_of_runs};
 ghost use Rattle.chain_rules.specs.Decision.{answer, has_many_parts, has_long_media};
-ghost use Rattle.chain_rules.specs.declared.command.Entry.{Entry as EntryOf};
 ghost use Rattle.chain_rules.specs.declared.stream_state.StreamState.{StreamState as State};
 
 use crate::begin::{broken_by_parts, has_many_parts, is_long_begin, size_of_begin};

@@ -5,7 +5,7 @@ ghost use Rattle.std.specs.List.{list_any};
 ghost use Rattle.chain_rules.specs.Rules.{first_broken};
 ghost use Rattle.chain_rules.specs.Decision.{entry_rules, entries_rules};
 ghost use Rattle.chain_rules.specs.Places.{HaveOwnSerials, IsPlace};
-ghost use Rattle.chain_rules.specs.Progress.{stream_in, change_at, moved_to, advanced, with_position, brought_to};
+ghost use Rattle.chain_rules.specs.Progress.{stream_in, with_position, brought_to};
 
 use crate::command::Entry;
 use crate::limits::{LONGEST_PACKET, POSITIONS};

@@ -1,5 +1,5 @@
 //! Where the streams of a link are.
-ghost use Rattle.std.specs.Prelude.{◌≡◌, false, length, slice_get, nat_eq};
+ghost use Rattle.std.specs.Prelude.{◌≡◌, false, slice_get, nat_eq};
 ghost use Rattle.std.specs.Option.{option_map_or};
 ghost use Rattle.std.specs.List.{position};
 ghost use Rattle.chain_rules.specs.Places.{HaveOwnSerials, IsPlace};

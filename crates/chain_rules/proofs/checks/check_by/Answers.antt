@@ -11,7 +11,8 @@ use Rattle.chain_rules.proofs.Turns.{settles, passes}
 use Rattle.chain_rules.proofs.checks.check_by.Goals as goal
 
 -- what was asked of the streams that were copied and of the entries that were lent is so of the chain's and the put's
-of_entries : (chain : ChainState) (streams : List StreamState) (lent entries : List Entry) (broken : Option Refusal) → chain.streams ≡ streams → lent ≡ entries →
+of_entries : (chain : ChainState) (streams : List StreamState) (lent entries : List Entry) (broken : Option Refusal) → chain.streams ≡ streams →
+    lent ≡ entries →
     broken ≡ first_broken (entries_rules streams lent) → first_broken (entries_rules chain.streams entries) ≡ broken
 of_entries chain streams lent entries broken s e h =
     sym (h ∙ ap (λ l. first_broken (entries_rules streams l)) e ∙ ap (λ l. first_broken (entries_rules l entries)) (sym s))
@@ -22,7 +23,8 @@ returns-in-Some c = λ chain s b.
     let entries : List Entry = c.args.put.now.entries in
     sym (ap (answer (size_of chain command))
     (settles (entries_rules chain.streams entries) (room_rules chain command) c.in-Some.refusal
-    (of_entries chain c.copy_from_slice.new.self c.as_slice.result.now entries (Some c.in-Some.refusal) (s ∙ sym c.copy_from_slice.ensures.after) c.as_slice.ensures c.in-Some.ensures)))
+    (of_entries chain c.copy_from_slice.new.self c.as_slice.result.now entries (Some c.in-Some.refusal)
+    (s ∙ sym c.copy_from_slice.ensures.after) c.as_slice.ensures c.in-Some.ensures)))
 
 pub returns : goal.returns
 returns c = λ chain s b.
@@ -31,4 +33,5 @@ returns c = λ chain s b.
     c.room_for_put.ensures chain (s ∙ sym c.copy_from_slice-2.ensures.after) b
     ∙ sym (ap (answer (size_of chain command))
     (passes (entries_rules chain.streams entries) (room_rules chain command)
-    (of_entries chain c.copy_from_slice.new.self c.as_slice.result.now entries None (s ∙ sym c.copy_from_slice.ensures.after) c.as_slice.ensures c.in_default.ensures)))
+    (of_entries chain c.copy_from_slice.new.self c.as_slice.result.now entries None
+    (s ∙ sym c.copy_from_slice.ensures.after) c.as_slice.ensures c.in_default.ensures)))

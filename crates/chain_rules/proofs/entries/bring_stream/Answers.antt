@@ -7,10 +7,12 @@ use Rattle.chain_rules.proofs.OwnSerials.{change_one, change_none}
 use Rattle.chain_rules.proofs.entries.bring_stream.Goals as goal
 
 pub returns-then-place-streams : goal.returns-then-place-streams
-returns-then-place-streams c = λ serial own is. sym (change_none serial (advanced c.args.sequence c.args.position) c.args.streams.now c.args.place is c.if-place-streams.true)
+returns-then-place-streams c =
+    λ serial own is. sym (change_none serial (advanced c.args.sequence c.args.position) c.args.streams.now c.args.place is c.if-place-streams.true)
 
 pub returns : goal.returns
 returns c = λ serial own is.
     let streams : List StreamState = c.args.streams.now in
     let stream : StreamState = get_or streams c.args.place nobody in
-    sym (change_one serial (advanced c.args.sequence c.args.position) streams c.args.place stream own is (slice_get-get_or streams c.args.place nobody c.if-place-streams.false))
+    sym (change_one serial (advanced c.args.sequence c.args.position) streams c.args.place stream own is
+    (slice_get-get_or streams c.args.place nobody c.if-place-streams.false))

@@ -13,4 +13,5 @@ pub returns : goal.returns
 returns c = λ serial own is.
     let streams : List StreamState = c.args.streams.now in
     let stream : StreamState = get_or streams c.args.place nobody in
-    sym (change_one serial (moved_to c.args.position) streams c.args.place stream own is (slice_get-get_or streams c.args.place nobody c.if-place-streams.false))
+    sym (change_one serial (moved_to c.args.position) streams c.args.place stream own is
+    (slice_get-get_or streams c.args.place nobody c.if-place-streams.false))

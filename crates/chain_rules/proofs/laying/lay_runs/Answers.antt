@@ -20,7 +20,8 @@ overflow_cast-next c =
     let others : List Entry = c.split_at.result.1.now in
     let is : IsNextRun rest run others =
     next_run rest run others c.run_length.result c.run_length.ensures.run c.run_length.ensures.some c.split_at.ensures.front_len c.split_at.ensures.front c.split_at.ensures.back in
-    let there : IsPlace streams (run_serial run) c.place_of-place.result = subst (λ s. IsPlace streams s c.place_of-place.result) c.run_serial-serial.ensures c.place_of-place.ensures in
+    let there : IsPlace streams (run_serial run) c.place_of-place.result =
+    subst (λ s. IsPlace streams s c.place_of-place.result) c.run_serial-serial.ensures c.place_of-place.ensures in
     let next : c.next_at-next.result ≡ next_in streams (run_serial run) = c.next_at-next.ensures (run_serial run) there in
     let fit : next_in streams (run_serial run) + page_count run ≤ 2 ^ 32 = numbers_fit streams rest run others is c.loop-rest.invariant.numbered in
     omega (arith, next, fit, some_pages run is.some)
@@ -33,7 +34,8 @@ lay_run-requires-clause-numbers c =
     let others : List Entry = c.split_at.result.1.now in
     let is : IsNextRun rest run others =
     next_run rest run others c.run_length.result c.run_length.ensures.run c.run_length.ensures.some c.split_at.ensures.front_len c.split_at.ensures.front c.split_at.ensures.back in
-    let there : IsPlace streams (run_serial run) c.place_of-place.result = subst (λ s. IsPlace streams s c.place_of-place.result) c.run_serial-serial.ensures c.place_of-place.ensures in
+    let there : IsPlace streams (run_serial run) c.place_of-place.result =
+    subst (λ s. IsPlace streams s c.place_of-place.result) c.run_serial-serial.ensures c.place_of-place.ensures in
     let next : c.next_at-next.result ≡ next_in streams (run_serial run) = c.next_at-next.ensures (run_serial run) there in
     let fit : next_in streams (run_serial run) + page_count run ≤ 2 ^ 32 = numbers_fit streams rest run others is c.loop-rest.invariant.numbered in
     omega (arith, next, fit)
@@ -73,7 +75,8 @@ overflow_add-next c =
     let others : List Entry = c.split_at.result.1.now in
     let is : IsNextRun rest run others =
     next_run rest run others c.run_length.result c.run_length.ensures.run c.run_length.ensures.some c.split_at.ensures.front_len c.split_at.ensures.front c.split_at.ensures.back in
-    let there : IsPlace streams (run_serial run) c.place_of-place.result = subst (λ s. IsPlace streams s c.place_of-place.result) c.run_serial-serial.ensures c.place_of-place.ensures in
+    let there : IsPlace streams (run_serial run) c.place_of-place.result =
+    subst (λ s. IsPlace streams s c.place_of-place.result) c.run_serial-serial.ensures c.place_of-place.ensures in
     let next : c.next_at-next.result ≡ next_in streams (run_serial run) = c.next_at-next.ensures (run_serial run) there in
     let fit : next_in streams (run_serial run) + page_count run ≤ 2 ^ 32 = numbers_fit streams rest run others is c.loop-rest.invariant.numbered in
     omega (arith, next, fit, c.in-Ok.ensures.pages, c.from.ensures)
@@ -86,11 +89,13 @@ loop-rest-preserved c =
     let others : List Entry = c.split_at.result.1.now in
     let is : IsNextRun rest run others =
     next_run rest run others c.run_length.result c.run_length.ensures.run c.run_length.ensures.some c.split_at.ensures.front_len c.split_at.ensures.front c.split_at.ensures.back in
-    let there : IsPlace streams (run_serial run) c.place_of-place.result = subst (λ s. IsPlace streams s c.place_of-place.result) c.run_serial-serial.ensures c.place_of-place.ensures in
+    let there : IsPlace streams (run_serial run) c.place_of-place.result =
+    subst (λ s. IsPlace streams s c.place_of-place.result) c.run_serial-serial.ensures c.place_of-place.ensures in
     let next : c.next_at-next.result ≡ next_in streams (run_serial run) = c.next_at-next.ensures (run_serial run) there in
     let fit : next_in streams (run_serial run) + page_count run ≤ 2 ^ 32 = numbers_fit streams rest run others is c.loop-rest.invariant.numbered in
     let apart : (entry_bytes rest ≡ entry_bytes run + entry_bytes others) × (length rest ≡ length run + length others) = entries_apart rest run others is in
-    let sequence : c.next_at-next.result + c.from.result ≡ next_in streams (run_serial run) + page_count run = omega (arith, next, c.from.ensures, c.in-Ok.ensures.pages) in
+    let sequence : c.next_at-next.result + c.from.result ≡ next_in streams (run_serial run) + page_count run =
+    omega (arith, next, c.from.ensures, c.in-Ok.ensures.pages) in
     let own : HaveOwnSerials streams = c.loop-rest.invariant.own in
     let brought : c.bring_stream.new.streams ≡ brought_to (run_serial run) (c.next_at-next.result + c.from.result) c.run_position.result streams =
     c.bring_stream.ensures (run_serial run) own there in
@@ -122,6 +127,7 @@ loop-rest-preserved c =
         written ∙ ap (λ l. l ++ bytes_of_pages (pages_behind streams run)) c.loop-rest.invariant.kept.1
             ∙ append_assoc c.args.out.now.items c.loop-rest.invariant.kept.0 (bytes_of_pages (pages_behind streams run)),
       );
-      own = subst HaveOwnSerials (sym brought) (own_stay (run_serial run) (advanced (c.next_at-next.result + c.from.result) c.run_position.result) streams (λ s. refl) own);
+      own = subst HaveOwnSerials (sym brought)
+          (own_stay (run_serial run) (advanced (c.next_at-next.result + c.from.result) c.run_position.result) streams (λ s. refl) own);
       small = omega (arith, apart.0, apart.1, c.loop-rest.invariant.small);
     }

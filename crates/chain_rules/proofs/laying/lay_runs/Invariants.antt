@@ -13,7 +13,8 @@ abbrev pub invariant-loop-rest : goal.invariant-loop-rest
 invariant-loop-rest l = record {
   items : l.out.items ++ bytes_of_pages (pages_of_runs l.streams (runs_of l.rest)) ≡ l.fn.out.items ++ bytes_of_pages (pages_of_runs l.initial.streams (runs_of l.entries));
   numbered : list_any has_no_number (pages_of_runs l.streams (runs_of l.rest)) ≡ false;
-  counted : vec_len l.out + size_of_pages (pages_of_runs l.streams (runs_of l.rest)) ≡ vec_len l.fn.out + size_of_pages (pages_of_runs l.initial.streams (runs_of l.entries));
+  counted : vec_len l.out + size_of_pages (pages_of_runs l.streams (runs_of l.rest))
+      ≡ vec_len l.fn.out + size_of_pages (pages_of_runs l.initial.streams (runs_of l.entries));
   capacity : vec_capacity l.fn.out ≤ vec_capacity l.out;
   kept : (added : List ℕ) × (l.out.items ≡ l.fn.out.items ++ added);
   own : HaveOwnSerials l.streams;

@@ -8,7 +8,8 @@ pub returns-then-is_place : goal.returns-then-is_place
 returns-then-is_place c = hinted c.args.serial c.args.streams.now c.args.hint c.requires (sym c.is_place.ensures ∙ c.if-is_place.true)
 
 pub returns-then-is_place-2 : goal.returns-then-is_place-2
-returns-then-is_place-2 c = hinted c.args.serial c.args.streams.now (c.args.hint + 1) c.requires (sym c.is_place-then-hint-streams.ensures ∙ c.if-is_place-2.true)
+returns-then-is_place-2 c =
+    hinted c.args.serial c.args.streams.now (c.args.hint + 1) c.requires (sym c.is_place-then-hint-streams.ensures ∙ c.if-is_place-2.true)
 
 pub returns : goal.returns
 returns c =

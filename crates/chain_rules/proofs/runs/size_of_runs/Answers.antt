@@ -33,12 +33,15 @@ loop-rest-preserved c =
     c.run_length.ensures.run ∙ ap (λ r. r ∷ runs_of (drop n rest)) (sym front) ∙ ap (λ o. run ∷ runs_of o) (sym back) in
     let counted : IsCounted streams run c.values_and_bytes-values.result.0 c.values_and_bytes-values.result.1 =
     record { values_are = c.values_and_bytes-values.ensures.values; bytes_are = c.values_and_bytes-values.ensures.bytes } in
-    let is : IsPlace streams (run_serial run) c.place_of-place.result = subst (λ s. IsPlace streams s c.place_of-place.result) c.run_serial.ensures c.place_of-place.ensures in
+    let is : IsPlace streams (run_serial run) c.place_of-place.result =
+    subst (λ s. IsPlace streams s c.place_of-place.result) c.run_serial.ensures c.place_of-place.ensures in
     let next : c.next_at-next.result ≡ next_in streams (run_serial run) = c.next_at-next.ensures (run_serial run) is in
     let pages : c.pages_of.result ≡ pages_for (length (run_lacing (map timed run))) = c.pages_of.ensures ∙ ap pages_for counted.values_are in
-    let numbered : (c.next_at-next.result + c.pages_of.result ≤ 2 ^ 32) × (c.in-Some.sequence ≡ c.next_at-next.result + c.pages_of.result) = c.in-Some.ensures in
+    let numbered : (c.next_at-next.result + c.pages_of.result ≤ 2 ^ 32) × (c.in-Some.sequence ≡ c.next_at-next.result + c.pages_of.result) =
+    c.in-Some.ensures in
     let own : HaveOwnSerials streams = c.loop-rest.invariant.own in
-    let brought : c.bring_stream.new.streams ≡ brought_to (run_serial run) c.in-Some.sequence c.run_position.result streams = c.bring_stream.ensures (run_serial run) own is in
+    let brought : c.bring_stream.new.streams ≡ brought_to (run_serial run) c.in-Some.sequence c.run_position.result streams =
+    c.bring_stream.ensures (run_serial run) own is in
     let behind : c.bring_stream.new.streams ≡ with_run streams run =
     brought
     ∙ ap (λ p. brought_to (run_serial run) c.in-Some.sequence p streams) c.run_position.ensures ∙ next_streams streams run c.in-Some.sequence (omega (arith, numbered.1, next, pages)) in
@@ -70,7 +73,8 @@ returns-in_default c =
     let first : runs_of rest ≡ run ∷ runs_of others =
     c.run_length.ensures.run ∙ ap (λ r. r ∷ runs_of (drop n rest)) (sym c.split_at.ensures.front) ∙ ap (λ o. run ∷ runs_of o) (sym c.split_at.ensures.back) in
     let some : 0 < length run = omega (arith, c.run_length.ensures.some, c.split_at.ensures.front_len) in
-    let is : IsPlace streams (run_serial run) c.place_of-place.result = subst (λ s. IsPlace streams s c.place_of-place.result) c.run_serial.ensures c.place_of-place.ensures in
+    let is : IsPlace streams (run_serial run) c.place_of-place.result =
+    subst (λ s. IsPlace streams s c.place_of-place.result) c.run_serial.ensures c.place_of-place.ensures in
     let next : c.next_at-next.result ≡ next_in streams (run_serial run) = c.next_at-next.ensures (run_serial run) is in
     let pages : c.pages_of.result ≡ pages_for (length (run_lacing (map timed run))) = c.pages_of.ensures ∙ ap pages_for c.values_and_bytes-values.ensures.values in
     let far : c.next_at-next.result + c.pages_of.result ≤ 2 ^ 32 → ⊥ = c.in_default.ensures in

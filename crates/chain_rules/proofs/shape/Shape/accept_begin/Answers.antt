@@ -58,10 +58,12 @@ invariant_of-self c =
     let count : vec_len c.add_streams.new.streams ≡ stream_count c.args.begin.now =
     c.add_streams.ensures.count ∙ ap (λ (l : List NewStream). length l + length (skeleton_serial c.args.begin.now.skeleton)) c.as_slice-streams.ensures in
     let skeleton : Option SkeletonHead = c.args.begin.now.skeleton in
-    let streams : c.add_streams.new.streams.items ≡ states_of skeleton c.args.begin.now.streams = c.add_streams.ensures.streams ∙ ap (states_of skeleton) c.as_slice-streams.ensures in (
+    let streams : c.add_streams.new.streams.items ≡ states_of skeleton c.args.begin.now.streams =
+    c.add_streams.ensures.streams ∙ ap (states_of skeleton) c.as_slice-streams.ensures in (
       omega (arith, count, fits.streams),
       omega (arith, bytes, fits.room, c.size_of_begin-size.ensures.small),
-      subst HaveOwnSerials (sym streams) (own_begun skeleton c.args.begin.now.streams (can_begin c.args.self.now.chain c.args.begin.now c.requires.kept).distinct),
+      subst HaveOwnSerials (sym streams) (own_begun skeleton c.args.begin.now.streams
+          (can_begin c.args.self.now.chain c.args.begin.now c.requires.kept).distinct),
     )
 
 pub returns-clause-time : goal.returns-clause-time

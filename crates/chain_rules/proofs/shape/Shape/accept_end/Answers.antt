@@ -25,7 +25,8 @@ invariant_of-self c =
     let bytes : c.self.inside.bytes ≡ c.args.self.now.chain.length_of = ap (λ (s : ShapeState). s.chain.length_of) c.self.view_is in
     let streams : List StreamState = c.self.inside.streams.items in
     let after : c.end_stream.new.streams ≡ map (change_at c.args.serial (ended_by (next_in streams c.args.serial + 1))) streams =
-    c.end_stream.ensures ∙ ap (λ (l : List StreamState). map (change_at c.args.serial (ended_by (next_in l c.args.serial + 1))) l) c.as_mut_slice.ensures.value in
+    c.end_stream.ensures
+    ∙ ap (λ (l : List StreamState). map (change_at c.args.serial (ended_by (next_in l c.args.serial + 1))) l) c.as_mut_slice.ensures.value in
     let as_long : length c.end_stream.new.streams ≡ vec_len c.self.inside.streams = c.end_stream.auto.streams ∙ c.as_mut_slice.ensures.len in (
       c.self.invariant.0,
       omega (arith, bytes, fits.room),

@@ -18,7 +18,8 @@ invariant_of-self c =
     let size : length c.whole.result.now ≡ page_size c.args.page.now = ap length c.whole.ensures.bytes ∙ length-page_bytes c.args.page.now in
     let page : Page = c.args.page.now in
     let streams : List StreamState = c.self.inside.streams.items in
-    let after : c.follow.new.streams ≡ map (change_at page.serial (followed page)) streams = c.follow.ensures ∙ ap (map (change_at page.serial (followed page))) c.as_mut_slice.ensures.value in
+    let after : c.follow.new.streams ≡ map (change_at page.serial (followed page)) streams =
+    c.follow.ensures ∙ ap (map (change_at page.serial (followed page))) c.as_mut_slice.ensures.value in
     let as_long : length c.follow.new.streams ≡ vec_len c.self.inside.streams = c.follow.auto.streams ∙ c.as_mut_slice.ensures.len in (
       c.self.invariant.0,
       omega (arith, bytes, size, c.requires),

@@ -16,7 +16,8 @@ invariant_of-self-2 c =
     let count : length c.self.inside.streams.items ≡ length c.args.self.now.chain.streams = ap (λ (s : ShapeState). length s.chain.streams) c.self.view_is in
     let size : length c.whole.result.now ≡ page_size c.args.page.now = ap length c.whole.ensures.bytes ∙ length-page_bytes c.args.page.now in
     let page : Page = c.args.page.now in
-    let fresh : stream_in c.self.inside.streams.items page.serial ≡ None = ap (λ (s : ShapeState). stream_in s.chain.streams page.serial) c.self.view_is ∙ c.requires.fresh in (
+    let fresh : stream_in c.self.inside.streams.items page.serial ≡ None =
+    ap (λ (s : ShapeState). stream_in s.chain.streams page.serial) c.self.view_is ∙ c.requires.fresh in (
       omega (arith, c.in_ok-join_link.ensures.count, count, c.self.inside.streams.ok.0, c.requires.few),
       omega (arith, bytes, size, c.requires.long),
       subst HaveOwnSerials (sym c.in_ok-join_link.ensures.streams) (own_push c.self.inside.streams.items (entered page) c.self.invariant.2 fresh),

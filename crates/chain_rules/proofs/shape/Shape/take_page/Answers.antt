@@ -15,7 +15,8 @@ pub join_link-requires-clause-few : goal.join_link-requires-clause-few
 join_link-requires-clause-few c =
     let chain : ChainState = c.args.self.now.chain in
     let page : Page = c.args.page.now in
-    let lent : chain.streams ≡ c.as_slice-streams.result.now = sym (c.as_slice-streams.ensures.value ∙ ap (λ (s : ShapeState). s.chain.streams) c.self.view_is) in
+    let lent : chain.streams ≡ c.as_slice-streams.result.now =
+    sym (c.as_slice-streams.ensures.value ∙ ap (λ (s : ShapeState). s.chain.streams) c.self.view_is) in
     let none : fault_of_page chain page ≡ None =
     sym (c.broken_by_page.ensures chain lent (sym (ap (λ (s : ShapeState). s.chain.has_data) c.self.view_is)) (sym (ap (λ (s : ShapeState). s.chain.links) c.self.view_is))) ∙ c.in_default.is in
     let first : is_first page ≡ true = sym c.is_first.ensures ∙ c.if-not-is_first.false in
@@ -26,7 +27,8 @@ pub join_link-requires-clause-fresh : goal.join_link-requires-clause-fresh
 join_link-requires-clause-fresh c =
     let chain : ChainState = c.args.self.now.chain in
     let page : Page = c.args.page.now in
-    let lent : chain.streams ≡ c.as_slice-streams.result.now = sym (c.as_slice-streams.ensures.value ∙ ap (λ (s : ShapeState). s.chain.streams) c.self.view_is) in
+    let lent : chain.streams ≡ c.as_slice-streams.result.now =
+    sym (c.as_slice-streams.ensures.value ∙ ap (λ (s : ShapeState). s.chain.streams) c.self.view_is) in
     let none : fault_of_page chain page ≡ None =
     sym (c.broken_by_page.ensures chain lent (sym (ap (λ (s : ShapeState). s.chain.has_data) c.self.view_is)) (sym (ap (λ (s : ShapeState). s.chain.links) c.self.view_is))) ∙ c.in_default.is in
     let first : is_first page ≡ true = sym c.is_first.ensures ∙ c.if-not-is_first.false in
@@ -37,7 +39,8 @@ pub open_link-requires-clause-few : goal.open_link-requires-clause-few
 open_link-requires-clause-few c =
     let chain : ChainState = c.args.self.now.chain in
     let page : Page = c.args.page.now in
-    let lent : chain.streams ≡ c.as_slice-streams.result.now = sym (c.as_slice-streams.ensures.value ∙ ap (λ (s : ShapeState). s.chain.streams) c.self.view_is) in
+    let lent : chain.streams ≡ c.as_slice-streams.result.now =
+    sym (c.as_slice-streams.ensures.value ∙ ap (λ (s : ShapeState). s.chain.streams) c.self.view_is) in
     let none : fault_of_page chain page ≡ None =
     sym (c.broken_by_page.ensures chain lent (sym (ap (λ (s : ShapeState). s.chain.has_data) c.self.view_is)) (sym (ap (λ (s : ShapeState). s.chain.links) c.self.view_is))) ∙ c.in_default.is in
     let first : is_first page ≡ true = sym c.is_first.ensures ∙ c.if-not-is_first.false in
@@ -48,7 +51,8 @@ pub returns-then-not-is_first-clause-links : goal.returns-then-not-is_first-clau
 returns-then-not-is_first-clause-links c = λ links e.
     let chain : ChainState = c.args.self.now.chain in
     let page : Page = c.args.page.now in
-    let lent : chain.streams ≡ c.as_slice-streams.result.now = sym (c.as_slice-streams.ensures.value ∙ ap (λ (s : ShapeState). s.chain.streams) c.self.view_is) in
+    let lent : chain.streams ≡ c.as_slice-streams.result.now =
+    sym (c.as_slice-streams.ensures.value ∙ ap (λ (s : ShapeState). s.chain.streams) c.self.view_is) in
     let none : fault_of_page chain page ≡ None =
     sym (c.broken_by_page.ensures chain lent (sym (ap (λ (s : ShapeState). s.chain.has_data) c.self.view_is)) (sym (ap (λ (s : ShapeState). s.chain.links) c.self.view_is))) ∙ c.in_default.is in
     let later : is_first page ≡ false = sym c.is_first.ensures ∙ c.if-not-is_first.true in
@@ -58,7 +62,8 @@ pub returns-in_ok-join_link-clause-links : goal.returns-in_ok-join_link-clause-l
 returns-in_ok-join_link-clause-links c = λ links e.
     let chain : ChainState = c.args.self.now.chain in
     let page : Page = c.args.page.now in
-    let lent : chain.streams ≡ c.as_slice-streams.result.now = sym (c.as_slice-streams.ensures.value ∙ ap (λ (s : ShapeState). s.chain.streams) c.self.view_is) in
+    let lent : chain.streams ≡ c.as_slice-streams.result.now =
+    sym (c.as_slice-streams.ensures.value ∙ ap (λ (s : ShapeState). s.chain.streams) c.self.view_is) in
     let none : fault_of_page chain page ≡ None =
     sym (c.broken_by_page.ensures chain lent (sym (ap (λ (s : ShapeState). s.chain.has_data) c.self.view_is)) (sym (ap (λ (s : ShapeState). s.chain.links) c.self.view_is))) ∙ c.in_default.is in
     let first : is_first page ≡ true = sym c.is_first.ensures ∙ c.if-not-is_first.false in
@@ -69,7 +74,8 @@ pub returns-in_ok-open_link-clause-links : goal.returns-in_ok-open_link-clause-l
 returns-in_ok-open_link-clause-links c = λ links e.
     let chain : ChainState = c.args.self.now.chain in
     let page : Page = c.args.page.now in
-    let lent : chain.streams ≡ c.as_slice-streams.result.now = sym (c.as_slice-streams.ensures.value ∙ ap (λ (s : ShapeState). s.chain.streams) c.self.view_is) in
+    let lent : chain.streams ≡ c.as_slice-streams.result.now =
+    sym (c.as_slice-streams.ensures.value ∙ ap (λ (s : ShapeState). s.chain.streams) c.self.view_is) in
     let first : is_first page ≡ true = sym c.is_first.ensures ∙ c.if-not-is_first.false in
     let is : is_open chain ≡ false = ap (list_any (λ (s : StreamState). not s.ended)) lent ∙ sym c.is_open.ensures ∙ c.if-is_open.false in
     c.in_ok-open_link.ensures.ok ∙ ap (λ (ch : ChainState). opened ch page) e ∙ sym (opened_state links page first (ap is_open (sym e) ∙ is))
