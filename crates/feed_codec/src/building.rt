@@ -9,18 +9,24 @@ ghost use Rattle.chain_rules.specs.Command.{IsCommand};
 use crate::numbers::{take_u16, take_u32};
 use crate::payload::{split_entry, split_packet, split_skeleton, split_tail};
 use crate::record::RecordKind;
+use crate::spare::Spare;
 use chain_rules::{Begin, Command, Entry, Listed, Memory, NewStream, Put};
 use std::alloc::Global;
 
-/// The command that the payload spells.
-pub fn command_of(alloc: Global, kind: RecordKind, payload: &[u8]) -> Result<Command, Memory>
+/// The command that the payload spells. A put is made of spare memory, as far as there is some.
+pub fn command_of(
+    alloc: Global,
+    spare: &mut Spare,
+    kind: RecordKind,
+    payload: &[u8],
+) -> Result<Command, Memory>
     requires { IsPayload (number_of kind) payload.now }
     ensures { IfOk result (λ command. IsCommand command × FitsFields command
         × (kind_of command ≡ number_of kind) × (payload_of command ≡ payload.now)) }
 {
     match kind {
         RecordKind::Begin => begin_of(alloc, payload),
-        RecordKind::Put => put_of(alloc, payload),
+        RecordKind::Put => put_of(alloc, spare, payload),
         RecordKind::End => {
             let (serial, _) = take_u32(payload);
             Ok(Command::End(serial))
@@ -39,26 +45,31 @@ fn begin_of(alloc: Global, payload: &[u8]) -> Result<Command, Memory>
     Ok(Command::Begin(Begin { skeleton, streams }))
 }
 
-fn put_of(alloc: Global, payload: &[u8]) -> Result<Command, Memory>
+fn put_of(alloc: Global, spare: &mut Spare, payload: &[u8]) -> Result<Command, Memory>
     requires { IsPayload 2 payload.now }
     ensures { IfOk result (λ command. IsCommand command × FitsFields command
         × (kind_of command ≡ 2) × (payload_of command ≡ payload.now)) }
 {
     let (count, rest) = take_u16(payload);
-    let entries = entries_of(alloc, count, rest)?;
+    let entries = entries_of(alloc, spare, count, rest)?;
     Ok(Command::Put(Put { entries }))
 }
 
 /// The entries that the bytes spell.
-fn entries_of(alloc: Global, count: u16, bytes: &[u8]) -> Result<Listed<Entry>, Memory>
+fn entries_of(
+    alloc: Global,
+    spare: &mut Spare,
+    count: u16,
+    bytes: &[u8],
+) -> Result<Listed<Entry>, Memory>
     requires { Begins (AreMany IsEntryOfFeed count) (flat_map entry_bytes) bytes.now [] }
     ensures { IfOk result (λ entries. AreMany IsEntryOfFeed count entries × (bytes.now ≡ flat_map entry_bytes entries)) }
 {
-    let mut entries = Vec::with_capacity(alloc, usize::from(count))?;
+    let mut entries = spare.room_for(alloc, usize::from(count))?;
     let mut rest = bytes;
     for _ in 0..count {
         let (part, behind) = split_entry(rest).unwrap();
-        let packet = packet_of(alloc, part.packet)?;
+        let packet = spare.packet_of(alloc, part.packet)?;
         entries.push_reserved(Entry {
             serial: part.serial,
             position: part.position,

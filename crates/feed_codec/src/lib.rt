@@ -17,6 +17,7 @@ mod reading;
 mod record;
 mod reply;
 mod size;
+mod spare;
 mod tally;
 mod writing;
 

@@ -9,17 +9,19 @@ use crate::building::command_of;
 use crate::fault::FeedFault;
 use crate::payload::is_payload;
 use crate::record::{HEAD, Head, head_of};
+use crate::spare::Spare;
 use chain_rules::Command;
 use std::alloc::Global;
 use std::io::Read;
 use std::marker::Model;
 
-/// Reads commands, one after the other, and keeps the memory of one payload between them. What a
-/// contract sees of it is how the feed has ended, if it has.
+/// Reads commands, one after the other, and keeps the memory of one payload between them, and that of
+/// the commands that are given back. What a contract sees of it is how the feed has ended, if it has.
 #[derive(Debug, Drop)]
 pub struct Feed {
     alloc: Global,
     payload: Vec<u8>,
+    spare: Spare,
     outcome: Option<Result<(), FeedFault>>,
 }
 
@@ -40,6 +42,7 @@ impl Feed {
         Feed {
             alloc,
             payload: Vec::new(alloc),
+            spare: Spare::new(alloc),
             outcome: None,
         }
     }
@@ -73,7 +76,7 @@ impl Feed {
             Some(Err(fault)) => return Err(fault),
             None => {}
         }
-        match next_command(self.alloc, &mut self.payload, reader) {
+        match next_command(self.alloc, &mut self.spare, &mut self.payload, reader) {
             Ok(Some(command)) => Ok(Some(command)),
             Ok(None) => {
                 self.outcome = Some(Ok(()));
@@ -85,11 +88,21 @@ impl Feed {
             }
         }
     }
+
+    /// Gives a command back that isn't needed any more. The next ones are made of its memory, as far
+    /// as it goes: of a put's, up to 4,096 packets of up to 4,096 bytes each are kept. It never fails;
+    /// where the list of what is kept has no room, the memory goes back to the system.
+    pub fn give_back(&mut self, command: Command)
+        ensures { self.new ≡ self.old }
+    {
+        self.spare.keep(command);
+    }
 }
 
 /// The command whose record stands at the front, or none where no byte is left.
 fn next_command<R: Read + Drop>(
     alloc: Global,
+    spare: &mut Spare,
     payload: &mut Vec<u8>,
     reader: &mut R,
 ) -> Result<Option<Command>, FeedFault>
@@ -116,7 +129,7 @@ fn next_command<R: Read + Drop>(
     if !is_payload(head.kind, payload) {
         return Err(FeedFault::Form);
     }
-    match command_of(alloc, head.kind, payload) {
+    match command_of(alloc, spare, head.kind, payload) {
         Ok(command) => Ok(Some(command)),
         Err(_) => Err(FeedFault::Memory),
     }

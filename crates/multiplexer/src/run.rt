@@ -71,6 +71,7 @@ impl Run {
             Ok(reply) => reply,
             Err(_) => return Err(RunFault::Write),
         };
+        self.feed.give_back(command);
         self.so_far = counts_behind(reply, self.so_far);
         match write_reply(&reply, replies) {
             Ok(()) => Ok(Some(reply)),
