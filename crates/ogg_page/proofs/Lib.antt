@@ -4,6 +4,7 @@ pub mod ByteStep
 pub mod TableRule
 pub mod Prefixes
 pub mod ReadAgain
+pub mod NumberBytes
 pub mod Walk
 pub mod Found
 pub mod Vectors

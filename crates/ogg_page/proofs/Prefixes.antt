@@ -16,10 +16,10 @@ same_fronts (c ∷ a) (d ∷ b) x y h e =
     let rest : (a ≡ b) × (x ≡ y) = same_fronts a b x y (omega arith) tail in
     (cc, rest.1)
 
-same_4 : (m n : ℕ) → m < 2 ^ 32 → n < 2 ^ 32 → little_bytes 4 m ≡ little_bytes 4 n → m ≡ n
+pub same_4 : (m n : ℕ) → m < 2 ^ 32 → n < 2 ^ 32 → little_bytes 4 m ≡ little_bytes 4 n → m ≡ n
 same_4 m n hm hn e = sym (from_le_bytes-to_le_bytes_4 m hm) ∙ ap (from_le_bytes w32) e ∙ from_le_bytes-to_le_bytes_4 n hn
 
-same_8 : (m n : ℕ) → m < 2 ^ 64 → n < 2 ^ 64 → little_bytes 8 m ≡ little_bytes 8 n → m ≡ n
+pub same_8 : (m n : ℕ) → m < 2 ^ 64 → n < 2 ^ 64 → little_bytes 8 m ≡ little_bytes 8 n → m ≡ n
 same_8 m n hm hn e = sym (from_le_bytes-to_le_bytes_8 m hm) ∙ ap (from_le_bytes w64) e ∙ from_le_bytes-to_le_bytes_8 n hn
 
 pub parts : (c : ℕ) (p : Page) (x : List ℕ) → bytes_with c p ++ x ≡ fixed_part c p ++ (p.lacing ++ (p.body ++ x))

@@ -1,4 +1,5 @@
 pub mod Checksum
+pub mod Numbers
 pub mod Page
 pub mod PageFault
 pub mod Lacing

@@ -14,6 +14,7 @@ mod fault;
 mod head;
 mod lacing;
 mod laws;
+mod numbers;
 mod output;
 mod page;
 mod pages;
@@ -28,6 +29,7 @@ pub use laws::{
     longest_prefix_of_pages_is_unique, page_bytes_are_prefix_free, pages_are_found_in_turn,
     pages_are_the_longest_prefix,
 };
+pub use numbers::{take_fraction, take_i64, take_u8, take_u16, take_u32, take_u64};
 pub use output::write_whole;
 pub use page::Page;
 pub use pages::Pages;
