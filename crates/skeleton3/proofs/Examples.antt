@@ -1,6 +1,6 @@
 -- The definitions on small packets.
 use Rattle.std.proofs.Common.{◌≡◌, [], ◌∷◌, ◌++◌, length, Some, None, pos, codes, replicate, refl}
-use Rattle.skeleton3.specs.Numbers.{u16_bytes, u32_bytes, i64_bytes}
+use Rattle.ogg_page.specs.Numbers.{u16_bytes, u32_bytes, i64_bytes}
 use Rattle.skeleton3.specs.Fields.{lines_of, trimmed, field_of, media_in}
 use Rattle.skeleton3.specs.Fishead.{fishead_with, fishead_bytes, fishead_fault}
 use Rattle.skeleton3.specs.Fisbone.{Fisbone, fixed_part, fisbone_bytes, fisbone_fault}

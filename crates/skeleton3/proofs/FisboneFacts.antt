@@ -6,12 +6,13 @@ use Rattle.std.specs.Int.{w64}
 use Rattle.std.specs.Option.{is_some}
 use Rattle.std.specs.Prelude.{FitsSigned}
 use Rattle.std.specs.Str.{bytes_eq}
-use Rattle.skeleton3.specs.Numbers.{u32_bytes, i64_bytes, fraction_bytes, IsFraction}
+use Rattle.ogg_page.specs.Numbers.{u32_bytes, i64_bytes, fraction_bytes, IsFraction}
 use Rattle.skeleton3.specs.Fields.{content_type, media_in, IsFieldValue}
 use Rattle.skeleton3.specs.Fisbone.{Fisbone, HoldsFisbone, IsFisbone, fisbone_name, fixed_part, fisbone_bytes, fisbone_fault}
 use Rattle.skeleton3.specs.declared.fault.SkeletonFault.{SkeletonFault}
 use Rattle.skeleton3.specs.declared.fault.SkeletonFault.TheVariants.{Length, Name, Fields}
-use Rattle.skeleton3.proofs.NumberBytes.{same_fronts, behind_u32, same_u32, same_i64, same_fraction}
+use Rattle.ogg_page.proofs.NumberBytes.{behind_u32, same_u32, same_i64, same_fraction}
+use Rattle.ogg_page.proofs.Prefixes.{same_fronts}
 use Rattle.skeleton3.proofs.MediaFacts.{written_is_read}
 
 length-fixed_part : (offset : ℕ) (padding : List ℕ) (fisbone : Fisbone) → length padding ≡ 3 → length (fixed_part offset padding fisbone) ≡ 52

@@ -3,12 +3,13 @@ use Rattle.std.proofs.Common.{◌≡◌, ◌≢◌, ℕ, ◌<◌, ◌^◌, List,
 use Rattle.std.proofs.lemmas.Bool.{eq-eqb, false_from_ne_true}
 use Rattle.std.proofs.lemmas.Slice.Eq.{bytes_eq-Decides}
 use Rattle.std.specs.Str.{bytes_eq}
-use Rattle.skeleton3.specs.Numbers.{u16_bytes, i64_bytes, fraction_bytes, IsFraction}
+use Rattle.ogg_page.specs.Numbers.{u16_bytes, i64_bytes, fraction_bytes, IsFraction}
 use Rattle.skeleton3.specs.Fishead.{HoldsFishead, IsFishead, fishead_name, fishead_with, fishead_bytes, fishead_fault}
 use Rattle.skeleton3.specs.declared.fishead.Fishead.{Fishead}
 use Rattle.skeleton3.specs.declared.fault.SkeletonFault.{SkeletonFault}
 use Rattle.skeleton3.specs.declared.fault.SkeletonFault.TheVariants.{Length, Name, Version}
-use Rattle.skeleton3.proofs.NumberBytes.{same_fronts, behind_u16, same_u16, same_fraction}
+use Rattle.ogg_page.proofs.NumberBytes.{behind_u16, same_u16, same_fraction}
+use Rattle.ogg_page.proofs.Prefixes.{same_fronts}
 
 -- what is looked at once the length is right
 abbrev fault_of_size : Bool → List ℕ → Option SkeletonFault
@@ -38,8 +39,9 @@ pub other_version : (major : ℕ) (rest : List ℕ) → major < 2 ^ 16 → major
 unfolding u16_bytes
 other_version major rest small other size =
     let packet : List ℕ = fishead_name ++ (u16_bytes major ++ rest) in
+    let one : u16_bytes major ≡ u16_bytes 3 → major ≡ 3 = λ e. (same_u16 major 3 rest rest small (omega arith) (ap (λ l. l ++ rest) e)).0 in
     let differs : bytes_eq (u16_bytes major) (u16_bytes 3) ≡ false =
-    false_from_ne_true _ (λ same. other (same_u16 major 3 small (omega arith) ((bytes_eq-Decides (u16_bytes major) (u16_bytes 3)).0 same))) in
+    false_from_ne_true _ (λ same. other (one ((bytes_eq-Decides (u16_bytes major) (u16_bytes 3)).0 same))) in
     ap (λ b. fault_of_size b packet) (eq-eqb (length packet) 64 (omega (arith, size)))
     ∙ ap (λ b. cond (not b) (Some Version) None) differs
 

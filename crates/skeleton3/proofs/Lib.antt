@@ -1,4 +1,4 @@
-pub mod NumberBytes
+pub mod Names
 pub mod FieldFacts
 pub mod MediaFacts
 pub mod FisheadFacts

@@ -3,7 +3,8 @@ use Rattle.std.specs.Prelude.{◌≡◌, ℕ, ℤ, ◌<◌, ◌^◌, List, [], �
 use Rattle.std.specs.List.{AllByRecursion}
 use Rattle.std.specs.Int.{w64}
 use Rattle.std.specs.Str.{bytes_eq}
-use Rattle.skeleton3.specs.Numbers.{u32_bytes, i64_bytes, fraction_bytes, IsByte, IsFraction}
+use Rattle.ogg_page.specs.Numbers.{u32_bytes, i64_bytes, fraction_bytes, IsFraction}
+use Rattle.ogg_page.specs.Page.{IsByte}
 use Rattle.skeleton3.specs.Fields.{content_type, media_in}
 use Rattle.skeleton3.specs.declared.fault.SkeletonFault.{SkeletonFault}
 use Rattle.skeleton3.specs.declared.fault.SkeletonFault.TheVariants.{Length, Name, Fields}

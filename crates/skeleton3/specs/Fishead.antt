@@ -2,7 +2,8 @@
 use Rattle.std.specs.Prelude.{◌≡◌, ℕ, ◌<◌, ◌^◌, List, [], ◌∷◌, ◌++◌, length, take, not, ◌==◌, if◌then◌else◌, Option, Some, None, codes, slice_range}
 use Rattle.std.specs.List.{AllByRecursion}
 use Rattle.std.specs.Str.{bytes_eq}
-use Rattle.skeleton3.specs.Numbers.{u16_bytes, fraction_bytes, IsByte, IsFraction}
+use Rattle.ogg_page.specs.Numbers.{u16_bytes, fraction_bytes, IsFraction}
+use Rattle.ogg_page.specs.Page.{IsByte}
 use Rattle.skeleton3.specs.declared.fault.SkeletonFault.{SkeletonFault}
 use Rattle.skeleton3.specs.declared.fault.SkeletonFault.TheVariants.{Length, Name, Version}
 use Rattle.skeleton3.specs.declared.fishead.Fishead.{Fishead}

@@ -1,4 +1,4 @@
-pub mod Numbers
+pub use Rattle.ogg_page.specs.Numbers
 pub mod SkeletonFault
 pub mod Fields
 pub mod Fishead

@@ -8,9 +8,9 @@ ghost use Rattle.skeleton3.specs.Fisbone.{Fisbone as FisboneValue, HoldsFisbone,
 use crate::Memory;
 use crate::fault::SkeletonFault;
 use crate::fields::media_in;
-use crate::numbers::{take_fraction, take_i64, take_u8, take_u32};
 use arrayvec::ArrayVec;
 use byteorder::{ByteOrder, LittleEndian};
+use ogg_page::{take_fraction, take_i64, take_u8, take_u32};
 
 /// How many bytes come before the message fields.
 const FIXED: usize = 52;
@@ -83,7 +83,7 @@ impl<'a> Fisbone<'a> {
     }
 
     /// How many bytes the packet has: 68, and those of the media type.
-    #[tactic(auto, unfolding(crate::specs::Fisbone::fixed_part, crate::specs::Numbers::u32_bytes, crate::specs::Numbers::i64_bytes))]
+    #[tactic(auto, unfolding(crate::specs::Fisbone::fixed_part, ogg_page::specs::Numbers::u32_bytes, ogg_page::specs::Numbers::i64_bytes))]
     pub fn size(&self) -> u64
         ensures { result ≡ length (fisbone_bytes (fisbone_of self.now)) }
     {
@@ -121,7 +121,7 @@ impl<'a> Fisbone<'a> {
         packet
     }
 
-    #[tactic(auto, unfolding(crate::specs::Fisbone::fixed_part, crate::specs::Numbers::u32_bytes, crate::specs::Numbers::i64_bytes))]
+    #[tactic(auto, unfolding(crate::specs::Fisbone::fixed_part, ogg_page::specs::Numbers::u32_bytes, ogg_page::specs::Numbers::i64_bytes))]
     fn fixed_part(&self) -> [u8; FIXED]
         ensures { result ≡ fixed_part 44 (0 ∷ 0 ∷ 0 ∷ []) (fisbone_of self.now) }
     {

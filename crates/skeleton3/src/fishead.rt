@@ -5,8 +5,8 @@ ghost use Rattle.skeleton3.specs.Fishead.{HoldsFishead, IsFishead, fishead_bytes
 
 use crate::Memory;
 use crate::fault::SkeletonFault;
-use crate::numbers::{take_fraction, take_u16};
 use byteorder::{ByteOrder, LittleEndian};
+use ogg_page::{take_fraction, take_u16};
 
 /// How many bytes the packet has.
 const SIZE: usize = 64;
@@ -59,7 +59,7 @@ impl Fishead {
     }
 
     /// How many bytes the packet has: 64.
-    #[tactic(auto, unfolding(crate::specs::Fishead::fishead_with, crate::specs::Numbers::u16_bytes, crate::specs::Numbers::i64_bytes))]
+    #[tactic(auto, unfolding(crate::specs::Fishead::fishead_with, ogg_page::specs::Numbers::u16_bytes, ogg_page::specs::Numbers::i64_bytes))]
     pub fn size(&self) -> u64
         ensures { result ≡ length (fishead_bytes self.now) }
     {
@@ -83,7 +83,7 @@ impl Fishead {
         self.bytes()
     }
 
-    #[tactic(auto, unfolding(crate::specs::Fishead::fishead_with, crate::specs::Numbers::u16_bytes, crate::specs::Numbers::i64_bytes))]
+    #[tactic(auto, unfolding(crate::specs::Fishead::fishead_with, ogg_page::specs::Numbers::u16_bytes, ogg_page::specs::Numbers::i64_bytes))]
     fn bytes(&self) -> [u8; SIZE]
         ensures { result ≡ fishead_bytes self.now }
     {

@@ -14,7 +14,6 @@ mod fields;
 mod fisbone;
 mod fishead;
 mod laws;
-mod numbers;
 
 pub use fault::SkeletonFault;
 pub use fisbone::Fisbone;

@@ -3,10 +3,10 @@ use Rattle.std.proofs.lemmas.Int.{to_z-of_z}
 use Rattle.std.specs.Int.{w64}
 use Rattle.std.specs.Option.{is_some}
 use Rattle.std.specs.Prelude.{FitsSigned}
-use Rattle.skeleton3.specs.Numbers.{i64_bytes}
+use Rattle.ogg_page.specs.Numbers.{i64_bytes}
 use Rattle.skeleton3.specs.Fisbone.{Fisbone, fisbone_name, fixed_part, fisbone_fault}
 use Rattle.skeleton3.specs.declared.fault.SkeletonFault.TheVariants.{Fields}
-use Rattle.skeleton3.proofs.NumberBytes.{named}
+use Rattle.skeleton3.proofs.Names.{named}
 use Rattle.skeleton3.proofs.FisboneFacts.{FitsFields, fault_behind, fits_fields, held_has_no_fault, of_parts, same_fisbone, written_holds}
 use Rattle.skeleton3.proofs.fisbone.Fisbone.read.Goals as goal
 use Rattle.skeleton3.proofs.fisbone.Fisbone.read.Goals.{After-media_in}

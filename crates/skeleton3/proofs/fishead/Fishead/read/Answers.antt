@@ -1,8 +1,8 @@
 use Rattle.std.proofs.Common.{rules, ◌≡◌, ◌++◌, ◌∙◌, Ok, sym, ap, arith, length}
-use Rattle.skeleton3.specs.Numbers.{fraction_bytes}
+use Rattle.ogg_page.specs.Numbers.{fraction_bytes}
 use Rattle.skeleton3.specs.Fishead.{fishead_name, fishead_with, fishead_fault}
 use Rattle.skeleton3.specs.declared.fishead.Fishead.{Fishead}
-use Rattle.skeleton3.proofs.NumberBytes.{named}
+use Rattle.skeleton3.proofs.Names.{named}
 use Rattle.skeleton3.proofs.FisheadFacts.{no_fault, held_has_no_fault, other_version, same_fishead, of_parts}
 use Rattle.skeleton3.proofs.fishead.Fishead.read.Goals as goal
 use Rattle.skeleton3.proofs.fishead.Fishead.read.Goals.{After-text_of}
