@@ -1,17 +1,14 @@
 -- Commands as data. Ours.
-use Rattle.std.specs.Prelude.{◌≡◌, ℤ, ◌<◌, ◌^◌, Option, Some, None, length, ⊤, FitsSigned}
+use Rattle.std.specs.Prelude.{◌≡◌, ◌<◌, ◌^◌, Option, Some, None, length, ⊤, FitsSigned}
 use Rattle.std.specs.List.{AllByRecursion}
 use Rattle.std.specs.Int.{w64}
+use Rattle.ogg_page.specs.Numbers.{IsFraction}
 use Rattle.ogg_page.specs.Page.{IsByte}
 use Rattle.chain_rules.specs.declared.command.Command.{Command}
 use Rattle.chain_rules.specs.declared.command.Command.TheVariants.{Begin as BeginOf, Put as PutOf, End as EndOf}
 use Rattle.chain_rules.specs.declared.command.SkeletonHead.{SkeletonHead}
 use Rattle.chain_rules.specs.declared.command.NewStream.{NewStream}
 use Rattle.chain_rules.specs.declared.command.Entry.{Entry}
-
--- a numerator and a denominator of 64 bits each, with a sign
-abbrev pub IsFraction : ℤ × ℤ → Type 0
-IsFraction fraction = FitsSigned w64 fraction.0 × FitsSigned w64 fraction.1
 
 pub record IsSkeletonHead (head : SkeletonHead) : Type 0 where
   pub serial : head.serial < 2 ^ 32
