@@ -7,7 +7,7 @@ use Rattle.std.proofs.KnownBytes.{Consumes-trans}
 use Rattle.chain_rules.specs.Command.{IsCommand}
 use Rattle.chain_rules.specs.declared.command.Command.{Command}
 use Rattle.chain_rules.specs.declared.command.Command.TheVariants.{Begin as BeginOf, Put as PutOf, End as EndOf}
-use Rattle.feed_codec.specs.Numbers.{u32_bytes}
+use Rattle.ogg_page.specs.Numbers.{u32_bytes}
 use Rattle.feed_codec.specs.Record.{HasRecord, FitsFields, record_of, payload_of, kind_of, most_payload}
 use Rattle.feed_codec.specs.RecordKind.{number_of}
 use Rattle.feed_codec.specs.Feed.{HasFault, TakesWhereMemoryEnds, head_fault, payload_length}
@@ -18,8 +18,8 @@ use Rattle.feed_codec.specs.declared.record.RecordKind.{RecordKind}
 use Rattle.feed_codec.specs.declared.record.RecordKind.TheVariants.{Begin, Put, End}
 use Rattle.feed_codec.specs.declared.fault.FeedFault.{FeedFault}
 use Rattle.feed_codec.specs.declared.fault.FeedFault.TheVariants.{Truncated, Form, Read, Memory}
-use Rattle.feed_codec.proofs.Lists.{same_fronts}
-use Rattle.feed_codec.proofs.NumberBytes.{same_u32, length-u32_bytes}
+use Rattle.ogg_page.proofs.Prefixes.{same_fronts}
+use Rattle.ogg_page.proofs.NumberBytes.{same_u32, length-u32_bytes}
 use Rattle.feed_codec.proofs.HeadFacts.{head_is_fine, length_field}
 
 kind_with : (command : Command) → (kind : RecordKind) × (number_of kind ≡ kind_of command)

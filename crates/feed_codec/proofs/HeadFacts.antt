@@ -3,13 +3,13 @@ use Rattle.std.proofs.Common.{◌≡◌, ℕ, ◌<◌, ◌≤◌, ◌^◌, List,
 use Rattle.std.specs.Prelude.{slice_index, nat_lt}
 use Rattle.std.proofs.lemmas.Bool.{lt-ltb, le-ltb}
 use Rattle.byteorder.specs.Numbers.{little_number-reads_back}
-use Rattle.feed_codec.specs.Numbers.{u32_bytes}
+use Rattle.ogg_page.specs.Numbers.{u32_bytes}
 use Rattle.feed_codec.specs.Record.{most_payload}
 use Rattle.feed_codec.specs.Feed.{IsKind, head_fault, payload_length}
 use Rattle.feed_codec.specs.RecordKind.{number_of}
 use Rattle.feed_codec.specs.declared.record.RecordKind.{RecordKind}
 use Rattle.feed_codec.specs.declared.record.RecordKind.TheVariants.{Begin, Put, End}
-use Rattle.feed_codec.proofs.NumberBytes.{length-u32_bytes}
+use Rattle.ogg_page.proofs.NumberBytes.{length-u32_bytes}
 use Rattle.feed_codec.specs.declared.fault.FeedFault.TheVariants.{Truncated, Kind, Length}
 
 pub fault_short : (bytes : List ℕ) → length bytes < 5 → head_fault bytes ≡ Some Truncated

@@ -1,5 +1,4 @@
 pub mod Lists
-pub mod NumberBytes
 pub mod Spellings
 pub mod PayloadFacts
 pub mod HeadFacts

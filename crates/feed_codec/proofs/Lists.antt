@@ -4,16 +4,6 @@ use Rattle.std.specs.List.{AllByRecursion, IsSplitAt}
 use Rattle.std.proofs.lemmas.List.Elements.{All-from_get_or, recursion_from_All}
 use Rattle.ogg_page.specs.Page.{IsByte}
 
-pub same_fronts : (a b x y : List ℕ) → length a ≡ length b → a ++ x ≡ b ++ y → (a ≡ b) × (x ≡ y)
-same_fronts [] [] x y h e = (refl, e)
-same_fronts [] (c ∷ b) x y h e = absurd (omega arith)
-same_fronts (c ∷ a) [] x y h e = absurd (omega arith)
-same_fronts (c ∷ a) (d ∷ b) x y h e =
-    let head : c ≡ d = cc in
-    let tail : a ++ x ≡ b ++ y = cc in
-    let rest : (a ≡ b) × (x ≡ y) = same_fronts a b x y (omega arith) tail in
-    (cc, rest.1)
-
 pub all_front : {X : Type 0} (P : X → Type 0) (xs ys : List X) → AllByRecursion P (xs ++ ys) → AllByRecursion P xs
 all_front P [] ys h = tt
 all_front P (x ∷ xs) ys h = (h.0, all_front P xs ys h.1)

@@ -6,16 +6,16 @@ use Rattle.std.specs.List.{AllByRecursion, IsSplitAt, flat_map}
 use Rattle.std.proofs.lemmas.Bool.{eqb-true}
 use Rattle.std.proofs.lemmas.List.Concat.{flat_map-append}
 use Rattle.ogg_page.specs.Page.{IsByte}
-use Rattle.chain_rules.specs.Command.{IsCommand, IsNewStream, IsEntry, IsFraction, IsSkeletonHead, IsSkeleton}
+use Rattle.chain_rules.specs.Command.{IsCommand, IsNewStream, IsEntry, IsSkeletonHead, IsSkeleton}
 use Rattle.chain_rules.specs.declared.command.Command.TheVariants.{Begin as BeginOf, Put as PutOf, End as EndOf}
 use Rattle.chain_rules.specs.declared.command.SkeletonHead.{SkeletonHead}
 use Rattle.chain_rules.specs.declared.command.NewStream.{NewStream}
 use Rattle.chain_rules.specs.declared.command.Entry.{Entry}
-use Rattle.feed_codec.specs.Numbers.{u16_bytes, u32_bytes, u64_bytes, i64_bytes}
-use Rattle.feed_codec.specs.Record.{packet_bytes, media_bytes, fraction_bytes, skeleton_bytes, stream_bytes, entry_bytes, payload_of, FitsFields, FitsHeader, FitsStream, FitsEntry}
+use Rattle.ogg_page.specs.Numbers.{u16_bytes, u32_bytes, u64_bytes, i64_bytes, fraction_bytes, IsFraction}
+use Rattle.feed_codec.specs.Record.{packet_bytes, media_bytes, skeleton_bytes, stream_bytes, entry_bytes, payload_of, FitsFields, FitsHeader, FitsStream, FitsEntry}
 use Rattle.feed_codec.specs.Payload.{Begins, BeginsNone, AreMany, IsPacket, IsMedia, IsEntryOfFeed, IsStreamOfFeed, Tail, IsTail, tail_bytes, tail_of_stream, skeleton_head_bytes, IsPayload}
 use Rattle.feed_codec.proofs.Lists.{all_front, all_back, all_joined, all_as, split_joins}
-use Rattle.feed_codec.proofs.NumberBytes.{IsU16, IsU32, IsU64, same_u16, same_u32, same_u64, length-u16_bytes, length-u32_bytes, length-u64_bytes, length-i64_bytes, read_u32}
+use Rattle.ogg_page.proofs.NumberBytes.{IsU16, IsU32, IsU64, same_u16, same_u32, same_u64, length-u16_bytes, length-u32_bytes, length-u64_bytes, length-i64_bytes, read_u32}
 use Rattle.feed_codec.proofs.Spellings.{PrefixFree, front, fronts, same_packet, same_media, same_many, same_skeleton, entry_packet, stream_parts, stream_headers, stream_tail, command_streams, command_entries}
 
 -- ---- packets and media types

@@ -12,10 +12,10 @@ use Rattle.chain_rules.specs.declared.command.Put.{Put}
 use Rattle.chain_rules.specs.declared.command.SkeletonHead.{SkeletonHead}
 use Rattle.chain_rules.specs.declared.command.NewStream.{NewStream}
 use Rattle.chain_rules.specs.declared.command.Entry.{Entry}
-use Rattle.feed_codec.specs.Numbers.{u16_bytes, u32_bytes, u64_bytes, i64_bytes}
-use Rattle.feed_codec.specs.Record.{packet_bytes, media_bytes, fraction_bytes, skeleton_bytes, stream_bytes, entry_bytes, payload_of, record_of}
+use Rattle.ogg_page.specs.Numbers.{u16_bytes, u32_bytes, u64_bytes, i64_bytes, fraction_bytes}
+use Rattle.feed_codec.specs.Record.{packet_bytes, media_bytes, skeleton_bytes, stream_bytes, entry_bytes, payload_of, record_of}
 use Rattle.feed_codec.specs.Payload.{Tail, tail_bytes, tail_of_stream}
-use Rattle.feed_codec.proofs.NumberBytes.{length-u16_bytes, length-u32_bytes, length-u64_bytes, length-i64_bytes}
+use Rattle.ogg_page.proofs.NumberBytes.{length-u16_bytes, length-u32_bytes, length-u64_bytes, length-i64_bytes}
 use Rattle.feed_codec.proofs.Spellings.{stream_parts}
 
 -- one item more

@@ -2,18 +2,19 @@
 use Rattle.std.proofs.Common.{◌≡◌, ℕ, ◌<◌, ◌^◌, List, [], ◌∷◌, ◌++◌, length, refl, sym, ap, ◌∙◌, arith, append_assoc, None, Some}
 use Rattle.std.specs.List.{AllByRecursion, flat_map}
 use Rattle.ogg_page.specs.Page.{IsByte}
-use Rattle.chain_rules.specs.Command.{IsCommand, IsNewStream, IsEntry, IsFraction, IsSkeletonHead, IsSkeleton}
+use Rattle.chain_rules.specs.Command.{IsCommand, IsNewStream, IsEntry, IsSkeletonHead, IsSkeleton}
 use Rattle.chain_rules.specs.declared.command.Command.{Command}
 use Rattle.chain_rules.specs.declared.command.Command.TheVariants.{Begin as BeginOf, Put as PutOf, End as EndOf}
 use Rattle.chain_rules.specs.declared.command.Begin.{Begin}
 use Rattle.chain_rules.specs.declared.command.Put.{Put}
 use Rattle.chain_rules.specs.declared.command.NewStream.{NewStream}
 use Rattle.chain_rules.specs.declared.command.Entry.{Entry}
-use Rattle.feed_codec.specs.Numbers.{u16_bytes, u32_bytes, u64_bytes, i64_bytes}
-use Rattle.feed_codec.specs.Record.{packet_bytes, media_bytes, fraction_bytes, skeleton_bytes, stream_bytes, entry_bytes, payload_of, kind_of, record_of, FitsFields, FitsHeader, FitsStream, FitsEntry, HasRecord, BeginsNoRecord, IsFeed}
+use Rattle.ogg_page.specs.Numbers.{u16_bytes, u32_bytes, u64_bytes, i64_bytes, fraction_bytes, IsFraction}
+use Rattle.feed_codec.specs.Record.{packet_bytes, media_bytes, skeleton_bytes, stream_bytes, entry_bytes, payload_of, kind_of, record_of, FitsFields, FitsHeader, FitsStream, FitsEntry, HasRecord, BeginsNoRecord, IsFeed}
 use Rattle.feed_codec.specs.Payload.{AreMany, IsPacket, IsMedia, IsEntryOfFeed, IsStreamOfFeed, IsTail, tail_bytes, tail_of_stream, skeleton_head_bytes}
-use Rattle.feed_codec.proofs.Lists.{same_fronts, all_of_two}
-use Rattle.feed_codec.proofs.NumberBytes.{IsU16, IsU32, IsU64, IsI64, same_u16, same_u32, same_u64, same_i64}
+use Rattle.ogg_page.proofs.Prefixes.{same_fronts}
+use Rattle.feed_codec.proofs.Lists.{all_of_two}
+use Rattle.ogg_page.proofs.NumberBytes.{IsU16, IsU32, IsU64, IsI64, same_u16, same_u32, same_u64, same_i64, same_fraction}
 
 -- whose spellings begin the same bytes are one, and the same bytes follow
 abbrev pub PrefixFree : {X : Type 0} → (X → Type 0) → (X → List ℕ) → Type 0
@@ -36,12 +37,6 @@ pub same_media : PrefixFree IsMedia media_bytes
 same_media a b x y ha hb e =
     let sizes = fronts IsU16 u16_bytes same_u16 (length a) (length b) a b x y ha.fits hb.fits e in
     same_fronts a b x y sizes.0 sizes.1
-
-pub same_fraction : PrefixFree IsFraction fraction_bytes
-same_fraction a b x y ha hb e =
-    let numerators = fronts IsI64 i64_bytes same_i64 a.0 b.0 (i64_bytes a.1) (i64_bytes b.1) x y ha.0 hb.0 e in
-    let denominators = same_i64 a.1 b.1 x y ha.1 hb.1 numerators.1 in
-    (λ i. (numerators.0 i, denominators.0 i), denominators.1)
 
 same_lists : {X : Type 0} (Is : X → Type 0) (spell : X → List ℕ) → PrefixFree Is spell → (cs ds : List X) (x y : List ℕ)
     → length cs ≡ length ds → AllByRecursion Is cs → AllByRecursion Is ds → flat_map spell cs ++ x ≡ flat_map spell ds ++ y → (cs ≡ ds) × (x ≡ y)

@@ -1,6 +1,6 @@
 -- What reading takes from a reader. Ours.
 use Rattle.std.specs.Prelude.{◌≡◌, ◌≢◌, ℕ, ◌<◌, Option, Some, None, List, [], ◌∷◌, length, ⊤}
-use Rattle.feed_codec.specs.Numbers.{u32_bytes}
+use Rattle.ogg_page.specs.Numbers.{u32_bytes}
 use Rattle.feed_codec.specs.Feed.{head_fault}
 use Rattle.feed_codec.specs.RecordKind.{number_of}
 use Rattle.feed_codec.specs.declared.record.Head.{Head}

@@ -1,5 +1,5 @@
 -- A command as a record of a feed. Ours.
-use Rattle.std.specs.Prelude.{◌≡◌, ◌≢◌, ℕ, ℤ, ◌<◌, ◌≤◌, ◌^◌, Option, Some, None, List, [], ◌∷◌, ◌++◌, length, ⊤}
+use Rattle.std.specs.Prelude.{◌≡◌, ◌≢◌, ℕ, ◌<◌, ◌≤◌, ◌^◌, Option, Some, None, List, [], ◌∷◌, ◌++◌, length, ⊤}
 use Rattle.std.specs.List.{flat_map, AllByRecursion}
 use Rattle.chain_rules.specs.Command.{IsCommand}
 use Rattle.chain_rules.specs.declared.command.Command.{Command}
@@ -7,7 +7,7 @@ use Rattle.chain_rules.specs.declared.command.Command.TheVariants.{Begin as Begi
 use Rattle.chain_rules.specs.declared.command.SkeletonHead.{SkeletonHead}
 use Rattle.chain_rules.specs.declared.command.NewStream.{NewStream}
 use Rattle.chain_rules.specs.declared.command.Entry.{Entry}
-use Rattle.feed_codec.specs.Numbers.{u16_bytes, u32_bytes, u64_bytes, i64_bytes}
+use Rattle.ogg_page.specs.Numbers.{u16_bytes, u32_bytes, u64_bytes, i64_bytes, fraction_bytes}
 
 -- a packet: its length, and its bytes
 abbrev pub packet_bytes : List ℕ → List ℕ
@@ -16,10 +16,6 @@ packet_bytes packet = u32_bytes (length packet) ++ packet
 -- a media type: its length, and its bytes
 abbrev pub media_bytes : List ℕ → List ℕ
 media_bytes media = u16_bytes (length media) ++ media
-
--- a numerator and a denominator
-abbrev pub fraction_bytes : ℤ × ℤ → List ℕ
-fraction_bytes fraction = i64_bytes fraction.0 ++ i64_bytes fraction.1
 
 -- whether the link has a Skeleton, and its head
 abbrev pub skeleton_bytes : Option SkeletonHead → List ℕ

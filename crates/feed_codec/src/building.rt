@@ -6,11 +6,11 @@ ghost use Rattle.feed_codec.specs.RecordKind.{number_of};
 ghost use Rattle.feed_codec.specs.Payload.{Begins, AreMany, IsPacket, IsEntryOfFeed, IsStreamOfFeed, IsPayload};
 ghost use Rattle.chain_rules.specs.Command.{IsCommand};
 
-use crate::numbers::{take_u16, take_u32};
 use crate::payload::{split_entry, split_packet, split_skeleton, split_tail};
 use crate::record::RecordKind;
 use crate::spare::Spare;
 use chain_rules::{Begin, Command, Entry, Listed, Memory, NewStream, Put};
+use ogg_page::{take_u16, take_u32};
 use std::alloc::Global;
 
 /// The command that the payload spells. A put is made of spare memory, as far as there is some.

@@ -11,7 +11,6 @@
 mod building;
 mod fault;
 mod laws;
-mod numbers;
 mod payload;
 mod reading;
 mod record;

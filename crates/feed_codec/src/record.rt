@@ -6,7 +6,7 @@ ghost use Rattle.feed_codec.specs.RecordKind.{number_of};
 ghost use Rattle.feed_codec.specs.Reading.{head_bytes};
 
 use crate::fault::FeedFault;
-use crate::numbers::{take_u8, take_u32};
+use ogg_page::{take_u8, take_u32};
 
 /// How long a record's head is.
 pub const HEAD: usize = 5;

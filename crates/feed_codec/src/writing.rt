@@ -1,8 +1,8 @@
 //! Commands written as records.
 ghost use Rattle.std.specs.Prelude.{◌≡◌, ◌+◌, ◌≤◌, ◌<◌, ◌^◌, ◌++◌, ◌∷◌, [], length, OnOk, OnErr, vec_len, vec_capacity};
 ghost use Rattle.std.specs.List.{flat_map, AllByRecursion};
-ghost use Rattle.feed_codec.specs.Numbers.{u16_bytes, u32_bytes, u64_bytes, i64_bytes};
-ghost use Rattle.feed_codec.specs.Record.{FitsRecord, FitsFields, FitsStream, FitsHeader, FitsEntry, record_of, kind_of, payload_of, packet_bytes, media_bytes, fraction_bytes, skeleton_bytes, stream_bytes, entry_bytes};
+ghost use Rattle.ogg_page.specs.Numbers.{u16_bytes, u32_bytes, u64_bytes, i64_bytes, fraction_bytes};
+ghost use Rattle.feed_codec.specs.Record.{FitsRecord, FitsFields, FitsStream, FitsHeader, FitsEntry, record_of, kind_of, payload_of, packet_bytes, media_bytes, skeleton_bytes, stream_bytes, entry_bytes};
 ghost use Rattle.feed_codec.specs.Payload.{tail_bytes, tail_of_stream};
 ghost use Rattle.feed_codec.specs.Writing.{Grows};
 
@@ -156,7 +156,7 @@ fn put_fraction(fraction: (i64, i64), out: &mut Vec<u8>)
     put_i64(fraction.1, out);
 }
 
-#[tactic(auto, unfolding(crate::specs::Numbers::u16_bytes))]
+#[tactic(auto, unfolding(ogg_page::specs::Numbers::u16_bytes))]
 fn put_u16(number: u16, out: &mut Vec<u8>)
     requires { vec_len out.old + 2 ≤ vec_capacity out.old }
     ensures { Grows out.old out.new (u16_bytes number) 2 }
@@ -164,7 +164,7 @@ fn put_u16(number: u16, out: &mut Vec<u8>)
     put_bytes(&number.to_le_bytes(), out);
 }
 
-#[tactic(auto, unfolding(crate::specs::Numbers::u32_bytes))]
+#[tactic(auto, unfolding(ogg_page::specs::Numbers::u32_bytes))]
 fn put_u32(number: u32, out: &mut Vec<u8>)
     requires { vec_len out.old + 4 ≤ vec_capacity out.old }
     ensures { Grows out.old out.new (u32_bytes number) 4 }
@@ -172,7 +172,7 @@ fn put_u32(number: u32, out: &mut Vec<u8>)
     put_bytes(&number.to_le_bytes(), out);
 }
 
-#[tactic(auto, unfolding(crate::specs::Numbers::u64_bytes))]
+#[tactic(auto, unfolding(ogg_page::specs::Numbers::u64_bytes))]
 fn put_u64(number: u64, out: &mut Vec<u8>)
     requires { vec_len out.old + 8 ≤ vec_capacity out.old }
     ensures { Grows out.old out.new (u64_bytes number) 8 }
@@ -180,7 +180,7 @@ fn put_u64(number: u64, out: &mut Vec<u8>)
     put_bytes(&number.to_le_bytes(), out);
 }
 
-#[tactic(auto, unfolding(crate::specs::Numbers::i64_bytes))]
+#[tactic(auto, unfolding(ogg_page::specs::Numbers::u64_bytes, ogg_page::specs::Numbers::i64_bytes))]
 fn put_i64(number: i64, out: &mut Vec<u8>)
     requires { vec_len out.old + 8 ≤ vec_capacity out.old }
     ensures { Grows out.old out.new (i64_bytes number) 8 }

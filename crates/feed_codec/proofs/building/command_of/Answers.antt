@@ -1,5 +1,5 @@
 use Rattle.std.proofs.Common.{◌≡◌, ◌++◌, List, [], ℕ, sym, ap, ◌∙◌, subst, append-nil, arith}
-use Rattle.feed_codec.specs.Numbers.{u32_bytes}
+use Rattle.ogg_page.specs.Numbers.{u32_bytes}
 use Rattle.feed_codec.specs.RecordKind.{number_of}
 use Rattle.feed_codec.specs.Payload.{IsPayload}
 use Rattle.feed_codec.proofs.Lists.{nothing}

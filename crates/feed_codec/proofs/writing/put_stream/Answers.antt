@@ -1,6 +1,6 @@
 use Rattle.std.proofs.Common.{refl, sym, ap, length, arith}
 use Rattle.std.specs.List.{flat_map}
-use Rattle.feed_codec.specs.Numbers.{u16_bytes}
+use Rattle.ogg_page.specs.Numbers.{u16_bytes}
 use Rattle.feed_codec.specs.Record.{packet_bytes}
 use Rattle.feed_codec.proofs.Spellings.{stream_parts}
 use Rattle.feed_codec.proofs.WritingFacts.{grows_more, grows_as}

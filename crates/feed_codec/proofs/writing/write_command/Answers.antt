@@ -1,6 +1,6 @@
 use Rattle.std.proofs.Common.{◌++◌, ◌∷◌, [], ◌∙◌, ℕ, List, ap, arith, append_assoc}
 use Rattle.std.proofs.lemmas.Result.{err_from_is_err_and}
-use Rattle.feed_codec.specs.Numbers.{u32_bytes}
+use Rattle.ogg_page.specs.Numbers.{u32_bytes}
 use Rattle.feed_codec.specs.Record.{record_of, payload_of, kind_of}
 use Rattle.feed_codec.proofs.SizeFacts.{length-record_of}
 use Rattle.feed_codec.proofs.writing.write_command.Goals as goal

@@ -1,8 +1,0 @@
-use Rattle.std.proofs.Common.{arith}
-use Rattle.feed_codec.proofs.NumberBytes.{front_u16}
-use Rattle.feed_codec.proofs.numbers.take_u16.Goals as goal
-
-pub returns-clause-value : goal.returns-clause-value
-returns-clause-value c =
-    front_u16 c.args.bytes.now c.split_at.result.0.now c.split_at.result.1.now c.read_u16.result
-    (λ i. omega (arith, c.type_inv.bytes i)) c.split_at.ensures.front_len c.split_at.ensures.front c.split_at.ensures.back c.read_u16.ensures
