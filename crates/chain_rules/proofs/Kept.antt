@@ -15,7 +15,8 @@ use Rattle.chain_rules.specs.ChainState.{ChainState, is_open}
 use Rattle.chain_rules.specs.Limits.{longest_file}
 use Rattle.chain_rules.specs.Progress.{next_in}
 use Rattle.chain_rules.specs.Rules.{first_broken}
-use Rattle.chain_rules.specs.Decision.{decision, answer, rules_for, begin_rules, item_rules, parts_rules, streams_rules, entries_rules, room_rules, size_of, header_bytes, has_many_headers, has_long_media, is_media}
+use Rattle.skeleton3.specs.Fields.{is_media_type}
+use Rattle.chain_rules.specs.Decision.{decision, answer, rules_for, begin_rules, item_rules, parts_rules, streams_rules, entries_rules, room_rules, size_of, header_bytes, has_many_headers, has_long_media}
 use Rattle.chain_rules.specs.Encoding.{pages_of_begin, pages_of_command, pages_of_runs, runs_of}
 use Rattle.chain_rules.specs.Size.{has_no_number, size_of_pages}
 use Rattle.chain_rules.proofs.Chain.{no_rule_broken, Unbroken, all_split}
@@ -92,7 +93,7 @@ not_not true e = refl
 not_not false e = cc
 
 -- a media type isn't long
-media_short : (stream : NewStream) → not (is_media stream.media) ≡ false → has_long_media stream ≡ false
+media_short : (stream : NewStream) → not (is_media_type stream.media) ≡ false → has_long_media stream ≡ false
 media_short stream e =
     let media : List ℕ = stream.media in
     let A : Bool = nat_le 1 (length media) in
@@ -100,7 +101,7 @@ media_short stream e =
     let C : Bool = list_all (λ c. nat_le 0x20 c && nat_le c 0x7e) media in
     let D : Bool = not (list_any (nat_eq 0x20) (take 1 media)) in
     let E : Bool = not (list_any (nat_eq 0x20) (drop (length media - 1) media)) in
-    let few : B ≡ true = second A B C D E (not_not (is_media media) e) in
+    let few : B ≡ true = second A B C D E (not_not (is_media_type media) e) in
     le-ltb 255 (length media) (leb-true (length media) 255 few)
   where
     second : (a b c d e : Bool) → (a && b && c && d && e) ≡ true → b ≡ true

@@ -2,6 +2,7 @@
 use Rattle.std.specs.Prelude.{ℕ, ◌+◌, ◌-◌, ◌^◌, ℤ, pos, int_lt, Bool, true, false, not, ◌&&◌, ◌||◌, nat_eq, nat_lt, nat_le, is_none, Option, Some, None, Result, Ok, Err, List, [], ◌∷◌, ◌++◌, length, take, drop, sum_by}
 use Rattle.std.specs.List.{list_any, list_all}
 use Rattle.std.specs.Option.{option_map_or}
+use Rattle.skeleton3.specs.Fields.{is_media_type}
 use Rattle.chain_rules.specs.Size.{has_no_number, size_of_pages}
 use Rattle.chain_rules.specs.ChainState.{ChainState, stream_at, is_open}
 use Rattle.chain_rules.specs.Rules.{Rule, first_broken}
@@ -44,12 +45,6 @@ is_taken chain earlier serial = list_any (nat_eq serial) chain.serials || list_a
 abbrev pub is_positive : ℤ → Bool
 is_positive n = int_lt (pos 0) n
 
--- 1 to 255 printing characters, with no space at the ends
-abbrev pub is_media : List ℕ → Bool
-is_media media =
-    nat_le 1 (length media) && nat_le (length media) 255 && list_all (λ c. nat_le 0x20 c && nat_le c 0x7e) media
-    && not (list_any (nat_eq 0x20) (take 1 media)) && not (list_any (nat_eq 0x20) (drop (length media - 1) media))
-
 abbrev pub skeleton_rules : ChainState → SkeletonHead → List (Rule Refusal)
 skeleton_rules chain head =
     (is_taken chain [] head.serial, SerialTaken)
@@ -62,7 +57,7 @@ stream_rules chain has_skeleton earlier stream =
     ∷ (nat_eq (length stream.headers) 0, NoHeader)
     ∷ (list_any (is_long longest_first) (take 1 stream.headers), HeadTooLong)
     ∷ (list_any (is_long longest_packet) (drop 1 stream.headers), PacketTooLong)
-    ∷ (has_skeleton && not (is_media stream.media), BadType)
+    ∷ (has_skeleton && not (is_media_type stream.media), BadType)
     ∷ (has_skeleton && not (is_positive stream.rate.0 && is_positive stream.rate.1), BadRate)
     ∷ []
 

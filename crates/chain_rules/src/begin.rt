@@ -5,7 +5,8 @@ ghost use Rattle.std.specs.Option.{SomeIff};
 ghost use Rattle.chain_rules.specs.Rules.{first_broken};
 ghost use Rattle.chain_rules.specs.ChainState.{ChainState};
 ghost use Rattle.chain_rules.specs.Begun.{stream_count, skeleton_serial};
-ghost use Rattle.chain_rules.specs.Decision.{stream_rules, streams_rules, skeleton_rules, parts_rules, has_many_parts, has_many_headers, has_long_media, header_bytes, is_media, is_positive};
+ghost use Rattle.chain_rules.specs.Decision.{stream_rules, streams_rules, skeleton_rules, parts_rules, has_many_parts, has_many_headers, has_long_media, header_bytes, is_positive};
+ghost use Rattle.skeleton3.specs.Fields.{is_media_type};
 ghost use Rattle.chain_rules.specs.Encoding.{first_pages, header_pages, pages_of_begin};
 ghost use Rattle.chain_rules.specs.Size.{has_no_number, size_of_pages};
 ghost use Rattle.chain_rules.specs.declared.command.NewStream.{NewStream as StreamOf};
@@ -81,7 +82,7 @@ fn has_space(text: &[u8]) -> bool
 
 /// Whether a text can be a media type: 1 to 255 printing characters, with no space at the ends.
 fn is_media(media: &[u8]) -> bool
-    ensures { result ≡ is_media media.now }
+    ensures { result ≡ is_media_type media.now }
 {
     if media.is_empty() || media.len() > LONGEST_MEDIA {
         return false;
