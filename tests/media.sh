@@ -3,14 +3,8 @@
 # and must come back the same. Not part of the tests that ./check runs, since it installs packages.
 #
 #     tests/media.sh            the last line is 'N passed, M failed'
-set -u
-top=$(cd "$(dirname "$0")/.." && pwd)
-program=${PROGRAM:-$top/crates/ogg_main/out/ogg_main}
+. "$(dirname "$0")/program/common.bash"
 reader=${READ_OGG:-$top/crates/read_ogg/out/read_ogg}
-work=$(mktemp -d)
-trap 'rm -rf "$work"' EXIT
-passed=0
-failed=0
 
 for tool in ffmpeg ffprobe ogginfo oggz; do
     if ! command -v "$tool" >"$work/which"; then
@@ -18,20 +12,7 @@ for tool in ffmpeg ffprobe ogginfo oggz; do
         break
     fi
 done >"$work/install" 2>&1 || { tail -n 5 "$work/install"; exit 1; }
-for built in "$program" "$reader"; do
-    [ -x "$built" ] || { echo "no program at $built: ./check builds it" >&2; exit 1; }
-done
-
-check() {
-    local name=$1
-    shift
-    if "$@"; then
-        passed=$((passed + 1))
-    else
-        failed=$((failed + 1))
-        echo "FAILED: $name"
-    fi
-}
+[ -x "$reader" ] || { echo "no program at $reader: ./check builds it" >&2; exit 1; }
 
 encode() { ffmpeg -nostdin -loglevel error -y "$@"; }
 
@@ -129,5 +110,4 @@ for name in vorbis opus flac theora chain; do
     check "$name with a Skeleton: the packets are the same" cmp "$work/$name.sorted" <(grep -F -f "$work/$name.sorted" "$work/$name.found")
 done
 
-echo "$passed passed, $failed failed"
-[ "$failed" -eq 0 ]
+finish
