@@ -8,7 +8,7 @@ use Rattle.ogg_page.specs.Checksum as crc
 use Rattle.packetiser.specs.Run.{pages_of_run, page_of_run, page_position, run_lacing, run_bytes, values_at, values_before}
 use Rattle.skeleton3.specs.Fisbone.{fixed_part}
 use Rattle.skeleton3.specs.Fishead.{fishead_with}
-use Rattle.skeleton3.specs.Numbers.{u16_bytes, u32_bytes, i64_bytes}
+use Rattle.ogg_page.specs.Numbers.{u16_bytes, u32_bytes, i64_bytes}
 use Rattle.chain_rules.specs.ChainState.{chain_state_of}
 use Rattle.chain_rules.specs.Encoding.{pages_of_command, command_bytes}
 use Rattle.chain_rules.specs.Decision.{decision}

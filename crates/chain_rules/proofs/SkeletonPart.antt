@@ -15,7 +15,7 @@ use Rattle.packetiser.proofs.Pieces.{run_is_held, run_pages}
 use Rattle.packetiser.proofs.Behind.{run_fits, behind_both, held_both, finished, number_behind_run, ends_open-append}
 use Rattle.packetiser.proofs.Ranges.{run_is_pages}
 use Rattle.packetiser.proofs.Sizes.{length-run_lacing, values_in}
-use Rattle.skeleton3.specs.Numbers.{u16_bytes, u32_bytes, i64_bytes}
+use Rattle.ogg_page.specs.Numbers.{u16_bytes, u32_bytes, i64_bytes}
 use Rattle.skeleton3.specs.Fishead.{fishead_bytes, fishead_with}
 use Rattle.skeleton3.specs.Fisbone.{fisbone_name, fixed_part}
 use Rattle.skeleton3.proofs.FisboneFacts.{length-fisbone_bytes}

@@ -1,7 +1,6 @@
 //! Payloads, looked through without taking memory.
 ghost use Rattle.std.specs.Prelude.{◌≡◌, ◌++◌, ◌↔◌, IsTrue, MatchOption};
 ghost use Rattle.std.specs.List.{flat_map};
-ghost use Rattle.ogg_page.specs.Numbers.{u32_bytes, u16_bytes};
 ghost use Rattle.feed_codec.specs.Record.{packet_bytes, media_bytes, entry_bytes, stream_bytes, skeleton_bytes};
 ghost use Rattle.feed_codec.specs.RecordKind.{number_of};
 ghost use Rattle.feed_codec.specs.Payload.{Begins, BeginsNone, AreMany, IsPacket, IsMedia, IsEntryOfFeed, IsStreamOfFeed, IsTail, tail_bytes, skeleton_head_bytes, IsPayload};

@@ -5,6 +5,9 @@
 //! refused. Reading lends the parts of the page at the front of bytes, and takes no memory. The
 //! bytes of no page begin those of another, so bytes are joined pages in one way at most.
 //!
+//! The formats of the crates above are numbers too, the lowest byte first: `specs/Numbers.antt` spells
+//! them, and `take_u8` to `take_fraction` take them off the front of bytes.
+//!
 //! Start at `specs/Page.antt`, which says what a page is, and at `specs/LogicalStream.antt`, which
 //! says what packets the pages of a stream hold.
 #![tactic(auto)]
