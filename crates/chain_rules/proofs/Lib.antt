@@ -38,3 +38,4 @@ pub mod TakenLinks
 pub mod Fronts
 pub mod InTurn
 pub mod OwnSerials
+pub mod LeftWhole

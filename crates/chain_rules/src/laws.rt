@@ -1,5 +1,5 @@
 //! What always holds of the commands and the pages that a chain takes.
-ghost use Rattle.std.specs.Prelude.{◌≡◌, ◌++◌, ◌↔◌, Ok, List, [], ℕ, length};
+ghost use Rattle.std.specs.Prelude.{◌≡◌, ◌++◌, ◌↔◌, Ok, None, List, [], ℕ, length};
 ghost use Rattle.std.specs.List.{AllByRecursion};
 ghost use Rattle.ogg_page.specs.Page.{Page, IsPage, bytes_of_pages};
 ghost use Rattle.chain_rules.specs.Command.{IsCommand};
@@ -8,7 +8,7 @@ ghost use Rattle.chain_rules.specs.Recording.{Recording, HoldsLinks, Holds, add,
 ghost use Rattle.chain_rules.specs.ChainState.{ChainState, chain_state_of};
 ghost use Rattle.chain_rules.specs.Decision.{decision};
 ghost use Rattle.chain_rules.specs.Encoding.{command_bytes, links_after};
-ghost use Rattle.chain_rules.specs.Taking.{AreTaken};
+ghost use Rattle.chain_rules.specs.Taking.{AreTaken, unfinished_stream};
 ghost use Rattle.chain_rules.specs.Commands.{AreKept, bytes_of_commands, links_behind};
 ghost use Rattle.chain_rules.specs.declared.command.Command.{Command as CommandOf};
 
@@ -45,4 +45,11 @@ pub fn commands_add_their_packets()
 pub fn pages_in_turn_are_links()
     ensures { (pages : List Page) (links : List (List Page)) → AllByRecursion IsPage pages →
         AreTaken [] pages links ↔ AreLinks (bytes_of_pages pages) links }
+{}
+
+/// Links in which no packet is left unfinished hold a recording: what their streams' lacing values
+/// and bodies spell (RFC 3533, section 5).
+pub fn links_left_whole_hold_a_recording()
+    ensures { (bytes : List ℕ) (links : List (List Page)) → AreLinks bytes links → unfinished_stream (chain_state_of links) ≡ None →
+        (recording : Recording) × HoldsLinks links recording }
 {}

@@ -31,7 +31,10 @@ mod taking;
 
 pub use chain_fault::ChainFault;
 pub use command::{Begin, Command, Entry, NewStream, Put, SkeletonHead};
-pub use laws::{command_adds_its_packets, commands_add_their_packets, pages_in_turn_are_links};
+pub use laws::{
+    command_adds_its_packets, commands_add_their_packets, links_left_whole_hold_a_recording,
+    pages_in_turn_are_links,
+};
 pub use listed::Listed;
 pub use ogg_page::Memory;
 pub use refusal::Refusal;
