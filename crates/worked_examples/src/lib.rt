@@ -9,6 +9,8 @@
 #[cfg(test)]
 mod multiplexing;
 #[cfg(test)]
+mod pages;
+#[cfg(test)]
 mod records;
 #[cfg(test)]
 mod taking;

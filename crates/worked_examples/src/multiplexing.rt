@@ -1,4 +1,5 @@
 //! Feeds that are run whole, and feeds that end in a fault: each answer, and the pages.
+use crate::pages::{FIRST, SECOND, THIRD};
 use crate::records::Packet::{Text, Zeros};
 use crate::records::Record::{
     Begin, BeginMany, BeginManyWithSkeleton, BeginWithSkeleton, Bytes, End, Put, PutMany,
@@ -9,15 +10,6 @@ use feed_codec::{FeedFault, RunFault};
 use multiplexer::mux;
 use packet_view::Packets;
 use std::test::Fail;
-
-/// The page of a stream with serial 1 whose first header is `abc`.
-const FIRST: &[u8] = b"OggS\x00\x02\0\0\0\0\0\0\0\0\x01\0\0\0\0\0\0\0\x92\xdd\xf6\x15\x01\x03abc";
-
-/// Its page with the packet `hello`, at position 5.
-const SECOND: &[u8] = b"OggS\0\0\x05\0\0\0\0\0\0\0\x01\0\0\0\x01\0\0\0\xbb\xfev\xea\x01\x05hello";
-
-/// Its last page.
-const THIRD: &[u8] = b"OggS\0\x04\x05\0\0\0\0\0\0\0\x01\0\0\0\x02\0\0\0\xdb\x9d\x91\x8b\0";
 
 /// A begin of the stream with serial 1 and the header `abc`.
 const ONE: Record = Begin(&[(1, &[Text(b"abc")])]);

@@ -1,5 +1,6 @@
 //! Files that were put together by hand, whose pages are taken one after the other, with checksums by
 //! another program; and what a command meets behind pages that no command made.
+use crate::pages::{FIRST, SECOND, THIRD};
 use crate::records::Packet::Text;
 use crate::records::Record::{Begin, BeginMany, BeginOne, End, Put};
 use crate::records::{Record, append};
@@ -21,19 +22,6 @@ enum Piece {
 }
 
 use Piece::{Bytes, Many};
-
-/// The first page of stream 1: `abc`.
-const FIRST: Piece = Bytes(
-    b"OggS\0\x02\0\0\0\0\0\0\0\0\x01\0\0\0\0\0\0\0\x92\xdd\xf6\x15\x01\x03abc",
-);
-
-/// Its second page, at position 5: `hello`.
-const SECOND: Piece = Bytes(
-    b"OggS\0\0\x05\0\0\0\0\0\0\0\x01\0\0\0\x01\0\0\0\xbb\xfev\xea\x01\x05hello",
-);
-
-/// Its last page, at position 5, without a packet.
-const THIRD: Piece = Bytes(b"OggS\0\x04\x05\0\0\0\0\0\0\0\x01\0\0\0\x02\0\0\0\xdb\x9d\x91\x8b\0");
 
 /// The first page of stream 2: `abc`.
 const OTHER: Piece = Bytes(b"OggS\0\x02\0\0\0\0\0\0\0\0\x02\0\0\0\0\0\0\0u\x8e\x83-\x01\x03abc");
@@ -57,7 +45,7 @@ struct File {
 /// page of stream 2 stands.
 const TWO_PARTS: File = File {
     pieces: &[
-        FIRST,
+        Bytes(FIRST),
         OTHER,
         Bytes(b"OggS\0\0\xff\xff\xff\xff\xff\xff\xff\xff\x01\0\0\0\x01\0\0\0\xb3!\xbe\x1a\xff"),
         Many(255, 255),
@@ -86,13 +74,13 @@ const FILES: [File; 13] = [
     },
     // A link that has ended. Only a first page may follow, also where its stream is known.
     File {
-        pieces: &[FIRST, SECOND, THIRD],
+        pieces: &[Bytes(FIRST), Bytes(SECOND), Bytes(THIRD)],
         end: 91,
         fault: None,
         unfinished: None,
     },
     File {
-        pieces: &[FIRST, SECOND, THIRD, FIRST],
+        pieces: &[Bytes(FIRST), Bytes(SECOND), Bytes(THIRD), Bytes(FIRST)],
         end: 122,
         fault: None,
         unfinished: None,
@@ -107,7 +95,7 @@ const FILES: [File; 13] = [
     // A page of a stream that has no first one.
     File {
         pieces: &[
-            FIRST,
+            Bytes(FIRST),
             Bytes(b"OggS\0\0\0\0\0\0\0\0\0\0\x02\0\0\0\x01\0\0\0\x7f1\xb3\xff\x01\x01x"),
         ],
         end: 31,
@@ -117,7 +105,7 @@ const FILES: [File; 13] = [
     // Its number is 2, where 1 would follow.
     File {
         pieces: &[
-            FIRST,
+            Bytes(FIRST),
             Bytes(b"OggS\0\0\0\0\0\0\0\0\0\0\x01\0\0\0\x02\0\0\0\xdb\x9aV\x92\x01\x01x"),
         ],
         end: 31,
@@ -127,7 +115,7 @@ const FILES: [File; 13] = [
     // It goes on with a packet, and there is none to go on with.
     File {
         pieces: &[
-            FIRST,
+            Bytes(FIRST),
             Bytes(b"OggS\0\x01\0\0\0\0\0\0\0\0\x01\0\0\0\x01\0\0\0\xec\x92\xcd\xca\x01\x01x"),
         ],
         end: 31,
@@ -136,7 +124,7 @@ const FILES: [File; 13] = [
     },
     // The first page of a stream that has one in this link.
     File {
-        pieces: &[FIRST, FIRST],
+        pieces: &[Bytes(FIRST), Bytes(FIRST)],
         end: 31,
         fault: Some(ChainFault::SerialTwice),
         unfinished: None,
@@ -144,7 +132,7 @@ const FILES: [File; 13] = [
     // A first page whose packet goes on.
     File {
         pieces: &[
-            FIRST,
+            Bytes(FIRST),
             Bytes(b"OggS\0\x02\0\0\0\0\0\0\0\0\x02\0\0\0\0\0\0\0p\xa3\xe61\x01\xff"),
             Many(255, 7),
         ],
@@ -155,7 +143,7 @@ const FILES: [File; 13] = [
     // A last page whose packet goes on; a page that isn't the last may have one.
     File {
         pieces: &[
-            FIRST,
+            Bytes(FIRST),
             Bytes(
                 b"OggS\0\x04\xff\xff\xff\xff\xff\xff\xff\xff\x01\0\0\0\x01\0\0\0\xd8\xd5l\xdc\x01\xff",
             ),
@@ -167,7 +155,7 @@ const FILES: [File; 13] = [
     },
     File {
         pieces: &[
-            FIRST,
+            Bytes(FIRST),
             Bytes(
                 b"OggS\0\0\xff\xff\xff\xff\xff\xff\xff\xff\x01\0\0\0\x01\0\0\0\xa9\xe7_\xe0\x01\xff",
             ),
@@ -179,7 +167,7 @@ const FILES: [File; 13] = [
     },
     // A first page behind the pages with data of a link that hasn't ended.
     File {
-        pieces: &[FIRST, SECOND, OTHER],
+        pieces: &[Bytes(FIRST), Bytes(SECOND), OTHER],
         end: 64,
         fault: Some(ChainFault::BosWhileOpen),
         unfinished: None,
