@@ -63,7 +63,7 @@ const TWO_PARTS: File = File {
 };
 
 /// Files with what may not follow, and files with nothing of the kind.
-const FILES: [File; 13] = [
+const FILES: [File; 14] = [
     TWO_PARTS,
     // No page.
     File {
@@ -164,6 +164,18 @@ const FILES: [File; 13] = [
         end: 314,
         fault: None,
         unfinished: Some(1),
+    },
+    // A page behind its stream's last one.
+    File {
+        pieces: &[
+            Bytes(FIRST),
+            Bytes(SECOND),
+            Bytes(THIRD),
+            Bytes(b"OggS\0\0\x06\0\0\0\0\0\0\0\x01\0\0\0\x03\0\0\0\xd5\xe9R~\x01\x01x"),
+        ],
+        end: 91,
+        fault: Some(ChainFault::AfterEos),
+        unfinished: None,
     },
     // A first page behind the pages with data of a link that hasn't ended.
     File {
