@@ -1,7 +1,20 @@
 -- Moments, and the images since a moment.
-use Rattle.std.specs.Prelude.{◌⊎◌, ℕ, ◌≤◌, List}
+use Rattle.std.specs.Prelude.{◌⊎◌, ℕ, ◌<◌, ◌≤◌, ◌^◌, List}
 use Rattle.std.proofs.Common.{inl, inr, ⊎_elim, arith}
 use Rattle.disk_model.specs.Image.{DiskState, IsImage}
+
+-- What holds at each moment of what a stop may leave: of its state, of the moment, and of the images since each moment.
+pub record HasImages (disk : DiskState) (moment : ℕ) (since : ℕ → List ℕ → Type 0) : Type 0 where
+  -- the contents are an image
+  pub contents_is_image : IsImage disk disk.contents
+  -- this moment is one of those since an earlier one
+  pub counts_now : (t : ℕ) (image : List ℕ) → t ≤ moment → IsImage disk image → since t image
+  -- since this moment there is no other
+  pub only_now : (image : List ℕ) → since moment image → IsImage disk image
+  -- what was since a moment was since each earlier one
+  pub since_earlier : (t u : ℕ) (image : List ℕ) → t ≤ u → since u image → since t image
+  -- a disk is at most 2^63 - 1 bytes long
+  pub fits : disk.greatest < 2 ^ 63
 
 -- From one moment to another: since a moment up to the first there are the images that there were, and those of the bound.
 pub record TimePasses (before now : ℕ) (past since : ℕ → List ℕ → Type 0) (bound : DiskState) : Type 0 where

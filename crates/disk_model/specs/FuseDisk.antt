@@ -15,6 +15,10 @@ fuse_of f = f.fuse
 abbrev pub calls_made : {D : Type 0} → FuseDisk D → ℕ
 calls_made f = f.made
 
+-- the calls that it has failed
+abbrev pub own_failures : {D : Type 0} → FuseDisk D → ℕ
+own_failures f = f.failures
+
 -- its own failures and those of the disk
 abbrev pub failures_of : {D : Type 0} → (D → ℕ) → FuseDisk D → ℕ
 failures_of failures f = min (failures f.disk + f.failures) (2 ^ 64 - 1)

@@ -4,7 +4,7 @@ use Rattle.std.proofs.lemmas.Bool.Decides.{nat_tests}
 use Rattle.std.proofs.lemmas.Grind.{common_steps, same_number_lists}
 use Rattle.std.proofs.lemmas.List.{get_or-take, get_or-drop, length-drop, length-take-le}
 use Rattle.std.proofs.lemmas.Option.{unwrap_or-slice_get}
-use Rattle.disk_model.specs.Image.{DiskState, IsImage, IsWithin, is_written, after_write, after_cut, settled}
+use Rattle.disk_model.specs.Image.{DiskState, IsImage, IsWithin, IsSettled, is_written, after_write, after_cut, settled}
 
 -- anything in the range of a write, and the same elsewhere
 pub record IsTorn (at n : ℕ) (old image : List ℕ) : Type 0 where
@@ -95,6 +95,15 @@ shortened_image disk contents image to within room is =
       front = same_number_lists image (take (length image) contents) (sym (length-take-le (length image) contents short))
           (λ k below. same_byte image contents k (is.kept k below (within.unwritten k refl) ∙ ap (λ (bytes : List ℕ). slice_get bytes k) within.synced) ∙ sym (get_or-take (length image) contents k 0 below));
     }
+
+-- a settled disk keeps its contents in front
+pub settled_front : (n : ℕ) (disk : DiskState) → IsSettled disk → n ≤ length disk.contents → KeepsFront n (take n disk.contents) disk
+settled_front n disk within le = record {
+  long = omega (arith, within.least, le);
+  unwritten = λ k below. within.unwritten k refl;
+  synced = ap (λ (l : List ℕ). take n l) within.synced;
+  size = omega (arith, le, ap length within.synced);
+}
 
 -- a write behind the front keeps it
 pub keeps_front : (n : ℕ) (front : List ℕ) (disk new : DiskState) (at m : ℕ) → KeepsFront n front disk → IsWithin new (after_write at m disk) → n ≤ at → KeepsFront n front new

@@ -1,7 +1,7 @@
 //! A disk as its callers see it.
 ghost use Rattle.std.specs.Prelude.{◌≡◌, ◌⊎◌, ◌↔◌, ◌+◌, ◌-◌, ◌^◌, ◌<◌, ◌≤◌, ℕ, List, length, take, drop, IfOk, OnOk, OnErr, IsErr};
-ghost use Rattle.disk_model.specs.Image.{DiskState, IsImage, IsWithin, overwritten, after_write, after_cut, settled};
-ghost use Rattle.disk_model.specs.Clock.{Elapses};
+ghost use Rattle.disk_model.specs.Image.{DiskState, IsWithin, overwritten, after_write, after_cut, settled};
+ghost use Rattle.disk_model.specs.Clock.{Elapses, HasImages};
 ghost use Rattle.disk_model.specs.Fault.{HasCause};
 
 use thiserror::Error;
@@ -32,6 +32,7 @@ pub trait Disk {
 
     fn len(&mut self) -> Result<u64, DiskFault>
         ensures len { IfOk result (λ n. is_honest self.old → n ≡ length (state self.old).contents) }
+        ensures short { IfOk result (λ n. n < 2 ^ 63) }
         ensures same { is_honest self.old → state self.new ≡ state self.old }
         ensures time { is_honest self.old
             → Elapses moment images_since self.old self.new (state self.old) }
@@ -90,24 +91,9 @@ pub trait Disk {
         ensures honest { is_honest self.old ↔ is_honest self.new }
         ensures cause { HasCause (failures self.old) (failures self.new) result };
 
-    /// The contents are an image.
-    ghost contents_is_image: { (disk : Self) → is_honest disk
-        → IsImage (state disk) (state disk).contents };
-
-    /// This moment is one of those since an earlier one.
-    ghost counts_now: { (disk : Self) (t : ℕ) (image : List ℕ) → is_honest disk
-        → t ≤ moment disk → IsImage (state disk) image → images_since disk t image };
-
-    /// Since this moment there is no other.
-    ghost only_now: { (disk : Self) (image : List ℕ) → is_honest disk
-        → images_since disk (moment disk) image → IsImage (state disk) image };
-
-    /// What was since a moment was since each earlier one.
-    ghost since_earlier: { (disk : Self) (t u : ℕ) (image : List ℕ) → is_honest disk
-        → t ≤ u → images_since disk u image → images_since disk t image };
-
-    /// A disk is at most this long.
-    ghost fits: { (disk : Self) → is_honest disk → (state disk).greatest < 2 ^ 63 };
+    /// What an honest disk's images are at each moment, whatever its calls.
+    ghost laws: { (disk : Self) → is_honest disk
+        → HasImages (state disk) (moment disk) (images_since disk) };
 }
 
 /// Counts a failure.

@@ -67,15 +67,7 @@ impl RawFile for File {
 
     ghost images_since = { λ _ _ _. ⊥ };
 
-    ghost contents_is_image = { λ _ honest. absurd honest };
-
-    ghost counts_now = { λ _ _ _ honest. absurd honest };
-
-    ghost only_now = { λ _ _ honest. absurd honest };
-
-    ghost since_earlier = { λ _ _ _ _ honest. absurd honest };
-
-    ghost fits = { λ _ honest. absurd honest };
+    ghost laws = { λ _ honest. absurd honest };
 
     fn size(&mut self) -> Result<u64, DiskFault> {
         let answer = self.metadata();

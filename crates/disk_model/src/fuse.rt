@@ -23,20 +23,16 @@ pub struct FuseDisk<D: Disk> {
 
 impl<D: Disk> FuseDisk<D> {
     ghost use Rattle.disk_model.specs.Fuse.{blows_after};
-    ghost use Rattle.disk_model.specs.FuseDisk.{disk_of, fuse_of, calls_made};
+    ghost use Rattle.disk_model.specs.FuseDisk.{disk_of, fuse_of, calls_made, own_failures};
 
     /// Every call after so many fails and does nothing.
     pub fn stop_after(disk: D, calls: u64) -> FuseDisk<D>
         ensures disk { disk_of result ≡ disk }
         ensures fuse { fuse_of result ≡ Fuse.StopAfter calls }
         ensures made { calls_made result ≡ 0 }
+        ensures failures { own_failures result ≡ 0 }
     {
-        FuseDisk {
-            disk,
-            fuse: Fuse::StopAfter(calls),
-            made: 0,
-            failures: 0,
-        }
+        FuseDisk::over(disk, Fuse::StopAfter(calls))
     }
 
     /// One call, counted from 1, fails and does nothing.
@@ -44,15 +40,27 @@ impl<D: Disk> FuseDisk<D> {
         ensures disk { disk_of result ≡ disk }
         ensures fuse { fuse_of result ≡ Fuse.FailOnce call }
         ensures made { calls_made result ≡ 0 }
+        ensures failures { own_failures result ≡ 0 }
+    {
+        FuseDisk::over(disk, Fuse::FailOnce(call))
+    }
+
+    /// No call is made yet.
+    fn over(disk: D, fuse: Fuse) -> FuseDisk<D>
+        ensures disk { disk_of result ≡ disk }
+        ensures fuse { fuse_of result ≡ fuse }
+        ensures made { calls_made result ≡ 0 }
+        ensures failures { own_failures result ≡ 0 }
     {
         FuseDisk {
             disk,
-            fuse: Fuse::FailOnce(call),
+            fuse,
             made: 0,
             failures: 0,
         }
     }
 
+    /// The disk as it stands.
     pub fn into_inner(self) -> D
         ensures { result ≡ disk_of self }
     {
@@ -94,19 +102,12 @@ impl<D: Disk> Disk for FuseDisk<D> {
 
     ghost failures = { failures_of D.Disk.failures };
 
-    ghost contents_is_image = { λ f. D.Disk.contents_is_image f.disk };
-
-    ghost counts_now = { λ f. D.Disk.counts_now f.disk };
-
-    ghost only_now = { λ f. D.Disk.only_now f.disk };
-
-    ghost since_earlier = { λ f. D.Disk.since_earlier f.disk };
-
-    ghost fits = { λ f. D.Disk.fits f.disk };
+    ghost laws = { λ f. D.Disk.laws f.disk };
 
     fn len(&mut self) -> Result<u64, DiskFault>
         ensures len { IfOk result (λ n. D.is_honest (disk_of self.old)
             → n ≡ length (D.state (disk_of self.old)).contents) }
+        ensures short { IfOk result (λ n. n < 2 ^ 63) }
         ensures same { D.is_honest (disk_of self.old)
             → D.state (disk_of self.new) ≡ D.state (disk_of self.old) }
         ensures time { D.is_honest (disk_of self.old)

@@ -47,8 +47,11 @@ pub fn unsynced_cuts_leave_a_front()
         → IsShortened to disk.contents image }
 {}
 
-/// Writes behind a front leave it in every image.
+/// Writes behind a front leave it in every image. A settled disk has its contents in front, as far as one likes.
 pub fn writes_behind_keep_the_front()
+    ensures settled { (n : ℕ) (disk : DiskState)
+        → IsSettled disk → n ≤ length disk.contents
+        → KeepsFront n (take n disk.contents) disk }
     ensures keeps { (n : ℕ) (front : List ℕ) (disk new : DiskState) (at m : ℕ)
         → KeepsFront n front disk → IsWithin new (after_write at m disk) → n ≤ at
         → KeepsFront n front new }

@@ -37,11 +37,12 @@ pub struct MemDisk {
 }
 
 impl MemDisk {
-    ghost use Rattle.disk_model.specs.MemDisk.{state_of};
+    ghost use Rattle.disk_model.specs.MemDisk.{state_of, failures_of};
 
-    /// A disk that holds these bytes, all of them synced.
+    /// A disk that holds these bytes, all of them synced, and that hasn't failed.
     pub fn of(alloc: Global, bytes: &[u8]) -> Result<MemDisk, Memory>
-        ensures { IfOk result (λ disk. state_of disk ≡ settled bytes.now) }
+        ensures settled { IfOk result (λ disk. state_of disk ≡ settled bytes.now) }
+        ensures failures { IfOk result (λ disk. failures_of disk ≡ 0) }
     {
         let length = bytes.len() as u64;
         Ok(MemDisk {
@@ -112,18 +113,17 @@ impl Disk for MemDisk {
 
     ghost failures = { failures_of };
 
-    ghost contents_is_image = { λ m _. m.stands };
-
-    ghost counts_now = { λ m t image _. was_image_now (settled m.first.items) (state_of m) m.calls.items m.replayed t image };
-
-    ghost only_now = { λ m image _. only_image_now (settled m.first.items) (state_of m) m.calls.items m.replayed image };
-
-    ghost since_earlier = { λ m t u image _. was_image_earlier (settled m.first.items) m.calls.items t u image };
-
-    ghost fits = { λ m _. m.fits };
+    ghost laws = { λ m _. record {
+      contents_is_image = m.stands;
+      counts_now = was_image_now (settled m.first.items) (state_of m) m.calls.items m.replayed;
+      only_now = only_image_now (settled m.first.items) (state_of m) m.calls.items m.replayed;
+      since_earlier = was_image_earlier (settled m.first.items) m.calls.items;
+      fits = m.fits;
+    } };
 
     fn len(&mut self) -> Result<u64, DiskFault>
         ensures len { result ≡ Ok (length (state_of self.old).contents) }
+        ensures short { IfOk result (λ n. n < 2 ^ 63) }
         ensures same { self.new ≡ self.old }
     {
         Ok(self.bytes.len() as u64)

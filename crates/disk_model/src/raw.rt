@@ -1,7 +1,7 @@
 //! A disk over any raw file, whose reads and writes may fall short.
 ghost use Rattle.std.specs.Prelude.{◌≡◌, ◌⊎◌, ◌↔◌, ◌+◌, ◌-◌, ◌^◌, ◌<◌, ◌≤◌, ℕ, List, length, take, drop, IfOk, OnOk, OnErr, IsErr};
-ghost use Rattle.disk_model.specs.Image.{DiskState, IsImage, IsWithin, overwritten, after_write, after_cut, settled};
-ghost use Rattle.disk_model.specs.Clock.{Elapses};
+ghost use Rattle.disk_model.specs.Image.{DiskState, IsWithin, overwritten, after_write, after_cut, settled};
+ghost use Rattle.disk_model.specs.Clock.{Elapses, HasImages};
 
 use crate::disk::{MAX_LENGTH, fail};
 use crate::{Disk, DiskFault};
@@ -69,19 +69,9 @@ pub trait RawFile {
             → Elapses moment images_since self.old self.new (state self.old) }
         ensures honest { is_honest self.old ↔ is_honest self.new };
 
-    ghost contents_is_image: { (file : Self) → is_honest file
-        → IsImage (state file) (state file).contents };
-
-    ghost counts_now: { (file : Self) (t : ℕ) (image : List ℕ) → is_honest file
-        → t ≤ moment file → IsImage (state file) image → images_since file t image };
-
-    ghost only_now: { (file : Self) (image : List ℕ) → is_honest file
-        → images_since file (moment file) image → IsImage (state file) image };
-
-    ghost since_earlier: { (file : Self) (t u : ℕ) (image : List ℕ) → is_honest file
-        → t ≤ u → images_since file u image → images_since file t image };
-
-    ghost fits: { (file : Self) → is_honest file → (state file).greatest < 2 ^ 63 };
+    /// The same as of a `Disk`.
+    ghost laws: { (file : Self) → is_honest file
+        → HasImages (state file) (moment file) (images_since file) };
 }
 
 /// Writes all the bytes, or fails.
@@ -166,20 +156,12 @@ impl<F: RawFile> Disk for FileDisk<F> {
 
     ghost failures = { λ d. d.failures };
 
-    ghost contents_is_image = { λ d. F.contents_is_image d.file };
-
-    ghost counts_now = { λ d. F.counts_now d.file };
-
-    ghost only_now = { λ d. F.only_now d.file };
-
-    ghost since_earlier = { λ d. F.since_earlier d.file };
-
-    ghost fits = { λ d. F.fits d.file };
+    ghost laws = { λ d. F.laws d.file };
 
     fn len(&mut self) -> Result<u64, DiskFault> {
         match self.file.size() {
-            Ok(size) => Ok(size),
-            Err(_) => Err(fail(&mut self.failures)),
+            Ok(size) if size <= MAX_LENGTH => Ok(size),
+            _ => Err(fail(&mut self.failures)),
         }
     }
 

@@ -48,6 +48,16 @@ fn a_fuse_fails_one_call(rt: HostRuntime) -> Result<(), Fail> {
 }
 
 #[test]
+fn a_fuse_makes_no_call_of_its_own(rt: HostRuntime) -> Result<(), Fail> {
+    // The inner fuse takes five calls, and no more.
+    let inner = FuseDisk::stop_after(MemDisk::of(rt.alloc(), &[1])?, 5);
+    let mut disk = FuseDisk::stop_after(inner, 6);
+    assert_eq!(rt; five_calls(&mut disk), [true; 5]);
+    assert!(rt; disk.len().is_err());
+    Ok(())
+}
+
+#[test]
 fn fuses_nest(rt: HostRuntime) -> Result<(), Fail> {
     // A call that the outer fuse fails isn't counted by the inner one.
     let inner = FuseDisk::stop_after(MemDisk::of(rt.alloc(), &[1])?, 3);

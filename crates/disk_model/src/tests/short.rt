@@ -20,15 +20,7 @@ impl<D: Disk> RawFile for ShortFile<D> {
 
     ghost images_since = { λ f. D.images_since f.disk };
 
-    ghost contents_is_image = { λ f. D.contents_is_image f.disk };
-
-    ghost counts_now = { λ f. D.counts_now f.disk };
-
-    ghost only_now = { λ f. D.only_now f.disk };
-
-    ghost since_earlier = { λ f. D.since_earlier f.disk };
-
-    ghost fits = { λ f. D.fits f.disk };
+    ghost laws = { λ f. D.laws f.disk };
 
     fn size(&mut self) -> Result<u64, DiskFault> {
         self.disk.len()
@@ -75,6 +67,22 @@ fn short_reads_and_writes_go_on(rt: HostRuntime) -> Result<(), Fail> {
         let ShortFile { disk, .. } = disk.into_inner();
         assert_eq!(rt; disk.contents(), b"ahe".as_slice());
         assert!(rt; !disk.is_image(b"ab"));
+    }
+    Ok(())
+}
+
+/// A read of three bytes, two at a time, asks the disk for its length and for bytes twice.
+#[test]
+fn a_read_that_failed_is_not_tried_again(rt: HostRuntime) -> Result<(), Fail> {
+    for call in 1..=4 {
+        let disk = FuseDisk::fail_once(MemDisk::of(rt.alloc(), b"abc")?, call);
+        let mut disk = FileDisk::over(ShortFile { disk, most: 2 });
+        let mut bytes = [0; 3];
+        assert_eq!(rt; disk.read_at(0, &mut bytes), Err(DiskFault));
+
+        // The one after it finds all as it was.
+        assert_eq!(rt; disk.read_at(0, &mut bytes), Ok(()));
+        assert_eq!(rt; &bytes, b"abc");
     }
     Ok(())
 }

@@ -35,6 +35,12 @@ returns-in-Ok-eq0-clause-time g c = λ h.
     time_adds_up f.moment f.images_since _ _ _ _ _ _ (inv.time h) (c.write_some.ensures.time (inv.honest.0 h)) (λ image is. is)
     (λ image is. image_within _ _ image (within_range _ _ _ _ _ _ (inv.images h) (omega arith) (omega (arith, long, inv.within))) is)
 
+pub returns-in-Ok-eq0-2-clause-images : goal.returns-in-Ok-eq0-2-clause-images
+returns-in-Ok-eq0-2-clause-images g c = λ h.
+    let inv = c.loop-done.invariant in
+    let long = rest_long c.args.bytes.now c.loop-done.done in
+    within_both _ _ _ (c.write_some.ensures.images (inv.honest.0 h)) (within_range _ _ _ _ _ _ (inv.images h) (omega arith) (omega (arith, long, inv.within)))
+
 pub returns-in-Ok-eq0-2-clause-time : goal.returns-in-Ok-eq0-2-clause-time
 returns-in-Ok-eq0-2-clause-time g c = λ h.
     let f = g.F.RawFile in
