@@ -1,12 +1,6 @@
-pub mod Division
-pub mod BitNumbers
-pub mod ByteStep
 pub mod TableRule
 pub mod Prefixes
-pub mod ReadAgain
 pub mod NumberBytes
-pub mod Walk
-pub mod Found
 pub mod Vectors
 pub mod Slices
 pub mod Tables

@@ -8,9 +8,8 @@ use Rattle.std.proofs.lemmas.Nat.{le_bytes_2, le_bytes_4, le_bytes_8, from_le_by
 use Rattle.std.proofs.lemmas.Int.{to_z-of_z, of_z-to_z}
 use Rattle.byteorder.specs.Endian.{little_number}
 use Rattle.ogg_page.specs.Numbers.{u16_bytes, u32_bytes, u64_bytes, i64_bytes, fraction_bytes, IsFraction}
-use Rattle.ogg_page.specs.Page.{IsByte}
-use Rattle.ogg_page.proofs.Prefixes.{same_fronts, same_4, same_8}
-use Rattle.ogg_page.proofs.ReadAgain.{AreBytes}
+use Rattle.ogg_page.specs.Page.{IsByte, AreBytes}
+use Rattle.ogg_page.specs.Laws.Prefixes.{same_fronts, same_4, same_8}
 
 -- ---- ranges and lengths
 

@@ -8,9 +8,9 @@ use Rattle.std.proofs.lemmas.List.{length-replicate, replicate-append-replicate,
 use Rattle.std.proofs.lemmas.Nat.{be_bytes_4, xor_comm}
 use Rattle.std.proofs.lemmas.Grind.{flat_map-append}
 use Rattle.ogg_page.specs.Checksum.{bits_of, number_of, message_bits, add, remainder, checksum_of, entry_before}
-use Rattle.ogg_page.proofs.Division.{zeros, add_parts, add-zeros, zeros-add, remainder-add, remainder-zeros, remainder-append, remainder-more, length-add}
-use Rattle.ogg_page.proofs.BitNumbers.{number-add, number-append, number-bits_of, length-bits_of, number_lt, small_mod, same_number}
-use Rattle.ogg_page.proofs.ByteStep.{left_of, length-left_of}
+use Rattle.ogg_page.specs.Laws.Division.{zeros, add_parts, add-zeros, zeros-add, remainder-add, remainder-zeros, remainder-append, remainder-more, length-add}
+use Rattle.ogg_page.specs.Laws.BitNumbers.{number-add, number-append, number-bits_of, length-bits_of, number_lt, small_mod, same_number}
+use Rattle.ogg_page.specs.Laws.ByteStep.{left_of, length-left_of}
 
 -- ---- bytes as bits
 pub length-message_bits : (bytes : List ℕ) → length (message_bits bytes) ≡ 8 * length bytes

@@ -4,9 +4,9 @@ use Rattle.std.specs.Prelude.{bit_xor}
 use Rattle.std.proofs.lemmas.List.{take-append-drop, length-take, length-drop, flat_map_more}
 use Rattle.std.proofs.lemmas.Nat.{shr_high, mod_low, xor_comm}
 use Rattle.ogg_page.specs.Checksum.{bits_of, number_of, message_bits, add, remainder, checksum_of}
-use Rattle.ogg_page.proofs.Division.{zeros, length-remainder, length-add}
-use Rattle.ogg_page.proofs.BitNumbers.{number-add, number-append, number-zeros, number-bits_of, bits_of-number, length-bits_of, number_lt, small_mod}
-use Rattle.ogg_page.proofs.ByteStep.{left_of, left_of-push, length-left_of}
+use Rattle.ogg_page.specs.Laws.Division.{zeros, length-remainder, length-add}
+use Rattle.ogg_page.specs.Laws.BitNumbers.{number-add, number-append, number-zeros, number-bits_of, bits_of-number, length-bits_of, number_lt, small_mod}
+use Rattle.ogg_page.specs.Laws.ByteStep.{left_of, left_of-push, length-left_of}
 
 -- what the byte i in front of 32 zero bits leaves
 unfoldable pub entry : ℕ → ℕ

@@ -6,8 +6,8 @@ use Rattle.std.proofs.lemmas.Bool.{eqb-true}
 use Rattle.std.proofs.lemmas.List.{replicate_more}
 use Rattle.ogg_page.specs.Checksum.{bits_of, number_of, message_bits, add, divisor, remainder, checksum_of, entry_before}
 use Rattle.ogg_page.specs.declared.table.TheConstants.{ENTRIES}
-use Rattle.ogg_page.proofs.BitNumbers.{number_lt}
-use Rattle.ogg_page.proofs.ByteStep.{left_of, length-left_of}
+use Rattle.ogg_page.specs.Laws.BitNumbers.{number_lt}
+use Rattle.ogg_page.specs.Laws.ByteStep.{left_of, length-left_of}
 use Rattle.ogg_page.proofs.TableRule.{entry, checksum-push}
 
 -- the entry of the byte i with no zeros

@@ -7,3 +7,7 @@ pub mod LogicalStream
 pub mod Reading
 pub mod Pages
 pub mod Output
+pub mod PageLaws
+pub mod ReadingLaws
+pub mod PagesLaws
+pub mod Laws

@@ -1,5 +1,5 @@
 -- A page and its bytes (RFC 3533, section 6).
-use Rattle.std.specs.Prelude.{◌≡◌, ℕ, ◌+◌, ◌<◌, ◌≤◌, ◌^◌, List, [], ◌∷◌, ◌++◌, length, sum}
+use Rattle.std.specs.Prelude.{◌≡◌, ℕ, ◌+◌, ◌<◌, ◌≤◌, ◌^◌, List, [], ◌∷◌, ◌++◌, length, sum, slice_index}
 use Rattle.std.specs.List.{AllByRecursion, flat_map}
 use Rattle.std.specs.Prelude.{codes}
 use Rattle.byteorder.specs.Endian.{little_bytes}
@@ -17,6 +17,10 @@ pub record Page : Type 0 where
 
 abbrev pub IsByte : ℕ → Type 0
 IsByte x = x < 256
+
+-- each number is a byte (behind the end `slice_index` is 0)
+abbrev pub AreBytes : List ℕ → Type 0
+AreBytes bytes = (i : ℕ) → slice_index bytes i < 256
 
 -- what has bytes as a page: each number is in its field's range, and the lacing values add up to the body
 pub record IsPage (p : Page) : Type 0 where

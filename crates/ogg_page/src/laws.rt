@@ -1,8 +1,9 @@
 //! What always holds of pages.
-ghost use Rattle.std.specs.Prelude.{◌≡◌, ◌++◌, ◌<◌, List, ℕ, slice_index};
+ghost use Rattle.std.specs.Prelude.{◌≡◌, ◌≤◌, ◌++◌, List, ℕ, take};
 ghost use Rattle.std.specs.Iterator.{Drains};
-ghost use Rattle.ogg_page.specs.Page.{Page, IsPage, page_bytes};
+ghost use Rattle.ogg_page.specs.Page.{Page, IsPage, AreBytes, page_bytes};
 ghost use Rattle.ogg_page.specs.Pages.{AreFoundIn, BeginsWithPages, FoundPage, NextPage, found_in};
+ghost use Rattle.ogg_page.specs.Reading.{page_at};
 
 /// Where two pages begin the same bytes, they are one page, and the same bytes follow. So the bytes
 /// of no page are a proper prefix of another's.
@@ -24,5 +25,11 @@ pub fn pages_are_the_longest_prefix()
 /// What is found from page to page in bytes is their longest prefix of pages, each with its offset,
 /// and then one fault where bytes remain.
 pub fn pages_are_found_in_turn()
-    ensures { (bytes : List ℕ) → ((i : ℕ) → slice_index bytes i < 256) → AreFoundIn bytes (found_in 0 bytes) }
+    ensures { (bytes : List ℕ) → AreBytes bytes → AreFoundIn bytes (found_in 0 bytes) }
+{}
+
+/// No page is longer than 65,307 bytes, so the first 65,307 bytes, or all of them, show what stands
+/// in front: the page, or the first fault.
+pub fn page_shows_in_its_front()
+    ensures { (n : ℕ) (bytes : List ℕ) → AreBytes (take n bytes) → 65307 ≤ n → page_at (take n bytes) ≡ page_at bytes }
 {}

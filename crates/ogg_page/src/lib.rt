@@ -29,8 +29,8 @@ pub use crc::checksum;
 pub use fault::{PageFault, WriteFault};
 pub use head::PageHead;
 pub use laws::{
-    longest_prefix_of_pages_is_unique, page_bytes_are_prefix_free, pages_are_found_in_turn,
-    pages_are_the_longest_prefix,
+    longest_prefix_of_pages_is_unique, page_bytes_are_prefix_free, page_shows_in_its_front,
+    pages_are_found_in_turn, pages_are_the_longest_prefix,
 };
 pub use numbers::{take_fraction, take_i64, take_u8, take_u16, take_u32, take_u64};
 pub use output::write_whole;

@@ -7,15 +7,14 @@ use Rattle.std.proofs.lemmas.List.{get_or-append-add, get_or-replicate, map-appe
 use Rattle.std.proofs.lemmas.List.Concat.{flat_map-append}
 use Rattle.std.proofs.lemmas.List.Sums.{fold-append}
 use Rattle.std.proofs.lemmas.List.Folds.{list_any-append}
-use Rattle.ogg_page.specs.Page.{Page, IsPage, bytes_of_pages, page_size}
+use Rattle.ogg_page.specs.Page.{Page, IsPage, AreBytes, bytes_of_pages, page_size}
 use Rattle.ogg_page.specs.Reading.{page_at}
 use Rattle.ogg_page.specs.Pages.{FoundPage, found_in, located, fault_of, fault_at}
 use Rattle.ogg_page.specs.declared.fault.PageFault.{PageFault}
 use Rattle.ogg_page.specs.Lacing.{lace, lacing_of, ends_open}
 use Rattle.ogg_page.specs.LogicalStream.{HoldsPackets, EachBehind, joined_lacing, joined_bodies, number_behind, is_continued, is_last}
-use Rattle.ogg_page.proofs.ReadAgain.{AreBytes}
-use Rattle.ogg_page.proofs.Walk.{FoundFrom}
-use Rattle.ogg_page.proofs.Found.{all_found}
+use Rattle.ogg_page.specs.Laws.Walk.{FoundFrom}
+use Rattle.ogg_page.specs.Laws.Found.{all_found}
 use Rattle.packet_view.specs.Packets.{Part, PacketParts, PacketsLeft, joined_parts, is_some_part, is_other_number, differ, misplaced, body_place, behind_page, position_in, no_packet, after_packets, packets_in, parts_behind, packets_from, packets_of}
 use Rattle.packet_view.specs.Held.{found_page, pages_of_stream, FitsInOrder, number_after, behind_pages, IsFaultBehind, AreHeld}
 use Rattle.packet_view.specs.declared.place.Behind.{Behind}

@@ -6,8 +6,8 @@ use Rattle.std.proofs.lemmas.Grind.{flat_map-append}
 use Rattle.std.proofs.lemmas.List.{take_at, length-take}
 use Rattle.ogg_page.specs.Page.{Page, IsPage, page_bytes, page_size, bytes_of_pages}
 use Rattle.ogg_page.specs.Pages.{FoundPage, found_in, located}
-use Rattle.ogg_page.proofs.ReadAgain.{length-page_bytes}
-use Rattle.ogg_page.proofs.Found.{found-nothing, found-pages}
+use Rattle.ogg_page.specs.Laws.ReadAgain.{length-page_bytes}
+use Rattle.ogg_page.specs.Laws.Found.{found-nothing, found-pages}
 use Rattle.packet_view.specs.Packets.{Part, PacketParts, PacketsLeft, with_part, joined_parts, is_some_part, body_place, after_packets, packets_from}
 use Rattle.packet_view.specs.Front.{front_size, packets_left, parts_left, position_behind, EndsPacket, GoesOnBehind}
 use Rattle.packet_view.specs.Walking.{packets_at, parts_in, IsPlaceWith, Reaches}

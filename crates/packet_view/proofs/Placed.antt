@@ -6,14 +6,14 @@ use Rattle.std.proofs.lemmas.Bool.{eqb-true}
 use Rattle.std.proofs.lemmas.List.{drop-drop, drop_at, take-append-le, drop-append-le, length-take-le, length-drop}
 use Rattle.std.proofs.lemmas.List.Concat.{flat_map-append}
 use Rattle.std.proofs.lemmas.List.Sums.{sum_by-cons}
-use Rattle.ogg_page.specs.Page.{Page, IsPage, fixed_part, page_bytes, bytes_with, bytes_of_pages, page_size}
+use Rattle.ogg_page.specs.Page.{Page, IsPage, AreBytes, fixed_part, page_bytes, bytes_with, bytes_of_pages, page_size}
 use Rattle.ogg_page.specs.Checksum.{checksum_of}
 use Rattle.ogg_page.specs.Reading.{page_at}
 use Rattle.ogg_page.specs.Pages.{FoundPage, found_in, located, fault_of, fault_at}
 use Rattle.ogg_page.specs.declared.fault.PageFault.{PageFault}
-use Rattle.ogg_page.proofs.ReadAgain.{AreBytes, length-page_bytes}
-use Rattle.ogg_page.proofs.Walk.{FoundFrom}
-use Rattle.ogg_page.proofs.Found.{all_found}
+use Rattle.ogg_page.specs.Laws.ReadAgain.{length-page_bytes}
+use Rattle.ogg_page.specs.Laws.Walk.{FoundFrom}
+use Rattle.ogg_page.specs.Laws.Found.{all_found}
 use Rattle.packet_view.specs.Packets.{Part, PacketParts, PacketsLeft, with_part, is_some_part, misplaced, body_place, behind_page, position_in, packets_in, parts_behind, packets_from, packets_of, ends_packet}
 use Rattle.packet_view.specs.Placed.{IsAtItsPlace, AreInOrder, parts_of_all}
 use Rattle.packet_view.specs.declared.place.Behind.{Behind}

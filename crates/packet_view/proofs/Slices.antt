@@ -6,10 +6,10 @@ use Rattle.std.proofs.lemmas.Grind.{flat_map-append}
 use Rattle.ogg_page.specs.Page.{Page, IsPage, page_bytes, page_size, bytes_of_pages}
 use Rattle.ogg_page.specs.Reading.{page_at}
 use Rattle.ogg_page.specs.Pages.{FoundPage, found_in, located}
-use Rattle.ogg_page.proofs.Prefixes.{one_page}
-use Rattle.ogg_page.proofs.ReadAgain.{page_is_read}
-use Rattle.ogg_page.proofs.Walk.{nothing_is_no_page}
-use Rattle.ogg_page.proofs.Found.{found-nothing, found-page}
+use Rattle.ogg_page.specs.Laws.Prefixes.{one_page}
+use Rattle.ogg_page.specs.Laws.ReadAgain.{page_is_read}
+use Rattle.ogg_page.specs.Laws.Walk.{nothing_is_no_page}
+use Rattle.ogg_page.specs.Laws.Found.{found-nothing, found-page}
 use Rattle.packet_view.specs.Packets.{Part, with_part, joined_parts, body_place}
 use Rattle.packet_view.specs.Front.{front_size}
 use Rattle.packet_view.specs.Walking.{parts_in}

@@ -7,9 +7,9 @@ use Rattle.ogg_page.specs.Page.{Page, IsPage, page_bytes, page_size, bytes_of_pa
 use Rattle.ogg_page.specs.Reading.{page_at}
 use Rattle.ogg_page.specs.Pages.{FoundPage, found_in, located}
 use Rattle.ogg_page.specs.declared.fault.PageFault.{PageFault}
-use Rattle.ogg_page.proofs.ReadAgain.{length-page_bytes}
-use Rattle.ogg_page.proofs.Walk.{page_found}
-use Rattle.ogg_page.proofs.Found.{found-nothing, found-fault, found-page}
+use Rattle.ogg_page.specs.Laws.ReadAgain.{length-page_bytes}
+use Rattle.ogg_page.specs.Laws.Walk.{page_found}
+use Rattle.ogg_page.specs.Laws.Found.{found-nothing, found-fault, found-page}
 use Rattle.packet_view.specs.Packets.{Part, PacketsLeft, with_part, is_some_part, misplaced, body_place, behind_page, position_in, no_packet, after_packets, packets_in, parts_behind, packets_from}
 use Rattle.packet_view.specs.Front.{front_size}
 use Rattle.packet_view.specs.Walking.{packets_at, parts_in, IsBefore, Reaches}

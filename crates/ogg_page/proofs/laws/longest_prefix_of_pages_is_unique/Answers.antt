@@ -1,4 +1,4 @@
-use Rattle.ogg_page.proofs.Walk.{one_prefix}
+use Rattle.ogg_page.specs.Laws.Walk.{one_prefix}
 use Rattle.ogg_page.proofs.laws.longest_prefix_of_pages_is_unique.Goals as goal
 
 pub returns : goal.returns

@@ -1,7 +1,7 @@
 use Rattle.std.proofs.Common.{◌++◌, length, ap, ◌∙◌, zero-add}
 use Rattle.ogg_page.specs.Page.{bytes_of_pages}
 use Rattle.ogg_page.specs.Pages.{located, fault_at}
-use Rattle.ogg_page.proofs.Walk.{walk_finds, FoundFrom}
+use Rattle.ogg_page.specs.Laws.Walk.{walk_finds, FoundFrom}
 use Rattle.ogg_page.proofs.laws.pages_are_the_longest_prefix.Goals as goal
 
 pub returns : goal.returns

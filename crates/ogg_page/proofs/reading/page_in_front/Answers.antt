@@ -1,8 +1,8 @@
 use Rattle.std.proofs.Common.{◌∙◌, ap, sym, refl, subst, ℕ, List, arith}
-use Rattle.ogg_page.specs.Page.{IsPage, page_bytes}
+use Rattle.ogg_page.specs.Page.{IsPage, AreBytes, page_bytes}
 use Rattle.ogg_page.specs.Reading.{fields_at}
-use Rattle.ogg_page.proofs.Prefixes.{same_page}
-use Rattle.ogg_page.proofs.ReadAgain.{read_is_page, front_is_page, AreBytes}
+use Rattle.ogg_page.specs.Laws.Prefixes.{same_page}
+use Rattle.ogg_page.specs.Laws.ReadAgain.{read_is_page, front_is_page}
 use Rattle.ogg_page.proofs.reading.page_in_front.Goals as goal
 
 pub new-requires-clause-is_page : goal.new-requires-clause-is_page

@@ -1,9 +1,9 @@
 use Rattle.std.proofs.Common.{◌≡◌, ◌++◌, ◌∙◌, ap, sym, Ok, Err, ℕ, List, drop, length, sum, arith, Result}
 use Rattle.std.specs.Prelude.{IfOk}
-use Rattle.ogg_page.specs.Page.{Page, IsPage, page_bytes}
+use Rattle.ogg_page.specs.Page.{Page, IsPage, AreBytes, page_bytes}
 use Rattle.ogg_page.specs.Reading.{page_at}
 use Rattle.ogg_page.specs.declared.fault.PageFault.{PageFault}
-use Rattle.ogg_page.proofs.ReadAgain.{read_is_page, page_is_read, AreBytes}
+use Rattle.ogg_page.specs.Laws.ReadAgain.{read_is_page, page_is_read}
 use Rattle.ogg_page.proofs.reading.read_page.Goals as goal
 
 found_by : (bytes : List ℕ) → AreBytes bytes → (r : Result Page PageFault) → r ≡ page_at bytes →

@@ -1,9 +1,9 @@
 use Rattle.std.proofs.Common.{◌≡◌, ◌+◌, ◌++◌, ◌∙◌, ap, sym, refl, subst, ℕ, List, drop, sum, arith}
 use Rattle.std.specs.Prelude.{slice_index}
 use Rattle.std.proofs.lemmas.List.{take-append-drop}
-use Rattle.ogg_page.specs.Page.{IsPage, page_bytes}
+use Rattle.ogg_page.specs.Page.{IsPage, AreBytes, page_bytes}
 use Rattle.ogg_page.specs.Reading.{fields_at, lacing_at, IsPageOf}
-use Rattle.ogg_page.proofs.ReadAgain.{known_sizes, read_is_page, front_is_page, AreBytes, ok_same}
+use Rattle.ogg_page.specs.Laws.ReadAgain.{known_sizes, read_is_page, front_is_page, ok_same}
 use Rattle.ogg_page.proofs.reading.split_known_page.Goals as goal
 
 pub bounds-bytes-26 : goal.bounds-bytes-26

@@ -1,6 +1,6 @@
 use Rattle.std.proofs.Common.{◌≡◌, length, arith, ap, ◌∙◌}
 use Rattle.ogg_page.specs.Page.{page_size}
-use Rattle.ogg_page.proofs.ReadAgain.{length-page_bytes}
+use Rattle.ogg_page.specs.Laws.ReadAgain.{length-page_bytes}
 use Rattle.ogg_page.proofs.reading.split_page.Goals as goal
 
 pub returns-clause-size : goal.returns-clause-size

@@ -3,7 +3,7 @@ use Rattle.std.specs.List.{concat}
 use Rattle.std.proofs.lemmas.Bool.{false≢true}
 use Rattle.std.proofs.lemmas.Bool.Decides.{Decides-eqb}
 use Rattle.std.proofs.lemmas.Slice.Eq.{strip_prefix_is}
-use Rattle.ogg_page.proofs.Prefixes.{same_fronts}
+use Rattle.ogg_page.specs.Laws.Prefixes.{same_fronts}
 use Rattle.packet_view.proofs.joining.are_bytes.Goals as goal
 
 pub loop-part-preserved : goal.loop-part-preserved

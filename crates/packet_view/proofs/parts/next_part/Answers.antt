@@ -2,7 +2,7 @@ use Rattle.std.proofs.Common.{◌≡◌, ◌≢◌, ◌<◌, ◌∙◌, ap, sym,
 use Rattle.std.specs.Prelude.{nat_eq}
 use Rattle.std.proofs.lemmas.Bool.{eq-eqb}
 use Rattle.ogg_page.specs.Page.{page_bytes}
-use Rattle.ogg_page.proofs.ReadAgain.{length-page_bytes}
+use Rattle.ogg_page.specs.Laws.ReadAgain.{length-page_bytes}
 use Rattle.packet_view.specs.Packet.{ArePages, slices_in}
 use Rattle.packet_view.proofs.Fronts.{other}
 use Rattle.packet_view.proofs.Walks.{none_left, some_left}

@@ -4,7 +4,7 @@ use Rattle.std.specs.Prelude.{nat_eq, if◌then◌else◌, bit_xor}
 use Rattle.std.proofs.lemmas.Nat.{mod-pow-add, xor_block, pow-add, same_from_place}
 use Rattle.std.proofs.Math.Nat.{pow-suc, mod-eq_of_lt}
 use Rattle.ogg_page.specs.Checksum.{bits_of, number_of, exclusive_or, add}
-use Rattle.ogg_page.proofs.Division.{zeros, length-add}
+use Rattle.ogg_page.specs.Laws.Division.{zeros, length-add}
 
 abbrev pub digit : Bool → ℕ
 digit true = 1

@@ -1,13 +1,13 @@
 -- What is found from page to page is the longest prefix of pages, and then the fault.
-use Rattle.std.proofs.Common.{◌≡◌, ◌≢◌, ℕ, zero, suc, ◌+◌, ◌<◌, ◌≤◌, add-zero, sum, List, [], ◌∷◌, ◌++◌, length, drop, refl, sym, ◌∙◌, ap, subst, arith, append_assoc, length-append, length-drop, Result, Ok, Err}
+use Rattle.std.proofs.Common.{◌≡◌, ◌≢◌, ℕ, zero, suc, ◌+◌, ◌<◌, ◌≤◌, add-zero, zero-add, sum, List, [], ◌∷◌, ◌++◌, length, drop, refl, sym, ◌∙◌, ap, subst, arith, append_assoc, length-append, length-drop, Result, Ok, Err}
 use Rattle.std.specs.List.{AllByRecursion}
 use Rattle.std.proofs.lemmas.List.{drop_at, get_or-drop}
-use Rattle.ogg_page.specs.Page.{Page, IsPage, page_bytes, page_size, bytes_of_pages}
+use Rattle.ogg_page.specs.Page.{Page, IsPage, AreBytes, page_bytes, page_size, bytes_of_pages}
 use Rattle.ogg_page.specs.Reading.{page_at}
-use Rattle.ogg_page.specs.Pages.{FoundPage, located, found_within, found_in}
+use Rattle.ogg_page.specs.Pages.{AreFoundIn, FoundPage, located, fault_at, found_within, found_in}
 use Rattle.ogg_page.specs.declared.fault.PageFault.{PageFault}
-use Rattle.ogg_page.proofs.ReadAgain.{AreBytes, read_is_page, page_is_read, length-page_bytes}
-use Rattle.ogg_page.proofs.Walk.{FoundFrom, page_found, fault_found, nothing_is_no_page, nothing_left, last_fault, one_more}
+use Rattle.ogg_page.specs.Laws.ReadAgain.{read_is_page, page_is_read, length-page_bytes}
+use Rattle.ogg_page.specs.Laws.Walk.{FoundFrom, page_found, fault_found, nothing_is_no_page, nothing_left, last_fault, one_more}
 
 abbrev first_found : ℕ → ℕ → List ℕ → Result Page PageFault → List FoundPage
 first_found steps offset bytes (Ok page) = Ok (offset, page) ∷ found_within steps (offset + page_size page) (drop (page_size page) bytes)
@@ -106,3 +106,13 @@ all_found steps offset [] h le =
 all_found zero offset (byte ∷ bytes) h le = absurd (omega arith)
 all_found (suc steps) offset (byte ∷ bytes) h le =
     from_read steps offset (byte ∷ bytes) h (λ e. cc) le (λ later behind g l. all_found steps later behind g l) (page_at (byte ∷ bytes)) refl
+
+pub are_found : (bytes : List ℕ) → AreBytes bytes → AreFoundIn bytes (found_in 0 bytes)
+are_found bytes h =
+    let all : FoundFrom (record { offset = 0; bytes = bytes }) (found_in 0 bytes) = all_found (length bytes) 0 bytes h (omega arith) in
+    record {
+      pages = all.pages;
+      rest = all.rest;
+      begins = all.begins;
+      all = all.all ∙ ap (λ n. located 0 all.pages ++ fault_at n all.rest) (zero-add (length (bytes_of_pages all.pages)));
+    }

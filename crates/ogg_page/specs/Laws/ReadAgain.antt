@@ -10,18 +10,15 @@ use Rattle.std.proofs.lemmas.List.{take-append-drop, length-take-le, length-drop
 use Rattle.std.proofs.lemmas.List.Elements.{All-from_get_or, All-take, All-drop, recursion_from_All}
 use Rattle.byteorder.specs.Endian.{little_bytes, little_number}
 use Rattle.ogg_page.specs.Checksum.{checksum_of, number_of, message_bits}
-use Rattle.ogg_page.proofs.ByteStep.{left_of, length-left_of}
-use Rattle.ogg_page.proofs.BitNumbers.{number_lt}
-use Rattle.ogg_page.proofs.Prefixes.{parts, same_page}
-use Rattle.ogg_page.specs.Page.{Page, IsPage, IsByte, fixed_part, page_bytes, bytes_with}
+use Rattle.ogg_page.specs.Laws.ByteStep.{left_of, length-left_of}
+use Rattle.ogg_page.specs.Laws.BitNumbers.{number_lt}
+use Rattle.ogg_page.specs.Laws.Prefixes.{parts, same_page}
+use Rattle.ogg_page.specs.Page.{Page, IsPage, IsByte, AreBytes, fixed_part, page_bytes, bytes_with}
 use Rattle.ogg_page.specs.Reading.{page_at, fields_at, lacing_at, behind_lacing, size_at, blanked, IsPageOf}
 use Rattle.ogg_page.specs.declared.fault.PageFault.{PageFault}
 use Rattle.ogg_page.specs.declared.fault.PageFault.TheVariants.{Short, Pattern, Version, Checksum}
 
-abbrev pub AreBytes : List ℕ → Type 0
-AreBytes bytes = (i : ℕ) → get_or bytes i 0 < 256
-
-drop_bytes : (n : ℕ) (bytes : List ℕ) → AreBytes bytes → AreBytes (drop n bytes)
+pub drop_bytes : (n : ℕ) (bytes : List ℕ) → AreBytes bytes → AreBytes (drop n bytes)
 drop_bytes n bytes h i = subst (λ x. x < 256) (sym (get_or-drop n bytes i 0)) (h (n + i))
 
 pub record IsNumber (n limit : ℕ) (again front : List ℕ) : Type 0 where

@@ -5,8 +5,8 @@ use Rattle.ogg_page.specs.Page.{Page, IsPage, page_bytes, page_size, bytes_of_pa
 use Rattle.ogg_page.specs.Reading.{page_at}
 use Rattle.ogg_page.specs.Pages.{BeginsWithPages, FoundPage, PagesLeft, NextPage, located, fault_of, fault_at}
 use Rattle.ogg_page.specs.declared.fault.PageFault.{PageFault}
-use Rattle.ogg_page.proofs.Prefixes.{one_page}
-use Rattle.ogg_page.proofs.ReadAgain.{page_is_read, length-page_bytes}
+use Rattle.ogg_page.specs.Laws.Prefixes.{one_page}
+use Rattle.ogg_page.specs.Laws.ReadAgain.{page_is_read, length-page_bytes}
 
 -- no page has no bytes
 pub nothing_is_no_page : (page : Page) (more : List ℕ) → [] ≢ page_bytes page ++ more

@@ -1,0 +1,10 @@
+-- Why the laws of PageLaws, ReadingLaws and PagesLaws hold. Nobody needs these to read a contract.
+pub mod Division
+pub mod BitNumbers
+pub mod ByteStep
+pub mod Prefixes
+pub mod ReadAgain
+pub mod PageBytes
+pub mod Sight
+pub mod Walk
+pub mod Found
