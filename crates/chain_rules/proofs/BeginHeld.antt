@@ -8,17 +8,17 @@ use Rattle.std.proofs.lemmas.Bool.{ne_eqb, eqb-false, cases_eq, or_parts, or_lef
 use Rattle.ogg_page.specs.Page.{Page, IsPage, bytes_of_pages}
 use Rattle.ogg_page.specs.LogicalStream.{is_first}
 use Rattle.chain_rules.specs.declared.stream_state.StreamState.{StreamState}
-use Rattle.chain_rules.specs.declared.command.Command.TheVariants.{Begin as BeginOf}
-use Rattle.chain_rules.specs.declared.command.Begin.{Begin}
-use Rattle.chain_rules.specs.declared.command.NewStream.{NewStream}
+use Rattle.ogg_command.specs.declared.command.Command.TheVariants.{Begin as BeginOf}
+use Rattle.ogg_command.specs.declared.command.Begin.{Begin}
+use Rattle.ogg_command.specs.declared.command.NewStream.{NewStream}
 use Rattle.chain_rules.specs.Links.{IsLink, AreLinks, AllButLast, serials_of, has_stream, has_ended, all_ended}
 use Rattle.chain_rules.specs.Recording.{Stream, Recording, HoldsLink, HoldsLinks, begun_link, add}
 use Rattle.chain_rules.specs.ChainState.{ChainState, chain_state_of, state_of, last_link, is_open}
 use Rattle.chain_rules.specs.Encoding.{first_pages, header_pages, pages_of_begin, skeleton_stream, fisbone_pages, skeleton_end, pages_of_command, command_bytes, links_after}
 use Rattle.chain_rules.specs.Decision.{decision, has_long_media, streams_rules, parts_rules}
-use Rattle.chain_rules.specs.Command.{IsNewStream, IsSkeleton}
+use Rattle.ogg_command.specs.Command.{IsNewStream, IsSkeleton}
 use Rattle.chain_rules.specs.Begun.{states_of, serials_in, skeleton_serial, has_more_pages}
-use Rattle.chain_rules.specs.declared.command.SkeletonHead.{SkeletonHead}
+use Rattle.ogg_command.specs.declared.command.SkeletonHead.{SkeletonHead}
 use Rattle.chain_rules.proofs.Grow.{all_weaker, all_both, filter_all, serials_same}
 use Rattle.chain_rules.proofs.Chain.{Unbroken, all_split, numbers_fit, any_map}
 use Rattle.chain_rules.proofs.Beginning.{IsGood, fresh, are_distinct, are_good, all_to_map, firsts_pages, laters_pages}

@@ -8,7 +8,7 @@ use Rattle.ogg_page.specs.Page.{Page, page_size}
 use Rattle.packetiser.specs.Run.{Timed, pages_of_run, pages_for, run_lacing, run_bytes, lengths, size_for, flagged}
 use Rattle.packetiser.proofs.Pieces.{run_bytes_all}
 use Rattle.packetiser.proofs.Sizes.{bytes_in, length-run_bytes, sum_by-map}
-use Rattle.chain_rules.specs.declared.command.NewStream.{NewStream}
+use Rattle.ogg_command.specs.declared.command.NewStream.{NewStream}
 use Rattle.chain_rules.specs.Decision.{header_bytes, has_many_headers}
 use Rattle.chain_rules.specs.Encoding.{header, first_pages, header_pages, first_flag}
 use Rattle.chain_rules.specs.Size.{has_no_number, size_of_pages}

@@ -10,12 +10,12 @@ use Rattle.ogg_page.specs.LogicalStream.{HoldsPackets, FitsBehind, joined_lacing
 use Rattle.packetiser.specs.Run.{Timed, IsTimed, flagged, counted, pages_of_run, page_of_run, pages_for, run_lacing, values_at, values_before}
 use Rattle.packetiser.proofs.Pieces.{run_is_held, run_pages}
 use Rattle.packetiser.proofs.Ranges.{run_is_pages}
-use Rattle.chain_rules.specs.declared.command.NewStream.{NewStream}
+use Rattle.ogg_command.specs.declared.command.NewStream.{NewStream}
 use Rattle.chain_rules.specs.ChainState.{ChainState}
 use Rattle.chain_rules.specs.Encoding.{first_flag, header, first_pages, header_pages}
 use Rattle.chain_rules.specs.Limits.{longest_first}
 use Rattle.chain_rules.specs.Decision.{is_long, streams_rules}
-use Rattle.chain_rules.specs.Command.{IsNewStream}
+use Rattle.ogg_command.specs.Command.{IsNewStream}
 use Rattle.chain_rules.proofs.Grow.{all_weaker, all_both, Own}
 use Rattle.chain_rules.proofs.Chain.{Unbroken, all_split}
 use Rattle.chain_rules.proofs.StateBehind.{run_own as plain_own}

@@ -4,7 +4,7 @@ use Rattle.std.specs.List.{flat_map}
 use Rattle.std.proofs.lemmas.List.Sums.{sum_by-cons, sum_by-append, sum_by_more_le}
 use Rattle.ogg_page.specs.Page.{Page, page_bytes, fixed_part, bytes_of_pages, bytes_with, page_size}
 use Rattle.ogg_page.specs.Checksum.{checksum_of}
-use Rattle.chain_rules.specs.declared.command.Command.{Command}
+use Rattle.ogg_command.specs.declared.command.Command.{Command}
 use Rattle.chain_rules.specs.ChainState.{ChainState}
 use Rattle.chain_rules.specs.Encoding.{command_bytes, pages_of_command}
 use Rattle.chain_rules.specs.Decision.{decision}

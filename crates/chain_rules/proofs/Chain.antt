@@ -8,8 +8,8 @@ use Rattle.std.proofs.lemmas.Bool.{ne_eqb, or_parts, cases_eq, cases_Bool, cond-
 use Rattle.ogg_page.specs.Page.{Page, IsPage, bytes_of_pages, page_bytes}
 use Rattle.ogg_page.specs.LogicalStream.{number_behind, is_first}
 use Rattle.chain_rules.specs.declared.stream_state.StreamState.{StreamState}
-use Rattle.chain_rules.specs.declared.command.Command.{Command}
-use Rattle.chain_rules.specs.declared.refusal.Refusal.{Refusal}
+use Rattle.ogg_command.specs.declared.command.Command.{Command}
+use Rattle.ogg_command.specs.declared.refusal.Refusal.{Refusal}
 use Rattle.chain_rules.specs.Links.{IsLink, AreLinks, AllButLast, pages_with, serials_of, has_stream, has_ended, all_ended}
 use Rattle.chain_rules.specs.Recording.{Stream, Recording, HoldsLink, HoldsLinks, change_last}
 use Rattle.chain_rules.specs.ChainState.{ChainState, chain_state_of, state_of, last_link, last_position, is_open, stream_at}

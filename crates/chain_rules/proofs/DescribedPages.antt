@@ -6,8 +6,8 @@ use Rattle.std.proofs.lemmas.List.Folds.{list_any-append}
 use Rattle.ogg_page.specs.Page.{Page}
 use Rattle.packetiser.specs.Run.{pages_of_run}
 use Rattle.skeleton3.specs.Fishead.{fishead_bytes}
-use Rattle.chain_rules.specs.declared.command.NewStream.{NewStream}
-use Rattle.chain_rules.specs.declared.command.SkeletonHead.{SkeletonHead}
+use Rattle.ogg_command.specs.declared.command.NewStream.{NewStream}
+use Rattle.ogg_command.specs.declared.command.SkeletonHead.{SkeletonHead}
 use Rattle.chain_rules.specs.Decision.{has_long_media}
 use Rattle.chain_rules.specs.Encoding.{header, first_flag, last_flag, fishead_of, fisbone_packet, fisbone_pages, first_pages, header_pages, skeleton_stream, skeleton_end, pages_of_begin}
 use Rattle.chain_rules.specs.Size.{has_no_number}

@@ -9,7 +9,7 @@ use Rattle.std.proofs.lemmas.List.Sums.{fold-append}
 use Rattle.ogg_page.specs.Page.{Page}
 use Rattle.ogg_page.specs.Lacing.{ends_open}
 use Rattle.ogg_page.specs.LogicalStream.{is_last, joined_lacing, number_behind}
-use Rattle.chain_rules.specs.declared.command.Command.TheVariants.{End as EndOf}
+use Rattle.ogg_command.specs.declared.command.Command.TheVariants.{End as EndOf}
 use Rattle.chain_rules.specs.Links.{pages_with, has_ended}
 use Rattle.chain_rules.specs.ChainState.{ChainState, chain_state_of, state_of, last_link, last_position, is_open}
 use Rattle.chain_rules.specs.Progress.{next_in, ended_by}

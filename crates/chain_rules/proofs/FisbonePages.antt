@@ -6,7 +6,7 @@ use Rattle.ogg_page.specs.Page.{Page, page_size}
 use Rattle.packetiser.specs.Run.{pages_of_run, run_lacing, run_bytes, lengths, size_for}
 use Rattle.packetiser.proofs.Pieces.{run_bytes_all}
 use Rattle.packetiser.proofs.Sizes.{length-run_lacing, length-run_bytes, values_in, bytes_in}
-use Rattle.chain_rules.specs.declared.command.NewStream.{NewStream}
+use Rattle.ogg_command.specs.declared.command.NewStream.{NewStream}
 use Rattle.chain_rules.specs.Encoding.{header, fisbone_packet, fisbone_pages}
 use Rattle.chain_rules.specs.Size.{size_of_pages}
 

@@ -3,9 +3,9 @@ use Rattle.std.proofs.Common.{◌≡◌, ℕ, List, [], ◌∷◌, ◌++◌, ref
 use Rattle.std.specs.List.{AllByRecursion}
 use Rattle.std.proofs.lemmas.List.{append-nil}
 use Rattle.ogg_page.specs.Page.{Page}
-use Rattle.chain_rules.specs.declared.command.Command.{Command}
-use Rattle.chain_rules.specs.declared.command.Command.TheVariants.{Begin as BeginOf, Put as PutOf, End as EndOf}
-use Rattle.chain_rules.specs.Command.{IsCommand}
+use Rattle.ogg_command.specs.declared.command.Command.{Command}
+use Rattle.ogg_command.specs.declared.command.Command.TheVariants.{Begin as BeginOf, Put as PutOf, End as EndOf}
+use Rattle.ogg_command.specs.Command.{IsCommand}
 use Rattle.chain_rules.specs.Links.{AreLinks}
 use Rattle.chain_rules.specs.Recording.{Recording, HoldsLinks, Holds, add, after}
 use Rattle.chain_rules.specs.ChainState.{chain_state_of}

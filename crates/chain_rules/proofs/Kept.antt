@@ -3,14 +3,14 @@ use Rattle.std.proofs.Common.{◌≡◌, ℕ, zero, suc, ◌+◌, ◌<◌, ◌�
 use Rattle.std.specs.Prelude.{nat_eq, nat_lt, nat_le, not, ◌&&◌, IsOk, IfOk, IfSome}
 use Rattle.std.specs.List.{list_any, list_all}
 use Rattle.std.proofs.lemmas.Bool.{or_parts, or_from, ltb-false, leb-false, leb-true, le-ltb}
-use Rattle.chain_rules.specs.declared.command.Command.{Command}
-use Rattle.chain_rules.specs.declared.command.Command.TheVariants.{Begin as BeginOf, Put as PutOf, End as EndOf}
-use Rattle.chain_rules.specs.declared.command.Begin.{Begin}
-use Rattle.chain_rules.specs.declared.command.Put.{Put}
-use Rattle.chain_rules.specs.declared.command.SkeletonHead.{SkeletonHead}
-use Rattle.chain_rules.specs.declared.command.NewStream.{NewStream}
+use Rattle.ogg_command.specs.declared.command.Command.{Command}
+use Rattle.ogg_command.specs.declared.command.Command.TheVariants.{Begin as BeginOf, Put as PutOf, End as EndOf}
+use Rattle.ogg_command.specs.declared.command.Begin.{Begin}
+use Rattle.ogg_command.specs.declared.command.Put.{Put}
+use Rattle.ogg_command.specs.declared.command.SkeletonHead.{SkeletonHead}
+use Rattle.ogg_command.specs.declared.command.NewStream.{NewStream}
 use Rattle.chain_rules.specs.Begun.{stream_count}
-use Rattle.chain_rules.specs.declared.refusal.Refusal.{Refusal}
+use Rattle.ogg_command.specs.declared.refusal.Refusal.{Refusal}
 use Rattle.chain_rules.specs.ChainState.{ChainState, is_open}
 use Rattle.chain_rules.specs.Limits.{longest_file}
 use Rattle.chain_rules.specs.Progress.{next_in}

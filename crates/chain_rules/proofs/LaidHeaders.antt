@@ -2,7 +2,7 @@
 use Rattle.std.proofs.Common.{◌≡◌, ℕ, ◌+◌, ◌<◌, ◌≤◌, ◌^◌, List, [], ◌∷◌, length, map, take, drop, refl, sym, ◌∙◌, ap, arith, length-take, length-drop}
 use Rattle.ogg_page.specs.Page.{Page}
 use Rattle.packetiser.specs.Run.{pages_for, run_lacing, run_bytes, size_for, flagged}
-use Rattle.chain_rules.specs.declared.command.NewStream.{NewStream}
+use Rattle.ogg_command.specs.declared.command.NewStream.{NewStream}
 use Rattle.chain_rules.specs.Decision.{header_bytes}
 use Rattle.chain_rules.specs.Encoding.{header, first_pages, header_pages}
 use Rattle.chain_rules.specs.Size.{size_of_pages}

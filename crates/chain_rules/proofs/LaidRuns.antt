@@ -8,7 +8,7 @@ use Rattle.std.proofs.lemmas.List.Sums.{sum_by-append}
 use Rattle.ogg_page.specs.Page.{Page, page_bytes, bytes_of_pages}
 use Rattle.packetiser.specs.Run.{pages_of_run, pages_for, run_lacing, run_bytes, size_for, flagged}
 use Rattle.packetiser.proofs.Pieces.{run_bytes_all}
-use Rattle.chain_rules.specs.declared.command.Entry.{Entry}
+use Rattle.ogg_command.specs.declared.command.Entry.{Entry}
 use Rattle.chain_rules.specs.declared.stream_state.StreamState.{StreamState}
 use Rattle.chain_rules.specs.Progress.{next_in}
 use Rattle.chain_rules.specs.Encoding.{timed, run_serial, pages_behind, with_run, runs_of, pages_of_runs}

@@ -13,8 +13,8 @@ use Rattle.packetiser.specs.Run.{pages_of_run, pages_for, run_lacing}
 use Rattle.packetiser.proofs.Pieces.{run_pages}
 use Rattle.packetiser.proofs.Behind.{run_fits, number_behind_run, finished, ends_open-append}
 use Rattle.chain_rules.specs.declared.stream_state.StreamState.{StreamState}
-use Rattle.chain_rules.specs.declared.command.NewStream.{NewStream}
-use Rattle.chain_rules.specs.declared.command.SkeletonHead.{SkeletonHead}
+use Rattle.ogg_command.specs.declared.command.NewStream.{NewStream}
+use Rattle.ogg_command.specs.declared.command.SkeletonHead.{SkeletonHead}
 use Rattle.chain_rules.specs.Begun.{new_state, skeleton_state, states_of, serials_in, skeleton_serial, has_other_headers, has_more_pages}
 use Rattle.chain_rules.specs.ChainState.{state_of, last_position}
 use Rattle.chain_rules.specs.Decision.{has_long_media}

@@ -9,9 +9,9 @@ use Rattle.std.proofs.lemmas.List.Folds.{find_at}
 use Rattle.chain_rules.specs.declared.stream_state.StreamState.{StreamState}
 use Rattle.chain_rules.specs.Progress.{stream_in, next_in, change_at, advanced}
 use Rattle.chain_rules.specs.Encoding.{run_serial, run_position, pages_behind, with_run}
-use Rattle.chain_rules.specs.declared.command.Entry.{Entry}
-use Rattle.chain_rules.specs.declared.command.NewStream.{NewStream}
-use Rattle.chain_rules.specs.declared.command.SkeletonHead.{SkeletonHead}
+use Rattle.ogg_command.specs.declared.command.Entry.{Entry}
+use Rattle.ogg_command.specs.declared.command.NewStream.{NewStream}
+use Rattle.ogg_command.specs.declared.command.SkeletonHead.{SkeletonHead}
 use Rattle.chain_rules.specs.Begun.{new_state, states_of, serials_in}
 use Rattle.chain_rules.specs.Places.{HaveOwnSerials, IsPlace}
 

@@ -8,7 +8,7 @@ use Rattle.std.proofs.lemmas.Bool.{eqb-false, cases_eq, or_left, or_right, and_l
 use Rattle.ogg_page.specs.Page.{Page}
 use Rattle.ogg_page.specs.LogicalStream.{HoldsPackets, FitsBehind, EachBehind, FlagsFit, is_first, is_last}
 use Rattle.packetiser.proofs.Behind.{held_both}
-use Rattle.chain_rules.specs.declared.command.NewStream.{NewStream}
+use Rattle.ogg_command.specs.declared.command.NewStream.{NewStream}
 use Rattle.chain_rules.specs.Links.{IsLink, pages_with, serials_of, has_stream, has_ended, all_ended}
 use Rattle.chain_rules.specs.Recording.{Stream, HoldsStream, HoldsLink, begun}
 use Rattle.chain_rules.specs.Encoding.{first_pages, header_pages}

@@ -9,9 +9,9 @@ use Rattle.ogg_page.specs.Page.{Page, page_size}
 use Rattle.ogg_page.specs.LogicalStream.{number_behind}
 use Rattle.packetiser.specs.Run.{Timed, pages_of_run}
 use Rattle.packetiser.proofs.Pieces.{run_pages}
-use Rattle.chain_rules.specs.declared.command.Command.TheVariants.{Put as PutOf}
-use Rattle.chain_rules.specs.declared.command.Entry.{Entry}
-use Rattle.chain_rules.specs.declared.command.Put.{Put}
+use Rattle.ogg_command.specs.declared.command.Command.TheVariants.{Put as PutOf}
+use Rattle.ogg_command.specs.declared.command.Entry.{Entry}
+use Rattle.ogg_command.specs.declared.command.Put.{Put}
 use Rattle.chain_rules.specs.declared.stream_state.StreamState.{StreamState}
 use Rattle.chain_rules.specs.Links.{pages_with}
 use Rattle.chain_rules.specs.ChainState.{ChainState, chain_state_of, state_of, last_link, is_open}

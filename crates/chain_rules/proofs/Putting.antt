@@ -12,11 +12,11 @@ use Rattle.packetiser.specs.Run.{Timed, IsTimed, pages_of_run}
 use Rattle.packetiser.proofs.Pieces.{run_is_held, run_pages}
 use Rattle.packetiser.proofs.Behind.{run_fits, number_behind_run}
 use Rattle.packetiser.proofs.Ranges.{run_is_pages}
-use Rattle.chain_rules.specs.declared.command.Command.TheVariants.{Put as PutOf}
-use Rattle.chain_rules.specs.declared.command.Put.{Put}
-use Rattle.chain_rules.specs.declared.command.Entry.{Entry}
+use Rattle.ogg_command.specs.declared.command.Command.TheVariants.{Put as PutOf}
+use Rattle.ogg_command.specs.declared.command.Put.{Put}
+use Rattle.ogg_command.specs.declared.command.Entry.{Entry}
 use Rattle.chain_rules.specs.declared.stream_state.StreamState.{StreamState}
-use Rattle.chain_rules.specs.Command.{IsEntry}
+use Rattle.ogg_command.specs.Command.{IsEntry}
 use Rattle.chain_rules.specs.Links.{IsLink, AreLinks, pages_with, has_stream, has_ended, all_ended, serials_of}
 use Rattle.chain_rules.specs.Recording.{Stream, Recording, HoldsLink, HoldsLinks, with_packet, add}
 use Rattle.chain_rules.specs.ChainState.{ChainState, chain_state_of, last_link, is_open}

@@ -13,12 +13,12 @@ use Rattle.chain_rules.specs.ChainState.{chain_state_of}
 use Rattle.chain_rules.specs.Encoding.{pages_of_command, command_bytes}
 use Rattle.chain_rules.specs.Decision.{decision}
 use Rattle.chain_rules.specs.Recording.{after}
-use Rattle.chain_rules.specs.declared.command.Command.{Command}
-use Rattle.chain_rules.specs.declared.command.Command.TheVariants.{Begin as BeginOf, Put as PutOf, End as EndOf}
-use Rattle.chain_rules.specs.declared.command.NewStream.{NewStream}
-use Rattle.chain_rules.specs.declared.command.SkeletonHead.{SkeletonHead}
-use Rattle.chain_rules.specs.declared.refusal.Refusal.{Refusal}
-use Rattle.chain_rules.specs.declared.refusal.Refusal.TheVariants.{LinkOpen, NoLink, TooMany, SerialTaken, BadType, BadRate, UnknownSerial, StreamEnded, PositionBack}
+use Rattle.ogg_command.specs.declared.command.Command.{Command}
+use Rattle.ogg_command.specs.declared.command.Command.TheVariants.{Begin as BeginOf, Put as PutOf, End as EndOf}
+use Rattle.ogg_command.specs.declared.command.NewStream.{NewStream}
+use Rattle.ogg_command.specs.declared.command.SkeletonHead.{SkeletonHead}
+use Rattle.ogg_command.specs.declared.refusal.Refusal.{Refusal}
+use Rattle.ogg_command.specs.declared.refusal.Refusal.TheVariants.{LinkOpen, NoLink, TooMany, SerialTaken, BadType, BadRate, UnknownSerial, StreamEnded, PositionBack}
 
 abbrev abc : List ℕ
 abc = 97 ∷ 98 ∷ 99 ∷ []

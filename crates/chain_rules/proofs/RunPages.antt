@@ -9,7 +9,7 @@ use Rattle.ogg_page.specs.Page.{Page, page_size}
 use Rattle.packetiser.specs.Run.{Timed, counted, page_of_run, pages_of_run, pages_for, run_lacing, run_bytes, lengths, size_for}
 use Rattle.packetiser.proofs.Pieces.{run_pages, run_bytes_all}
 use Rattle.packetiser.proofs.Sizes.{values_in, bytes_in, length-run_lacing, length-run_bytes, sum_by-map}
-use Rattle.chain_rules.specs.declared.command.Entry.{Entry}
+use Rattle.ogg_command.specs.declared.command.Entry.{Entry}
 use Rattle.chain_rules.specs.declared.stream_state.StreamState.{StreamState}
 use Rattle.chain_rules.specs.Progress.{next_in, brought_to}
 use Rattle.chain_rules.specs.Encoding.{timed, run_serial, run_position, pages_behind, with_run, runs_of, pages_of_runs}

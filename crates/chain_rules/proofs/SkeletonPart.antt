@@ -19,9 +19,9 @@ use Rattle.ogg_page.specs.Numbers.{u16_bytes, u32_bytes, i64_bytes}
 use Rattle.skeleton3.specs.Fishead.{fishead_bytes, fishead_with}
 use Rattle.skeleton3.specs.Fisbone.{fisbone_name, fixed_part}
 use Rattle.skeleton3.proofs.FisboneFacts.{length-fisbone_bytes}
-use Rattle.chain_rules.specs.declared.command.NewStream.{NewStream}
-use Rattle.chain_rules.specs.declared.command.SkeletonHead.{SkeletonHead}
-use Rattle.chain_rules.specs.Command.{IsNewStream, IsSkeletonHead}
+use Rattle.ogg_command.specs.declared.command.NewStream.{NewStream}
+use Rattle.ogg_command.specs.declared.command.SkeletonHead.{SkeletonHead}
+use Rattle.ogg_command.specs.Command.{IsNewStream, IsSkeletonHead}
 use Rattle.chain_rules.specs.Decision.{has_long_media}
 use Rattle.chain_rules.specs.Encoding.{header, fishead_of, fisbone_of, fisbone_packet, fisbone_pages, skeleton_stream, skeleton_end, first_pages}
 use Rattle.chain_rules.proofs.Grow.{all_both, any_none, Own, Unmarked, GoOn}

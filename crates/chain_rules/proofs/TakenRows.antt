@@ -5,7 +5,7 @@ use Rattle.ogg_page.specs.Lacing.{lacing_of}
 use Rattle.packetiser.specs.Run.{pages_of_run, page_of_run, page_position, run_lacing, run_bytes, values_at, values_before}
 use Rattle.chain_rules.specs.declared.chain_fault.ChainFault.{ChainFault}
 use Rattle.chain_rules.specs.declared.chain_fault.ChainFault.TheVariants.{Sequence, Continued, BosPlace, BosShape, SerialTwice, NoStream, AfterEos, BosWhileOpen, TooMany, EosUnfinished}
-use Rattle.chain_rules.specs.declared.refusal.Refusal.TheVariants.{SequenceEnd, LinksFull}
+use Rattle.ogg_command.specs.declared.refusal.Refusal.TheVariants.{SequenceEnd, LinksFull}
 use Rattle.chain_rules.specs.ChainState.{ChainState, chain_state_of}
 use Rattle.chain_rules.specs.Encoding.{pages_of_command}
 use Rattle.chain_rules.specs.Decision.{decision}

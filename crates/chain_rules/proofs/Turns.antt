@@ -1,7 +1,7 @@
 -- Rules that are looked at group by group.
 use Rattle.std.proofs.Common.{◌≡◌, ℕ, Bool, true, false, cond, List, [], ◌∷◌, ◌++◌, refl, sym, ◌∙◌, ap, append_assoc, Option, Some, None, Err}
 use Rattle.std.specs.Prelude.{is_some}
-use Rattle.chain_rules.specs.declared.refusal.Refusal.{Refusal}
+use Rattle.ogg_command.specs.declared.refusal.Refusal.{Refusal}
 use Rattle.chain_rules.specs.Rules.{Rule, first_broken}
 use Rattle.chain_rules.specs.Decision.{answer}
 

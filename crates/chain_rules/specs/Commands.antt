@@ -5,7 +5,7 @@ use Rattle.ogg_page.specs.Page.{Page}
 use Rattle.chain_rules.specs.ChainState.{chain_state_of}
 use Rattle.chain_rules.specs.Decision.{decision}
 use Rattle.chain_rules.specs.Encoding.{command_bytes, links_after}
-use Rattle.chain_rules.specs.declared.command.Command.{Command}
+use Rattle.ogg_command.specs.declared.command.Command.{Command}
 
 -- none of them is refused
 abbrev pub AreKept : List (List Page) → List Command → Type 0

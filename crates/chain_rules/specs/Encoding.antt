@@ -2,18 +2,19 @@
 use Rattle.std.specs.Prelude.{ℕ, ◌+◌, nat_eq, if◌then◌else◌, pos, Option, None, Some, List, [], ◌∷◌, ◌++◌, length, map, take, drop}
 use Rattle.std.specs.List.{flat_map}
 use Rattle.ogg_page.specs.Page.{Page, bytes_of_pages}
-use Rattle.packetiser.specs.Run.{Timed, flagged, pages_of_run}
+use Rattle.packetiser.specs.Run.{flagged, pages_of_run}
 use Rattle.skeleton3.specs.Fisbone.{Fisbone, fisbone_bytes}
 use Rattle.skeleton3.specs.Fishead.{fishead_bytes}
 use Rattle.skeleton3.specs.declared.fishead.Fishead.{Fishead}
+pub use Rattle.ogg_command.specs.Packets.{header, timed}
 use Rattle.chain_rules.specs.ChainState.{ChainState, chain_state_of}
 use Rattle.chain_rules.specs.Progress.{next_in, position_in, brought_to}
 use Rattle.chain_rules.specs.declared.stream_state.StreamState.{StreamState}
-use Rattle.chain_rules.specs.declared.command.Command.{Command}
-use Rattle.chain_rules.specs.declared.command.Command.TheVariants.{Begin as BeginOf, Put as PutOf, End as EndOf}
-use Rattle.chain_rules.specs.declared.command.SkeletonHead.{SkeletonHead}
-use Rattle.chain_rules.specs.declared.command.NewStream.{NewStream}
-use Rattle.chain_rules.specs.declared.command.Entry.{Entry}
+use Rattle.ogg_command.specs.declared.command.Command.{Command}
+use Rattle.ogg_command.specs.declared.command.Command.TheVariants.{Begin as BeginOf, Put as PutOf, End as EndOf}
+use Rattle.ogg_command.specs.declared.command.SkeletonHead.{SkeletonHead}
+use Rattle.ogg_command.specs.declared.command.NewStream.{NewStream}
+use Rattle.ogg_command.specs.declared.command.Entry.{Entry}
 
 -- the flags of a stream's first and of its last page
 abbrev pub first_flag : ℕ
@@ -21,10 +22,6 @@ first_flag = 2
 
 abbrev pub last_flag : ℕ
 last_flag = 4
-
--- a header packet, which has position 0
-abbrev pub header : List ℕ → Timed
-header packet = record { position = 0; packet = packet }
 
 -- a stream's first page, with its first header, and the run of its other headers
 abbrev pub first_pages : NewStream → List Page
@@ -98,9 +95,6 @@ with_front entry ((next ∷ run) ∷ runs) =
 abbrev pub runs_of : List Entry → List (List Entry)
 runs_of [] = []
 runs_of (entry ∷ entries) = with_front entry (runs_of entries)
-
-abbrev pub timed : Entry → Timed
-timed entry = record { position = entry.position; packet = entry.packet }
 
 -- the stream of a run
 abbrev pub run_serial : List Entry → ℕ

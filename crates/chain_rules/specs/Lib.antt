@@ -1,6 +1,6 @@
-pub mod Refusal
+pub use Rattle.ogg_command.specs.Refusal
 pub mod ChainFault
-pub mod Command
+pub use Rattle.ogg_command.specs.Command
 pub mod Links
 pub mod Recording
 pub mod ChainState

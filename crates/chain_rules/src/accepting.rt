@@ -7,14 +7,14 @@ ghost use Rattle.chain_rules.specs.Places.{HaveOwnSerials};
 ghost use Rattle.chain_rules.specs.Progress.{change_at, ended_by, next_in};
 ghost use Rattle.chain_rules.specs.Size.{has_no_number, size_of_pages};
 ghost use Rattle.chain_rules.specs.Decision.{header_bytes, has_many_headers};
-ghost use Rattle.chain_rules.specs.declared.command.Entry.{Entry as EntryOf};
-ghost use Rattle.chain_rules.specs.declared.command.NewStream.{NewStream as StreamOf};
+ghost use Rattle.ogg_command.specs.declared.command.Entry.{Entry as EntryOf};
+ghost use Rattle.ogg_command.specs.declared.command.NewStream.{NewStream as StreamOf};
 
 use crate::begin::split_headers;
-use crate::command::{NewStream, Put, SkeletonHead};
 use crate::runs::{next_sequence, size_of_runs};
 use crate::serials::Serials;
 use crate::stream_state::StreamState;
+use ogg_command::{NewStream, Put, SkeletonHead};
 use packetiser::pages_of_run;
 
 /// Ends the stream with this serial by a page without packets.

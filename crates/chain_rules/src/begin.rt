@@ -9,32 +9,15 @@ ghost use Rattle.chain_rules.specs.Decision.{stream_rules, streams_rules, skelet
 ghost use Rattle.skeleton3.specs.Fields.{is_media_type};
 ghost use Rattle.chain_rules.specs.Encoding.{first_pages, header_pages, pages_of_begin};
 ghost use Rattle.chain_rules.specs.Size.{has_no_number, size_of_pages};
-ghost use Rattle.chain_rules.specs.declared.command.NewStream.{NewStream as StreamOf};
+ghost use Rattle.ogg_command.specs.declared.command.NewStream.{NewStream as StreamOf};
 
-use crate::command::{Begin, NewStream, SkeletonHead};
 use crate::limits::{
     LONGEST_BATCH, LONGEST_FIRST, LONGEST_MEDIA, LONGEST_PACKET, MOST_HEADERS, MOST_STREAMS,
 };
-use crate::listed::Listed;
-use crate::refusal::Refusal;
 use crate::serials::Serials;
 use crate::skeleton::size_of_skeleton;
-use packetiser::{TimedPacket, size_of_run};
-
-impl TimedPacket for Listed<u8> {
-    ghost use Rattle.chain_rules.specs.Encoding.{header};
-
-    // a header
-    ghost timed = { header };
-
-    fn packet(&self) -> &[u8] {
-        self.as_slice()
-    }
-
-    fn position(&self) -> u64 {
-        0
-    }
-}
+use ogg_command::{Begin, Listed, NewStream, Refusal, SkeletonHead};
+use packetiser::size_of_run;
 
 /// How many streams a link has, its Skeleton counted.
 pub fn stream_count(begin: &Begin) -> usize

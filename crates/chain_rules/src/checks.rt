@@ -10,13 +10,12 @@ ghost use Rattle.chain_rules.specs.Decision.{answer, has_many_parts, has_long_me
 ghost use Rattle.chain_rules.specs.declared.stream_state.StreamState.{StreamState as State};
 
 use crate::begin::{broken_by_parts, has_many_parts, is_long_begin, size_of_begin};
-use crate::command::{Begin, Command, Entry, Put};
 use crate::entries::{broken_by_entries, with_serial};
 use crate::limits::{FEW_STREAMS, LONGEST_FILE, MOST_ENTRIES, MOST_LINKS, MOST_STREAMS, SEQUENCES};
-use crate::refusal::Refusal;
 use crate::runs::{is_long_batch, size_of_runs};
 use crate::serials::Serials;
 use crate::stream_state::StreamState;
+use ogg_command::{Begin, Command, Entry, Put, Refusal};
 
 /// Whether a stream hasn't ended.
 pub fn is_open(streams: &[StreamState]) -> bool

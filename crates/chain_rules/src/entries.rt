@@ -1,32 +1,16 @@
 //! The packets of a put, looked at one after the other.
 ghost use Rattle.std.specs.Prelude.{◌≡◌, ◌≤◌, ◌<◌, ◌+◌, ◌^◌, ℕ, [], ◌∷◌, length, sum_by, nat_lt, nat_le, nat_eq, take, drop, take_while, map, if◌then◌else◌, List};
-ghost use Rattle.chain_rules.specs.declared.command.Entry.{Entry as EntryOf};
+ghost use Rattle.ogg_command.specs.declared.command.Entry.{Entry as EntryOf};
 ghost use Rattle.std.specs.List.{list_any};
 ghost use Rattle.chain_rules.specs.Rules.{first_broken};
 ghost use Rattle.chain_rules.specs.Decision.{entry_rules, entries_rules};
 ghost use Rattle.chain_rules.specs.Places.{HaveOwnSerials, IsPlace};
 ghost use Rattle.chain_rules.specs.Progress.{stream_in, with_position, brought_to};
 
-use crate::command::Entry;
 use crate::limits::{LONGEST_PACKET, POSITIONS};
 use crate::places::{place_of, stream_at};
-use crate::refusal::Refusal;
 use crate::stream_state::StreamState;
-use packetiser::TimedPacket;
-
-impl TimedPacket for Entry {
-    ghost use Rattle.chain_rules.specs.Encoding.{timed};
-
-    ghost timed = { timed };
-
-    fn packet(&self) -> &[u8] {
-        self.packet.as_slice()
-    }
-
-    fn position(&self) -> u64 {
-        self.position
-    }
-}
+use ogg_command::{Entry, Refusal};
 
 /// The stream with this serial.
 pub fn with_serial(streams: &[StreamState], serial: u32) -> Option<StreamState>

@@ -2,7 +2,7 @@
 ghost use Rattle.std.specs.Prelude.{◌≡◌, ◌++◌, ◌↔◌, Ok, None, List, [], ℕ, length};
 ghost use Rattle.std.specs.List.{AllByRecursion};
 ghost use Rattle.ogg_page.specs.Page.{Page, IsPage, bytes_of_pages};
-ghost use Rattle.chain_rules.specs.Command.{IsCommand};
+ghost use Rattle.ogg_command.specs.Command.{IsCommand};
 ghost use Rattle.chain_rules.specs.Links.{AreLinks};
 ghost use Rattle.chain_rules.specs.Recording.{Recording, HoldsLinks, Holds, add, after};
 ghost use Rattle.chain_rules.specs.ChainState.{ChainState, chain_state_of};
@@ -10,7 +10,7 @@ ghost use Rattle.chain_rules.specs.Decision.{decision};
 ghost use Rattle.chain_rules.specs.Encoding.{command_bytes, links_after};
 ghost use Rattle.chain_rules.specs.Taking.{AreTaken, unfinished_stream};
 ghost use Rattle.chain_rules.specs.Commands.{AreKept, bytes_of_commands, links_behind};
-ghost use Rattle.chain_rules.specs.declared.command.Command.{Command as CommandOf};
+ghost use Rattle.ogg_command.specs.declared.command.Command.{Command as CommandOf};
 
 /// A command that isn't refused adds its packets, and nothing else changes: the links behind it hold
 /// the recording with the command added, and the bytes that it appends are as many as its size says

@@ -9,17 +9,17 @@ ghost use Rattle.chain_rules.specs.Encoding.{first_pages, header_pages, pages_of
 ghost use Rattle.chain_rules.specs.Places.{HaveOwnSerials};
 ghost use Rattle.chain_rules.specs.Progress.{next_in};
 ghost use Rattle.chain_rules.specs.Size.{has_no_number, size_of_pages};
-ghost use Rattle.chain_rules.specs.declared.command.Entry.{Entry as EntryOf};
+ghost use Rattle.ogg_command.specs.declared.command.Entry.{Entry as EntryOf};
 
 use crate::Memory;
 use crate::begin::{size_of_begin, split_headers};
-use crate::command::{Entry, NewStream, SkeletonHead};
 use crate::entries::{bring_stream, with_serial};
 use crate::limits::{FEW_STREAMS, MOST_STREAMS};
 use crate::places::place_of;
 use crate::runs::{next_at, next_sequence, run_length, run_position, run_serial};
 use crate::skeleton::{lay_fisbones, lay_fishead, lay_skeleton_end};
 use crate::stream_state::StreamState;
+use ogg_command::{Entry, NewStream, SkeletonHead};
 use ogg_page::{PageHead, write_page};
 use packetiser::{TimedPacket, lay_run};
 

@@ -14,14 +14,11 @@ mod accepting;
 mod begin;
 mod chain_fault;
 mod checks;
-mod command;
 mod entries;
 mod laws;
 mod laying;
 mod limits;
-mod listed;
 mod places;
-mod refusal;
 mod runs;
 mod serials;
 mod shape;
@@ -30,13 +27,11 @@ mod stream_state;
 mod taking;
 
 pub use chain_fault::ChainFault;
-pub use command::{Begin, Command, Entry, NewStream, Put, SkeletonHead};
 pub use laws::{
     command_adds_its_packets, commands_add_their_packets, links_left_whole_hold_a_recording,
     pages_in_turn_are_links,
 };
-pub use listed::Listed;
+pub use ogg_command::{Begin, Command, Entry, Listed, NewStream, Put, Refusal, SkeletonHead};
 pub use ogg_page::Memory;
-pub use refusal::Refusal;
 pub use shape::Shape;
 pub use stream_state::StreamState;

@@ -7,13 +7,13 @@ ghost use Rattle.chain_rules.specs.Encoding.{runs_of, run_serial, run_position, 
 ghost use Rattle.chain_rules.specs.Places.{HaveOwnSerials, IsPlace};
 ghost use Rattle.chain_rules.specs.Progress.{next_in};
 ghost use Rattle.chain_rules.specs.Size.{numbered_size};
-ghost use Rattle.chain_rules.specs.declared.command.Entry.{Entry as EntryOf};
+ghost use Rattle.ogg_command.specs.declared.command.Entry.{Entry as EntryOf};
 
-use crate::command::Entry;
 use crate::entries::{bring_stream, with_serial};
 use crate::limits::{LONGEST_BATCH, SEQUENCES};
 use crate::places::{place_of, stream_at};
 use crate::stream_state::StreamState;
+use ogg_command::Entry;
 use packetiser::{pages_of, size_of, values_and_bytes};
 
 /// Whether the packets are too long together.

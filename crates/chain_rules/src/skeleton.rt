@@ -8,8 +8,8 @@ ghost use Rattle.chain_rules.specs.Decision.{has_many_headers, has_long_media};
 ghost use Rattle.chain_rules.specs.Encoding.{header, fishead_of, fisbone_of, fisbone_packet, fishead_pages, fisbone_pages, skeleton_end};
 ghost use Rattle.chain_rules.specs.Size.{size_of_pages};
 
-use crate::command::{NewStream, SkeletonHead};
 use crate::laying::{FIRST, LAST, append_run};
+use ogg_command::{NewStream, SkeletonHead};
 use packetiser::{Item, size_of, values_of};
 use skeleton3::{Fisbone, Fishead};
 

@@ -5,13 +5,13 @@ use Rattle.std.specs.List.{flat_map}
 use Rattle.std.proofs.lemmas.List.{take_more}
 use Rattle.std.proofs.lemmas.List.Concat.{flat_map-append}
 use Rattle.std.proofs.lemmas.List.Folds.{length-flat_map-take}
-use Rattle.chain_rules.specs.declared.command.Command.{Command}
-use Rattle.chain_rules.specs.declared.command.Command.TheVariants.{Begin as BeginOf, Put as PutOf}
-use Rattle.chain_rules.specs.declared.command.Begin.{Begin}
-use Rattle.chain_rules.specs.declared.command.Put.{Put}
-use Rattle.chain_rules.specs.declared.command.SkeletonHead.{SkeletonHead}
-use Rattle.chain_rules.specs.declared.command.NewStream.{NewStream}
-use Rattle.chain_rules.specs.declared.command.Entry.{Entry}
+use Rattle.ogg_command.specs.declared.command.Command.{Command}
+use Rattle.ogg_command.specs.declared.command.Command.TheVariants.{Begin as BeginOf, Put as PutOf}
+use Rattle.ogg_command.specs.declared.command.Begin.{Begin}
+use Rattle.ogg_command.specs.declared.command.Put.{Put}
+use Rattle.ogg_command.specs.declared.command.SkeletonHead.{SkeletonHead}
+use Rattle.ogg_command.specs.declared.command.NewStream.{NewStream}
+use Rattle.ogg_command.specs.declared.command.Entry.{Entry}
 use Rattle.ogg_page.specs.Numbers.{u16_bytes, u32_bytes, u64_bytes, i64_bytes, fraction_bytes}
 use Rattle.feed_codec.specs.Record.{packet_bytes, media_bytes, skeleton_bytes, stream_bytes, entry_bytes, payload_of, record_of}
 use Rattle.feed_codec.specs.Payload.{Tail, tail_bytes, tail_of_stream}

@@ -2,7 +2,7 @@
 use Rattle.std.specs.Prelude.{◌≡◌, ◌≢◌, ◌⊎◌, ℕ, ◌+◌, Bool, nat_lt, nat_le, not, ◌&&◌, if◌then◌else◌, unwrap_or, Option, Some, None, Result, Ok, Err, List, [], length, drop, slice_index, ⊤}
 use Rattle.std.specs.Io.KnownBytes.{Consumes}
 use Rattle.byteorder.specs.Endian.{little_number}
-use Rattle.chain_rules.specs.declared.command.Command.{Command}
+use Rattle.ogg_command.specs.declared.command.Command.{Command}
 use Rattle.feed_codec.specs.declared.fault.FeedFault.{FeedFault}
 use Rattle.feed_codec.specs.declared.fault.FeedFault.TheVariants.{Truncated, Kind, Length, Form}
 use Rattle.feed_codec.specs.Record.{BeginsNoRecord, HasRecord, record_of, most_payload}

@@ -4,11 +4,11 @@ use Rattle.std.specs.Int.{w64}
 use Rattle.std.specs.Prelude.{FitsSigned}
 use Rattle.std.specs.List.{AllByRecursion}
 use Rattle.ogg_page.specs.Page.{IsByte}
-use Rattle.chain_rules.specs.Command.{IsCommand, IsNewStream, IsEntry}
-use Rattle.chain_rules.specs.declared.command.Command.{Command}
-use Rattle.chain_rules.specs.declared.command.SkeletonHead.{SkeletonHead}
-use Rattle.chain_rules.specs.declared.command.NewStream.{NewStream}
-use Rattle.chain_rules.specs.declared.command.Entry.{Entry}
+use Rattle.ogg_command.specs.Command.{IsCommand, IsNewStream, IsEntry}
+use Rattle.ogg_command.specs.declared.command.Command.{Command}
+use Rattle.ogg_command.specs.declared.command.SkeletonHead.{SkeletonHead}
+use Rattle.ogg_command.specs.declared.command.NewStream.{NewStream}
+use Rattle.ogg_command.specs.declared.command.Entry.{Entry}
 use Rattle.ogg_page.specs.Numbers.{u32_bytes, i64_bytes, fraction_bytes, IsFraction}
 use Rattle.feed_codec.specs.Record.{FitsStream, FitsEntry, FitsFields, media_bytes, kind_of, payload_of}
 

@@ -1,5 +1,5 @@
 -- The parts of a payload, without where they lie in memory. Ours.
-use Rattle.chain_rules.specs.declared.command.Entry.{Entry}
+use Rattle.ogg_command.specs.declared.command.Entry.{Entry}
 use Rattle.feed_codec.specs.Payload.{Tail}
 use Rattle.feed_codec.specs.declared.payload.EntryPart.{EntryPart}
 use Rattle.feed_codec.specs.declared.payload.TailPart.{TailPart}

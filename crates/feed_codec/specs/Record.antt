@@ -1,12 +1,12 @@
 -- A command as a record of a feed. Ours.
 use Rattle.std.specs.Prelude.{◌≡◌, ◌≢◌, ℕ, ◌<◌, ◌≤◌, ◌^◌, Option, Some, None, List, [], ◌∷◌, ◌++◌, length, ⊤}
 use Rattle.std.specs.List.{flat_map, AllByRecursion}
-use Rattle.chain_rules.specs.Command.{IsCommand}
-use Rattle.chain_rules.specs.declared.command.Command.{Command}
-use Rattle.chain_rules.specs.declared.command.Command.TheVariants.{Begin as BeginOf, Put as PutOf, End as EndOf}
-use Rattle.chain_rules.specs.declared.command.SkeletonHead.{SkeletonHead}
-use Rattle.chain_rules.specs.declared.command.NewStream.{NewStream}
-use Rattle.chain_rules.specs.declared.command.Entry.{Entry}
+use Rattle.ogg_command.specs.Command.{IsCommand}
+use Rattle.ogg_command.specs.declared.command.Command.{Command}
+use Rattle.ogg_command.specs.declared.command.Command.TheVariants.{Begin as BeginOf, Put as PutOf, End as EndOf}
+use Rattle.ogg_command.specs.declared.command.SkeletonHead.{SkeletonHead}
+use Rattle.ogg_command.specs.declared.command.NewStream.{NewStream}
+use Rattle.ogg_command.specs.declared.command.Entry.{Entry}
 use Rattle.ogg_page.specs.Numbers.{u16_bytes, u32_bytes, u64_bytes, i64_bytes, fraction_bytes}
 
 -- a packet: its length, and its bytes

@@ -1,7 +1,7 @@
 -- Replies as lines of text. Ours.
 use Rattle.std.specs.Prelude.{ℕ, List, [], ◌∷◌, ◌++◌, codes}
 use Rattle.std.specs.Fmt.{decimal}
-use Rattle.chain_rules.specs.Refusal.{code_of, name_of}
+use Rattle.ogg_command.specs.Refusal.{code_of, name_of}
 use Rattle.feed_codec.specs.declared.reply.Reply.{Reply}
 use Rattle.feed_codec.specs.declared.reply.Reply.TheVariants.{Kept as KeptOf, Refused}
 

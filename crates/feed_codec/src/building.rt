@@ -4,12 +4,12 @@ ghost use Rattle.std.specs.List.{flat_map};
 ghost use Rattle.feed_codec.specs.Record.{packet_bytes, entry_bytes, stream_bytes, kind_of, payload_of, FitsFields};
 ghost use Rattle.feed_codec.specs.RecordKind.{number_of};
 ghost use Rattle.feed_codec.specs.Payload.{Begins, AreMany, IsPacket, IsEntryOfFeed, IsStreamOfFeed, IsPayload};
-ghost use Rattle.chain_rules.specs.Command.{IsCommand};
+ghost use Rattle.ogg_command.specs.Command.{IsCommand};
 
 use crate::payload::{split_entry, split_packet, split_skeleton, split_tail};
 use crate::record::RecordKind;
 use crate::spare::Spare;
-use chain_rules::{Begin, Command, Entry, Listed, Memory, NewStream, Put};
+use ogg_command::{Begin, Command, Entry, Listed, Memory, NewStream, Put};
 use ogg_page::{take_u16, take_u32};
 use std::alloc::Global;
 

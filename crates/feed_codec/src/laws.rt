@@ -1,7 +1,7 @@
 //! What always holds of records.
 ghost use Rattle.std.specs.Prelude.{◌≡◌, ◌++◌, List, ℕ, Option, Some};
 ghost use Rattle.std.specs.Io.KnownBytes.{Consumes, IsAtEnd};
-ghost use Rattle.chain_rules.specs.declared.command.Command.{Command};
+ghost use Rattle.ogg_command.specs.declared.command.Command.{Command};
 ghost use Rattle.feed_codec.specs.Record.{HasRecord, IsFeed, record_of};
 ghost use Rattle.feed_codec.specs.Feed.{HasFault};
 ghost use Rattle.feed_codec.specs.declared.fault.FeedFault.{FeedFault};

@@ -5,10 +5,10 @@ ghost use Rattle.feed_codec.specs.Record.{packet_bytes, media_bytes, entry_bytes
 ghost use Rattle.feed_codec.specs.RecordKind.{number_of};
 ghost use Rattle.feed_codec.specs.Payload.{Begins, BeginsNone, AreMany, IsPacket, IsMedia, IsEntryOfFeed, IsStreamOfFeed, IsTail, tail_bytes, skeleton_head_bytes, IsPayload};
 ghost use Rattle.feed_codec.specs.PayloadParts.{entry_of, tail_of};
-ghost use Rattle.chain_rules.specs.Command.{IsSkeleton, IsSkeletonHead};
+ghost use Rattle.ogg_command.specs.Command.{IsSkeleton, IsSkeletonHead};
 
 use crate::record::RecordKind;
-use chain_rules::SkeletonHead;
+use ogg_command::SkeletonHead;
 use ogg_page::{take_fraction, take_i64, take_u8, take_u16, take_u32, take_u64};
 
 /// An entry of a put, where it lies.

@@ -10,7 +10,7 @@ use crate::fault::FeedFault;
 use crate::payload::is_payload;
 use crate::record::{HEAD, Head, head_of};
 use crate::spare::Spare;
-use chain_rules::Command;
+use ogg_command::Command;
 use std::alloc::Global;
 use std::io::Read;
 use std::marker::Model;

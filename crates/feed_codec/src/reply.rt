@@ -4,8 +4,8 @@ ghost use Rattle.std.specs.Io.KnownBytes.{Appends};
 ghost use Rattle.ogg_page.specs.Output.{WritesPrefix};
 ghost use Rattle.feed_codec.specs.Reply.{reply_line};
 
-use chain_rules::Refusal;
 use itoa::write_digits;
+use ogg_command::Refusal;
 use ogg_page::{WriteFault, write_whole};
 use std::io::Write;
 

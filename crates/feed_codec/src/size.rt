@@ -3,7 +3,7 @@ ghost use Rattle.std.specs.Prelude.{◌≡◌, ◌+◌, ◌≤◌, ◌<◌, ◌^
 ghost use Rattle.std.specs.List.{flat_map};
 ghost use Rattle.feed_codec.specs.Record.{FitsRecord, payload_of, packet_bytes, skeleton_bytes, stream_bytes, entry_bytes};
 
-use chain_rules::{Command, Entry, Listed, NewStream, SkeletonHead};
+use ogg_command::{Command, Entry, Listed, NewStream, SkeletonHead};
 
 /// How long the command's payload is.
 pub fn payload_size(command: &Command) -> usize

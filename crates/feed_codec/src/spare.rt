@@ -1,7 +1,7 @@
 //! Memory of commands that were given back, for the next ones.
 ghost use Rattle.std.specs.Prelude.{◌≡◌, ◌≤◌, [], IfOk, vec_len, vec_capacity};
 
-use chain_rules::{Command, Entry, Listed, Memory};
+use ogg_command::{Command, Entry, Listed, Memory};
 use std::alloc::Global;
 use std::mem;
 

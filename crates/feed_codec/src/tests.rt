@@ -1,7 +1,7 @@
 //! Feeds and lines written out by hand, cut and broken everywhere.
 use super::*;
 use crate::tests::fakes::{FakeReader, FakeWriter};
-use chain_rules::{Command, Memory, Refusal};
+use ogg_command::{Command, Memory, Refusal};
 use ogg_page::WriteFault;
 use std::alloc::Global;
 use std::process::Abort;

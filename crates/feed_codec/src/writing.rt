@@ -8,7 +8,7 @@ ghost use Rattle.feed_codec.specs.Writing.{Grows};
 
 use crate::record::HEAD;
 use crate::size::payload_size;
-use chain_rules::{Command, Entry, Listed, Memory, NewStream, SkeletonHead};
+use ogg_command::{Command, Entry, Listed, Memory, NewStream, SkeletonHead};
 
 /// Appends the command's record. After `Memory` the vector is unchanged.
 pub fn write_command(command: &Command, out: &mut Vec<u8>) -> Result<(), Memory>

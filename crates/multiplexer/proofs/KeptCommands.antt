@@ -6,8 +6,8 @@ use Rattle.chain_rules.specs.ChainState.{chain_state_of}
 use Rattle.chain_rules.specs.Commands.{AreKept, bytes_of_commands, links_behind}
 use Rattle.chain_rules.specs.Decision.{decision}
 use Rattle.chain_rules.specs.Encoding.{command_bytes}
-use Rattle.chain_rules.specs.declared.command.Command.{Command}
-use Rattle.chain_rules.specs.declared.refusal.Refusal.{Refusal}
+use Rattle.ogg_command.specs.declared.command.Command.{Command}
+use Rattle.ogg_command.specs.declared.refusal.Refusal.{Refusal}
 use Rattle.feed_codec.specs.declared.reply.Reply.{Reply}
 use Rattle.feed_codec.specs.declared.reply.Reply.TheVariants.{Kept as KeptOf, Refused}
 use Rattle.multiplexer.specs.Progress.{Progress, AnsweredBy, AnswersAll, kept_of, with_command}

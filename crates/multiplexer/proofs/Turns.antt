@@ -6,8 +6,8 @@ use Rattle.std.specs.List.{flat_map, AllByRecursion}
 use Rattle.std.specs.Io.KnownBytes.{Consumes, Appends}
 use Rattle.chain_rules.specs.ChainState.{ChainState, chain_state_of}
 use Rattle.chain_rules.specs.Decision.{decision}
-use Rattle.chain_rules.specs.declared.command.Command.{Command}
-use Rattle.chain_rules.specs.declared.refusal.Refusal.{Refusal}
+use Rattle.ogg_command.specs.declared.command.Command.{Command}
+use Rattle.ogg_command.specs.declared.refusal.Refusal.{Refusal}
 use Rattle.feed_codec.specs.declared.reply.Kept.{Kept}
 use Rattle.feed_codec.specs.declared.reply.Reply.{Reply}
 use Rattle.feed_codec.specs.Record.{HasRecord, record_of}

@@ -4,9 +4,9 @@ use Rattle.ogg_page.specs.Page.{Page}
 use Rattle.chain_rules.specs.ChainState.{chain_state_of}
 use Rattle.chain_rules.specs.Encoding.{command_bytes, links_after}
 use Rattle.chain_rules.specs.Decision.{decision}
-use Rattle.chain_rules.specs.declared.command.Command.{Command}
-use Rattle.chain_rules.specs.declared.refusal.Refusal.{Refusal}
-use Rattle.chain_rules.specs.declared.refusal.Refusal.TheVariants.{Memory}
+use Rattle.ogg_command.specs.declared.command.Command.{Command}
+use Rattle.ogg_command.specs.declared.refusal.Refusal.{Refusal}
+use Rattle.ogg_command.specs.declared.refusal.Refusal.TheVariants.{Memory}
 use Rattle.feed_codec.specs.declared.reply.Reply.{Reply}
 use Rattle.feed_codec.specs.declared.reply.Reply.TheVariants.{Kept as KeptOf, Refused}
 

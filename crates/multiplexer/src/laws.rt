@@ -1,10 +1,10 @@
 //! What always holds of a run.
 ghost use Rattle.std.specs.Prelude.{◌≡◌, List, [], ℕ, length};
 ghost use Rattle.std.specs.List.{AllByRecursion};
-ghost use Rattle.chain_rules.specs.Command.{IsCommand};
+ghost use Rattle.ogg_command.specs.Command.{IsCommand};
 ghost use Rattle.chain_rules.specs.Commands.{AreKept, bytes_of_commands, links_behind};
 ghost use Rattle.chain_rules.specs.Recording.{Holds, after};
-ghost use Rattle.chain_rules.specs.declared.command.Command.{Command};
+ghost use Rattle.ogg_command.specs.declared.command.Command.{Command};
 ghost use Rattle.feed_codec.specs.declared.reply.Reply.{Reply};
 ghost use Rattle.multiplexer.specs.Progress.{Progress, at_start, AnswersAll, kept_of};
 

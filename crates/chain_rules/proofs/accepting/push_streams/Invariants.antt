@@ -1,6 +1,6 @@
 use Rattle.std.proofs.Common.{◌≡◌, ◌≤◌, ◌++◌, ◌+◌, map, take, vec_len}
 use Rattle.std.specs.Prelude.{vec_capacity}
-use Rattle.chain_rules.specs.declared.command.NewStream.{NewStream}
+use Rattle.ogg_command.specs.declared.command.NewStream.{NewStream}
 use Rattle.chain_rules.specs.Begun.{new_state}
 use Rattle.chain_rules.proofs.accepting.push_streams.Given as goal
 

@@ -1,7 +1,7 @@
 use Rattle.std.proofs.Common.{◌≡◌, ℕ, Bool, true, false, List, ◌+◌, ◌++◌, take, drop, sym, ◌∙◌, ap, Option}
 use Rattle.std.specs.Prelude.{is_some}
-use Rattle.chain_rules.specs.declared.command.NewStream.{NewStream}
-use Rattle.chain_rules.specs.declared.refusal.Refusal.{Refusal}
+use Rattle.ogg_command.specs.declared.command.NewStream.{NewStream}
+use Rattle.ogg_command.specs.declared.refusal.Refusal.{Refusal}
 use Rattle.chain_rules.specs.Begun.{skeleton_serial}
 use Rattle.chain_rules.specs.Rules.{first_broken}
 use Rattle.chain_rules.specs.Decision.{stream_rules, streams_rules}

@@ -4,7 +4,7 @@ use Rattle.chain_rules.specs.ChainState.{ChainState}
 use Rattle.chain_rules.specs.Begun.{skeleton_serial}
 use Rattle.chain_rules.specs.Rules.{first_broken}
 use Rattle.chain_rules.specs.Decision.{streams_rules}
-use Rattle.chain_rules.specs.declared.command.NewStream.{NewStream}
+use Rattle.ogg_command.specs.declared.command.NewStream.{NewStream}
 use Rattle.chain_rules.proofs.begin.broken_by_streams.Given as goal
 
 -- the streams so far broke no rule

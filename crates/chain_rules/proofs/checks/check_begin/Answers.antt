@@ -1,9 +1,9 @@
 use Rattle.std.proofs.Common.{◌≡◌, ℕ, false, List, [], refl, sym, ◌∙◌, ap, Option, Some, None}
-use Rattle.chain_rules.specs.declared.command.Command.{Command}
-use Rattle.chain_rules.specs.declared.command.Command.TheVariants.{Begin as BeginOf}
-use Rattle.chain_rules.specs.declared.command.Begin.{Begin}
-use Rattle.chain_rules.specs.declared.command.NewStream.{NewStream}
-use Rattle.chain_rules.specs.declared.refusal.Refusal.{Refusal}
+use Rattle.ogg_command.specs.declared.command.Command.{Command}
+use Rattle.ogg_command.specs.declared.command.Command.TheVariants.{Begin as BeginOf}
+use Rattle.ogg_command.specs.declared.command.Begin.{Begin}
+use Rattle.ogg_command.specs.declared.command.NewStream.{NewStream}
+use Rattle.ogg_command.specs.declared.refusal.Refusal.{Refusal}
 use Rattle.chain_rules.specs.ChainState.{ChainState}
 use Rattle.chain_rules.specs.Rules.{first_broken}
 use Rattle.chain_rules.specs.Decision.{decision, begin_rules, item_rules, parts_rules, room_rules, size_of}

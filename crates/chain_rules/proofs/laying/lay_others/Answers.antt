@@ -1,5 +1,5 @@
 use Rattle.std.proofs.Common.{List, ap, arith}
-use Rattle.chain_rules.specs.declared.command.NewStream.{NewStream}
+use Rattle.ogg_command.specs.declared.command.NewStream.{NewStream}
 use Rattle.chain_rules.specs.Encoding.{header_pages}
 use Rattle.chain_rules.specs.Size.{size_of_pages}
 use Rattle.chain_rules.proofs.ByteSizes.{size_within}

@@ -1,7 +1,7 @@
 use Rattle.std.proofs.Common.{◌≡◌, ◌+◌, ◌^◌, ◌≤◌, List, ◌++◌, length, refl, sym, ◌∙◌, ap, subst, arith, append_assoc}
 use Rattle.std.specs.List.{list_any}
 use Rattle.ogg_page.specs.Page.{bytes_of_pages}
-use Rattle.chain_rules.specs.declared.command.Entry.{Entry}
+use Rattle.ogg_command.specs.declared.command.Entry.{Entry}
 use Rattle.chain_rules.specs.declared.stream_state.StreamState.{StreamState}
 use Rattle.chain_rules.specs.Progress.{next_in, advanced, brought_to}
 use Rattle.chain_rules.specs.Places.{HaveOwnSerials, IsPlace}

@@ -1,5 +1,5 @@
 use Rattle.std.proofs.Common.{◌≡◌, ◌+◌, length, sum_by, take}
-use Rattle.chain_rules.specs.declared.command.Entry.{Entry}
+use Rattle.ogg_command.specs.declared.command.Entry.{Entry}
 use Rattle.chain_rules.proofs.runs.is_long_batch.Given as goal
 
 -- what is left of the limit behind the entries so far

@@ -1,6 +1,6 @@
 use Rattle.std.proofs.Common.{◌≡◌, ◌≤◌, ◌+◌, ◌*◌, length, sum_by}
 use Rattle.std.specs.List.{list_any, fold}
-use Rattle.chain_rules.specs.declared.command.Entry.{Entry}
+use Rattle.ogg_command.specs.declared.command.Entry.{Entry}
 use Rattle.chain_rules.specs.Encoding.{runs_of, pages_of_runs, with_run}
 use Rattle.chain_rules.specs.Size.{has_no_number, size_of_pages}
 use Rattle.chain_rules.specs.Places.{HaveOwnSerials}

@@ -2,7 +2,7 @@ use Rattle.std.proofs.Common.{ℕ, ◌+◌, ◌++◌, List, [], ◌∷◌, take,
 use Rattle.std.proofs.lemmas.List.Concat.{flat_map-append}
 use Rattle.ogg_page.specs.Page.{Page, page_bytes, bytes_of_pages}
 use Rattle.packetiser.specs.Run.{pages_of_run}
-use Rattle.chain_rules.specs.declared.command.NewStream.{NewStream}
+use Rattle.ogg_command.specs.declared.command.NewStream.{NewStream}
 use Rattle.chain_rules.specs.Encoding.{header, fisbone_packet, fisbone_pages}
 use Rattle.chain_rules.specs.Size.{size_of_pages}
 use Rattle.chain_rules.proofs.FisbonePages.{pages_more, size_more, size_behind}

@@ -1,6 +1,6 @@
 use Rattle.std.proofs.Common.{◌≡◌, ◌+◌, ◌++◌, List, [], ℕ, sym, ap, ◌∙◌, subst, arith}
 use Rattle.std.specs.List.{flat_map}
-use Rattle.chain_rules.specs.declared.command.Entry.{Entry}
+use Rattle.ogg_command.specs.declared.command.Entry.{Entry}
 use Rattle.feed_codec.specs.Record.{entry_bytes}
 use Rattle.feed_codec.specs.Payload.{AreMany, IsEntryOfFeed, BeginsNone}
 use Rattle.feed_codec.proofs.Spellings.{same_entry}

@@ -1,6 +1,6 @@
 use Rattle.std.proofs.Common.{◌≡◌, ◌+◌, ◌++◌, List, [], ℕ, sym, subst, arith}
 use Rattle.std.specs.List.{flat_map}
-use Rattle.chain_rules.specs.declared.command.NewStream.{NewStream}
+use Rattle.ogg_command.specs.declared.command.NewStream.{NewStream}
 use Rattle.feed_codec.specs.Record.{stream_bytes}
 use Rattle.feed_codec.specs.Payload.{AreMany, IsStreamOfFeed}
 use Rattle.feed_codec.proofs.Spellings.{same_stream}

@@ -1,6 +1,6 @@
 use Rattle.std.proofs.Common.{◌++◌, ◌∙◌, drop, sym, ap}
 use Rattle.std.specs.Prelude.{codes, decimal}
-use Rattle.chain_rules.specs.Refusal.{code_of, name_of}
+use Rattle.ogg_command.specs.Refusal.{code_of, name_of}
 use Rattle.feed_codec.specs.Reply.{reply_line, line_end}
 use Rattle.feed_codec.proofs.ReplyFacts.{ends_line, in_a_row}
 use Rattle.feed_codec.proofs.reply.put_line.Goals as goal

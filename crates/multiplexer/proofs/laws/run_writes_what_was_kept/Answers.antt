@@ -1,5 +1,5 @@
 use Rattle.std.proofs.Common.{[], arith, sym, subst}
-use Rattle.chain_rules.specs.Command.{IsCommand}
+use Rattle.ogg_command.specs.Command.{IsCommand}
 use Rattle.chain_rules.specs.Recording.{Holds, after}
 use Rattle.multiplexer.specs.Progress.{at_start, kept_of}
 use Rattle.multiplexer.proofs.KeptCommands.{came_to, each_kept}

@@ -1,7 +1,7 @@
 use Rattle.std.proofs.Common.{◌≡◌, Ok, subst}
-use Rattle.chain_rules.specs.declared.command.Command.{Command}
+use Rattle.ogg_command.specs.declared.command.Command.{Command}
 use Rattle.chain_rules.specs.Decision.{decision}
-use Rattle.chain_rules.specs.declared.command.Command.TheVariants.{Begin as BeginOf, Put as PutOf, End as EndOf}
+use Rattle.ogg_command.specs.declared.command.Command.TheVariants.{Begin as BeginOf, Put as PutOf, End as EndOf}
 use Rattle.chain_rules.proofs.Longer.{states_longer}
 use Rattle.chain_rules.proofs.shape.Shape.accept.Goals as goal
 

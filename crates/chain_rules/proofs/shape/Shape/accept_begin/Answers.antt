@@ -1,10 +1,10 @@
 use Rattle.std.proofs.Common.{◌≡◌, ◌≤◌, ◌+◌, ◌++◌, false, List, length, sum_by, sym, ap, ◌∙◌, subst, arith, vec_len, Option}
 use Rattle.std.specs.Prelude.{IfSome}
 use Rattle.std.specs.List.{list_any}
-use Rattle.chain_rules.specs.declared.command.Command.TheVariants.{Begin as BeginOf}
-use Rattle.chain_rules.specs.declared.command.Begin.{Begin}
-use Rattle.chain_rules.specs.declared.command.NewStream.{NewStream}
-use Rattle.chain_rules.specs.declared.command.SkeletonHead.{SkeletonHead}
+use Rattle.ogg_command.specs.declared.command.Command.TheVariants.{Begin as BeginOf}
+use Rattle.ogg_command.specs.declared.command.Begin.{Begin}
+use Rattle.ogg_command.specs.declared.command.NewStream.{NewStream}
+use Rattle.ogg_command.specs.declared.command.SkeletonHead.{SkeletonHead}
 use Rattle.chain_rules.specs.declared.stream_state.StreamState.{StreamState}
 use Rattle.chain_rules.specs.Begun.{stream_count, skeleton_serial, states_of, serials_in, has_more_pages}
 use Rattle.chain_rules.specs.ChainState.{ChainState}

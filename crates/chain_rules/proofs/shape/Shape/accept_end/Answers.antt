@@ -1,5 +1,5 @@
 use Rattle.std.proofs.Common.{◌≡◌, ◌<◌, ◌+◌, ◌^◌, ℕ, true, List, length, map, refl, sym, ap, ◌∙◌, subst, arith, vec_len}
-use Rattle.chain_rules.specs.declared.command.Command.TheVariants.{End as EndOf}
+use Rattle.ogg_command.specs.declared.command.Command.TheVariants.{End as EndOf}
 use Rattle.chain_rules.specs.declared.stream_state.StreamState.{StreamState}
 use Rattle.chain_rules.specs.ChainState.{ChainState}
 use Rattle.chain_rules.specs.Shape.{ShapeState}

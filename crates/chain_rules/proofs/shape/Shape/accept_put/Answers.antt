@@ -1,7 +1,7 @@
 use Rattle.std.proofs.Common.{◌≡◌, ◌+◌, ℕ, true, false, List, length, sym, ap, ◌∙◌, subst, arith, vec_len}
 use Rattle.std.specs.List.{fold, list_any}
-use Rattle.chain_rules.specs.declared.command.Command.TheVariants.{Put as PutOf}
-use Rattle.chain_rules.specs.declared.command.Put.{Put}
+use Rattle.ogg_command.specs.declared.command.Command.TheVariants.{Put as PutOf}
+use Rattle.ogg_command.specs.declared.command.Put.{Put}
 use Rattle.chain_rules.specs.declared.stream_state.StreamState.{StreamState}
 use Rattle.chain_rules.specs.ChainState.{ChainState}
 use Rattle.chain_rules.specs.Shape.{ShapeState}
@@ -10,7 +10,7 @@ use Rattle.chain_rules.specs.Size.{has_no_number, size_of_pages}
 use Rattle.chain_rules.specs.Decision.{decision}
 use Rattle.chain_rules.proofs.PutState.{put_state, grown}
 use Rattle.chain_rules.proofs.Kept.{PutFits, put_fits, kept_size}
-use Rattle.chain_rules.specs.declared.command.Entry.{Entry}
+use Rattle.ogg_command.specs.declared.command.Entry.{Entry}
 use Rattle.chain_rules.specs.Places.{HaveOwnSerials}
 use Rattle.chain_rules.proofs.OwnSerials.{own_runs}
 use Rattle.chain_rules.proofs.Lent.{given_back}

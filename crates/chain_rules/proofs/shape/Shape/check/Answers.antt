@@ -1,7 +1,7 @@
 use Rattle.std.proofs.Common.{ℕ, ◌+◌, ◌<◌, sym, subst, Result}
 use Rattle.std.specs.Prelude.{IfOk}
 use Rattle.chain_rules.specs.Limits.{longest_file}
-use Rattle.chain_rules.specs.declared.refusal.Refusal.{Refusal}
+use Rattle.ogg_command.specs.declared.refusal.Refusal.{Refusal}
 use Rattle.chain_rules.proofs.Kept.{size_fits}
 use Rattle.chain_rules.proofs.shape.Shape.check.Goals as goal
 

@@ -2,7 +2,7 @@ use Rattle.std.proofs.Common.{◌≡◌, ◌≤◌, ◌<◌, ◌+◌, ◌++◌, 
 use Rattle.std.specs.Prelude.{OnOk, OnErr, IfSome, vec_capacity}
 use Rattle.std.specs.List.{list_any}
 use Rattle.ogg_page.specs.Page.{bytes_of_pages}
-use Rattle.chain_rules.specs.declared.command.NewStream.{NewStream}
+use Rattle.ogg_command.specs.declared.command.NewStream.{NewStream}
 use Rattle.chain_rules.specs.Decision.{header_bytes, has_many_headers, has_long_media}
 use Rattle.chain_rules.specs.Encoding.{pages_of_command, pages_of_begin}
 use Rattle.chain_rules.specs.Size.{size_of_pages}

@@ -2,7 +2,7 @@ use Rattle.std.proofs.Common.{◌≡◌, ◌≤◌, ◌<◌, ◌+◌, ◌++◌, 
 use Rattle.std.specs.Prelude.{OnOk, OnErr, vec_capacity}
 use Rattle.std.specs.List.{list_any}
 use Rattle.ogg_page.specs.Page.{Page, bytes_of_pages}
-use Rattle.chain_rules.specs.declared.command.Entry.{Entry}
+use Rattle.ogg_command.specs.declared.command.Entry.{Entry}
 use Rattle.chain_rules.specs.declared.stream_state.StreamState.{StreamState}
 use Rattle.chain_rules.specs.Shape.{ShapeState}
 use Rattle.chain_rules.specs.Encoding.{pages_of_command, pages_of_runs, runs_of}

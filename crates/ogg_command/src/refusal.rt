@@ -1,6 +1,6 @@
 //! Why a command is refused.
 ghost use Rattle.std.specs.Prelude.{◌≡◌};
-ghost use Rattle.chain_rules.specs.Refusal.{code_of, name_of, IsMemory};
+ghost use Rattle.ogg_command.specs.Refusal.{code_of, name_of, IsMemory};
 
 use std::alloc::AllocError;
 use thiserror::Error;

@@ -1,7 +1,7 @@
 -- The numbers and names of refusals. They are ours.
 use Rattle.std.specs.Prelude.{◌≡◌, ℕ, List, codes}
-use Rattle.chain_rules.specs.declared.refusal.Refusal.{Refusal}
-use Rattle.chain_rules.specs.declared.refusal.Refusal.TheVariants.{Failed, LinkOpen, NoLink, Empty, TooMany, SerialTaken, NoHeader, HeadTooLong, PacketTooLong, BadType, BadRate, UnknownSerial, StreamEnded, PositionRange, PositionBack, BatchTooLong, SequenceEnd, LinksFull, FileFull, Memory, Disk}
+use Rattle.ogg_command.specs.declared.refusal.Refusal.{Refusal}
+use Rattle.ogg_command.specs.declared.refusal.Refusal.TheVariants.{Failed, LinkOpen, NoLink, Empty, TooMany, SerialTaken, NoHeader, HeadTooLong, PacketTooLong, BadType, BadRate, UnknownSerial, StreamEnded, PositionRange, PositionBack, BatchTooLong, SequenceEnd, LinksFull, FileFull, Memory, Disk}
 
 abbrev pub code_of : Refusal → ℕ
 code_of Failed = 1
