@@ -4,3 +4,5 @@ pub mod NumberBytes
 pub mod Vectors
 pub mod Slices
 pub mod Tables
+pub mod Room
+pub mod Step

@@ -11,3 +11,8 @@ pub mod PageLaws
 pub mod ReadingLaws
 pub mod PagesLaws
 pub mod Laws
+pub mod Source
+pub mod Window
+pub mod WindowFault
+pub mod LentPage
+pub mod Room

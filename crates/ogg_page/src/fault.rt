@@ -1,6 +1,7 @@
-//! What can go wrong with a page, and with a writer.
+//! What can go wrong with a page, with a writer, and with a source of pages.
 ghost use Rattle.std.specs.Prelude.{◌≡◌};
 ghost use Rattle.ogg_page.specs.PageFault.{code_of, name_of};
+ghost use Rattle.ogg_page.specs.WindowFault.{code_of as window_code_of, name_of as window_name_of};
 
 use thiserror::Error;
 
@@ -51,3 +52,41 @@ impl PageFault {
 #[derive(Clone, Copy, Debug, PartialEq, Eq, Error)]
 #[error("writing failed")]
 pub struct WriteFault;
+
+/// A source couldn't be read.
+#[derive(Clone, Copy, Debug, PartialEq, Eq, Error)]
+#[error("the source can't be read")]
+pub struct SourceFault;
+
+/// Why a window lends no further page.
+#[derive(Clone, Copy, Debug, PartialEq, Eq, Error)]
+pub enum WindowFault {
+    /// The source couldn't be read.
+    #[error("the source can't be read")]
+    Source,
+    /// No page begins at this offset of the source, and what is wrong there.
+    #[error("no page begins at byte {0}: {1}")]
+    Page(u64, PageFault),
+}
+
+impl WindowFault {
+    /// The fault's number.
+    pub fn code(self) -> u8
+        ensures { result ≡ window_code_of self }
+    {
+        match self {
+            WindowFault::Source => 1,
+            WindowFault::Page(_, _) => 2,
+        }
+    }
+
+    /// The fault's name.
+    pub fn name(self) -> &'static str
+        ensures { result.now ≡ window_name_of self }
+    {
+        match self {
+            WindowFault::Source => "Source",
+            WindowFault::Page(_, _) => "Page",
+        }
+    }
+}

@@ -1,8 +1,11 @@
 //! What always holds of pages.
 ghost use Rattle.std.specs.Prelude.{◌≡◌, ◌≤◌, ◌++◌, List, ℕ, take};
+ghost use Rattle.std.specs.Prelude.{Result};
 ghost use Rattle.std.specs.Iterator.{Drains};
 ghost use Rattle.ogg_page.specs.Page.{Page, IsPage, AreBytes, page_bytes};
-ghost use Rattle.ogg_page.specs.Pages.{AreFoundIn, BeginsWithPages, FoundPage, NextPage, found_in};
+ghost use Rattle.ogg_page.specs.Pages.{AreFoundIn, BeginsWithPages, FoundPage, NextPage, PagesLeft, found_in};
+ghost use Rattle.ogg_page.specs.Window.{AreAll, IsRun, LentAt};
+ghost use Rattle.ogg_page.specs.declared.fault.WindowFault.{WindowFault};
 ghost use Rattle.ogg_page.specs.Reading.{page_at};
 
 /// Where two pages begin the same bytes, they are one page, and the same bytes follow. So the bytes
@@ -32,4 +35,11 @@ pub fn pages_are_found_in_turn()
 /// in front: the page, or the first fault.
 pub fn page_shows_in_its_front()
     ensures { (n : ℕ) (bytes : List ℕ) → AreBytes (take n bytes) → 65307 ≤ n → page_at (take n bytes) ≡ page_at bytes }
+{}
+
+/// What a window lends, call by call up to its end or its first fault, is what is found in the
+/// bytes of its range, with offsets in the source. Where the source fails, it is what is found
+/// first.
+pub fn lent_pages_are_those_found()
+    ensures { (left : PagesLeft) (lent : List LentAt) (end : Result (Unit {0}) WindowFault) → IsRun left lent end → AreAll (found_in left.offset left.bytes) lent end }
 {}

@@ -5,6 +5,9 @@
 //! refused. Reading lends the parts of the page at the front of bytes, and takes no memory. The
 //! bytes of no page begin those of another, so bytes are joined pages in one way at most.
 //!
+//! A file may be larger than memory: a `Window` over a `PageSource` lends its pages one at a time, out
+//! of the room of one `PageBuffer`.
+//!
 //! The formats of the crates above are numbers too, the lowest byte first: `specs/Numbers.antt` spells
 //! them, and `take_u8` to `take_fraction` take them off the front of bytes.
 //!
@@ -12,32 +15,42 @@
 //! says what packets the pages of a stream hold.
 #![tactic(auto)]
 
+mod buffer;
 mod crc;
 mod fault;
+mod finding;
 mod head;
+mod held;
 mod lacing;
 mod laws;
+mod lent;
 mod numbers;
 mod output;
 mod page;
 mod pages;
 mod reading;
+mod source;
 mod table;
+mod window;
 mod writing;
 
+pub use buffer::PageBuffer;
 pub use crc::checksum;
-pub use fault::{PageFault, WriteFault};
+pub use fault::{PageFault, SourceFault, WindowFault, WriteFault};
 pub use head::PageHead;
 pub use laws::{
-    longest_prefix_of_pages_is_unique, page_bytes_are_prefix_free, page_shows_in_its_front,
-    pages_are_found_in_turn, pages_are_the_longest_prefix,
+    lent_pages_are_those_found, longest_prefix_of_pages_is_unique, page_bytes_are_prefix_free,
+    page_shows_in_its_front, pages_are_found_in_turn, pages_are_the_longest_prefix,
 };
+pub use lent::LentPage;
 pub use numbers::{take_fraction, take_i64, take_u8, take_u16, take_u32, take_u64};
 pub use output::write_whole;
 pub use page::Page;
 pub use pages::Pages;
 pub use reading::{read_page, split_known_page, split_page};
+pub use source::{PageSource, Whole};
 pub use std::alloc::AllocError as Memory;
+pub use window::Window;
 pub use writing::{close_page, open_page, write_page};
 
 #[cfg(test)]

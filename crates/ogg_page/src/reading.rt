@@ -1,8 +1,9 @@
 //! Pages from bytes.
 ghost use Rattle.std.specs.Prelude.{◌≡◌, ◌≤◌, ◌+◌, ◌++◌, length, drop, IfOk, IsOk, MatchResult, Ok, Err, List, ℕ};
 ghost use Rattle.byteorder.specs.Endian.{little_number};
-ghost use Rattle.ogg_page.specs.Page.{Page as PageValue, IsPage, page_bytes, page_size};
-ghost use Rattle.ogg_page.specs.Reading.{page_at, blanked, IsPageOf};
+ghost use Rattle.ogg_page.specs.Page.{Page as PageValue, IsPage, AreBytes, page_bytes, page_size};
+ghost use Rattle.ogg_page.specs.Reading.{page_at, fields_at, blanked, IsPageOf};
+ghost use Rattle.ogg_page.specs.Room.{BeginsWithPage};
 ghost use Rattle.ogg_page.specs.Checksum.{checksum_of};
 
 use crate::crc::{checksum, checksum_on};
@@ -54,6 +55,23 @@ pub fn split_known_page(bytes: &[u8]) -> (Page<'_>, &[u8])
     let size = body_size(bytes.split_at(FIXED).1.split_at(values).0);
     let page = page_in_front(bytes, values, size);
     (page, bytes.split_at(FIXED + values + size).1)
+}
+
+/// The size of the page that the bytes begin with.
+pub(crate) fn size_in_front(bytes: &[u8]) -> Result<usize, PageFault>
+    ensures bytes { AreBytes bytes.now }
+    ensures found { MatchResult result (λ size. BeginsWithPage bytes.now size) (λ fault. page_at bytes.now ≡ Err fault) }
+{
+    let page = read_page(bytes)?;
+    Ok(page.whole().len())
+}
+
+/// The page that is known to be these bytes.
+pub(crate) fn known_page(bytes: &[u8]) -> Page<'_>
+    requires { page_at bytes.now ≡ Ok (fields_at bytes.now) }
+    ensures { result ≡ fields_at bytes.now }
+{
+    split_known_page(bytes).0
 }
 
 /// How many lacing values and how many bytes of body the page at the front has.
