@@ -6,7 +6,7 @@ use Rattle.std.specs.Bool.{MatchBool}
 use Rattle.std.specs.List.{All, IsFirstMatchOrLen, slice_split}
 use Rattle.std.specs.Option.{is_some, option_or, option_and_then}
 use Rattle.std.specs.Str.Lines.{strip_carriage_return}
-use Rattle.skeleton3.specs.Fields.{Field, field_of, fields_of_lines, is_content_type}
+use Rattle.skeleton3.specs.Fields.{NamedValue, field_of, fields_of_lines, is_content_type}
 
 -- the bytes that end a line
 abbrev pub is_feed : ℕ → Bool
@@ -28,11 +28,11 @@ one_piece rest piece behind false e h =
     let hit : is_feed e.0 ≡ true = let a = h.1 (grind (arith, common_steps)) e.0 in grind (arith, common_steps) in
     ap (slice_split is_feed) same ∙ slice_split_at is_feed piece e.0 behind front hit
 
-abbrev lines_of_pieces : List (List ℕ) → List (List ℕ)
+abbrev pub lines_of_pieces : List (List ℕ) → List (List ℕ)
 lines_of_pieces pieces = filter (λ line. not (length line == 0)) (map strip_carriage_return pieces)
 
 -- the media type, where this one was found before these fields
-abbrev chosen : Option (List ℕ) → List Field → Option (List ℕ)
+abbrev chosen : Option (List ℕ) → List NamedValue → Option (List ℕ)
 chosen found fields = option_or found (option_map (λ field. field.1) (find (λ field. is_content_type field.0) fields))
 
 -- the media type, where this one was found before these pieces
@@ -63,37 +63,37 @@ no_field found piece pieces isnt none =
     ∙ ap (λ field. option_and_then (chosen found) (option_and_then (λ f. option_map (λ fs. f ∷ fs) (fields_of_lines (lines_of_pieces pieces))) field)) none
 
 -- what a field makes of what was found
-abbrev pub chosen_with : Option (List ℕ) → Field → Option (List ℕ)
+abbrev pub chosen_with : Option (List ℕ) → NamedValue → Option (List ℕ)
 chosen_with found field = option_or found (cond (is_content_type field.0) (Some field.1) None)
 
-in_front : (found : Option (List ℕ)) (field : Field) (fields : List Field) (b : Bool) →
+in_front : (found : Option (List ℕ)) (field : NamedValue) (fields : List NamedValue) (b : Bool) →
     option_or found (option_map (λ f. f.1) (cond b (Some field) (find (λ f. is_content_type f.0) fields))) ≡ chosen (option_or found (cond b (Some field.1) None)) fields
 in_front (Some media) field fields b = refl
 in_front None field fields true = refl
 in_front None field fields false = refl
 
-in_front_of : (found : Option (List ℕ)) (field : Field) (rest : Option (List Field)) → option_and_then (chosen found) (option_map (λ fs. field ∷ fs) rest) ≡ option_and_then (chosen (chosen_with found field)) rest
+in_front_of : (found : Option (List ℕ)) (field : NamedValue) (rest : Option (List NamedValue)) → option_and_then (chosen found) (option_map (λ fs. field ∷ fs) rest) ≡ option_and_then (chosen (chosen_with found field)) rest
 in_front_of found field None = refl
 in_front_of found field (Some fields) = in_front found field fields (is_content_type field.0)
 
 -- a line's field is chosen if none was, and it is named Content-Type
-pub one_field : (found : Option (List ℕ)) (piece : List ℕ) (pieces : List (List ℕ)) (field : Field) → (length (strip_carriage_return piece) == 0) ≡ false
+pub one_field : (found : Option (List ℕ)) (piece : List ℕ) (pieces : List (List ℕ)) (field : NamedValue) → (length (strip_carriage_return piece) == 0) ≡ false
     → field_of (strip_carriage_return piece) ≡ Some field → media_from found (piece ∷ pieces) ≡ media_from (chosen_with found field) pieces
 one_field found piece pieces field isnt is =
-    let rest : Option (List Field) = fields_of_lines (lines_of_pieces pieces) in
+    let rest : Option (List NamedValue) = fields_of_lines (lines_of_pieces pieces) in
     with_line found piece pieces isnt
     ∙ ap (λ o. option_and_then (chosen found) (option_and_then (λ f. option_map (λ fs. f ∷ fs) rest) o)) is
     ∙ in_front_of found field rest
 
-pub chosen_now : (found : Option (List ℕ)) (field : Field) → is_some found ≡ false → is_content_type field.0 ≡ true → chosen_with found field ≡ Some field.1
+pub chosen_now : (found : Option (List ℕ)) (field : NamedValue) → is_some found ≡ false → is_content_type field.0 ≡ true → chosen_with found field ≡ Some field.1
 chosen_now None field none is = ap (λ b. cond b (Some field.1) None) is
 chosen_now (Some media) field none is = absurd (cc none)
 
-pub not_chosen : (found : Option (List ℕ)) (field : Field) → is_content_type field.0 ≡ false → chosen_with found field ≡ found
+pub not_chosen : (found : Option (List ℕ)) (field : NamedValue) → is_content_type field.0 ≡ false → chosen_with found field ≡ found
 not_chosen None field isnt = ap (λ b. cond b (Some field.1) None) isnt
 not_chosen (Some media) field isnt = refl
 
-pub chosen_before : (found : Option (List ℕ)) (field : Field) → is_some found ≡ true → chosen_with found field ≡ found
+pub chosen_before : (found : Option (List ℕ)) (field : NamedValue) → is_some found ≡ true → chosen_with found field ≡ found
 chosen_before None field some = absurd (cc some)
 chosen_before (Some media) field some = refl
 

@@ -1,19 +1,23 @@
 -- The packet of a fisbone holds no other, and has no fault.
 use Rattle.std.proofs.Common.{◌≡◌, ℕ, ◌+◌, ◌<◌, ◌≤◌, ◌^◌, List, [], ◌∷◌, ◌++◌, length, take, drop, Bool, false, cond, not, Option, Some, None, unwrap_or, codes, refl, sym, ap, ◌∙◌, arith, length-append}
 use Rattle.std.proofs.Math.Seq.{drop-append_seam}
+use Rattle.std.proofs.lemmas.List.{append-nil}
 use Rattle.std.proofs.lemmas.Bool.{le-ltb}
 use Rattle.std.specs.Int.{w64}
 use Rattle.std.specs.Option.{is_some}
+use Rattle.std.specs.Prelude.{Result, Err}
+use Rattle.std.specs.Result.{result_err}
 use Rattle.std.specs.Prelude.{FitsSigned}
 use Rattle.std.specs.Str.{bytes_eq}
 use Rattle.ogg_page.specs.Numbers.{u32_bytes, i64_bytes, fraction_bytes, IsFraction}
-use Rattle.skeleton3.specs.Fields.{content_type, media_in, IsFieldValue}
-use Rattle.skeleton3.specs.Fisbone.{Fisbone, HoldsFisbone, IsFisbone, fisbone_name, fixed_part, fisbone_bytes, fisbone_fault}
+use Rattle.skeleton3.specs.Fields.{NamedValue, content_type, media_in, message_of, IsField, IsFieldValue}
+use Rattle.std.specs.List.{AllByRecursion}
+use Rattle.skeleton3.specs.Fisbone.{Fisbone, HoldsFisbone, IsFisbone, fisbone_name, fixed_part, fisbone_bytes, fisbone_bytes_with, fisbone_fault}
 use Rattle.skeleton3.specs.declared.fault.SkeletonFault.{SkeletonFault}
 use Rattle.skeleton3.specs.declared.fault.SkeletonFault.TheVariants.{Length, Name, Fields}
 use Rattle.ogg_page.proofs.NumberBytes.{behind_u32, same_u32, same_i64, same_fraction}
 use Rattle.ogg_page.proofs.Prefixes.{same_fronts}
-use Rattle.skeleton3.proofs.MediaFacts.{written_is_read}
+use Rattle.skeleton3.proofs.WrittenFields.{media_is_read}
 
 length-fixed_part : (offset : ℕ) (padding : List ℕ) (fisbone : Fisbone) → length padding ≡ 3 → length (fixed_part offset padding fisbone) ≡ 52
 unfolding fixed_part u32_bytes i64_bytes
@@ -65,6 +69,10 @@ held_has_no_fault packet fisbone holds =
     ∙ fault_behind holds.offset holds.padding holds.message fisbone holds.three
     ∙ ap (λ media. cond (not (is_some media)) (Some Fields) None) holds.media
 
+-- what has no fault isn't one
+pub has_no_fault : {X : Type 0} (outcome : Result X SkeletonFault) (fault : SkeletonFault) → outcome ≡ Err fault → result_err outcome ≡ None → ⊥
+has_no_fault outcome fault is none = cc (ap result_err is)
+
 -- the packet that is written holds the fisbone
 pub written_holds : (packet : List ℕ) (fisbone : Fisbone) → IsFieldValue fisbone.media → packet ≡ fisbone_bytes fisbone → HoldsFisbone packet fisbone
 written_holds packet fisbone value same =
@@ -75,7 +83,25 @@ written_holds packet fisbone value same =
       small = omega arith;
       three = refl;
       spelled = same;
-      media = written_is_read fisbone.media value;
+      media = ap media_in (sym (append-nil (content_type fisbone.media))) ∙ media_is_read fisbone.media [] value tt;
+    }
+
+-- a packet that is written with message fields has them from byte 52 on
+pub message_behind : (packet : List ℕ) (fisbone : Fisbone) (fields : List NamedValue) → packet ≡ fisbone_bytes_with fields fisbone → drop 52 packet ≡ message_of fisbone.media fields
+message_behind packet fisbone fields same = ap (drop 52) same ∙ behind_fixed_part 44 (0 ∷ 0 ∷ 0 ∷ []) (message_of fisbone.media fields) fisbone refl
+
+-- the packet that is written with message fields holds the fisbone
+pub written_with_holds : (packet : List ℕ) (fisbone : Fisbone) (fields : List NamedValue) → IsFieldValue fisbone.media → AllByRecursion IsField fields
+    → packet ≡ fisbone_bytes_with fields fisbone → HoldsFisbone packet fisbone
+written_with_holds packet fisbone fields value are same =
+    record {
+      offset = 44;
+      padding = 0 ∷ 0 ∷ 0 ∷ [];
+      message = message_of fisbone.media fields;
+      small = omega arith;
+      three = refl;
+      spelled = same;
+      media = media_is_read fisbone.media fields value are;
     }
 
 -- the whole packet, one part after the other

@@ -4,3 +4,5 @@ pub mod MediaFacts
 pub mod FisheadFacts
 pub mod FisboneFacts
 mod Examples
+pub mod LineFacts
+pub mod WrittenFields

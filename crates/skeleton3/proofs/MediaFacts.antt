@@ -1,16 +1,11 @@
 -- The media type: what is written of it is read so.
-use Rattle.std.proofs.Common.{◌≡◌, ℕ, zero, suc, ◌+◌, ◌-◌, ◌<◌, ◌≤◌, List, [], ◌∷◌, ◌++◌, length, take, drop, get_or, Bool, true, false, cond, not, ◌&&◌, ◌||◌, ◌==◌, nat_eq, nat_le, Some, None, option_map, codes, refl, sym, ap, ◌∙◌, arith, rules, append_assoc, length-append, drop-cons}
+use Rattle.std.proofs.Common.{◌≡◌, ◌≢◌, ℕ, zero, suc, ◌+◌, ◌-◌, ◌<◌, ◌≤◌, List, [], ◌∷◌, length, take, drop, get_or, Bool, true, false, not, ◌&&◌, ◌||◌, ◌==◌, nat_eq, nat_le, refl, sym, ap, ◌∙◌, arith, drop-cons}
 use Rattle.std.proofs.Math.ListN.{drop_of_length-le}
-use Rattle.std.proofs.Math.Seq.{take-append_seam, get_or-append_seam}
-use Rattle.std.proofs.lemmas.Bool.{and_parts, or_parts, not-true, lt-ltb, leb-true, ne_eqb, eq-eqb, eqb-false, cond-true}
+use Rattle.std.proofs.lemmas.Bool.{and_parts, or_parts, not-true, leb-true, ne_eqb, eqb-false}
 use Rattle.std.proofs.lemmas.List.{take_all}
-use Rattle.std.proofs.lemmas.List.Elements.{All-append, All-from_recursion}
-use Rattle.std.proofs.lemmas.List.Splits.{slice_split_at}
 use Rattle.std.proofs.lemmas.List.Sums.{prefix_len_is, suffix_len_is}
-use Rattle.std.specs.List.{All, AllByRecursion, list_all, list_any, slice_split, prefix_len, suffix_len}
-use Rattle.std.specs.Str.Lines.{strip_carriage_return}
-use Rattle.skeleton3.specs.Fields.{Field, is_media_type, IsFieldValue, is_blank, trimmed, without_end_blanks, content_type, media_in, field_of, first_colon}
-use Rattle.skeleton3.proofs.FieldFacts.{is_feed, media_from, nothing_left, empty_line, one_field, chosen_now}
+use Rattle.std.specs.List.{list_all, list_any, prefix_len, suffix_len}
+use Rattle.skeleton3.specs.Fields.{NamedValue, is_media_type, is_name_byte, is_field, IsField, IsFieldValue, is_blank, trimmed, without_end_blanks}
 
 abbrev is_printable : ℕ → Bool
 is_printable c = nat_le 0x20 c && nat_le c 0x7e
@@ -59,52 +54,29 @@ media_is_value media h =
     }
 
 -- a space in front of a value is dropped
-trimmed_behind_space : (value : List ℕ) → trimmed value ≡ value → trimmed (32 ∷ value) ≡ value
+pub trimmed_behind_space : (value : List ℕ) → trimmed value ≡ value → trimmed (32 ∷ value) ≡ value
 trimmed_behind_space value h =
     let next : 1 + prefix_len is_blank value ≡ suc (prefix_len is_blank value) = omega arith in
     ap (λ n. without_end_blanks (drop n (32 ∷ value))) next ∙ h
 
--- the line of the field that is written
-abbrev media_line : List ℕ → List ℕ
-media_line media = codes "Content-Type: " ++ media
+-- a byte of a name is neither LF nor a colon
+name_byte : (b : ℕ) → is_name_byte b ≡ true → (b ≢ 10) × (b ≢ 58)
+name_byte b is = (λ e. cc (ap is_name_byte e, is), λ e. cc (ap is_name_byte e, is))
 
-its_colon : (media : List ℕ) → first_colon (media_line media) ≡ Some 12
-its_colon media = cond-true _ (Some 12) None (lt-ltb 12 (length (media_line media)) (omega (arith, length-append (codes "Content-Type: ") media)))
+name_byte_at : (name : List ℕ) (k d : ℕ) → list_all is_name_byte name ≡ true → k < length name → is_name_byte (get_or name k d) ≡ true
+name_byte_at [] k d all l = absurd (omega arith)
+name_byte_at (x ∷ xs) zero d all l = (and_parts _ _ all).0
+name_byte_at (x ∷ xs) (suc k) d all l = name_byte_at xs k d (and_parts _ _ all).1 (omega arith)
 
-its_field : (media : List ℕ) → IsFieldValue media → field_of (media_line media) ≡ Some (codes "Content-Type", media)
-its_field media h =
-    ap (option_map (λ at. (take at (media_line media), trimmed (drop (at + 1) (media_line media))))) (its_colon media)
-    ∙ ap (λ value. Some (codes "Content-Type", value)) (trimmed_behind_space media h.ends)
-
-abbrev piece_of : List ℕ → List ℕ
-piece_of media = media_line media ++ 13 ∷ []
-
-its_pieces : (media : List ℕ) → IsFieldValue media → slice_split is_feed (content_type media) ≡ piece_of media ∷ [] ∷ []
-its_pieces media h =
-    let P : ℕ → Type 0 = λ b. is_feed b ≡ false in
-    let name : AllByRecursion P (codes "Content-Type: ") = search rules in
-    let last : AllByRecursion P (13 ∷ []) = (refl, tt) in
-    let no_feed : All P (piece_of media) =
-    All-append P (media_line media) (13 ∷ [])
-    (All-append P (codes "Content-Type: ") media (All-from_recursion P (codes "Content-Type: ") name) (λ k d l. ne_eqb _ 10 (h.line k d l)))
-    (All-from_recursion P (13 ∷ []) last) in
-    ap (slice_split is_feed) (sym (append_assoc (media_line media) (13 ∷ []) (10 ∷ []))) ∙ slice_split_at is_feed (piece_of media) 10 [] no_feed refl
-
-its_line : (media : List ℕ) → strip_carriage_return (piece_of media) ≡ media_line media
-its_line media =
-    let line : List ℕ = media_line media in
-    let size : length (line ++ 13 ∷ []) - 1 ≡ length line = omega (arith, length-append line (13 ∷ [])) in
-    ap (λ n. cond (get_or (line ++ 13 ∷ []) n 0 == 13) (take n (line ++ 13 ∷ [])) (line ++ 13 ∷ [])) size
-    ∙ cond-true _ (take (length line) (line ++ 13 ∷ [])) (line ++ 13 ∷ []) (eq-eqb _ 13 (get_or-append_seam line 13 [] 0))
-    ∙ take-append_seam line (13 ∷ [])
-
-pub written_is_read : (media : List ℕ) → IsFieldValue media → media_in (content_type media) ≡ Some media
-written_is_read media h =
-    let field : Field = (codes "Content-Type", media) in
-    let some : (length (strip_carriage_return (piece_of media)) == 0) ≡ false =
-    ne_eqb _ _ (λ e. omega (arith, ap length (its_line media), length-append (codes "Content-Type: ") media, e)) in
-    ap (media_from None) (its_pieces media h)
-    ∙ one_field None (piece_of media) ([] ∷ []) field some (ap field_of (its_line media) ∙ its_field media h)
-    ∙ ap (λ found. media_from found ([] ∷ [])) (chosen_now None field refl refl)
-    ∙ empty_line (Some media) [] [] refl
-    ∙ nothing_left (Some media)
+-- the field of a command can be carried
+pub field_is_field : (field : NamedValue) → is_field field ≡ true → IsField field
+field_is_field field h =
+    let parts = and_parts _ _ h in
+    let named = and_parts _ _ parts.0 in
+    let bytes = (and_parts _ _ named.0).1 in (
+      record {
+        line = λ k d l. (name_byte _ (name_byte_at field.0 k d bytes l)).0;
+        colon = λ k d l. (name_byte _ (name_byte_at field.0 k d bytes l)).1;
+      },
+      media_is_value field.1 parts.1,
+    )

@@ -5,7 +5,7 @@ use Rattle.std.specs.Int.{w64}
 use Rattle.std.specs.Str.{bytes_eq}
 use Rattle.ogg_page.specs.Numbers.{u32_bytes, i64_bytes, fraction_bytes, IsFraction}
 use Rattle.ogg_page.specs.Page.{IsByte}
-use Rattle.skeleton3.specs.Fields.{content_type, media_in}
+use Rattle.skeleton3.specs.Fields.{NamedValue, content_type, media_in, message_of}
 use Rattle.skeleton3.specs.declared.fault.SkeletonFault.{SkeletonFault}
 use Rattle.skeleton3.specs.declared.fault.SkeletonFault.TheVariants.{Length, Name, Fields}
 use Rattle.skeleton3.specs.declared.fisbone.Fisbone.{Fisbone as LentFisbone}
@@ -49,6 +49,10 @@ fisbone_with offset padding message fisbone = fixed_part offset padding fisbone 
 -- the packet as it is written: the media type is the one message field, the padding is zero
 abbrev pub fisbone_bytes : Fisbone → List ℕ
 fisbone_bytes fisbone = fisbone_with 44 (0 ∷ 0 ∷ 0 ∷ []) (content_type fisbone.media) fisbone
+
+-- the packet as it is written with further message fields
+abbrev pub fisbone_bytes_with : List NamedValue → Fisbone → List ℕ
+fisbone_bytes_with fields fisbone = fisbone_with 44 (0 ∷ 0 ∷ 0 ∷ []) (message_of fisbone.media fields) fisbone
 
 -- each number is in its field's range, as it is in every fisbone of a program
 pub record IsFisbone (fisbone : Fisbone) : Type 0 where

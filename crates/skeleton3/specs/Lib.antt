@@ -2,3 +2,4 @@ pub mod SkeletonFault
 pub mod Fields
 pub mod Fishead
 pub mod Fisbone
+pub mod FisboneLaws

@@ -4,7 +4,7 @@ ghost use Rattle.std.specs.Str.Lines.{strip_carriage_return};
 ghost use Rattle.skeleton3.specs.Fields.{first_colon, trimmed, field_of, is_content_type, media_in, shown};
 
 /// The piece without the CR at its end, if it has one.
-fn without_return(piece: &[u8]) -> &[u8]
+pub(crate) fn without_return(piece: &[u8]) -> &[u8]
     ensures { result.now ≡ strip_carriage_return piece.now }
 {
     match piece {
@@ -34,14 +34,14 @@ fn first_colon(line: &[u8]) -> Option<usize>
 }
 
 /// The name before the line's first colon, and the value behind it.
-fn field_of(line: &[u8]) -> Option<(&[u8], &[u8])>
+pub(crate) fn field_of(line: &[u8]) -> Option<(&[u8], &[u8])>
     ensures { option_map shown result ≡ field_of line.now }
 {
     let colon = first_colon(line)?;
     Some((&line[..colon], trimmed(&line[colon + 1..])))
 }
 
-fn is_content_type(name: &[u8]) -> bool
+pub(crate) fn is_content_type(name: &[u8]) -> bool
     ensures { result ≡ is_content_type name.now }
 {
     name.eq_ignore_ascii_case(b"content-type")

@@ -1,19 +1,26 @@
 //! The packet of a stream in a Skeleton.
-ghost use Rattle.std.specs.Prelude.{◌≡◌, [], ◌∷◌, ◌+◌, ◌≤◌, ◌<◌, ◌++◌, length, IfOk, Ok, IsOkAnd, OnOk, OnErr, vec_len, vec_capacity};
+ghost use Rattle.std.specs.Prelude.{◌≡◌, List, [], ◌∷◌, ◌+◌, ◌-◌, ◌^◌, ◌≤◌, ◌<◌, ◌++◌, length, min, drop, codes, Some, IfOk, Ok, IsOkAnd, OnOk, OnErr, vec_len, vec_capacity};
+ghost use Rattle.std.specs.List.{AllByRecursion, flat_map};
 ghost use Rattle.std.specs.Result.{result_err};
 ghost use Rattle.arrayvec.specs.ArrayVec.{array_vec_len};
-ghost use Rattle.skeleton3.specs.Fields.{IsFieldValue};
-ghost use Rattle.skeleton3.specs.Fisbone.{Fisbone as FisboneValue, HoldsFisbone, IsFisbone, fisbone_of, fisbone_bytes, fisbone_fault, fixed_part};
+ghost use Rattle.skeleton3.specs.Fields.{NamedValue, IsField, IsFieldValue, field_line, fields_of};
+ghost use Rattle.skeleton3.specs.Fisbone.{Fisbone as FisboneValue, HoldsFisbone, IsFisbone, fisbone_of, fisbone_bytes, fisbone_bytes_with, fisbone_fault, fixed_part};
 
 use crate::Memory;
 use crate::fault::SkeletonFault;
+use crate::field::Field;
 use crate::fields::media_in;
+use crate::message::MessageFields;
 use arrayvec::ArrayVec;
 use byteorder::{ByteOrder, LittleEndian};
 use ogg_page::{take_fraction, take_i64, take_u8, take_u32};
 
 /// How many bytes come before the message fields.
 const FIXED: usize = 52;
+
+/// How many bytes the longest packet has that is made without memory: the fixed part, a media type of 255 bytes, and
+/// 16 fields with a name of 64 and a value of 255.
+const MOST: usize = 5_491;
 
 const NAME: &[u8; 8] = b"fisbone\0";
 
@@ -107,18 +114,74 @@ impl<'a> Fisbone<'a> {
         Ok(())
     }
 
-    /// The packet, with the media type as its one message field, where that type has at most 255 bytes.
-    /// It takes no memory.
-    pub fn packet(&self) -> ArrayVec<u8, 323>
-        requires { length self.now.media.now ≤ 255 }
-        ensures { result.items ≡ fisbone_bytes (fisbone_of self.now) }
+    /// How many bytes the packet has with these message fields after the media type's.
+    pub fn size_with(&self, fields: &[Field]) -> u64
+        requires { length (fisbone_bytes_with fields.now (fisbone_of self.now)) ≤ 2 ^ 62 }
+        ensures { result ≡ length (fisbone_bytes_with fields.now (fisbone_of self.now)) }
+    {
+        self.capped_size(fields) as u64
+    }
+
+    /// Appends the packet, with the media type as its first message field and these after it, in order.
+    /// After `Memory` the vector is unchanged.
+    pub fn write_with(&self, fields: &[Field], out: &mut Vec<u8>) -> Result<(), Memory>
+        ensures ok { OnOk result
+            (out.new.items ≡ out.old.items ++ fisbone_bytes_with fields.now (fisbone_of self.now)) }
+        ensures err { OnErr result (out.new.items ≡ out.old.items) }
+        ensures full { OnErr result (vec_capacity out.old
+            < vec_len out.old + length (fisbone_bytes_with fields.now (fisbone_of self.now))) }
+    {
+        // The one step that can fail comes first.
+        out.reserve(self.capped_size(fields))?;
+        append(out, &self.fixed_part());
+        append(out, b"Content-Type: ");
+        append(out, self.media);
+        append(out, b"\r\n");
+        append_fields(fields, out);
+        Ok(())
+    }
+
+    /// The packet with these message fields after the media type's, if it has at most 5,491 bytes: as many as 16
+    /// fields make it whose names have 64 and whose values have 255. It takes no memory.
+    pub fn packet_with(&self, fields: &[Field]) -> ArrayVec<u8, MOST>
+        requires { length (fisbone_bytes_with fields.now (fisbone_of self.now)) ≤ 5491 }
+        ensures { result.items ≡ fisbone_bytes_with fields.now (fisbone_of self.now) }
     {
         let mut packet = ArrayVec::new();
         push(&mut packet, &self.fixed_part());
         push(&mut packet, b"Content-Type: ");
         push(&mut packet, self.media);
         push(&mut packet, b"\r\n");
+        push_fields(fields, &mut packet);
         packet
+    }
+
+    /// The message fields of a packet, in order, the media type's among them. They are borrowed from it, and no
+    /// memory is taken.
+    pub fn message(packet: &'a [u8]) -> Result<MessageFields<'a>, SkeletonFault>
+        // It accepts exactly the packets that `read` accepts, and of the others it gives the same fault.
+        ensures fault { result_err result ≡ fisbone_fault packet.now }
+        // The fields are those of the bytes after the first 52.
+        ensures fields { IfOk result (λ fields. fields_of (drop 52 packet.now) ≡ Some fields) }
+        // What was written is read so.
+        ensures written { (fisbone : FisboneValue) (fields : List NamedValue) → IsFieldValue fisbone.media
+            → AllByRecursion IsField fields → packet.now ≡ fisbone_bytes_with fields fisbone
+            → IsOkAnd result (λ read. read ≡ (codes "Content-Type", fisbone.media) ∷ fields) }
+    {
+        Fisbone::read(packet)?;
+        let (_, message) = packet.split_at(FIXED);
+        Ok(MessageFields::of(message))
+    }
+
+    /// How many bytes the packet has with these fields, or the greatest number there is, if that is less.
+    fn capped_size(&self, fields: &[Field]) -> usize
+        ensures { result ≡ min (length (fisbone_bytes_with fields.now (fisbone_of self.now))) (2 ^ 64 - 1) }
+    {
+        let mut size = self.size() as usize;
+        for field in fields {
+            size = size.saturating_add(size_of_field(field));
+        }
+        size
     }
 
     #[tactic(auto, unfolding(crate::specs::Fisbone::fixed_part, ogg_page::specs::Numbers::u32_bytes, ogg_page::specs::Numbers::i64_bytes))]
@@ -139,6 +202,62 @@ impl<'a> Fisbone<'a> {
     }
 }
 
+/// How many bytes the line of a field has, or the greatest number there is, if that is less.
+fn size_of_field(field: &Field) -> usize
+    ensures { result ≡ min (length (field_line field.now)) (2 ^ 64 - 1) }
+{
+    field
+        .name()
+        .len()
+        .saturating_add(field.value().len())
+        .saturating_add(4)
+}
+
+/// Appends the lines of fields for which there is room.
+fn append_fields(fields: &[Field], out: &mut Vec<u8>)
+    requires { vec_len out.old + length (flat_map field_line fields.now) ≤ vec_capacity out.old }
+    ensures { out.new.items ≡ out.old.items ++ flat_map field_line fields.now }
+{
+    for field in fields {
+        append_field(field, out);
+    }
+}
+
+/// Appends the line of a field for which there is room.
+fn append_field(field: &Field, out: &mut Vec<u8>)
+    requires { vec_len out.old + length (field_line field.now) ≤ vec_capacity out.old }
+    ensures items { out.new.items ≡ out.old.items ++ field_line field.now }
+    ensures len { vec_len out.new ≡ vec_len out.old + length (field_line field.now) }
+    ensures capacity { vec_capacity out.old ≤ vec_capacity out.new }
+{
+    append(out, field.name());
+    append(out, b": ");
+    append(out, field.value());
+    append(out, b"\r\n");
+}
+
+/// Appends the lines of fields for which a packet has room.
+fn push_fields(fields: &[Field], packet: &mut ArrayVec<u8, MOST>)
+    requires { array_vec_len packet.old + length (flat_map field_line fields.now) ≤ 5491 }
+    ensures { packet.new.items ≡ packet.old.items ++ flat_map field_line fields.now }
+{
+    for field in fields {
+        push_field(field, packet);
+    }
+}
+
+/// Appends the line of a field for which a packet has room.
+fn push_field(field: &Field, packet: &mut ArrayVec<u8, MOST>)
+    requires { array_vec_len packet.old + length (field_line field.now) ≤ 5491 }
+    ensures items { packet.new.items ≡ packet.old.items ++ field_line field.now }
+    ensures len { array_vec_len packet.new ≡ array_vec_len packet.old + length (field_line field.now) }
+{
+    push(packet, field.name());
+    push(packet, b": ");
+    push(packet, field.value());
+    push(packet, b"\r\n");
+}
+
 /// Appends bytes for which there is room.
 fn append(out: &mut Vec<u8>, bytes: &[u8])
     requires { vec_len out.old + length bytes.now ≤ vec_capacity out.old }
@@ -150,8 +269,8 @@ fn append(out: &mut Vec<u8>, bytes: &[u8])
 }
 
 /// Appends bytes for which a packet has room.
-fn push(packet: &mut ArrayVec<u8, 323>, bytes: &[u8])
-    requires { array_vec_len packet.old + length bytes.now ≤ 323 }
+fn push(packet: &mut ArrayVec<u8, MOST>, bytes: &[u8])
+    requires { array_vec_len packet.old + length bytes.now ≤ 5491 }
     ensures items { packet.new.items ≡ packet.old.items ++ bytes.now }
     ensures len { array_vec_len packet.new ≡ array_vec_len packet.old + length bytes.now }
 {

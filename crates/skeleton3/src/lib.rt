@@ -10,15 +10,23 @@
 #![tactic(auto)]
 
 mod fault;
+mod field;
 mod fields;
 mod fisbone;
 mod fishead;
 mod laws;
+mod message;
+mod rules;
 
 pub use fault::SkeletonFault;
+pub use field::Field;
 pub use fisbone::Fisbone;
 pub use fishead::Fishead;
-pub use laws::media_types_are_field_values;
+pub use laws::{
+    fields_of_commands_are_fields, fisbones_with_fields_are_held, media_types_are_field_values,
+};
+pub use message::MessageFields;
+pub use rules::{is_field, is_media_type};
 pub use std::alloc::AllocError as Memory;
 
 #[cfg(test)]

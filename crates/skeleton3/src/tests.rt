@@ -137,6 +137,74 @@ fn media_types_are_found_among_the_message_fields(rt: HostRuntime) -> Result<(),
     Ok(())
 }
 
+fn field(alloc: Global, name: &[u8], value: &[u8]) -> Result<Field, Memory> {
+    Ok(Field::of(name.to_vec(alloc)?, value.to_vec(alloc)?))
+}
+
+#[test]
+fn message_fields_follow_the_media_type(rt: HostRuntime) -> Result<(), Fail> {
+    let mut fields = Vec::new(rt.alloc());
+    fields.push(field(rt.alloc(), b"Title", b"One")?)?;
+    fields.push(field(rt.alloc(), b"Role", b"audio/main: a")?)?;
+    let mut out = [7u8].to_vec(rt.alloc())?;
+    FISBONE.write_with(&fields, &mut out)?;
+    let message = b"Content-Type: audio/vorbis\r\nTitle: One\r\nRole: audio/main: a\r\n";
+    let packet = with_message(rt.alloc(), message)?;
+    assert_eq!(rt; &out[..1], [7].as_slice());
+    assert_eq!(rt; &out[1..], packet.as_slice());
+    assert_eq!(rt; Fisbone::read(&packet), Ok(FISBONE));
+    Ok(())
+}
+
+#[test]
+fn one_more_field_makes_a_packet_of_92_bytes(rt: HostRuntime) -> Result<(), Fail> {
+    let mut fields = Vec::new(rt.alloc());
+    fields.push(field(rt.alloc(), b"Title", b"One")?)?;
+    let mut out = Vec::new(rt.alloc());
+    FISBONE.write_with(&fields, &mut out)?;
+    assert_eq!(rt; out.len(), 92);
+    Ok(())
+}
+
+#[test]
+fn message_fields_are_lent_in_order(rt: HostRuntime) -> Result<(), Fail> {
+    let message = b"\r\nTitle:\t One \n:\nContent-Type:audio/ogg\r\nTitle: Two";
+    let packet = with_message(rt.alloc(), message)?;
+    let wanted: [(&[u8], &[u8]); 4] = [
+        (b"Title", b"One"),
+        (b"", b""),
+        (b"Content-Type", b"audio/ogg"),
+        (b"Title", b"Two"),
+    ];
+    let mut fields = Fisbone::message(&packet)?;
+    for want in wanted {
+        assert_eq!(rt; fields.next(), Some(want));
+    }
+    assert_eq!(rt; fields.next(), None);
+    assert_eq!(rt; fields.next(), None);
+    Ok(())
+}
+
+#[test]
+fn message_fields_are_refused_as_the_packet_is(rt: HostRuntime) -> Result<(), Fail> {
+    for message in NO_MESSAGES {
+        let packet = with_message(rt.alloc(), message)?;
+        assert_eq!(rt;
+            Fisbone::message(&packet).err(),
+            Some(SkeletonFault::Fields)
+        );
+    }
+    assert_eq!(rt;
+        Fisbone::message(&FIXED_PART[..51]).err(),
+        Some(SkeletonFault::Length)
+    );
+    assert_eq!(rt;
+        Fisbone::message(&FISHEAD_BYTES).err(),
+        Some(SkeletonFault::Name)
+    );
+    Ok(())
+}
+
 #[test]
 fn fisbones_are_read_whatever_their_offset_and_padding(rt: HostRuntime) -> Result<(), Fail> {
     let mut packet = with_message(rt.alloc(), b"Content-Type: audio/vorbis\r\n")?;
