@@ -15,7 +15,7 @@ use Rattle.chain_rules.specs.Links.{IsLink, AreLinks, AllButLast, serials_of, ha
 use Rattle.chain_rules.specs.Recording.{Stream, Recording, HoldsLink, HoldsLinks, begun_link, add}
 use Rattle.chain_rules.specs.ChainState.{ChainState, chain_state_of, state_of, last_link, is_open}
 use Rattle.chain_rules.specs.Encoding.{first_pages, header_pages, pages_of_begin, skeleton_stream, fisbone_pages, skeleton_end, pages_of_command, command_bytes, links_after}
-use Rattle.chain_rules.specs.Decision.{decision, has_long_media, streams_rules, parts_rules}
+use Rattle.chain_rules.specs.Decision.{decision, has_long_message, streams_rules, parts_rules}
 use Rattle.ogg_command.specs.Command.{IsNewStream, IsSkeleton}
 use Rattle.chain_rules.specs.Begun.{states_of, serials_in, skeleton_serial, has_more_pages}
 use Rattle.ogg_command.specs.declared.command.SkeletonHead.{SkeletonHead}
@@ -129,7 +129,7 @@ pub begin_link : (chain : ChainState) (begin : Begin) → IsOk (decision chain (
     (has_more_pages begin.skeleton begin.streams) (serials_in begin.skeleton begin.streams)
 begin_link chain begin ok text = by begin.skeleton begin.streams (can_begin chain begin ok) (begin_fits chain begin ok).media text
   where
-    by : (skeleton : Option SkeletonHead) (streams : List NewStream) → CanBegin skeleton streams → IfSome skeleton (λ _. list_any has_long_media streams ≡ false) → HasText skeleton →
+    by : (skeleton : Option SkeletonHead) (streams : List NewStream) → CanBegin skeleton streams → IfSome skeleton (λ _. list_any has_long_message streams ≡ false) → HasText skeleton →
         IsNewLink (pages_of_begin skeleton streams) (begun_link skeleton streams) (states_of skeleton streams) (has_more_pages skeleton streams) (serials_in skeleton streams)
     by None streams can media text = plain_link streams can
     by (Some head) streams can media text = described_link head streams can text media

@@ -8,7 +8,7 @@ use Rattle.packetiser.specs.Run.{pages_of_run}
 use Rattle.skeleton3.specs.Fishead.{fishead_bytes}
 use Rattle.ogg_command.specs.declared.command.NewStream.{NewStream}
 use Rattle.ogg_command.specs.declared.command.SkeletonHead.{SkeletonHead}
-use Rattle.chain_rules.specs.Decision.{has_long_media}
+use Rattle.chain_rules.specs.Decision.{has_long_message}
 use Rattle.chain_rules.specs.Encoding.{header, first_flag, last_flag, fishead_of, fisbone_packet, fisbone_pages, first_pages, header_pages, skeleton_stream, skeleton_end, pages_of_begin}
 use Rattle.chain_rules.specs.Size.{has_no_number}
 use Rattle.chain_rules.proofs.BeginPages.{IsSmall, flagged_numbers, first_numbered, headers_numbered, all_numbered}
@@ -22,16 +22,16 @@ both_numbered xs ys a b = list_any-append has_no_number xs ys ∙ or_from (list_
 alone_numbered : (serial first : ℕ) (packet : List ℕ) → length packet ≤ 65024 → first + 1 ≤ 2 ^ 32 → list_any has_no_number (pages_of_run serial first (header packet ∷ [])) ≡ false
 alone_numbered serial first packet short few = within serial first (header packet ∷ []) (omega (arith, one_each packet short, few))
 
-fisbones_numbered : (serial first : ℕ) (streams : List NewStream) → list_any has_long_media streams ≡ false → first + length streams ≤ 2 ^ 32 →
+fisbones_numbered : (serial first : ℕ) (streams : List NewStream) → list_any has_long_message streams ≡ false → first + length streams ≤ 2 ^ 32 →
     list_any has_no_number (fisbone_pages serial first streams) ≡ false
 fisbones_numbered serial first [] short few = refl
 fisbones_numbered serial first (s ∷ streams) short few =
-    let parts : (has_long_media s ≡ false) × (list_any has_long_media streams ≡ false) = or_parts (has_long_media s) (list_any has_long_media streams) short in
+    let parts : (has_long_message s ≡ false) × (list_any has_long_message streams ≡ false) = or_parts (has_long_message s) (list_any has_long_message streams) short in
     both_numbered (pages_of_run serial first (header (fisbone_packet s) ∷ [])) (fisbone_pages serial (first + 1) streams)
     (alone_numbered serial first (fisbone_packet s) (short_fisbone s parts.0) (omega (arith, few)))
     (fisbones_numbered serial (first + 1) streams parts.1 (omega (arith, few)))
 
-pub described_numbered : (head : SkeletonHead) (streams : List NewStream) → AllByRecursion IsSmall streams → length head.utc ≡ 20 → list_any has_long_media streams ≡ false →
+pub described_numbered : (head : SkeletonHead) (streams : List NewStream) → AllByRecursion IsSmall streams → length head.utc ≡ 20 → list_any has_long_message streams ≡ false →
     length streams ≤ 64 → list_any has_no_number (pages_of_begin (Some head) streams) ≡ false
 described_numbered head streams small size short few =
     let first : List Page = first_pages (skeleton_stream head streams) in

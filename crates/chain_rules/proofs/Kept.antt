@@ -1,8 +1,8 @@
 -- What is so of a command that is kept.
-use Rattle.std.proofs.Common.{◌≡◌, ℕ, zero, suc, ◌+◌, ◌<◌, ◌≤◌, ◌-◌, ◌^◌, Bool, true, false, List, [], ◌∷◌, ◌++◌, length, take, drop, sum_by, refl, sym, arith, Option, Some, None, Result, Ok, Err}
-use Rattle.std.specs.Prelude.{nat_eq, nat_lt, nat_le, not, ◌&&◌, IsOk, IfOk, IfSome}
+use Rattle.std.proofs.Common.{◌≡◌, ℕ, zero, suc, ◌+◌, ◌<◌, ◌≤◌, ◌^◌, Bool, true, false, List, [], ◌∷◌, ◌++◌, length, sum_by, refl, sym, arith, Option, Some, None, Result, Ok, Err}
+use Rattle.std.specs.Prelude.{nat_eq, nat_lt, nat_le, not, ◌&&◌, ◌||◌, IsOk, IfOk, IfSome}
 use Rattle.std.specs.List.{list_any, list_all}
-use Rattle.std.proofs.lemmas.Bool.{or_parts, or_from, ltb-false, leb-false, leb-true, le-ltb}
+use Rattle.std.proofs.lemmas.Bool.{and_parts, or_parts, or_from, ltb-false, leb-false, le-ltb}
 use Rattle.ogg_command.specs.declared.command.Command.{Command}
 use Rattle.ogg_command.specs.declared.command.Command.TheVariants.{Begin as BeginOf, Put as PutOf, End as EndOf}
 use Rattle.ogg_command.specs.declared.command.Begin.{Begin}
@@ -12,11 +12,12 @@ use Rattle.ogg_command.specs.declared.command.NewStream.{NewStream}
 use Rattle.chain_rules.specs.Begun.{stream_count}
 use Rattle.ogg_command.specs.declared.refusal.Refusal.{Refusal}
 use Rattle.chain_rules.specs.ChainState.{ChainState, is_open}
-use Rattle.chain_rules.specs.Limits.{longest_file}
+use Rattle.chain_rules.specs.Limits.{longest_file, longest_message, most_fields, most_streams}
 use Rattle.chain_rules.specs.Progress.{next_in}
 use Rattle.chain_rules.specs.Rules.{first_broken}
-use Rattle.skeleton3.specs.Fields.{is_media_type}
-use Rattle.chain_rules.specs.Decision.{decision, answer, rules_for, begin_rules, item_rules, parts_rules, streams_rules, entries_rules, room_rules, size_of, header_bytes, has_many_headers, has_long_media}
+use Rattle.skeleton3.specs.Fields.{is_field, is_media_type, message_of}
+use Rattle.skeleton3.specs.FisboneLaws.{message_size}
+use Rattle.chain_rules.specs.Decision.{decision, answer, rules_for, begin_rules, item_rules, parts_rules, streams_rules, entries_rules, room_rules, size_of, header_bytes, has_many_headers, has_many_fields, has_many_parts, has_long_message}
 use Rattle.chain_rules.specs.Encoding.{pages_of_begin, pages_of_command, pages_of_runs, runs_of}
 use Rattle.chain_rules.specs.Size.{has_no_number, size_of_pages}
 use Rattle.chain_rules.proofs.Chain.{no_rule_broken, Unbroken, all_split}
@@ -78,7 +79,7 @@ pub record BeginFits (chain : ChainState) (begin : Begin) : Type 0 where
   pub some : 0 < length begin.streams
   pub few : list_any has_many_headers begin.streams ≡ false
   pub parts : Unbroken (item_rules chain begin)
-  pub media : IfSome begin.skeleton (λ _. list_any has_long_media begin.streams ≡ false)
+  pub media : IfSome begin.skeleton (λ _. list_any has_long_message begin.streams ≡ false)
   pub short : sum_by header_bytes begin.streams ≤ 16777216
   pub numbered : list_any has_no_number (pages_of_begin begin.skeleton begin.streams) ≡ false
   pub links : chain.links < 65536
@@ -92,39 +93,28 @@ not_not : (b : Bool) → not b ≡ false → b ≡ true
 not_not true e = refl
 not_not false e = cc
 
--- a media type isn't long
-media_short : (stream : NewStream) → not (is_media_type stream.media) ≡ false → has_long_media stream ≡ false
-media_short stream e =
-    let media : List ℕ = stream.media in
-    let A : Bool = nat_le 1 (length media) in
-    let B : Bool = nat_le (length media) 255 in
-    let C : Bool = list_all (λ c. nat_le 0x20 c && nat_le c 0x7e) media in
-    let D : Bool = not (list_any (nat_eq 0x20) (take 1 media)) in
-    let E : Bool = not (list_any (nat_eq 0x20) (drop (length media - 1) media)) in
-    let few : B ≡ true = second A B C D E (not_not (is_media_type media) e) in
-    le-ltb 255 (length media) (leb-true (length media) 255 few)
-  where
-    second : (a b c d e : Bool) → (a && b && c && d && e) ≡ true → b ≡ true
-    second true true c d e h = refl
-    second true false true true true h = cc
-    second true false true true false h = cc
-    second true false true false e h = cc
-    second true false false d e h = cc
-    second false b c d e h = cc
+-- the message fields of a media type and of few fields that are allowed aren't long
+message_short : (stream : NewStream) → not (is_media_type stream.media && list_all is_field stream.fields) ≡ false → has_many_fields stream ≡ false → has_long_message stream ≡ false
+message_short stream e few =
+    let parts : (is_media_type stream.media ≡ true) × (list_all is_field stream.fields ≡ true) = and_parts _ _ (not_not _ e) in
+    le-ltb longest_message (length (message_of stream.media stream.fields))
+    (omega (arith, message_size stream.media stream.fields parts.0 parts.1, ltb-false most_fields (length stream.fields) few))
 
-medias_short : (chain : ChainState) (earlier : List ℕ) (streams : List NewStream) → Unbroken (streams_rules chain true earlier streams) → list_any has_long_media streams ≡ false
-medias_short chain earlier [] h = refl
-medias_short chain earlier (stream ∷ streams) h =
-    or_from (has_long_media stream) (list_any has_long_media streams) (media_short stream h.1.1.1.1.0) (medias_short chain (stream.serial ∷ earlier) streams h.1.1.1.1.1.1)
+messages_short : (chain : ChainState) (earlier : List ℕ) (streams : List NewStream) → Unbroken (streams_rules chain true earlier streams) → list_any has_many_fields streams ≡ false
+    → list_any has_long_message streams ≡ false
+messages_short chain earlier [] h few = refl
+messages_short chain earlier (stream ∷ streams) h few =
+    let parts = or_parts (has_many_fields stream) (list_any has_many_fields streams) few in
+    or_from (has_long_message stream) (list_any has_long_message streams) (message_short stream h.1.1.1.1.0 parts.0) (messages_short chain (stream.serial ∷ earlier) streams h.1.1.1.1.1.1 parts.1)
 
-parts_short : (chain : ChainState) (skeleton : Option SkeletonHead) (streams : List NewStream) → Unbroken (parts_rules chain skeleton streams) →
-    IfSome skeleton (λ _. list_any has_long_media streams ≡ false)
-parts_short chain None streams h = tt
-parts_short chain (Some head) streams h = medias_short chain (head.serial ∷ []) streams h.1.1
+parts_short : (chain : ChainState) (skeleton : Option SkeletonHead) (streams : List NewStream) → Unbroken (parts_rules chain skeleton streams) → list_any has_many_fields streams ≡ false →
+    IfSome skeleton (λ _. list_any has_long_message streams ≡ false)
+parts_short chain None streams h few = tt
+parts_short chain (Some head) streams h few = messages_short chain (head.serial ∷ []) streams h.1.1 few
 
 -- the same of rules of which the first broken one was looked for
-pub items_short : (chain : ChainState) (begin : Begin) → first_broken (item_rules chain begin) ≡ None → IfSome begin.skeleton (λ _. list_any has_long_media begin.streams ≡ false)
-items_short chain begin e = parts_short chain begin.skeleton begin.streams (none_broken (item_rules chain begin) e)
+pub items_short : (chain : ChainState) (begin : Begin) → has_many_parts begin ≡ false → first_broken (item_rules chain begin) ≡ None → IfSome begin.skeleton (λ _. list_any has_long_message begin.streams ≡ false)
+items_short chain begin few e = parts_short chain begin.skeleton begin.streams (none_broken (item_rules chain begin) e) (or_parts (nat_lt most_streams (stream_count begin) || list_any has_many_headers begin.streams) (list_any has_many_fields begin.streams) few).1
 
 pub begin_fits : (chain : ChainState) (begin : Begin) → IsOk (decision chain (BeginOf begin)) → BeginFits chain begin
 unfolding pages_of_command
@@ -135,15 +125,17 @@ begin_fits chain begin ok =
     all_split (λ rule. rule.0 ≡ false) (begin_rules chain begin ++ item_rules chain begin) (room_rules chain (BeginOf begin)) kept in
     let room : Unbroken (room_rules chain (BeginOf begin)) = whole.1 in
     let items : Unbroken (item_rules chain begin) = whole.0.1.1.1 in
+    let counts : (nat_lt 64 (stream_count begin) || list_any has_many_headers begin.streams ≡ false) × (list_any has_many_fields begin.streams ≡ false) =
+    or_parts (nat_lt 64 (stream_count begin) || list_any has_many_headers begin.streams) (list_any has_many_fields begin.streams) whole.0.1.1.0 in
     let parts : (nat_lt 64 (stream_count begin) ≡ false) × (list_any has_many_headers begin.streams ≡ false) =
-    or_parts (nat_lt 64 (stream_count begin)) (list_any has_many_headers begin.streams) whole.0.1.1.0 in
+    or_parts (nat_lt 64 (stream_count begin)) (list_any has_many_headers begin.streams) counts.0 in
     record {
       closed = whole.0.0;
       streams = ltb-false 64 (stream_count begin) parts.0;
       some = not_none (length begin.streams) whole.0.1.0;
       few = parts.1;
       parts = items;
-      media = parts_short chain begin.skeleton begin.streams items;
+      media = parts_short chain begin.skeleton begin.streams items counts.1;
       short = ltb-false 16777216 (sum_by header_bytes begin.streams) room.0;
       numbered = room.1.0;
       links = leb-false 65536 chain.links room.1.1.0;

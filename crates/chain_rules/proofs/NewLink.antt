@@ -17,7 +17,7 @@ use Rattle.ogg_command.specs.declared.command.NewStream.{NewStream}
 use Rattle.ogg_command.specs.declared.command.SkeletonHead.{SkeletonHead}
 use Rattle.chain_rules.specs.Begun.{new_state, skeleton_state, states_of, serials_in, skeleton_serial, has_other_headers, has_more_pages}
 use Rattle.chain_rules.specs.ChainState.{state_of, last_position}
-use Rattle.chain_rules.specs.Decision.{has_long_media}
+use Rattle.chain_rules.specs.Decision.{has_long_message}
 use Rattle.chain_rules.specs.Encoding.{header, first_flag, first_pages, header_pages, pages_of_begin, skeleton_stream}
 use Rattle.chain_rules.specs.Links.{IsLink, pages_with, serials_of, has_stream, has_ended}
 use Rattle.chain_rules.specs.Recording.{Stream, HoldsLink, begun, begun_link, ended_skeleton}
@@ -253,7 +253,7 @@ some_pages_in : (xs ys : List Page) → 0 < length xs → xs ++ ys ≢ []
 some_pages_in [] ys some e = absurd (omega arith)
 some_pages_in (x ∷ xs) ys some e = cc
 
-pub described_link : (head : SkeletonHead) (streams : List NewStream) → CanBegin (Some head) streams → length head.utc ≡ 20 → list_any has_long_media streams ≡ false →
+pub described_link : (head : SkeletonHead) (streams : List NewStream) → CanBegin (Some head) streams → length head.utc ≡ 20 → list_any has_long_message streams ≡ false →
     IsNewLink (pages_of_begin (Some head) streams) (begun_link (Some head) streams) (states_of (Some head) streams) (has_more_pages (Some head) streams) (serials_in (Some head) streams)
 unfolding IsDistinct
 described_link head streams can size short =

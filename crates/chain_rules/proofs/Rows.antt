@@ -6,6 +6,7 @@ use Rattle.ogg_page.specs.Lacing.{lacing_of}
 use Rattle.ogg_page.specs.Checksum.{checksum_of, message_bits, number_of, remainder, bits_of, divisor}
 use Rattle.ogg_page.specs.Checksum as crc
 use Rattle.packetiser.specs.Run.{pages_of_run, page_of_run, page_position, run_lacing, run_bytes, values_at, values_before}
+use Rattle.skeleton3.specs.Fields.{NamedValue}
 use Rattle.skeleton3.specs.Fisbone.{fixed_part}
 use Rattle.skeleton3.specs.Fishead.{fishead_with}
 use Rattle.ogg_page.specs.Numbers.{u16_bytes, u32_bytes, i64_bytes}
@@ -27,7 +28,7 @@ abbrev pub hello : List ℕ
 hello = 104 ∷ 101 ∷ 108 ∷ 108 ∷ 111 ∷ []
 
 abbrev stream_of : ℕ → NewStream
-stream_of serial = record { serial = serial; headers = abc ∷ []; media = []; rate = (pos 0, pos 0); base_granule = pos 0; preroll = 0; shift = 0 }
+stream_of serial = record { serial = serial; headers = abc ∷ []; media = []; fields = []; rate = (pos 0, pos 0); base_granule = pos 0; preroll = 0; shift = 0 }
 
 abbrev pub begin : List ℕ → Command
 begin serials = BeginOf (record { skeleton = None; streams = map stream_of serials })
@@ -129,7 +130,7 @@ head_of serial denominator = record { serial = serial; presentation = (pos 0, po
 
 abbrev described : ℕ → List (List ℕ) → List ℕ → ℤ → NewStream
 described serial headers media rate =
-    record { serial = serial; headers = headers; media = media; rate = (rate, pos 1); base_granule = pos 0; preroll = 0; shift = 0 }
+    record { serial = serial; headers = headers; media = media; fields = []; rate = (rate, pos 1); base_granule = pos 0; preroll = 0; shift = 0 }
 
 abbrev begin_with : SkeletonHead → List NewStream → Command
 begin_with head streams = BeginOf (record { skeleton = Some head; streams = streams })
@@ -157,6 +158,51 @@ numbers_with_a_skeleton = refl
 no_media_type : answer [] (begin_with (head_of 9 (pos 1000)) (described 1 (abc ∷ []) [] (pos 44100) ∷ [])) ≡ Err BadType
 unfolding decision
 no_media_type = refl
+
+-- with message fields
+abbrev with_fields : List NamedValue → NewStream
+with_fields fields = record {
+  serial = 1;
+  headers = abc ∷ [];
+  media = codes "audio/vorbis";
+  fields = fields;
+  rate = (pos 44100, pos 1);
+  base_granule = pos 0;
+  preroll = 0;
+  shift = 0;
+}
+
+abbrev title : NamedValue
+title = (codes "Title", codes "One")
+
+size_with_a_field : answer [] (begin_with (head_of 9 (pos 1000)) (with_fields (title ∷ []) ∷ [])) ≡ Ok 271
+unfolding decision pages_of_command pages_of_run page_of_run page_position run_lacing run_bytes values_at values_before lacing_of fishead_with fixed_part u16_bytes u32_bytes i64_bytes
+size_with_a_field = refl
+
+media_type_as_a_field : answer [] (begin_with (head_of 9 (pos 1000)) (with_fields ((codes "content-type", codes "One") ∷ []) ∷ [])) ≡ Err BadType
+unfolding decision
+media_type_as_a_field = refl
+
+name_with_a_space : answer [] (begin_with (head_of 9 (pos 1000)) (with_fields ((codes "Ti tle", codes "One") ∷ []) ∷ [])) ≡ Err BadType
+unfolding decision
+name_with_a_space = refl
+
+no_value : answer [] (begin_with (head_of 9 (pos 1000)) (with_fields (title ∷ (codes "Title", []) ∷ []) ∷ [])) ≡ Err BadType
+unfolding decision
+no_value = refl
+
+seventeen_fields : answer [] (begin_with (head_of 9 (pos 1000)) (with_fields (replicate 17 title) ∷ [])) ≡ Err TooMany
+unfolding decision
+seventeen_fields = refl
+
+-- without a Skeleton they are counted and not looked at
+seventeen_fields_alone : answer [] (BeginOf (record { skeleton = None; streams = with_fields (replicate 17 title) ∷ [] })) ≡ Err TooMany
+unfolding decision
+seventeen_fields_alone = refl
+
+fields_alone : answer [] (BeginOf (record { skeleton = None; streams = with_fields ((codes "content-type", []) ∷ []) ∷ [] })) ≡ Ok 31
+unfolding decision pages_of_command pages_of_run page_of_run page_position run_lacing run_bytes values_at values_before lacing_of
+fields_alone = refl
 
 rate_of_zero : answer [] (begin_with (head_of 9 (pos 1000)) (described 1 (abc ∷ []) (codes "audio/vorbis") (pos 0) ∷ [])) ≡ Err BadRate
 unfolding decision

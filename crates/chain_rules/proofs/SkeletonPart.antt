@@ -1,7 +1,7 @@
 -- A Skeleton is a part of its link, and its last page ends it.
 use Rattle.std.proofs.Common.{◌≡◌, ◌≢◌, ℕ, ℤ, rules, ◌+◌, ◌<◌, ◌≤◌, ◌^◌, false, List, [], ◌∷◌, ◌++◌, length, map, refl, sym, ◌∙◌, ap, subst, arith, append_assoc, length-append, codes}
 use Rattle.std.specs.Prelude.{nat_lt, ◌||◌}
-use Rattle.std.specs.List.{AllByRecursion, list_any}
+use Rattle.std.specs.List.{AllByRecursion, flat_map, list_any}
 use Rattle.std.proofs.lemmas.List.{append-nil}
 use Rattle.std.proofs.lemmas.List.Concat.{flat_map-append}
 use Rattle.std.proofs.lemmas.List.Folds.{list_any-append}
@@ -18,11 +18,13 @@ use Rattle.packetiser.proofs.Sizes.{length-run_lacing, values_in}
 use Rattle.ogg_page.specs.Numbers.{u16_bytes, u32_bytes, i64_bytes}
 use Rattle.skeleton3.specs.Fishead.{fishead_bytes, fishead_with}
 use Rattle.skeleton3.specs.Fisbone.{fisbone_name, fixed_part}
-use Rattle.skeleton3.proofs.FisboneFacts.{length-fisbone_bytes}
+use Rattle.skeleton3.specs.Fields.{NamedValue, content_type, field_line, message_of}
+use Rattle.skeleton3.specs.FisboneLaws.{length-fisbone_bytes_with}
 use Rattle.ogg_command.specs.declared.command.NewStream.{NewStream}
 use Rattle.ogg_command.specs.declared.command.SkeletonHead.{SkeletonHead}
-use Rattle.ogg_command.specs.Command.{IsNewStream, IsSkeletonHead}
-use Rattle.chain_rules.specs.Decision.{has_long_media}
+use Rattle.ogg_command.specs.Command.{AreFieldBytes, IsNewStream, IsSkeletonHead}
+use Rattle.chain_rules.specs.Decision.{has_long_message}
+use Rattle.chain_rules.specs.Limits.{longest_message}
 use Rattle.chain_rules.specs.Encoding.{header, fishead_of, fisbone_of, fisbone_packet, fisbone_pages, skeleton_stream, skeleton_end, first_pages}
 use Rattle.chain_rules.proofs.Grow.{all_both, any_none, Own, Unmarked, GoOn}
 use Rattle.chain_rules.proofs.Beginning.{IsGood, is_first_page, first_page, first_held, first_is_page, not_last, number_of_first, headers_timed}
@@ -39,8 +41,8 @@ length-fishead head size = omega (arith, size)
 pub short_fishead : (head : SkeletonHead) → length head.utc ≡ 20 → length (fishead_bytes (fishead_of head)) ≤ 65024
 short_fishead head size = omega (arith, length-fishead head size)
 
-pub short_fisbone : (stream : NewStream) → has_long_media stream ≡ false → length (fisbone_packet stream) ≤ 65024
-short_fisbone stream h = omega (arith, length-fisbone_bytes (fisbone_of stream), ltb-false 255 (length stream.media) h)
+pub short_fisbone : (stream : NewStream) → has_long_message stream ≡ false → length (fisbone_packet stream) ≤ 65024
+short_fisbone stream h = omega (arith, length-fisbone_bytes_with stream.fields (fisbone_of stream), ltb-false longest_message (length (message_of stream.media stream.fields)) h)
 
 -- a short packet fills one page at most
 pub one_each : (packet : List ℕ) → length packet ≤ 65024 → pages_for (length (run_lacing (header packet ∷ []))) ≡ 1
@@ -81,12 +83,12 @@ some_more : (xs ys : List Page) → xs ≢ [] → xs ++ ys ≢ []
 some_more [] ys ne e = absurd (ne refl)
 some_more (x ∷ xs) ys ne e = cc
 
-fisbones_fit : (serial first : ℕ) (streams : List NewStream) (before : List Page) → list_any has_long_media streams ≡ false →
+fisbones_fit : (serial first : ℕ) (streams : List NewStream) (before : List Page) → list_any has_long_message streams ≡ false →
     before ≢ [] → ends_open (joined_lacing before) ≡ false → list_any is_last before ≡ false → number_behind before ≡ first →
     EachBehind FitsBehind before (fisbone_pages serial first streams)
 fisbones_fit serial first [] before short some closed unended number = tt
 fisbones_fit serial first (s ∷ streams) before short some closed unended number =
-    let parts : (has_long_media s ≡ false) × (list_any has_long_media streams ≡ false) = or_parts (has_long_media s) (list_any has_long_media streams) short in
+    let parts : (has_long_message s ≡ false) × (list_any has_long_message streams ≡ false) = or_parts (has_long_message s) (list_any has_long_message streams) short in
     let run : List Timed = header (fisbone_packet s) ∷ [] in
     let own : List Page = pages_of_run serial first run in
     let held : HoldsPackets own (fisbone_packet s ∷ []) 0 [] = run_is_held serial first run in
@@ -96,11 +98,11 @@ fisbones_fit serial first (s ∷ streams) before short some closed unended numbe
     (list_any-append is_last before own ∙ or_from (list_any is_last before) (list_any is_last own) unended (any_none is_last own (run_goes_on serial first run)))
     (number_behind_run serial first run before number ∙ ap (λ n. first + n) (one_each (fisbone_packet s) (short_fisbone s parts.0))))
 
-fisbones_number : (serial first : ℕ) (streams : List NewStream) (before : List Page) → list_any has_long_media streams ≡ false → number_behind before ≡ first →
+fisbones_number : (serial first : ℕ) (streams : List NewStream) (before : List Page) → list_any has_long_message streams ≡ false → number_behind before ≡ first →
     number_behind (before ++ fisbone_pages serial first streams) ≡ first + length streams
 fisbones_number serial first [] before short number = ap number_behind (append-nil before) ∙ omega (arith, number)
 fisbones_number serial first (s ∷ streams) before short number =
-    let parts : (has_long_media s ≡ false) × (list_any has_long_media streams ≡ false) = or_parts (has_long_media s) (list_any has_long_media streams) short in
+    let parts : (has_long_message s ≡ false) × (list_any has_long_message streams ≡ false) = or_parts (has_long_message s) (list_any has_long_message streams) short in
     let run : List Timed = header (fisbone_packet s) ∷ [] in
     let own : List Page = pages_of_run serial first run in
     ap number_behind (sym (append_assoc before own (fisbone_pages serial (first + 1) streams)))
@@ -108,10 +110,10 @@ fisbones_number serial first (s ∷ streams) before short number =
     (number_behind_run serial first run before number ∙ ap (λ n. first + n) (one_each (fisbone_packet s) (short_fisbone s parts.0)))
     ∙ omega arith
 
-pub fisbones_count : (serial first : ℕ) (streams : List NewStream) → list_any has_long_media streams ≡ false → length (fisbone_pages serial first streams) ≡ length streams
+pub fisbones_count : (serial first : ℕ) (streams : List NewStream) → list_any has_long_message streams ≡ false → length (fisbone_pages serial first streams) ≡ length streams
 fisbones_count serial first [] short = refl
 fisbones_count serial first (s ∷ streams) short =
-    let parts : (has_long_media s ≡ false) × (list_any has_long_media streams ≡ false) = or_parts (has_long_media s) (list_any has_long_media streams) short in
+    let parts : (has_long_message s ≡ false) × (list_any has_long_message streams ≡ false) = or_parts (has_long_message s) (list_any has_long_message streams) short in
     let run : List Timed = header (fisbone_packet s) ∷ [] in
     omega (
       arith,
@@ -131,7 +133,7 @@ good_skeleton head streams size = record {
   short = or_from (nat_lt 65024 (length (fishead_bytes (fishead_of head)))) false (le-ltb 65024 (length (fishead_bytes (fishead_of head))) (short_fishead head size)) refl;
 }
 
-pub is_skeleton_part : (head : SkeletonHead) (streams : List NewStream) → length head.utc ≡ 20 → list_any has_long_media streams ≡ false → IsPart (skeleton_part head streams)
+pub is_skeleton_part : (head : SkeletonHead) (streams : List NewStream) → length head.utc ≡ 20 → list_any has_long_message streams ≡ false → IsPart (skeleton_part head streams)
 is_skeleton_part head streams size short =
     let stream : NewStream = skeleton_stream head streams in
     let page : Page = first_page stream in
@@ -200,6 +202,17 @@ bytes_around media h =
     let back : AllByRecursion IsByte (codes "\r\n") = search rules in
     all_both IsByte (codes "Content-Type: " ++ media) (codes "\r\n") (all_both IsByte (codes "Content-Type: ") media front h) back
 
+line_is_bytes : (field : NamedValue) → AreFieldBytes field → AllByRecursion IsByte (field_line field)
+line_is_bytes field are =
+    let between : AllByRecursion IsByte (codes ": ") = search rules in
+    let back : AllByRecursion IsByte (codes "\r\n") = search rules in
+    all_both IsByte (field.0 ++ codes ": " ++ field.1) (codes "\r\n")
+    (all_both IsByte (field.0 ++ codes ": ") field.1 (all_both IsByte field.0 (codes ": ") are.0 between) are.1) back
+
+lines_are_bytes : (fields : List NamedValue) → AllByRecursion AreFieldBytes fields → AllByRecursion IsByte (flat_map field_line fields)
+lines_are_bytes [] are = tt
+lines_are_bytes (field ∷ fields) are = all_both IsByte (field_line field) (flat_map field_line fields) (line_is_bytes field are.0) (lines_are_bytes fields are.1)
+
 pub fisbone_is_bytes : (stream : NewStream) → IsNewStream stream → AllByRecursion IsByte (fisbone_packet stream)
 unfolding fixed_part
 fisbone_is_bytes stream is =
@@ -208,7 +221,7 @@ fisbone_is_bytes stream is =
     all_both IsByte
     (fisbone_name ++ (u32_bytes 44 ++ (u32_bytes stream.serial ++ (u32_bytes (length stream.headers) ++ ((i64_bytes stream.rate.0 ++ i64_bytes stream.rate.1)
     ++ (i64_bytes stream.base_granule ++ (u32_bytes stream.preroll ++ last)))))))
-    (codes "Content-Type: " ++ stream.media ++ codes "\r\n")
+    (message_of stream.media stream.fields)
     (all_both IsByte (codes "fisbone" ++ 0 ∷ []) _ name_is_bytes.1
     (all_both IsByte (u32_bytes 44) _ (bytes_u32 44)
     (all_both IsByte (u32_bytes stream.serial) _ (bytes_u32 stream.serial)
@@ -216,7 +229,7 @@ fisbone_is_bytes stream is =
     (all_both IsByte (i64_bytes stream.rate.0 ++ i64_bytes stream.rate.1) _ (fraction_is_bytes stream.rate)
     (all_both IsByte (i64_bytes stream.base_granule) _ (bytes_i64 stream.base_granule)
     (all_both IsByte (u32_bytes stream.preroll) last (bytes_u32 stream.preroll) last_are)))))))
-    (bytes_around stream.media is.media)
+    (all_both IsByte (content_type stream.media) (flat_map field_line stream.fields) (bytes_around stream.media is.media) (lines_are_bytes stream.fields is.fields))
 
 -- ---- the pages are pages
 pub fisbones_pages : (serial first : ℕ) (streams : List NewStream) → serial < 2 ^ 32 → AllByRecursion IsNewStream streams → AllByRecursion (λ (p : Page). p.sequence < 2 ^ 32) (fisbone_pages serial first streams) →

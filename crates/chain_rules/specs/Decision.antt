@@ -1,12 +1,12 @@
 -- Whether a command is refused, and why, or else its size. The rules and their order are ours.
 use Rattle.std.specs.Prelude.{ℕ, ◌+◌, ◌^◌, ℤ, pos, int_lt, Bool, true, false, not, ◌&&◌, ◌||◌, nat_eq, nat_lt, nat_le, is_none, Option, Some, None, Result, Ok, Err, List, [], ◌∷◌, ◌++◌, length, take, drop, sum_by}
-use Rattle.std.specs.List.{list_any}
+use Rattle.std.specs.List.{list_all, list_any}
 use Rattle.std.specs.Option.{option_map_or}
-use Rattle.skeleton3.specs.Fields.{is_media_type}
+use Rattle.skeleton3.specs.Fields.{is_field, is_media_type, message_of}
 use Rattle.chain_rules.specs.Size.{has_no_number, size_of_pages}
 use Rattle.chain_rules.specs.ChainState.{ChainState, stream_at, is_open}
 use Rattle.chain_rules.specs.Rules.{Rule, first_broken}
-use Rattle.chain_rules.specs.Limits.{longest_first, longest_packet, longest_batch, most_streams, most_headers, most_entries, most_links, longest_file}
+use Rattle.chain_rules.specs.Limits.{longest_first, longest_packet, longest_batch, most_streams, most_headers, most_fields, longest_message, most_entries, most_links, longest_file}
 use Rattle.chain_rules.specs.Progress.{stream_in, position_in, with_position}
 use Rattle.chain_rules.specs.declared.stream_state.StreamState.{StreamState}
 use Rattle.chain_rules.specs.Encoding.{pages_of_command}
@@ -27,13 +27,17 @@ is_long most packet = nat_lt most (length packet)
 abbrev pub has_many_headers : NewStream → Bool
 has_many_headers stream = nat_lt most_headers (length stream.headers)
 
--- so long that no media type is
-abbrev pub has_long_media : NewStream → Bool
-has_long_media stream = nat_lt 255 (length stream.media)
+abbrev pub has_many_fields : NewStream → Bool
+has_many_fields stream = nat_lt most_fields (length stream.fields)
+
+-- longer than a media type and fields that are allowed make it
+abbrev pub has_long_message : NewStream → Bool
+has_long_message stream = nat_lt longest_message (length (message_of stream.media stream.fields))
 
 -- a Skeleton is a stream too
 abbrev pub has_many_parts : Begin → Bool
-has_many_parts begin = nat_lt most_streams (stream_count begin) || list_any has_many_headers begin.streams
+has_many_parts begin =
+    nat_lt most_streams (stream_count begin) || list_any has_many_headers begin.streams || list_any has_many_fields begin.streams
 
 abbrev pub begin_rules : ChainState → Begin → List (Rule Refusal)
 begin_rules chain begin =
@@ -57,7 +61,7 @@ stream_rules chain has_skeleton earlier stream =
     ∷ (nat_eq (length stream.headers) 0, NoHeader)
     ∷ (list_any (is_long longest_first) (take 1 stream.headers), HeadTooLong)
     ∷ (list_any (is_long longest_packet) (drop 1 stream.headers), PacketTooLong)
-    ∷ (has_skeleton && not (is_media_type stream.media), BadType)
+    ∷ (has_skeleton && not (is_media_type stream.media && list_all is_field stream.fields), BadType)
     ∷ (has_skeleton && not (is_positive stream.rate.0 && is_positive stream.rate.1), BadRate)
     ∷ []
 

@@ -3,7 +3,7 @@ use Rattle.std.specs.Prelude.{ℕ, ◌+◌, nat_eq, if◌then◌else◌, pos, Op
 use Rattle.std.specs.List.{flat_map}
 use Rattle.ogg_page.specs.Page.{Page, bytes_of_pages}
 use Rattle.packetiser.specs.Run.{flagged, pages_of_run}
-use Rattle.skeleton3.specs.Fisbone.{Fisbone, fisbone_bytes}
+use Rattle.skeleton3.specs.Fisbone.{Fisbone, fisbone_bytes_with}
 use Rattle.skeleton3.specs.Fishead.{fishead_bytes}
 use Rattle.skeleton3.specs.declared.fishead.Fishead.{Fishead}
 pub use Rattle.ogg_command.specs.Packets.{header, timed}
@@ -47,7 +47,7 @@ fisbone_of stream =
     }
 
 abbrev pub fisbone_packet : NewStream → List ℕ
-fisbone_packet stream = fisbone_bytes (fisbone_of stream)
+fisbone_packet stream = fisbone_bytes_with stream.fields (fisbone_of stream)
 
 -- A Skeleton as a stream of its link, before it ends: its packets are the fishead, and a fisbone for each stream.
 abbrev pub skeleton_stream : SkeletonHead → List NewStream → NewStream
@@ -56,6 +56,7 @@ skeleton_stream head streams =
       serial = head.serial;
       headers = fishead_bytes (fishead_of head) ∷ map fisbone_packet streams;
       media = [];
+      fields = [];
       rate = (pos 0, pos 0);
       base_granule = pos 0;
       preroll = 0;

@@ -8,7 +8,7 @@ longest_first = 65024
 
 -- bytes of any other packet
 abbrev pub longest_packet : ℕ
-longest_packet = 1048576
+longest_packet = 8388608
 
 -- bytes of a command's packets together
 abbrev pub longest_batch : ℕ
@@ -21,6 +21,15 @@ most_streams = 64
 -- headers of a stream
 abbrev pub most_headers : ℕ
 most_headers = 256
+
+-- message fields of a stream
+abbrev pub most_fields : ℕ
+most_fields = 16
+
+-- Bytes of the message fields of a stream: 271 for a media type of 255 bytes, and 323 for each of 16 fields with a name
+-- of 64 bytes and a value of 255.
+abbrev pub longest_message : ℕ
+longest_message = 5439
 
 -- packets of a put
 abbrev pub most_entries : ℕ

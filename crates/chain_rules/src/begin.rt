@@ -5,19 +5,20 @@ ghost use Rattle.std.specs.Option.{SomeIff};
 ghost use Rattle.chain_rules.specs.Rules.{first_broken};
 ghost use Rattle.chain_rules.specs.ChainState.{ChainState};
 ghost use Rattle.chain_rules.specs.Begun.{stream_count, skeleton_serial};
-ghost use Rattle.chain_rules.specs.Decision.{stream_rules, streams_rules, skeleton_rules, parts_rules, has_many_parts, has_many_headers, has_long_media, header_bytes, is_positive};
-ghost use Rattle.skeleton3.specs.Fields.{is_media_type};
+ghost use Rattle.chain_rules.specs.Decision.{stream_rules, streams_rules, skeleton_rules, parts_rules, has_many_parts, has_many_headers, has_many_fields, has_long_message, header_bytes, is_positive};
+ghost use Rattle.skeleton3.specs.Fields.{is_field, is_media_type};
 ghost use Rattle.chain_rules.specs.Encoding.{first_pages, header_pages, pages_of_begin};
 ghost use Rattle.chain_rules.specs.Size.{has_no_number, size_of_pages};
 ghost use Rattle.ogg_command.specs.declared.command.NewStream.{NewStream as StreamOf};
 
 use crate::limits::{
-    LONGEST_BATCH, LONGEST_FIRST, LONGEST_MEDIA, LONGEST_PACKET, MOST_HEADERS, MOST_STREAMS,
+    LONGEST_BATCH, LONGEST_FIRST, LONGEST_PACKET, MOST_FIELDS, MOST_HEADERS, MOST_STREAMS,
 };
 use crate::serials::Serials;
 use crate::skeleton::size_of_skeleton;
 use ogg_command::{Begin, Listed, NewStream, Refusal, SkeletonHead};
 use packetiser::size_of_run;
+use skeleton3::{Field, is_field, is_media_type};
 
 /// How many streams a link has, its Skeleton counted.
 pub fn stream_count(begin: &Begin) -> usize
@@ -30,7 +31,8 @@ pub fn stream_count(begin: &Begin) -> usize
 pub fn has_many_parts(begin: &Begin) -> bool
     ensures { result ≡ has_many_parts begin.now }
 {
-    stream_count(begin) > MOST_STREAMS || have_many_headers(begin.streams.as_slice())
+    let streams = begin.streams.as_slice();
+    stream_count(begin) > MOST_STREAMS || have_many_headers(streams) || have_many_fields(streams)
 }
 
 /// Whether one of the streams has more headers than it may have.
@@ -42,6 +44,15 @@ fn have_many_headers(streams: &[NewStream]) -> bool
         .any(|stream| stream.headers.len() > MOST_HEADERS)
 }
 
+/// Whether one of the streams has more message fields than it may have.
+fn have_many_fields(streams: &[NewStream]) -> bool
+    ensures { result ≡ list_any has_many_fields streams.now }
+{
+    streams
+        .iter()
+        .any(|stream| stream.fields.len() > MOST_FIELDS)
+}
+
 /// Whether a number is above 0.
 fn is_positive(number: i64) -> bool
     ensures { result ≡ is_positive number }
@@ -49,30 +60,11 @@ fn is_positive(number: i64) -> bool
     number > 0
 }
 
-/// Whether a text has just printing characters.
-fn is_printing(text: &[u8]) -> bool
-    ensures { result ≡ list_all (λ c. nat_le 0x20 c && nat_le c 0x7e) text.now }
+/// Whether a command may have these message fields.
+fn are_fields(fields: &[Field]) -> bool
+    ensures { result ≡ list_all is_field fields.now }
 {
-    text.iter().all(|c| 0x20 <= *c && *c <= 0x7e)
-}
-
-/// Whether there is a space in a text.
-fn has_space(text: &[u8]) -> bool
-    ensures { result ≡ list_any (nat_eq 0x20) text.now }
-{
-    text.iter().any(|c| 0x20 == *c)
-}
-
-/// Whether a text can be a media type: 1 to 255 printing characters, with no space at the ends.
-fn is_media(media: &[u8]) -> bool
-    ensures { result ≡ is_media_type media.now }
-{
-    if media.is_empty() || media.len() > LONGEST_MEDIA {
-        return false;
-    }
-    let (first, _) = media.split_at(1);
-    let (_, last) = media.split_at(media.len() - 1);
-    is_printing(media) && !has_space(first) && !has_space(last)
+    fields.iter().all(|field| is_field(field))
 }
 
 /// The first rule that the head of a link's Skeleton breaks.
@@ -112,7 +104,9 @@ fn broken_by_stream(
     if has_longer(others, LONGEST_PACKET) {
         return Some(Refusal::PacketTooLong);
     }
-    if skeleton.is_some() && !is_media(stream.media.as_slice()) {
+    if skeleton.is_some()
+        && !(is_media_type(stream.media.as_slice()) && are_fields(stream.fields.as_slice()))
+    {
         return Some(Refusal::BadType);
     }
     if skeleton.is_some() && !(is_positive(stream.rate.0) && is_positive(stream.rate.1)) {
@@ -263,10 +257,10 @@ pub fn size_of_begin(skeleton: Option<SkeletonHead>, streams: &[NewStream]) -> u
     requires short { sum_by header_bytes streams.now ≤ 16777216 }
     requires few { list_any has_many_headers streams.now ≡ false }
     requires links { length streams.now ≤ 64 }
-    requires media { IfSome skeleton (λ _. list_any has_long_media streams.now ≡ false) }
+    requires media { IfSome skeleton (λ _. list_any has_long_message streams.now ≡ false) }
     ensures value { result ≡ size_of_pages (pages_of_begin skeleton streams.now) }
     ensures numbered { list_any has_no_number (pages_of_begin skeleton streams.now) ≡ false }
-    ensures small { result ≤ 486658048 + 29 * 256 * 64 + 50000 }
+    ensures small { result ≤ 486658048 + 29 * 256 * 64 + 720000 }
     ensures time { IfSome skeleton (λ head. length head.utc ≡ 20) }
 {
     match skeleton {

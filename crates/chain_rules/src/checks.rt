@@ -6,7 +6,7 @@ ghost use Rattle.chain_rules.specs.Places.{HaveOwnSerials};
 ghost use Rattle.chain_rules.specs.Rules.{first_broken};
 ghost use Rattle.chain_rules.specs.ChainState.{ChainState};
 ghost use Rattle.chain_rules.specs.Decision.{decision, put_rules, begin_rules, room_rules, entries_rules, size_of};
-ghost use Rattle.chain_rules.specs.Decision.{answer, has_many_parts, has_long_media};
+ghost use Rattle.chain_rules.specs.Decision.{answer, has_many_parts, has_long_message};
 ghost use Rattle.chain_rules.specs.declared.stream_state.StreamState.{StreamState as State};
 
 use crate::begin::{broken_by_parts, has_many_parts, is_long_begin, size_of_begin};
@@ -153,7 +153,7 @@ fn broken_by_begin(streams: &[StreamState], begin: &Begin) -> Option<Refusal>
 #[tactic(auto, unfolding(crate::specs::Encoding::pages_of_command))]
 fn room_for_begin(links: u64, bytes: u64, begin: &Begin) -> Result<u64, Refusal>
     requires few { has_many_parts begin.now ≡ false }
-    requires media { IfSome begin.now.skeleton (λ _. list_any has_long_media begin.now.streams ≡ false) }
+    requires media { IfSome begin.now.skeleton (λ _. list_any has_long_message begin.now.streams ≡ false) }
     requires counted { bytes < 2 ^ 63 }
     ensures { (chain : ChainState) → chain.links ≡ links → chain.length_of ≡ bytes
         → result ≡ answer (size_of chain (Command.Begin begin.now)) (first_broken (room_rules chain (Command.Begin begin.now))) }

@@ -4,7 +4,7 @@ ghost use Rattle.std.specs.List.{list_any, flat_map};
 ghost use Rattle.ogg_page.specs.Page.{bytes_of_pages};
 ghost use Rattle.packetiser.specs.Run.{pages_of_run, pages_for, run_lacing, run_bytes, size_for, flagged, lengths};
 ghost use Rattle.chain_rules.specs.ChainState.{ChainState};
-ghost use Rattle.chain_rules.specs.Decision.{header_bytes, has_many_headers, has_long_media};
+ghost use Rattle.chain_rules.specs.Decision.{header_bytes, has_many_headers, has_long_message};
 ghost use Rattle.chain_rules.specs.Encoding.{first_pages, header_pages, pages_of_begin, end_page, runs_of, pages_of_runs};
 ghost use Rattle.chain_rules.specs.Places.{HaveOwnSerials};
 ghost use Rattle.chain_rules.specs.Progress.{next_in};
@@ -147,7 +147,7 @@ pub fn lay_begin(
     requires short { sum_by header_bytes streams.now ≤ 16777216 }
     requires few { list_any has_many_headers streams.now ≡ false }
     requires links { length streams.now ≤ 64 }
-    requires media { IfSome skeleton (λ _. list_any has_long_media streams.now ≡ false) }
+    requires media { IfSome skeleton (λ _. list_any has_long_message streams.now ≡ false) }
     ensures ok { OnOk result (out.new.items ≡ out.old.items ++ bytes_of_pages (pages_of_begin skeleton streams.now)) }
     ensures err { OnErr result (out.new.items ≡ out.old.items) }
     ensures full { OnErr result (vec_capacity out.old < vec_len out.old + size_of_pages (pages_of_begin skeleton streams.now)) }
@@ -163,7 +163,7 @@ fn lay_parts(skeleton: Option<SkeletonHead>, streams: &[NewStream], out: &mut Ve
     requires short { sum_by header_bytes streams.now ≤ 16777216 }
     requires few { list_any has_many_headers streams.now ≡ false }
     requires links { length streams.now ≤ 64 }
-    requires media { IfSome skeleton (λ _. list_any has_long_media streams.now ≡ false) }
+    requires media { IfSome skeleton (λ _. list_any has_long_message streams.now ≡ false) }
     requires room { vec_len out.old + size_of_pages (pages_of_begin skeleton streams.now) ≤ vec_capacity out.old }
     ensures items { out.new.items ≡ out.old.items ++ bytes_of_pages (pages_of_begin skeleton streams.now) }
 {
@@ -189,7 +189,7 @@ fn lay_described(head: &SkeletonHead, streams: &[NewStream], out: &mut Vec<u8>)
     requires short { sum_by header_bytes streams.now ≤ 16777216 }
     requires few { list_any has_many_headers streams.now ≡ false }
     requires links { length streams.now ≤ 64 }
-    requires media { list_any has_long_media streams.now ≡ false }
+    requires media { list_any has_long_message streams.now ≡ false }
     requires room { vec_len out.old + size_of_pages (pages_of_begin (Some head.now) streams.now) ≤ vec_capacity out.old }
     ensures items { out.new.items ≡ out.old.items ++ bytes_of_pages (pages_of_begin (Some head.now) streams.now) }
 {

@@ -4,10 +4,7 @@
 pub const LONGEST_FIRST: usize = 65_024;
 
 /// Bytes of any other packet.
-pub const LONGEST_PACKET: usize = 1_048_576;
-
-/// Bytes of a media type.
-pub const LONGEST_MEDIA: usize = 255;
+pub const LONGEST_PACKET: usize = 8_388_608;
 
 /// Bytes of a command's packets together.
 pub const LONGEST_BATCH: u64 = 16_777_216;
@@ -20,6 +17,9 @@ pub const FEW_STREAMS: usize = 4;
 
 /// Headers of a stream.
 pub const MOST_HEADERS: usize = 256;
+
+/// Message fields of a stream.
+pub const MOST_FIELDS: usize = 16;
 
 /// Packets of a put.
 pub const MOST_ENTRIES: usize = 4_096;

@@ -4,7 +4,7 @@ ghost use Rattle.std.specs.List.{list_any};
 ghost use Rattle.ogg_page.specs.Page.{bytes_of_pages};
 ghost use Rattle.packetiser.specs.Run.{pages_of_run, flagged};
 ghost use Rattle.skeleton3.specs.Fisbone.{fisbone_of as lent_fisbone};
-ghost use Rattle.chain_rules.specs.Decision.{has_many_headers, has_long_media};
+ghost use Rattle.chain_rules.specs.Decision.{has_many_headers, has_long_message};
 ghost use Rattle.chain_rules.specs.Encoding.{header, fishead_of, fisbone_of, fisbone_packet, fishead_pages, fisbone_pages, skeleton_end};
 ghost use Rattle.chain_rules.specs.Size.{size_of_pages};
 
@@ -63,11 +63,11 @@ fn size_of_fishead(head: &SkeletonHead) -> u64
 /// How many bytes the page of a stream's fisbone has.
 fn size_of_fisbone(stream: &NewStream) -> u64
     requires few { length stream.now.headers ≤ 256 }
-    requires media { length stream.now.media ≤ 255 }
+    requires message { has_long_message stream.now ≡ false }
     ensures value { (serial first : ℕ) → result ≡ size_of_pages (pages_of_run serial first (header (fisbone_packet stream.now) ∷ [])) }
-    ensures small { result ≤ 700 }
+    ensures small { result ≤ 11100 }
 {
-    size_of_packet(fisbone_of(stream).size())
+    size_of_packet(fisbone_of(stream).size_with(stream.fields.as_slice()))
 }
 
 /// How many bytes the last page of a Skeleton has.
@@ -82,9 +82,9 @@ fn size_of_skeleton_end() -> u64
 fn size_of_fisbones(streams: &[NewStream]) -> u64
     requires links { length streams.now ≤ 64 }
     requires few { list_any has_many_headers streams.now ≡ false }
-    requires media { list_any has_long_media streams.now ≡ false }
+    requires message { list_any has_long_message streams.now ≡ false }
     ensures value { (serial : ℕ) → result ≡ size_of_pages (fisbone_pages serial 1 streams.now) }
-    ensures small { result ≤ 700 * 64 }
+    ensures small { result ≤ 11100 * 64 }
 {
     let mut size = 0;
     for stream in streams {
@@ -97,11 +97,11 @@ fn size_of_fisbones(streams: &[NewStream]) -> u64
 pub fn size_of_skeleton(head: &SkeletonHead, streams: &[NewStream]) -> u64
     requires links { length streams.now ≤ 64 }
     requires few { list_any has_many_headers streams.now ≡ false }
-    requires media { list_any has_long_media streams.now ≡ false }
+    requires message { list_any has_long_message streams.now ≡ false }
     ensures value { result ≡ size_of_pages (fishead_pages head.now)
         + size_of_pages (fisbone_pages head.now.serial 1 streams.now)
         + size_of_pages (skeleton_end head.now.serial (length streams.now + 1)) }
-    ensures small { result ≤ 50000 }
+    ensures small { result ≤ 720000 }
     ensures time { length head.now.utc ≡ 20 }
 {
     size_of_fishead(head) + size_of_fisbones(streams) + size_of_skeleton_end()
@@ -141,13 +141,13 @@ pub fn lay_fishead(head: &SkeletonHead, out: &mut Vec<u8>)
 /// Appends the page of a stream's fisbone, for which there is room.
 fn lay_fisbone(serial: u32, sequence: u32, stream: &NewStream, out: &mut Vec<u8>)
     requires few { length stream.now.headers ≤ 256 }
-    requires media { length stream.now.media ≤ 255 }
+    requires message { has_long_message stream.now ≡ false }
     requires room { vec_len out.old + size_of_pages (pages_of_run serial sequence (header (fisbone_packet stream.now) ∷ [])) ≤ vec_capacity out.old }
     ensures items { out.new.items ≡ out.old.items ++ bytes_of_pages (pages_of_run serial sequence (header (fisbone_packet stream.now) ∷ [])) }
     ensures len { vec_len out.new ≡ vec_len out.old + size_of_pages (pages_of_run serial sequence (header (fisbone_packet stream.now) ∷ [])) }
     ensures capacity { vec_capacity out.old ≤ vec_capacity out.new }
 {
-    let fisbone = fisbone_of(stream).packet();
+    let fisbone = fisbone_of(stream).packet_with(stream.fields.as_slice());
     lay_packet(serial, sequence, 0, fisbone.as_slice(), out);
 }
 
@@ -155,7 +155,7 @@ fn lay_fisbone(serial: u32, sequence: u32, stream: &NewStream, out: &mut Vec<u8>
 pub fn lay_fisbones(serial: u32, streams: &[NewStream], out: &mut Vec<u8>)
     requires links { length streams.now ≤ 64 }
     requires few { list_any has_many_headers streams.now ≡ false }
-    requires media { list_any has_long_media streams.now ≡ false }
+    requires message { list_any has_long_message streams.now ≡ false }
     requires room { vec_len out.old + size_of_pages (fisbone_pages serial 1 streams.now) ≤ vec_capacity out.old }
     ensures items { out.new.items ≡ out.old.items ++ bytes_of_pages (fisbone_pages serial 1 streams.now) }
     ensures len { vec_len out.new ≡ vec_len out.old + size_of_pages (fisbone_pages serial 1 streams.now) }

@@ -305,7 +305,7 @@ stream_tail_cut bytes b1 b2 b3 serial count hs hc e1 e2 some none s more h e =
 -- the stream with this serial, these headers and this tail
 abbrev pub stream_with : ℕ → List (List ℕ) → Tail → NewStream
 stream_with serial headers tail =
-    record { serial = serial; headers = headers; media = tail.media; rate = tail.rate; base_granule = tail.base_granule; preroll = tail.preroll; shift = tail.shift }
+    record { serial = serial; headers = headers; media = tail.media; fields = []; rate = tail.rate; base_granule = tail.base_granule; preroll = tail.preroll; shift = tail.shift }
 
 pub stream_found : (bytes b1 b2 b3 more : List ℕ) (serial count : ℕ) (headers : List (List ℕ)) (tail : Tail) → serial < 2 ^ 32 → count < 2 ^ 16
     → bytes ≡ u32_bytes serial ++ b1 → b1 ≡ u16_bytes count ++ b2 → AreMany IsPacket count headers → b2 ≡ flat_map packet_bytes headers ++ b3
@@ -323,6 +323,7 @@ stream_found bytes b1 b2 b3 more serial count headers tail hs hc e1 e2 hh e3 ht 
           serial = hs;
           headers = all_as IsPacket (AllByRecursion IsByte) (λ p h. h.bytes) headers hh.1;
           media = ht.media.bytes;
+          fields = tt;
           rate = ht.rate;
           base_granule = ht.base_granule;
           preroll = ht.preroll;
@@ -332,6 +333,7 @@ stream_found bytes b1 b2 b3 more serial count headers tail hs hc e1 e2 hh e3 ht 
           headers = omega (arith, hh.0, hc);
           each = all_as IsPacket FitsHeader (λ p h. h.fits) headers hh.1;
           media = ht.media.fits;
+          fields = refl;
         };
       },
       j1 ∙ ap (λ l. l ++ more) (sym (stream_parts (stream_with serial headers tail))),

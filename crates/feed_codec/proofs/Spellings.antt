@@ -125,6 +125,7 @@ same_stream a b x y ha hb e =
         serial = serial.0 i;
         headers = headers.0 i;
         media = (tails.0 i).media;
+        fields = (ha.fits.fields ∙ sym hb.fits.fields) i;
         rate = (tails.0 i).rate;
         base_granule = (tails.0 i).base_granule;
         preroll = (tails.0 i).preroll;

@@ -62,6 +62,7 @@ pub record FitsStream (stream : NewStream) : Type 0 where
   pub headers : length stream.headers < 2 ^ 16
   pub each : AllByRecursion FitsHeader stream.headers
   pub media : length stream.media < 2 ^ 16
+  pub fields : stream.fields ≡ []
 
 abbrev pub FitsEntry : Entry → Type 0
 FitsEntry entry = length entry.packet < 2 ^ 32

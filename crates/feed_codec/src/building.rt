@@ -11,6 +11,7 @@ use crate::record::RecordKind;
 use crate::spare::Spare;
 use ogg_command::{Begin, Command, Entry, Listed, Memory, NewStream, Put};
 use ogg_page::{take_u16, take_u32};
+use skeleton3::Field;
 use std::alloc::Global;
 
 /// The command that the payload spells. A put is made of spare memory, as far as there is some.
@@ -109,12 +110,20 @@ fn stream_of(alloc: Global, bytes: &[u8]) -> Result<(NewStream, &[u8]), Memory>
         serial,
         headers,
         media,
+        fields: no_fields(alloc),
         rate: tail.rate,
         base_granule: tail.base_granule,
         preroll: tail.preroll,
         shift: tail.shift,
     };
     Ok((stream, rest))
+}
+
+/// No message fields. It takes no memory.
+fn no_fields(alloc: Global) -> Listed<Field>
+    ensures { result ≡ [] }
+{
+    Listed::of(Vec::new(alloc))
 }
 
 /// So many headers at the front, and what follows.

@@ -4,6 +4,7 @@ use Rattle.std.specs.List.{AllByRecursion}
 use Rattle.std.specs.Int.{w64}
 use Rattle.ogg_page.specs.Numbers.{IsFraction}
 use Rattle.ogg_page.specs.Page.{IsByte}
+use Rattle.skeleton3.specs.Fields.{NamedValue}
 use Rattle.ogg_command.specs.declared.command.Command.{Command}
 use Rattle.ogg_command.specs.declared.command.Command.TheVariants.{Begin as BeginOf, Put as PutOf, End as EndOf}
 use Rattle.ogg_command.specs.declared.command.SkeletonHead.{SkeletonHead}
@@ -17,10 +18,14 @@ pub record IsSkeletonHead (head : SkeletonHead) : Type 0 where
   pub utc : AllByRecursion IsByte head.utc
   pub utc_length : length head.utc ≡ 20
 
+abbrev pub AreFieldBytes : NamedValue → Type 0
+AreFieldBytes field = AllByRecursion IsByte field.0 × AllByRecursion IsByte field.1
+
 pub record IsNewStream (stream : NewStream) : Type 0 where
   pub serial : stream.serial < 2 ^ 32
   pub headers : AllByRecursion (AllByRecursion IsByte) stream.headers
   pub media : AllByRecursion IsByte stream.media
+  pub fields : AllByRecursion AreFieldBytes stream.fields
   pub rate : IsFraction stream.rate
   pub base_granule : FitsSigned w64 stream.base_granule
   pub preroll : stream.preroll < 2 ^ 32

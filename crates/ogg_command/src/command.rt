@@ -1,5 +1,6 @@
 //! Commands: what one call adds to a file.
 use crate::listed::Listed;
+use skeleton3::Field;
 
 /// What one call adds to a file.
 #[derive(Debug, Drop)]
@@ -44,6 +45,8 @@ pub struct NewStream {
     pub headers: Listed<Listed<u8>>,
     /// Its media type, as `audio/vorbis`.
     pub media: Listed<u8>,
+    /// Further message fields of its fisbone, in order.
+    pub fields: Listed<Field>,
     /// How many units of its position a second has, as a numerator and a denominator.
     pub rate: (i64, i64),
     /// The position at which it begins.

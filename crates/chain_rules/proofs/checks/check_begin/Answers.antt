@@ -46,5 +46,5 @@ some_chain serials = record { streams = []; has_data = false; serials = serials;
 
 pub room_for_begin-requires-clause-media : goal.room_for_begin-requires-clause-media
 room_for_begin-requires-clause-media c =
-    items_short (some_chain c.args.serials.now.listed) c.args.begin.now
+    items_short (some_chain c.args.serials.now.listed) c.args.begin.now (c.in_default.ensures.few refl)
     (of_items (some_chain c.args.serials.now.listed) c.args.begin.now c.as_slice.result.now None c.as_slice.ensures (c.in_default-broken_by_parts.ensures (some_chain c.args.serials.now.listed) refl))

@@ -7,5 +7,5 @@ use Rattle.chain_rules.proofs.skeleton.size_of_fisbones.Given as goal
 abbrev pub invariant-loop-stream : goal.invariant-loop-stream
 invariant-loop-stream l = record {
   value : (serial : ℕ) → l.size ≡ size_of_pages (fisbone_pages serial 1 (take l.stream-index l.streams));
-  small : l.size ≤ 700 * l.stream-index;
+  small : l.size ≤ 11100 * l.stream-index;
 }

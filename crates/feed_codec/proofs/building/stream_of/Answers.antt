@@ -32,7 +32,7 @@ returns c =
     let tail : IsTail (with c.in_ok-media.media) = subst (λ m. IsTail (with m)) (sym c.in_ok-media.ensures) split.0 in
     let behind : c.in_ok-headers.rest.now ≡ tail_bytes (with c.in_ok-media.media) ++ c.unwrap.result.1.now =
     split.1 ∙ ap (λ m. tail_bytes (with m) ++ c.unwrap.result.1.now) (sym c.in_ok-media.ensures) in
-    rw (to_z-of_z w64 c.unwrap.result.0.base_granule tail.base_granule)
+    rw (to_z-of_z w64 c.unwrap.result.0.base_granule tail.base_granule, c.no_fields.ensures)
     (stream_found c.args.bytes.now c.take_u32-serial.result.1.now c.take_u16-count.result.1.now c.in_ok-headers.rest.now c.unwrap.result.1.now c.take_u32-serial.result.0 c.take_u16-count.result.0
     c.in_ok-headers.headers (with c.in_ok-media.media)
     c.take_u32-serial.ensures.fits c.take_u16-count.ensures.fits c.take_u32-serial.ensures.value c.take_u16-count.ensures.value many front tail behind)

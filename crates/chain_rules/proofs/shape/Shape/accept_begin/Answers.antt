@@ -10,7 +10,7 @@ use Rattle.chain_rules.specs.Begun.{stream_count, skeleton_serial, states_of, se
 use Rattle.chain_rules.specs.ChainState.{ChainState}
 use Rattle.chain_rules.specs.Shape.{ShapeState}
 use Rattle.chain_rules.specs.Size.{size_of_pages}
-use Rattle.chain_rules.specs.Decision.{decision, header_bytes, has_many_headers, has_long_media}
+use Rattle.chain_rules.specs.Decision.{decision, header_bytes, has_many_headers, has_long_message}
 use Rattle.chain_rules.specs.Encoding.{pages_of_begin}
 use Rattle.chain_rules.specs.Places.{HaveOwnSerials}
 use Rattle.chain_rules.proofs.BeginHeld.{can_begin}
@@ -35,7 +35,7 @@ size_of_begin-size-requires-clause-links c =
 
 pub size_of_begin-size-requires-clause-media : goal.size_of_begin-size-requires-clause-media
 size_of_begin-size-requires-clause-media c =
-    subst (λ (l : List NewStream). IfSome c.args.begin.now.skeleton (λ _. list_any has_long_media l ≡ false)) (sym c.as_slice-streams.ensures)
+    subst (λ (l : List NewStream). IfSome c.args.begin.now.skeleton (λ _. list_any has_long_message l ≡ false)) (sym c.as_slice-streams.ensures)
     (begin_fits c.args.self.now.chain c.args.begin.now c.requires.kept).media
 
 pub add_streams-requires-clause-short : goal.add_streams-requires-clause-short

@@ -3,7 +3,7 @@ use Rattle.std.specs.Prelude.{OnOk, OnErr, IfSome, vec_capacity}
 use Rattle.std.specs.List.{list_any}
 use Rattle.ogg_page.specs.Page.{bytes_of_pages}
 use Rattle.ogg_command.specs.declared.command.NewStream.{NewStream}
-use Rattle.chain_rules.specs.Decision.{header_bytes, has_many_headers, has_long_media}
+use Rattle.chain_rules.specs.Decision.{header_bytes, has_many_headers, has_long_message}
 use Rattle.chain_rules.specs.Encoding.{pages_of_command, pages_of_begin}
 use Rattle.chain_rules.specs.Size.{size_of_pages}
 use Rattle.chain_rules.proofs.ByteSizes.{length-bytes_of_pages}
@@ -24,7 +24,7 @@ lay_begin-requires-clause-links c =
 
 pub lay_begin-requires-clause-media : goal.lay_begin-requires-clause-media
 lay_begin-requires-clause-media c =
-    subst (λ (l : List NewStream). IfSome c.args.begin.now.skeleton (λ _. list_any has_long_media l ≡ false)) (sym c.as_slice.ensures)
+    subst (λ (l : List NewStream). IfSome c.args.begin.now.skeleton (λ _. list_any has_long_message l ≡ false)) (sym c.as_slice.ensures)
     (begin_fits c.args.self.now.chain c.args.begin.now c.requires).media
 
 pub returns-clause-ok : goal.returns-clause-ok
