@@ -6,3 +6,4 @@ pub mod Slices
 pub mod Tables
 pub mod Room
 pub mod Step
+pub mod InRoom

@@ -1,5 +1,5 @@
 -- A page that a window lends. Ours.
-use Rattle.std.specs.Prelude.{ℕ, Option, Some, None, Result, Ok, Err}
+use Rattle.std.specs.Prelude.{Option, Some, None, Result, Ok, Err}
 use Rattle.ogg_page.specs.Reading.{fields_at}
 use Rattle.ogg_page.specs.Window.{LentAt}
 use Rattle.ogg_page.specs.declared.lent.LentPage.{LentPage}

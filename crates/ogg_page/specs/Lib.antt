@@ -16,3 +16,4 @@ pub mod Window
 pub mod WindowFault
 pub mod LentPage
 pub mod Room
+pub mod PageInWork

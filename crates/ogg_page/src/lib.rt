@@ -28,6 +28,7 @@ mod numbers;
 mod output;
 mod page;
 mod pages;
+mod placing;
 mod reading;
 mod source;
 mod table;

@@ -2,6 +2,9 @@
 use super::*;
 use std::test::Fail;
 
+mod making;
+mod windows;
+
 /// Bytes and their checksum, as libogg has it.
 const CHECKSUMS: [(&[u8], u32); 6] = [
     (b"", 0),
@@ -26,7 +29,7 @@ const FIRST_PAGE: [u8; 31] = [
 ];
 
 /// What the writer of that page chooses.
-const FIRST_HEAD: PageHead = PageHead {
+pub(crate) const FIRST_HEAD: PageHead = PageHead {
     flags: 2,
     position: 0,
     serial: 1,
@@ -113,7 +116,7 @@ fn a_page_is_read_part_by_part(rt: HostRuntime) -> Result<(), Fail> {
 
 /// Three pages of stream 1, of 31, 33 and 27 bytes: `abc`, `hello` at position 5, and a last page
 /// without a packet. The checksums are by another program.
-const THREE_PAGES: [u8; 91] = [
+pub(crate) const THREE_PAGES: [u8; 91] = [
     0x4F, 0x67, 0x67, 0x53, 0x00, 0x02, 0x00, 0x00, 0x00, 0x00, 0x00, 0x00, 0x00, 0x00, 0x01, 0x00,
     0x00, 0x00, 0x00, 0x00, 0x00, 0x00, 0x92, 0xDD, 0xF6, 0x15, 0x01, 0x03, 0x61, 0x62, 0x63, 0x4F,
     0x67, 0x67, 0x53, 0x00, 0x00, 0x05, 0x00, 0x00, 0x00, 0x00, 0x00, 0x00, 0x00, 0x01, 0x00, 0x00,

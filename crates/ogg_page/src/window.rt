@@ -47,10 +47,9 @@ impl<S: PageSource> Window<S> {
         requires inside { to ≤ S.size source }
         ensures { result ≡ window source from to }
     {
-        let PageBuffer { room } = buffer;
         Window {
             source,
-            room,
+            room: buffer.into_room(),
             held: Held { start: 0, end: 0 },
             at: from,
             to,
@@ -155,6 +154,6 @@ impl<S: PageSource> Window<S> {
     pub fn into_parts(self) -> (S, PageBuffer)
         ensures { result.0 ≡ self.source }
     {
-        (self.source, PageBuffer { room: self.room })
+        (self.source, PageBuffer::over(self.room))
     }
 }

@@ -84,7 +84,7 @@ fn append(out: &mut Vec<u8>, bytes: &[u8])
 
 /// The bytes of a page before its lacing values, with zero as the checksum.
 #[tactic(auto, unfolding(crate::specs::Page::fixed_part))]
-fn blank_fixed_part(head: &PageHead, values: u8) -> [u8; FIXED]
+pub(crate) fn blank_fixed_part(head: &PageHead, values: u8) -> [u8; FIXED]
     ensures { (lacing body : List ℕ) → length lacing ≡ values → result ≡ fixed_part 0 (page_of head.now lacing body) }
 {
     let mut bytes = [0u8; FIXED];

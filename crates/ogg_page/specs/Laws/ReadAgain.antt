@@ -170,7 +170,7 @@ blanked_again : (c : ℕ) (p : Page) → blanked (bytes_with c p) ≡ bytes_with
 unfolding fixed_part
 blanked_again c p = refl
 
-length_bytes_with : (c : ℕ) (p : Page) → length (bytes_with c p) ≡ 27 + length p.lacing + length p.body
+pub length_bytes_with : (c : ℕ) (p : Page) → length (bytes_with c p) ≡ 27 + length p.lacing + length p.body
 unfolding fixed_part
 length_bytes_with c p = length-append (fixed_part c p ++ p.lacing) p.body ∙ ap (λ n. n + length p.body) (length-append (fixed_part c p) p.lacing)
 

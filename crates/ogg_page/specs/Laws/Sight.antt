@@ -69,7 +69,7 @@ number_in_front (a ∷ b ∷ c ∷ []) back l = absurd (omega arith)
 number_in_front (a ∷ b ∷ c ∷ d ∷ front) back l = refl
 
 -- so many bytes are at most so much
-sum_small : (bytes : List ℕ) → AreBytes bytes → sum bytes ≤ 255 * length bytes
+pub sum_small : (bytes : List ℕ) → AreBytes bytes → sum bytes ≤ 255 * length bytes
 sum_small [] h = omega arith
 sum_small (a ∷ bytes) h =
     let first : a < 256 = h 0 in

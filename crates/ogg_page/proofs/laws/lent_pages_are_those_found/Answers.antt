@@ -1,4 +1,4 @@
-use Rattle.std.proofs.Common.{◌≡◌, ℕ, ◌+◌, List, [], ◌∷◌, ◌++◌, refl, sym, ◌∙◌, ap, Some, None, Result, Ok, Err}
+use Rattle.std.proofs.Common.{◌≡◌, ℕ, ◌+◌, List, [], ◌∷◌, refl, sym, ◌∙◌, ap, Some, Result, Ok, Err}
 use Rattle.ogg_page.specs.Page.{Page as PageValue, page_size}
 use Rattle.ogg_page.specs.Pages.{PagesLeft, FoundPage, found_in}
 use Rattle.ogg_page.specs.PagesLaws.{found-nothing, found-fault, found-page}
