@@ -5,3 +5,5 @@ pub mod Ranges
 pub mod Sizes
 pub mod Filling
 pub mod Placing
+pub mod BytesLeft
+pub mod PageByPage

@@ -7,7 +7,7 @@ use Rattle.std.proofs.lemmas.List.Sums.{sum_by-append, sum_by-cons}
 use Rattle.ogg_page.specs.Page.{Page, page_size}
 use Rattle.ogg_page.specs.Lacing.{lacing_of, ends_open}
 use Rattle.packetiser.specs.Run.{Timed, counted, run_lacing, run_bytes, values_at, values_before, packets_ended, position_of, no_position, page_position, page_of_run, pages_of_run, pages_for, size_for, flagged}
-use Rattle.packetiser.specs.Place.{values_left, bytes_left, next_values, next_page, added, IsWithin, IsBehind}
+use Rattle.packetiser.specs.Place.{values_left, bytes_left, next_values, next_page, added, IsWithin, IsBehind, IsAt}
 use Rattle.packetiser.proofs.Behind.{ends_open-at}
 use Rattle.packetiser.proofs.Pieces.{sum_app, sum-run, sum-lacing_of, before_more, run_bytes_all}
 use Rattle.packetiser.proofs.Ranges.{front_sum}
@@ -26,14 +26,6 @@ next_whole done run h =
     sym (length-take-le (sum (next_values done run)) (bytes_left done run) (omega (arith, front_sum 255 (values_left done run), left_sum done run h)))
 
 -- ---- the place of a page
--- so many bytes of the first of these packets stand before page k
-pub record IsAt (run : List Timed) (k done : ℕ) (rest : List Timed) : Type 0 where
-  pub values : drop (255 * k) (run_lacing run) ≡ values_left done rest
-  pub bytes : drop (sum (values_before k (run_lacing run))) (run_bytes run) ≡ bytes_left done rest
-  pub ended : rest ≡ drop (packets_ended (values_before k (run_lacing run))) run
-  pub open_is : ends_open (values_before k (run_lacing run)) ≡ nat_lt 0 done
-  pub within : IsWithin done rest
-
 pub at_start : (run : List Timed) → IsAt run 0 0 run
 unfolding values_before
 at_start run = record { values = sym (none_done run); bytes = refl; ended = refl; open_is = refl; within = start run }

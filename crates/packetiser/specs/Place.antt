@@ -1,8 +1,8 @@
 -- What is left of a run behind some of its pages.
-use Rattle.std.specs.Prelude.{ℕ, zero, suc, ◌+◌, ◌-◌, ◌<◌, ◌≤◌, ◌≡◌, nat_lt, if◌then◌else◌, List, [], ◌∷◌, ◌++◌, length, take, drop, sum}
+use Rattle.std.specs.Prelude.{ℕ, zero, suc, ◌+◌, ◌-◌, ◌*◌, ◌<◌, ◌≤◌, ◌≡◌, nat_lt, if◌then◌else◌, List, [], ◌∷◌, ◌++◌, length, take, drop, sum}
 use Rattle.ogg_page.specs.Page.{Page}
 use Rattle.ogg_page.specs.Lacing.{lacing_of, ends_open}
-use Rattle.packetiser.specs.Run.{Timed, run_lacing, run_bytes, packets_ended, position_of}
+use Rattle.packetiser.specs.Run.{Timed, run_lacing, run_bytes, values_before, packets_ended, position_of}
 
 -- the lacing values that are left, where so many bytes of the first packet are done
 abbrev pub values_left : ℕ → List Timed → List ℕ
@@ -46,3 +46,11 @@ pub record IsBehind (done : ℕ) (rest : List Timed) (done' : ℕ) (rest' : List
 abbrev pub added : ℕ → ℕ → ℕ
 added flags zero = flags
 added flags (suc k) = 0
+
+-- so many bytes of the first of these packets stand before page k
+pub record IsAt (run : List Timed) (k done : ℕ) (rest : List Timed) : Type 0 where
+  pub values : drop (255 * k) (run_lacing run) ≡ values_left done rest
+  pub bytes : drop (sum (values_before k (run_lacing run))) (run_bytes run) ≡ bytes_left done rest
+  pub ended : rest ≡ drop (packets_ended (values_before k (run_lacing run))) run
+  pub open_is : ends_open (values_before k (run_lacing run)) ≡ nat_lt 0 done
+  pub within : IsWithin done rest

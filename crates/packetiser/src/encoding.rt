@@ -67,7 +67,7 @@ fn append_pages<T: TimedPacket>(
 }
 
 /// The flags that are added to page `k`: to the first alone.
-fn added_flags(flags: u8, k: u64) -> u8
+pub(crate) fn added_flags(flags: u8, k: u64) -> u8
     requires { flags < 255 }
     ensures value { result ≡ added flags k }
     ensures few { result < 255 }

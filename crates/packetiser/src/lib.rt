@@ -10,6 +10,7 @@
 mod encoding;
 mod item;
 mod laws;
+mod paging;
 mod place;
 mod size;
 
@@ -17,4 +18,5 @@ pub use encoding::lay_run;
 pub use item::{Item, TimedPacket};
 pub use laws::{run_is_held, run_is_pages};
 pub use ogg_page::Memory;
+pub use paging::RunPages;
 pub use size::{pages_of, pages_of_run, size_of, size_of_run, values_and_bytes, values_of};

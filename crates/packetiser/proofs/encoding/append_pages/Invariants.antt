@@ -2,7 +2,8 @@ use Rattle.std.proofs.Common.{◌≡◌, ◌≤◌, ◌+◌, ◌++◌, map, sum_
 use Rattle.std.specs.Prelude.{vec_capacity}
 use Rattle.ogg_page.specs.Page.{page_size, bytes_of_pages}
 use Rattle.packetiser.specs.Run.{flagged}
-use Rattle.packetiser.proofs.Placing.{IsAt, pages_to}
+use Rattle.packetiser.specs.Place.{IsAt}
+use Rattle.packetiser.proofs.Placing.{pages_to}
 use Rattle.packetiser.proofs.encoding.append_pages.Given as goal
 
 -- the pages so far are appended, and there is room for all
