@@ -6,7 +6,7 @@ use Rattle.ogg_page.specs.Reading.{page_at, fields_at}
 use Rattle.ogg_page.specs.declared.held.Held.{Held}
 use Rattle.ogg_page.specs.declared.fault.WindowFault.{WindowFault}
 use Rattle.ogg_page.specs.declared.fault.WindowFault.TheVariants.{Source, Page}
-use Rattle.ogg_page.specs.Window.{KeepsSource, HasMoved, HasSourceCause}
+use Rattle.ogg_page.specs.Window.{LentAt, KeepsSource, HasMoved, HasSourceCause}
 use Rattle.ogg_page.specs.Room.{HoldsBytes, IsFoundAt, IsLent}
 use Rattle.ogg_page.proofs.Room.{Stands, behind, range_is}
 
@@ -20,6 +20,12 @@ some_left bytes at to below inside e =
     let none : length (take (to - at) (drop at bytes)) ≡ 0 = ap length e in
     omega (arith, size, none, below)
 
+err_ok : (fault : WindowFault) (lent : LentAt) → (let r : Result (Option LentAt) WindowFault = Err fault in r) ≡ Ok (Some lent) → ⊥
+err_ok fault lent e = cc
+
+ok_same : (p q : LentAt) → (let r : Result (Option LentAt) WindowFault = Ok (Some q) in r) ≡ Ok (Some p) → p ≡ q
+ok_same p q e = cc
+
 -- no page is found
 pub failed : {S : Type 0} (bytes : S → List ℕ) (honest : S → Type 0) (size failures : S → ℕ) (only_reads : S → S → Type 0) (old new : S) (at to : ℕ) (was : Option WindowFault) (lent : Option (ℕ × PageValue)) (front : List ℕ) (fault : WindowFault) → was ≡ None →
     (honest old → take (to - at) (drop at (bytes old)) ≢ []) →
@@ -28,6 +34,7 @@ pub failed : {S : Type 0} (bytes : S → List ℕ) (honest : S → Type 0) (size
     HasMoved bytes honest size failures only_reads (record { source = old; at = at; to = to; fault = was; lent = lent }) (Err fault) (record { source = new; at = at; to = to; fault = Some fault; lent = None })
 failed bytes honest size failures only_reads old new at to was lent front Source free some found keeps cause = record {
   lent = λ sure none. tt;
+  passes = λ lent e. absurd (err_ok Source lent e);
   fault = refl;
   stays = λ given e. absurd (none_some given (sym free ∙ e));
   cause = λ none. (cause.0, λ e. cause.1 refl);
@@ -36,6 +43,7 @@ failed bytes honest size failures only_reads old new at to was lent front Source
 }
 failed bytes honest size failures only_reads old new at to was lent front (Page offset fault) free some found keeps cause = record {
   lent = λ sure none. (found.0, some sure, found.1 sure);
+  passes = λ lent e. absurd (err_ok (Page offset fault) lent e);
   fault = refl;
   stays = λ given e. absurd (none_some given (sym free ∙ e));
   cause = λ none. (cause.0, λ e. cause.1 cc);
@@ -56,6 +64,14 @@ moved bytes honest size failures only_reads old new at to n was lent room held p
         ∙ ap (λ p. page_bytes p ++ take (to - (at + n)) (drop (at + n) (bytes new))) (sym same),
     ap (λ k. at + k) here.size ∙ ap (λ p. at + page_size p) (sym same),
   );
+  passes = λ given e.
+      let is : given ≡ (at, page) = ok_same given (at, page) e in
+      record {
+        is_page = subst IsPage (sym same ∙ ap (λ (l : LentAt). l.1) (sym is)) here.is;
+        offset = ap (λ (l : LentAt). l.0) is;
+        behind = ap (λ k. at + k) here.size ∙ ap (λ p. at + page_size p) (sym same) ∙ ap (λ (l : LentAt). at + page_size l.1) (sym is);
+        inside = omega (arith, holds.span, here.fits);
+      };
   fault = free;
   stays = λ given e. absurd (none_some given (sym free ∙ e));
   cause = λ none. (later, λ e. absurd (ok_err e));

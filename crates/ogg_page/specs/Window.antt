@@ -1,6 +1,6 @@
 -- What a window lends: one page of a source after the other. Ours.
-use Rattle.std.specs.Prelude.{◌≡◌, ◌≢◌, ◌↔◌, ◌⊎◌, ℕ, ◌-◌, ◌^◌, ◌<◌, ◌≤◌, Option, Some, None, Result, Ok, Err, List, [], ◌∷◌, ◌++◌, map, take, drop, ⊤}
-use Rattle.ogg_page.specs.Page.{Page as PageValue}
+use Rattle.std.specs.Prelude.{◌≡◌, ◌≢◌, ◌↔◌, ◌⊎◌, ℕ, ◌+◌, ◌-◌, ◌^◌, ◌<◌, ◌≤◌, Option, Some, None, Result, Ok, Err, List, [], ◌∷◌, ◌++◌, map, take, drop, ⊤}
+use Rattle.ogg_page.specs.Page.{Page as PageValue, IsPage, page_size}
 use Rattle.ogg_page.specs.Reading.{page_at}
 use Rattle.ogg_page.specs.Pages.{FoundPage, PagesLeft, NextPage}
 use Rattle.ogg_page.specs.declared.fault.WindowFault.{WindowFault}
@@ -55,11 +55,20 @@ abbrev pub answer : Result (Unit {0}) WindowFault → Option LentAt → Result (
 answer (Ok done) lent = Ok lent
 answer (Err fault) lent = Err fault
 
+-- the page is the one at the window's place, which is now behind it
+pub record Passes {S : Type 0} (old : WindowState S) (lent : LentAt) (new : WindowState S) : Type 0 where
+  pub is_page : IsPage lent.1
+  pub offset : lent.0 ≡ old.at
+  pub behind : new.at ≡ old.at + page_size lent.1
+  pub inside : new.at ≤ new.to
+
 -- what a call of `next` leaves
 pub record HasMoved {S : Type 0} (bytes : S → List ℕ) (honest : S → Type 0) (size failures : S → ℕ) (only_reads : S → S → Type 0)
     (old : WindowState S) (result : Result (Option LentAt) WindowFault) (new : WindowState S) : Type 0 where
   -- it is the next step over the bytes of the range that are left
   pub lent : honest old.source → old.fault ≡ None → NextLent (left_of bytes old) result (left_of bytes new)
+  -- what is lent is a page that is passed, honest or not, so that a walk ends
+  pub passes : (lent : LentAt) → result ≡ Ok (Some lent) → Passes old lent new
   -- a fault stays until the range is set anew
   pub fault : new.fault ≡ fault_left result
   pub stays : (fault : WindowFault) → old.fault ≡ Some fault → (result ≡ Err fault) × (new ≡ old)
