@@ -1,90 +1,29 @@
 -- A begin that is kept adds a link.
-use Rattle.std.proofs.Common.{◌≡◌, ◌≢◌, ℕ, ◌+◌, ◌<◌, ◌≤◌, ◌^◌, Bool, true, false, List, [], ◌∷◌, ◌++◌, length, map, refl, sym, ◌∙◌, ap, subst, arith, eq-eqb, inl, inr, Option, None, Some, Ok, length-append}
-use Rattle.std.specs.Prelude.{nat_eq, ◌||◌, not, IsOk, IfSome}
-use Rattle.std.specs.List.{AllByRecursion, IsDistinct, list_any, list_all, flat_map}
+use Rattle.std.proofs.Common.{◌≡◌, ℕ, ◌+◌, ◌<◌, ◌≤◌, ◌^◌, true, false, List, [], ◌∷◌, ◌++◌, length, refl, sym, ◌∙◌, ap, subst, arith, Option, None, Some, Ok, length-append}
+use Rattle.std.specs.Prelude.{nat_eq, IsOk, IfSome}
+use Rattle.std.specs.List.{AllByRecursion, IsDistinct, list_any, flat_map}
 use Rattle.std.proofs.lemmas.List.{append-nil}
 use Rattle.std.proofs.lemmas.List.Concat.{flat_map-append}
-use Rattle.std.proofs.lemmas.Bool.{ne_eqb, eqb-false, cases_eq, or_parts, or_left, or_right, and_from}
+use Rattle.std.proofs.lemmas.Bool.{ne_eqb, eqb-false, or_parts}
 use Rattle.ogg_page.specs.Page.{Page, IsPage, bytes_of_pages}
-use Rattle.ogg_page.specs.LogicalStream.{is_first}
-use Rattle.chain_rules.specs.declared.stream_state.StreamState.{StreamState}
 use Rattle.ogg_command.specs.declared.command.Command.TheVariants.{Begin as BeginOf}
 use Rattle.ogg_command.specs.declared.command.Begin.{Begin}
 use Rattle.ogg_command.specs.declared.command.NewStream.{NewStream}
-use Rattle.chain_rules.specs.Links.{IsLink, AreLinks, AllButLast, serials_of, has_stream, has_ended, all_ended}
+use Rattle.link_chain.specs.Links.{IsLink, AreLinks, all_ended}
 use Rattle.chain_rules.specs.Recording.{Stream, Recording, HoldsLink, HoldsLinks, begun_link, add}
-use Rattle.chain_rules.specs.ChainState.{ChainState, chain_state_of, state_of, last_link, is_open}
+use Rattle.link_chain.specs.ChainState.{ChainState, chain_state_of}
 use Rattle.chain_rules.specs.Encoding.{first_pages, header_pages, pages_of_begin, skeleton_stream, fisbone_pages, skeleton_end, pages_of_command, command_bytes, links_after}
 use Rattle.chain_rules.specs.Decision.{decision, has_long_message, streams_rules, parts_rules}
 use Rattle.ogg_command.specs.Command.{IsNewStream, IsSkeleton}
 use Rattle.chain_rules.specs.Begun.{states_of, serials_in, skeleton_serial, has_more_pages}
 use Rattle.ogg_command.specs.declared.command.SkeletonHead.{SkeletonHead}
-use Rattle.chain_rules.proofs.Grow.{all_weaker, all_both, filter_all, serials_same}
-use Rattle.chain_rules.proofs.Chain.{Unbroken, all_split, numbers_fit, any_map}
+use Rattle.link_chain.specs.Laws.LastLink.{closed_link, ended_links, last_is_link, all_split}
+use Rattle.link_chain.specs.Laws.Grow.{all_weaker, all_both}
+use Rattle.chain_rules.proofs.Unbroken.{Unbroken, numbers_fit}
 use Rattle.chain_rules.proofs.Beginning.{IsGood, fresh, are_distinct, are_good, all_to_map, firsts_pages, laters_pages}
 use Rattle.chain_rules.proofs.Kept.{BeginFits, begin_fits}
 use Rattle.chain_rules.proofs.NewLink.{IsNewLink, CanBegin, plain_link, described_link}
 use Rattle.chain_rules.proofs.SkeletonPart.{fishead_page, fisbones_pages, end_is_page}
-
--- ---- no link is open
-not_not : (b : Bool) → not b ≡ false → b ≡ true
-not_not true e = refl
-not_not false e = cc
-
-ended_serial : (ended : ℕ → Bool) (xs : List ℕ) → list_any (λ s. not (ended s)) xs ≡ false → (serial : ℕ) → list_any (nat_eq serial) xs ≡ true → ended serial ≡ true
-ended_serial ended [] e serial there = cc
-ended_serial ended (x ∷ xs) e serial there =
-    let parts : (not (ended x) ≡ false) × (list_any (λ s. not (ended s)) xs ≡ false) = or_parts (not (ended x)) (list_any (λ s. not (ended s)) xs) e in
-    elim (cases_eq serial x) [
-      | inl same ↦ ap ended same ∙ not_not (ended x) parts.0
-      | inr other ↦ ended_serial ended xs parts.1 serial (sym (ap (λ b. b || list_any (nat_eq serial) xs) (ne_eqb serial x other)) ∙ there)
-    ]
-
-all_true : (test : Page → Bool) (pages : List Page) → AllByRecursion (λ (p : Page). test p ≡ true) pages → list_all test pages ≡ true
-all_true test [] h = refl
-all_true test (page ∷ pages) h = and_from (test page) (list_all test pages) h.0 (all_true test pages h.1)
-
-first_known : (pages : List Page) → AllByRecursion (λ (p : Page). is_first p ≡ true) pages → AllByRecursion (λ (p : Page). has_stream pages p.serial ≡ true) pages
-first_known pages h =
-    all_weaker (λ (p : Page). list_any (nat_eq p.serial) (map (λ (q : Page). q.serial) pages) ≡ true) (λ (p : Page). has_stream pages p.serial ≡ true)
-    (λ p e. ap (λ (l : List Page). list_any (nat_eq p.serial) (map (λ (q : Page). q.serial) l)) (filter_all is_first pages h) ∙ e) pages (each pages)
-  where
-    each : (ps : List Page) → AllByRecursion (λ (p : Page). list_any (nat_eq p.serial) (map (λ (q : Page). q.serial) ps) ≡ true) ps
-    each [] = tt
-    each (p ∷ ps) = (
-      or_left (nat_eq p.serial p.serial) (list_any (nat_eq p.serial) (map (λ (q : Page). q.serial) ps)) (eq-eqb p.serial p.serial refl),
-      all_weaker (λ (q : Page). list_any (nat_eq q.serial) (map (λ (r : Page). r.serial) ps) ≡ true) (λ (q : Page). list_any (nat_eq q.serial) (map (λ (r : Page). r.serial) (p ∷ ps)) ≡ true)
-          (λ q e. or_right (nat_eq q.serial p.serial) (list_any (nat_eq q.serial) (map (λ (r : Page). r.serial) ps)) e) ps (each ps),
-    )
-
-pub each_known : (link : List Page) → IsLink link → AllByRecursion (λ (p : Page). has_stream link p.serial ≡ true) link
-each_known link l =
-    subst (λ (x : List Page). AllByRecursion (λ (p : Page). has_stream link p.serial ≡ true) x) (sym l.split)
-    (all_both (λ (p : Page). has_stream link p.serial ≡ true) l.first_pages l.others
-    (all_weaker (λ (p : Page). has_stream l.first_pages p.serial ≡ true) (λ (p : Page). has_stream link p.serial ≡ true)
-    (λ p e. ap (λ (x : List ℕ). list_any (nat_eq p.serial) x) (ap serials_of l.split ∙ serials_same l.first_pages l.others l.unmarked) ∙ e)
-    l.first_pages (first_known l.first_pages l.marked))
-    l.known)
-
-pub closed_link : (links : List (List Page)) → IsLink (last_link links) → is_open (chain_state_of links) ≡ false → all_ended (last_link links) ≡ true
-closed_link links l e =
-    let link : List Page = last_link links in
-    let none : list_any (λ s. not (has_ended link s)) (serials_of link) ≡ false =
-    sym (any_map (λ (s : StreamState). not s.ended) (state_of link) (serials_of link)) ∙ e in
-    all_true (λ (p : Page). has_ended link p.serial) link
-    (all_weaker (λ (p : Page). has_stream link p.serial ≡ true) (λ (p : Page). has_ended link p.serial ≡ true)
-    (λ p there. ended_serial (has_ended link) (serials_of link) none p.serial there) link (each_known link l))
-
--- ---- a link more
-pub ended_links : (P : List Page → Type 0) (links : List (List Page)) (new : List Page) → AllButLast P links → (links ≢ [] → P (last_link links)) → AllButLast P (links ++ new ∷ [])
-ended_links P [] new h last = tt
-ended_links P (link ∷ []) new h last = (last (λ e. cc), tt)
-ended_links P (link ∷ next ∷ links) new h last = (h.0, ended_links P (next ∷ links) new h.1 (λ _. last (λ e. cc)))
-
-pub last_is_link : (links : List (List Page)) → AllByRecursion IsLink links → links ≢ [] → IsLink (last_link links)
-last_is_link [] h ne = absurd (ne refl)
-last_is_link (link ∷ []) h ne = h.0
-last_is_link (link ∷ next ∷ links) h ne = last_is_link (next ∷ links) h.1 (λ e. cc)
 
 zip_push : (links : List (List Page)) (recording : Recording) (link : List Page) (streams : List Stream) → HoldsLinks links recording → HoldsLink link streams →
     HoldsLinks (links ++ link ∷ []) (recording ++ streams ∷ [])

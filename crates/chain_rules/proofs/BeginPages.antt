@@ -11,7 +11,7 @@ use Rattle.packetiser.proofs.Sizes.{bytes_in, length-run_bytes, sum_by-map}
 use Rattle.ogg_command.specs.declared.command.NewStream.{NewStream}
 use Rattle.chain_rules.specs.Decision.{header_bytes, has_many_headers}
 use Rattle.chain_rules.specs.Encoding.{header, first_pages, header_pages, first_flag}
-use Rattle.chain_rules.specs.Size.{has_no_number, size_of_pages}
+use Rattle.link_chain.specs.Size.{has_no_number, size_of_pages}
 use Rattle.chain_rules.proofs.RunPages.{within, few_values, length-map}
 
 -- ---- flags change neither number nor size

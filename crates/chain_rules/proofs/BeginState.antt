@@ -7,19 +7,19 @@ use Rattle.std.proofs.lemmas.List.Concat.{flat_map-append}
 use Rattle.std.proofs.lemmas.List.Sums.{sum_by-append, sum_by-cons}
 use Rattle.ogg_page.specs.Page.{Page}
 use Rattle.ogg_page.specs.LogicalStream.{is_first}
-use Rattle.chain_rules.specs.declared.stream_state.StreamState.{StreamState}
+use Rattle.link_chain.specs.declared.stream_state.StreamState.{StreamState}
 use Rattle.ogg_command.specs.declared.command.Command.TheVariants.{Begin as BeginOf}
 use Rattle.ogg_command.specs.declared.command.Begin.{Begin}
 use Rattle.ogg_command.specs.declared.command.NewStream.{NewStream}
 use Rattle.ogg_command.specs.declared.command.SkeletonHead.{SkeletonHead}
-use Rattle.chain_rules.specs.Links.{serials_of}
-use Rattle.chain_rules.specs.ChainState.{ChainState, chain_state_of, state_of}
+use Rattle.link_chain.specs.Links.{serials_of}
+use Rattle.link_chain.specs.ChainState.{ChainState, chain_state_of, state_of}
 use Rattle.chain_rules.specs.Decision.{decision}
 use Rattle.chain_rules.specs.Encoding.{pages_of_begin, pages_of_command, links_after}
-use Rattle.chain_rules.specs.Size.{size_of_pages}
+use Rattle.link_chain.specs.Size.{size_of_pages}
 use Rattle.chain_rules.specs.Begun.{states_of, serials_in, has_more_pages}
 use Rattle.chain_rules.proofs.BeginHeld.{HasText, begin_link}
-use Rattle.chain_rules.proofs.StateBehind.{last_is, chain_of, size_of_links}
+use Rattle.link_chain.specs.Laws.StateBehind.{last_is, chain_of, size_of_links}
 
 abbrev pub behind_begin : ChainState → Option SkeletonHead → List NewStream → ChainState
 behind_begin chain skeleton streams =

@@ -11,14 +11,15 @@ use Rattle.packetiser.specs.Run.{Timed, IsTimed, flagged, counted, pages_of_run,
 use Rattle.packetiser.proofs.Pieces.{run_is_held, run_pages}
 use Rattle.packetiser.proofs.Ranges.{run_is_pages}
 use Rattle.ogg_command.specs.declared.command.NewStream.{NewStream}
-use Rattle.chain_rules.specs.ChainState.{ChainState}
+use Rattle.link_chain.specs.ChainState.{ChainState}
 use Rattle.chain_rules.specs.Encoding.{first_flag, header, first_pages, header_pages}
 use Rattle.chain_rules.specs.Limits.{longest_first}
 use Rattle.chain_rules.specs.Decision.{is_long, streams_rules}
 use Rattle.ogg_command.specs.Command.{IsNewStream}
-use Rattle.chain_rules.proofs.Grow.{all_weaker, all_both, Own}
-use Rattle.chain_rules.proofs.Chain.{Unbroken, all_split}
-use Rattle.chain_rules.proofs.StateBehind.{run_own as plain_own}
+use Rattle.link_chain.specs.Laws.Grow.{all_weaker, all_both, Own}
+use Rattle.chain_rules.proofs.Unbroken.{Unbroken}
+use Rattle.link_chain.specs.Laws.LastLink.{all_split}
+use Rattle.chain_rules.proofs.RunState.{run_own as plain_own}
 
 -- ---- the first page of a stream
 -- a stream with headers, the first of which lies whole in one page

@@ -5,10 +5,10 @@ use Rattle.std.proofs.lemmas.List.Sums.{sum_by-cons, sum_by-append, sum_by_more_
 use Rattle.ogg_page.specs.Page.{Page, page_bytes, fixed_part, bytes_of_pages, bytes_with, page_size}
 use Rattle.ogg_page.specs.Checksum.{checksum_of}
 use Rattle.ogg_command.specs.declared.command.Command.{Command}
-use Rattle.chain_rules.specs.ChainState.{ChainState}
+use Rattle.link_chain.specs.ChainState.{ChainState}
 use Rattle.chain_rules.specs.Encoding.{command_bytes, pages_of_command}
 use Rattle.chain_rules.specs.Decision.{decision}
-use Rattle.chain_rules.specs.Size.{size_of_pages}
+use Rattle.link_chain.specs.Size.{size_of_pages}
 use Rattle.chain_rules.proofs.Kept.{size_is_own}
 
 pub length-page_bytes : (page : Page) → length (page_bytes page) ≡ page_size page

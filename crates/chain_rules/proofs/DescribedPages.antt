@@ -10,7 +10,7 @@ use Rattle.ogg_command.specs.declared.command.NewStream.{NewStream}
 use Rattle.ogg_command.specs.declared.command.SkeletonHead.{SkeletonHead}
 use Rattle.chain_rules.specs.Decision.{has_long_message}
 use Rattle.chain_rules.specs.Encoding.{header, first_flag, last_flag, fishead_of, fisbone_packet, fisbone_pages, first_pages, header_pages, skeleton_stream, skeleton_end, pages_of_begin}
-use Rattle.chain_rules.specs.Size.{has_no_number}
+use Rattle.link_chain.specs.Size.{has_no_number}
 use Rattle.chain_rules.proofs.BeginPages.{IsSmall, flagged_numbers, first_numbered, headers_numbered, all_numbered}
 use Rattle.chain_rules.proofs.RunPages.{within}
 use Rattle.chain_rules.proofs.SkeletonPart.{one_each, short_fishead, short_fisbone}

@@ -10,14 +10,16 @@ use Rattle.ogg_page.specs.Page.{Page}
 use Rattle.ogg_page.specs.Lacing.{ends_open}
 use Rattle.ogg_page.specs.LogicalStream.{is_last, joined_lacing, number_behind}
 use Rattle.ogg_command.specs.declared.command.Command.TheVariants.{End as EndOf}
-use Rattle.chain_rules.specs.Links.{pages_with, has_ended}
-use Rattle.chain_rules.specs.ChainState.{ChainState, chain_state_of, state_of, last_link, last_position, is_open}
-use Rattle.chain_rules.specs.Progress.{next_in, ended_by}
+use Rattle.link_chain.specs.Links.{pages_with, has_ended}
+use Rattle.link_chain.specs.ChainState.{ChainState, chain_state_of, state_of, last_link, last_position, is_open}
+use Rattle.link_chain.specs.Progress.{next_in, ended_by}
 use Rattle.chain_rules.specs.Decision.{decision, rules_for}
 use Rattle.chain_rules.specs.Encoding.{pages_of_command, links_after, end_page}
-use Rattle.chain_rules.proofs.Grow.{with_own, ended_both}
-use Rattle.chain_rules.proofs.Chain.{known_stream, next_is, position_is, position_small, open_some, no_rule_broken, Unbroken, not_false}
-use Rattle.chain_rules.proofs.StateBehind.{state, behind, state_behind}
+use Rattle.link_chain.specs.Laws.Grow.{with_own, ended_both}
+use Rattle.link_chain.specs.Laws.LastLink.{known_stream, next_is, position_is, position_small, open_some, not_false}
+use Rattle.chain_rules.proofs.Unbroken.{no_rule_broken, Unbroken}
+use Rattle.link_chain.specs.Laws.StateBehind.{state, state_behind}
+use Rattle.link_chain.specs.Followed.{moved_by}
 
 -- a stream's state behind a page without packets that is its last
 closing_state : (link : List Page) (page : Page) (next : ℕ) → page.lacing ≡ [] → is_last page ≡ true → page.sequence ≡ next →
@@ -46,7 +48,7 @@ closing_state link page following lacing last is number position =
     ∙ ap (λ (l : List ℕ). state serial (following + 1) (last_position own) true (not (ends_open l))) open_same
 
 pub end_state : (links : List (List Page)) (serial size : ℕ) → decision (chain_state_of links) (EndOf serial) ≡ Ok size →
-    chain_state_of (links_after links (EndOf serial)) ≡ behind (chain_state_of links) serial (ended_by (next_in (chain_state_of links).streams serial + 1)) 27
+    chain_state_of (links_after links (EndOf serial)) ≡ moved_by (chain_state_of links) serial (ended_by (next_in (chain_state_of links).streams serial + 1)) 27
 unfolding pages_of_command
 end_state links serial size e =
     let chain : ChainState = chain_state_of links in

@@ -8,7 +8,7 @@ use Rattle.packetiser.proofs.Pieces.{run_bytes_all}
 use Rattle.packetiser.proofs.Sizes.{length-run_lacing, length-run_bytes, values_in, bytes_in}
 use Rattle.ogg_command.specs.declared.command.NewStream.{NewStream}
 use Rattle.chain_rules.specs.Encoding.{header, fisbone_packet, fisbone_pages}
-use Rattle.chain_rules.specs.Size.{size_of_pages}
+use Rattle.link_chain.specs.Size.{size_of_pages}
 
 abbrev pub alone : List ℕ → List Page
 alone packet = pages_of_run 0 0 (header packet ∷ [])

@@ -6,9 +6,9 @@ use Rattle.ogg_page.specs.Page.{Page}
 use Rattle.ogg_command.specs.declared.command.Command.{Command}
 use Rattle.ogg_command.specs.declared.command.Command.TheVariants.{Begin as BeginOf, Put as PutOf, End as EndOf}
 use Rattle.ogg_command.specs.Command.{IsCommand}
-use Rattle.chain_rules.specs.Links.{AreLinks}
+use Rattle.link_chain.specs.Links.{AreLinks}
 use Rattle.chain_rules.specs.Recording.{Recording, HoldsLinks, Holds, add, after}
-use Rattle.chain_rules.specs.ChainState.{chain_state_of}
+use Rattle.link_chain.specs.ChainState.{chain_state_of}
 use Rattle.chain_rules.specs.Encoding.{command_bytes, links_after}
 use Rattle.chain_rules.specs.Decision.{decision}
 use Rattle.chain_rules.specs.Commands.{AreKept, bytes_of_commands, links_behind}

@@ -11,17 +11,18 @@ use Rattle.ogg_command.specs.declared.command.SkeletonHead.{SkeletonHead}
 use Rattle.ogg_command.specs.declared.command.NewStream.{NewStream}
 use Rattle.chain_rules.specs.Begun.{stream_count}
 use Rattle.ogg_command.specs.declared.refusal.Refusal.{Refusal}
-use Rattle.chain_rules.specs.ChainState.{ChainState, is_open}
+use Rattle.link_chain.specs.ChainState.{ChainState, is_open}
 use Rattle.chain_rules.specs.Limits.{longest_file, longest_message, most_fields, most_streams}
-use Rattle.chain_rules.specs.Progress.{next_in}
-use Rattle.chain_rules.specs.Rules.{first_broken}
+use Rattle.link_chain.specs.Progress.{next_in}
+use Rattle.link_chain.specs.Rules.{first_broken}
 use Rattle.skeleton3.specs.Fields.{is_field, is_media_type, message_of}
 use Rattle.skeleton3.specs.FisboneLaws.{message_size}
 use Rattle.chain_rules.specs.Decision.{decision, answer, rules_for, begin_rules, item_rules, parts_rules, streams_rules, entries_rules, room_rules, size_of, header_bytes, has_many_headers, has_many_fields, has_many_parts, has_long_message}
 use Rattle.chain_rules.specs.Encoding.{pages_of_begin, pages_of_command, pages_of_runs, runs_of}
-use Rattle.chain_rules.specs.Size.{has_no_number, size_of_pages}
-use Rattle.chain_rules.proofs.Chain.{no_rule_broken, Unbroken, all_split}
-use Rattle.chain_rules.proofs.Rules.{none_broken}
+use Rattle.link_chain.specs.Size.{has_no_number, size_of_pages}
+use Rattle.chain_rules.proofs.Unbroken.{no_rule_broken, Unbroken}
+use Rattle.link_chain.specs.Laws.LastLink.{all_split}
+use Rattle.link_chain.specs.Laws.Rules.{none_broken}
 
 -- the size that it is answered with
 pub kept_size : (r : Result ℕ Refusal) → IsOk r → (size : ℕ) × (r ≡ Ok size)

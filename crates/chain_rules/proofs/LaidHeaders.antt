@@ -5,7 +5,7 @@ use Rattle.packetiser.specs.Run.{pages_for, run_lacing, run_bytes, size_for, fla
 use Rattle.ogg_command.specs.declared.command.NewStream.{NewStream}
 use Rattle.chain_rules.specs.Decision.{header_bytes}
 use Rattle.chain_rules.specs.Encoding.{header, first_pages, header_pages}
-use Rattle.chain_rules.specs.Size.{size_of_pages}
+use Rattle.link_chain.specs.Size.{size_of_pages}
 use Rattle.chain_rules.proofs.BeginPages.{first_size, headers_size, few_pages, split_lengths}
 
 -- what is asked and said of a run of headers that is lent

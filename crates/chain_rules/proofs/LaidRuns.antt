@@ -9,10 +9,10 @@ use Rattle.ogg_page.specs.Page.{Page, page_bytes, bytes_of_pages}
 use Rattle.packetiser.specs.Run.{pages_of_run, pages_for, run_lacing, run_bytes, size_for, flagged}
 use Rattle.packetiser.proofs.Pieces.{run_bytes_all}
 use Rattle.ogg_command.specs.declared.command.Entry.{Entry}
-use Rattle.chain_rules.specs.declared.stream_state.StreamState.{StreamState}
-use Rattle.chain_rules.specs.Progress.{next_in}
+use Rattle.link_chain.specs.declared.stream_state.StreamState.{StreamState}
+use Rattle.link_chain.specs.Progress.{next_in}
 use Rattle.chain_rules.specs.Encoding.{timed, run_serial, pages_behind, with_run, runs_of, pages_of_runs}
-use Rattle.chain_rules.specs.Size.{has_no_number, size_of_pages}
+use Rattle.link_chain.specs.Size.{has_no_number, size_of_pages}
 use Rattle.chain_rules.proofs.RunPages.{entry_bytes, entry_lengths, few_values, some_values, length-map, numbers_end, run_first}
 use Rattle.chain_rules.proofs.LaidHeaders.{unflagged}
 

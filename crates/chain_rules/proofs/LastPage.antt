@@ -8,7 +8,7 @@ use Rattle.std.proofs.lemmas.List.Sums.{fold-append, sum_by-append, sum_by-cons}
 use Rattle.ogg_page.specs.Page.{Page}
 use Rattle.ogg_page.specs.Lacing.{lace, lacing_of}
 use Rattle.packetiser.specs.Run.{Timed, counted, values_at, values_before, run_lacing, page_of_run, pages_of_run, pages_for, page_position, position_of, packets_ended, no_position}
-use Rattle.chain_rules.specs.ChainState.{last_position}
+use Rattle.link_chain.specs.ChainState.{last_position}
 use Rattle.chain_rules.proofs.RunPages.{some_values}
 
 -- ---- values that end packets

@@ -5,10 +5,9 @@ pub mod RunPages
 pub mod Turns
 pub mod Streams
 pub mod BeginPages
-pub mod Grow
-pub mod Chain
+pub mod Unbroken
 pub mod LastPage
-pub mod StateBehind
+pub mod RunState
 pub mod Beginning
 pub mod Parts
 pub mod Still
@@ -21,7 +20,6 @@ pub mod PutState
 pub mod EndState
 pub mod BeginState
 pub mod Kept
-pub mod Lent
 pub mod ByteSizes
 pub mod LaidHeaders
 pub mod LaidRuns
@@ -29,13 +27,5 @@ pub mod Ending
 pub mod Putting
 pub mod Held
 pub mod Longer
-pub mod Flags
-pub mod Rules
-pub mod PageRules
-pub mod PageState
 pub mod TakenRows
-pub mod TakenLinks
-pub mod Fronts
-pub mod InTurn
 pub mod OwnSerials
-pub mod LeftWhole

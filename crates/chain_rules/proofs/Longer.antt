@@ -4,7 +4,7 @@ use Rattle.std.specs.Prelude.{⊤}
 use Rattle.ogg_page.specs.Page.{Page}
 use Rattle.ogg_command.specs.declared.command.Command.{Command}
 use Rattle.ogg_command.specs.declared.command.Command.TheVariants.{Begin as BeginOf, Put as PutOf, End as EndOf}
-use Rattle.chain_rules.specs.ChainState.{ChainState, chain_state_of}
+use Rattle.link_chain.specs.ChainState.{ChainState, chain_state_of}
 use Rattle.chain_rules.specs.Decision.{decision}
 use Rattle.chain_rules.specs.Encoding.{pages_of_command, links_after}
 use Rattle.chain_rules.proofs.BeginHeld.{HasText}

@@ -11,22 +11,24 @@ use Rattle.ogg_page.specs.Lacing.{ends_open, lacing_of}
 use Rattle.ogg_page.specs.LogicalStream.{HoldsPackets, FitsBehind, is_first, is_last, joined_lacing, number_behind}
 use Rattle.packetiser.specs.Run.{pages_of_run, pages_for, run_lacing}
 use Rattle.packetiser.proofs.Pieces.{run_pages}
-use Rattle.packetiser.proofs.Behind.{run_fits, number_behind_run, finished, ends_open-append}
-use Rattle.chain_rules.specs.declared.stream_state.StreamState.{StreamState}
+use Rattle.ogg_page.specs.StreamLaws.{finished, ends_open-append}
+use Rattle.packetiser.proofs.Behind.{run_fits, number_behind_run}
+use Rattle.link_chain.specs.declared.stream_state.StreamState.{StreamState}
 use Rattle.ogg_command.specs.declared.command.NewStream.{NewStream}
 use Rattle.ogg_command.specs.declared.command.SkeletonHead.{SkeletonHead}
 use Rattle.chain_rules.specs.Begun.{new_state, skeleton_state, states_of, serials_in, skeleton_serial, has_other_headers, has_more_pages}
-use Rattle.chain_rules.specs.ChainState.{state_of, last_position}
+use Rattle.link_chain.specs.ChainState.{state_of, last_position}
 use Rattle.chain_rules.specs.Decision.{has_long_message}
 use Rattle.chain_rules.specs.Encoding.{header, first_flag, first_pages, header_pages, pages_of_begin, skeleton_stream}
-use Rattle.chain_rules.specs.Links.{IsLink, pages_with, serials_of, has_stream, has_ended}
+use Rattle.link_chain.specs.Links.{IsLink, pages_with, serials_of, has_stream, has_ended}
 use Rattle.chain_rules.specs.Recording.{Stream, HoldsLink, begun, begun_link, ended_skeleton}
-use Rattle.chain_rules.proofs.Grow.{GoOn, Unmarked, all_both, all_weaker, not_ended, serials_same, with_own, ended_both, grow_link, grow_holds, grown, stream_some}
+use Rattle.link_chain.specs.Laws.Grow.{GoOn, Unmarked, all_both, all_weaker, not_ended, serials_same, with_own, ended_both, grow_link, grow_holds, grown, stream_some}
 use Rattle.chain_rules.proofs.Beginning.{IsGood, serials, first_page, is_first_page, number_of_first, marked_first, not_last, first_held, headers_held, headers_own, all_of_map, all_to_map}
 use Rattle.chain_rules.proofs.Parts.{Part, IsPart, IsStill, plain_part, page_of, first_of, later_of, begun_of, firsts, laters, part_serials, new_link, new_holds, its_pages, serials_are, stream_held, all_first, firsts_are, laters_unmarked, all_go_on, none_ends}
 use Rattle.chain_rules.proofs.RunPages.{some_values, length-map}
 use Rattle.chain_rules.proofs.SkeletonPart.{skeleton_part, is_skeleton_part, last_page, end_is, fisbones_count}
-use Rattle.chain_rules.proofs.StateBehind.{state, state_other, data_with, run_unmarked, run_goes_on}
+use Rattle.link_chain.specs.Laws.StateBehind.{state, state_other, data_with}
+use Rattle.chain_rules.proofs.RunState.{run_unmarked, run_goes_on}
 use Rattle.chain_rules.proofs.Still.{run_still, flagged_still, still_position}
 
 -- ---- a stream without anything else but its headers

@@ -7,12 +7,12 @@ use Rattle.std.proofs.lemmas.List.Elements.{filter-append}
 use Rattle.std.proofs.lemmas.Bool.{eqb-false, cases_eq, or_left, or_right, and_left}
 use Rattle.ogg_page.specs.Page.{Page}
 use Rattle.ogg_page.specs.LogicalStream.{HoldsPackets, FitsBehind, EachBehind, FlagsFit, is_first, is_last}
-use Rattle.packetiser.proofs.Behind.{held_both}
+use Rattle.ogg_page.specs.StreamLaws.{held_both}
 use Rattle.ogg_command.specs.declared.command.NewStream.{NewStream}
-use Rattle.chain_rules.specs.Links.{IsLink, pages_with, serials_of, has_stream, has_ended, all_ended}
+use Rattle.link_chain.specs.Links.{IsLink, pages_with, serials_of, has_stream, has_ended, all_ended}
 use Rattle.chain_rules.specs.Recording.{Stream, HoldsStream, HoldsLink, begun}
 use Rattle.chain_rules.specs.Encoding.{first_pages, header_pages}
-use Rattle.chain_rules.proofs.Grow.{all_weaker, all_both, Own, Unmarked, GoOn, OpenBehind, not_ended, own_with, other_with, filter_all, serials_same}
+use Rattle.link_chain.specs.Laws.Grow.{all_weaker, all_both, Own, Unmarked, GoOn, OpenBehind, not_ended, own_with, other_with, filter_all, serials_same}
 use Rattle.packetiser.specs.Run.{no_position}
 use Rattle.std.specs.Prelude.{◌⊎◌}
 use Rattle.ogg_page.specs.LogicalStream.{number_behind}

@@ -1,6 +1,6 @@
 -- Streams whose packets are counted in.
 use Rattle.std.proofs.Common.{false}
-use Rattle.chain_rules.specs.declared.stream_state.StreamState.{StreamState}
+use Rattle.link_chain.specs.declared.stream_state.StreamState.{StreamState}
 
 -- what is read past the end of a list of streams
 abbrev pub nobody : StreamState

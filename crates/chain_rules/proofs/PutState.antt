@@ -12,17 +12,20 @@ use Rattle.packetiser.proofs.Pieces.{run_pages}
 use Rattle.ogg_command.specs.declared.command.Command.TheVariants.{Put as PutOf}
 use Rattle.ogg_command.specs.declared.command.Entry.{Entry}
 use Rattle.ogg_command.specs.declared.command.Put.{Put}
-use Rattle.chain_rules.specs.declared.stream_state.StreamState.{StreamState}
-use Rattle.chain_rules.specs.Links.{pages_with}
-use Rattle.chain_rules.specs.ChainState.{ChainState, chain_state_of, state_of, last_link, is_open}
-use Rattle.chain_rules.specs.Progress.{change_at, advanced, moved_to, next_in, stream_in, brought_to, with_position}
+use Rattle.link_chain.specs.declared.stream_state.StreamState.{StreamState}
+use Rattle.link_chain.specs.Links.{pages_with}
+use Rattle.link_chain.specs.ChainState.{ChainState, chain_state_of, state_of, last_link, is_open}
+use Rattle.link_chain.specs.Progress.{change_at, advanced, moved_to, next_in, stream_in, brought_to, with_position}
 use Rattle.chain_rules.specs.Decision.{decision, rules_for, entries_rules, room_rules}
 use Rattle.chain_rules.specs.Encoding.{timed, with_pages, run_serial, run_position, pages_behind, with_run, with_front, runs_of, pages_of_runs, pages_of_command, links_after}
-use Rattle.chain_rules.specs.Size.{size_of_pages}
-use Rattle.chain_rules.proofs.Chain.{known_stream, next_is, open_some, no_rule_broken, Unbroken, all_split, not_false}
+use Rattle.link_chain.specs.Size.{size_of_pages}
+use Rattle.link_chain.specs.Laws.LastLink.{known_stream, next_is, open_some, all_split, not_false}
+use Rattle.chain_rules.proofs.Unbroken.{no_rule_broken, Unbroken}
 use Rattle.chain_rules.proofs.LastPage.{end_position}
 use Rattle.chain_rules.proofs.RunPages.{some_values, length-map}
-use Rattle.chain_rules.proofs.StateBehind.{behind, state_behind, run_own, run_unmarked, run_state}
+use Rattle.link_chain.specs.Laws.StateBehind.{state_behind}
+use Rattle.chain_rules.proofs.RunState.{run_own, run_unmarked, run_state}
+use Rattle.link_chain.specs.Followed.{moved_by}
 
 -- ---- streams that are looked up behind a change
 pub looked_up : (serial : ℕ) (change : StreamState → StreamState) → ((s : StreamState) → (change s).serial ≡ s.serial) → (streams : List StreamState) (other : ℕ) →
@@ -90,7 +93,7 @@ end_of_run (entry ∷ next ∷ run) some = end_of_run (next ∷ run) (omega arit
 pub behind_run : (links : List (List Page)) (run : List Entry) → links ≢ [] → IsReadyRun (chain_state_of links).streams run →
     let chain : ChainState = chain_state_of links in
     chain_state_of (with_pages links (pages_behind chain.streams run))
-    ≡ behind chain (run_serial run) (advanced (next_in chain.streams (run_serial run) + length (pages_behind chain.streams run)) (run_position run)) (size_of_pages (pages_behind chain.streams run))
+    ≡ moved_by chain (run_serial run) (advanced (next_in chain.streams (run_serial run) + length (pages_behind chain.streams run)) (run_position run)) (size_of_pages (pages_behind chain.streams run))
 behind_run links run some ready =
     let chain : ChainState = chain_state_of links in
     let serial : ℕ = run_serial run in

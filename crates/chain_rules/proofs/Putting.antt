@@ -15,17 +15,19 @@ use Rattle.packetiser.proofs.Ranges.{run_is_pages}
 use Rattle.ogg_command.specs.declared.command.Command.TheVariants.{Put as PutOf}
 use Rattle.ogg_command.specs.declared.command.Put.{Put}
 use Rattle.ogg_command.specs.declared.command.Entry.{Entry}
-use Rattle.chain_rules.specs.declared.stream_state.StreamState.{StreamState}
+use Rattle.link_chain.specs.declared.stream_state.StreamState.{StreamState}
 use Rattle.ogg_command.specs.Command.{IsEntry}
-use Rattle.chain_rules.specs.Links.{IsLink, AreLinks, pages_with, has_stream, has_ended, all_ended, serials_of}
+use Rattle.link_chain.specs.Links.{IsLink, AreLinks, pages_with, has_stream, has_ended, all_ended, serials_of}
 use Rattle.chain_rules.specs.Recording.{Stream, Recording, HoldsLink, HoldsLinks, with_packet, add}
-use Rattle.chain_rules.specs.ChainState.{ChainState, chain_state_of, last_link, is_open}
-use Rattle.chain_rules.specs.Progress.{stream_in, next_in, change_at, advanced, moved_to, brought_to, with_position}
+use Rattle.link_chain.specs.ChainState.{ChainState, chain_state_of, last_link, is_open}
+use Rattle.link_chain.specs.Progress.{stream_in, next_in, change_at, advanced, moved_to, brought_to, with_position}
 use Rattle.chain_rules.specs.Encoding.{timed, with_front, runs_of, run_position, pages_behind, with_run, pages_of_runs, pages_of_command, command_bytes, links_after}
 use Rattle.chain_rules.specs.Decision.{decision, entries_rules, room_rules, rules_for}
-use Rattle.chain_rules.proofs.Grow.{grow_link, grow_holds, stream_finished, stream_some, stream_same, ended_same, not_ended, still_open, open_behind, with_own, with_other, all_weaker, all_both, Own, Unmarked, GoOn, or_false}
-use Rattle.chain_rules.proofs.Chain.{no_rule_broken, Unbroken, all_split, not_false, open_link, open_some, known_stream, found_at, next_is, not_ended_is, last_grows, numbers_fit, Grows}
-use Rattle.chain_rules.proofs.StateBehind.{run_own, run_unmarked, run_goes_on, map-map, map-same}
+use Rattle.link_chain.specs.Laws.Grow.{grow_link, grow_holds, stream_finished, stream_some, stream_same, ended_same, not_ended, still_open, open_behind, with_own, with_other, all_weaker, all_both, Own, Unmarked, GoOn, or_false}
+use Rattle.chain_rules.proofs.Unbroken.{no_rule_broken, Unbroken, numbers_fit}
+use Rattle.link_chain.specs.Laws.LastLink.{all_split, not_false, open_link, open_some, known_stream, found_at, next_is, not_ended_is, last_grows, Grows}
+use Rattle.chain_rules.proofs.RunState.{run_own, run_unmarked, run_goes_on}
+use Rattle.link_chain.specs.Laws.StateBehind.{map-map, map-same}
 use Rattle.chain_rules.proofs.PutState.{looked_up}
 
 -- ---- runs of entries

@@ -10,7 +10,7 @@ use Rattle.skeleton3.specs.Fields.{NamedValue}
 use Rattle.skeleton3.specs.Fisbone.{fixed_part}
 use Rattle.skeleton3.specs.Fishead.{fishead_with}
 use Rattle.ogg_page.specs.Numbers.{u16_bytes, u32_bytes, i64_bytes}
-use Rattle.chain_rules.specs.ChainState.{chain_state_of}
+use Rattle.link_chain.specs.ChainState.{chain_state_of}
 use Rattle.chain_rules.specs.Encoding.{pages_of_command, command_bytes}
 use Rattle.chain_rules.specs.Decision.{decision}
 use Rattle.chain_rules.specs.Recording.{after}

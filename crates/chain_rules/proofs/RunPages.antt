@@ -10,10 +10,10 @@ use Rattle.packetiser.specs.Run.{Timed, counted, page_of_run, pages_of_run, page
 use Rattle.packetiser.proofs.Pieces.{run_pages, run_bytes_all}
 use Rattle.packetiser.proofs.Sizes.{values_in, bytes_in, length-run_lacing, length-run_bytes, sum_by-map}
 use Rattle.ogg_command.specs.declared.command.Entry.{Entry}
-use Rattle.chain_rules.specs.declared.stream_state.StreamState.{StreamState}
-use Rattle.chain_rules.specs.Progress.{next_in, brought_to}
+use Rattle.link_chain.specs.declared.stream_state.StreamState.{StreamState}
+use Rattle.link_chain.specs.Progress.{next_in, brought_to}
 use Rattle.chain_rules.specs.Encoding.{timed, run_serial, run_position, pages_behind, with_run, runs_of, pages_of_runs}
-use Rattle.chain_rules.specs.Size.{has_no_number, size_of_pages}
+use Rattle.link_chain.specs.Size.{has_no_number, size_of_pages}
 
 -- ---- numbers
 sequence_is : (serial first : ℕ) (run : List Timed) (k : ℕ) → (page_of_run serial first run k).sequence ≡ first + k

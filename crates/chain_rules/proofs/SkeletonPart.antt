@@ -12,7 +12,8 @@ use Rattle.ogg_page.specs.Lacing.{ends_open, lacing_of}
 use Rattle.ogg_page.specs.LogicalStream.{HoldsPackets, FitsBehind, EachBehind, joined_lacing, number_behind, is_first, is_last}
 use Rattle.packetiser.specs.Run.{Timed, pages_of_run, page_of_run, page_position, pages_for, run_lacing, run_bytes, values_at, values_before}
 use Rattle.packetiser.proofs.Pieces.{run_is_held, run_pages}
-use Rattle.packetiser.proofs.Behind.{run_fits, behind_both, held_both, finished, number_behind_run, ends_open-append}
+use Rattle.ogg_page.specs.StreamLaws.{behind_both, held_both, finished, ends_open-append}
+use Rattle.packetiser.proofs.Behind.{run_fits, number_behind_run}
 use Rattle.packetiser.proofs.Ranges.{run_is_pages}
 use Rattle.packetiser.proofs.Sizes.{length-run_lacing, values_in}
 use Rattle.ogg_page.specs.Numbers.{u16_bytes, u32_bytes, i64_bytes}
@@ -26,11 +27,11 @@ use Rattle.ogg_command.specs.Command.{AreFieldBytes, IsNewStream, IsSkeletonHead
 use Rattle.chain_rules.specs.Decision.{has_long_message}
 use Rattle.chain_rules.specs.Limits.{longest_message}
 use Rattle.chain_rules.specs.Encoding.{header, fishead_of, fisbone_of, fisbone_packet, fisbone_pages, skeleton_stream, skeleton_end, first_pages}
-use Rattle.chain_rules.proofs.Grow.{all_both, any_none, Own, Unmarked, GoOn}
+use Rattle.link_chain.specs.Laws.Grow.{all_both, any_none, Own, Unmarked, GoOn}
 use Rattle.chain_rules.proofs.Beginning.{IsGood, is_first_page, first_page, first_held, first_is_page, not_last, number_of_first, headers_timed}
 use Rattle.chain_rules.proofs.Parts.{Part, IsPart, IsStill}
-use Rattle.chain_rules.proofs.Chain.{all_split}
-use Rattle.chain_rules.proofs.StateBehind.{run_own, run_unmarked, run_goes_on}
+use Rattle.link_chain.specs.Laws.LastLink.{all_split}
+use Rattle.chain_rules.proofs.RunState.{run_own, run_unmarked, run_goes_on}
 use Rattle.chain_rules.proofs.Still.{run_still}
 
 -- ---- lengths

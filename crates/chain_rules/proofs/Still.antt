@@ -5,7 +5,7 @@ use Rattle.std.specs.List.{fold, AllByRecursion}
 use Rattle.std.proofs.lemmas.Bool.{cond-true, cond-false, lt-ltb, le-ltb}
 use Rattle.ogg_page.specs.Page.{Page}
 use Rattle.packetiser.specs.Run.{counted, page_of_run, pages_of_run, pages_for, run_lacing, page_position, position_of, packets_ended, values_at, values_before, no_position, flagged}
-use Rattle.chain_rules.specs.ChainState.{last_position}
+use Rattle.link_chain.specs.ChainState.{last_position}
 use Rattle.chain_rules.specs.Encoding.{header}
 use Rattle.chain_rules.proofs.Parts.{IsStill}
 

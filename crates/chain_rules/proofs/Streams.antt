@@ -5,7 +5,7 @@ use Rattle.std.specs.List.{list_any}
 use Rattle.std.proofs.lemmas.List.{take_more, drop_more, reverse-append}
 use Rattle.std.proofs.lemmas.List.Folds.{list_any-append}
 use Rattle.ogg_command.specs.declared.command.NewStream.{NewStream}
-use Rattle.chain_rules.specs.ChainState.{ChainState}
+use Rattle.link_chain.specs.ChainState.{ChainState}
 use Rattle.chain_rules.specs.Decision.{stream_rules, streams_rules}
 
 abbrev pub serial_of : NewStream → ℕ

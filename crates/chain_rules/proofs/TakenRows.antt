@@ -3,13 +3,13 @@ use Rattle.std.proofs.Common.{◌≡◌, ◌+◌, ℕ, zero, suc, List, [], ◌�
 use Rattle.ogg_page.specs.Page.{Page}
 use Rattle.ogg_page.specs.Lacing.{lacing_of}
 use Rattle.packetiser.specs.Run.{pages_of_run, page_of_run, page_position, run_lacing, run_bytes, values_at, values_before}
-use Rattle.chain_rules.specs.declared.chain_fault.ChainFault.{ChainFault}
-use Rattle.chain_rules.specs.declared.chain_fault.ChainFault.TheVariants.{Sequence, Continued, BosPlace, BosShape, SerialTwice, NoStream, AfterEos, BosWhileOpen, TooMany, EosUnfinished}
+use Rattle.link_chain.specs.declared.chain_fault.ChainFault.{ChainFault}
+use Rattle.link_chain.specs.declared.chain_fault.ChainFault.TheVariants.{Sequence, Continued, BosPlace, BosShape, SerialTwice, NoStream, AfterEos, BosWhileOpen, TooMany, EosUnfinished}
 use Rattle.ogg_command.specs.declared.refusal.Refusal.TheVariants.{SequenceEnd, LinksFull}
-use Rattle.chain_rules.specs.ChainState.{ChainState, chain_state_of}
+use Rattle.link_chain.specs.ChainState.{ChainState, chain_state_of}
 use Rattle.chain_rules.specs.Encoding.{pages_of_command}
 use Rattle.chain_rules.specs.Decision.{decision}
-use Rattle.chain_rules.specs.Taking.{fault_of_page, AreTaken, unfinished_stream}
+use Rattle.link_chain.specs.Taking.{fault_of_page, AreTaken, unfinished_stream}
 use Rattle.chain_rules.proofs.Rows.{begin, put, hello}
 
 abbrev page : ℕ → ℕ → ℕ → List ℕ → Page

@@ -4,7 +4,7 @@ use Rattle.std.specs.List.{list_any}
 use Rattle.ogg_command.specs.declared.command.Begin.{Begin}
 use Rattle.ogg_command.specs.declared.command.SkeletonHead.{SkeletonHead}
 use Rattle.ogg_command.specs.declared.command.NewStream.{NewStream}
-use Rattle.chain_rules.specs.declared.stream_state.StreamState.{StreamState}
+use Rattle.link_chain.specs.declared.stream_state.StreamState.{StreamState}
 use Rattle.chain_rules.specs.Encoding.{header_pages}
 
 abbrev pub has_other_headers : NewStream → Bool

@@ -2,7 +2,7 @@
 use Rattle.std.specs.Prelude.{ℕ, List, [], ◌∷◌, ◌++◌, IsOk, ⊤}
 use Rattle.std.specs.List.{fold}
 use Rattle.ogg_page.specs.Page.{Page}
-use Rattle.chain_rules.specs.ChainState.{chain_state_of}
+use Rattle.link_chain.specs.ChainState.{chain_state_of}
 use Rattle.chain_rules.specs.Decision.{decision}
 use Rattle.chain_rules.specs.Encoding.{command_bytes, links_after}
 use Rattle.ogg_command.specs.declared.command.Command.{Command}

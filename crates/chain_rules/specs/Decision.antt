@@ -3,12 +3,12 @@ use Rattle.std.specs.Prelude.{ℕ, ◌+◌, ◌^◌, ℤ, pos, int_lt, Bool, tru
 use Rattle.std.specs.List.{list_all, list_any}
 use Rattle.std.specs.Option.{option_map_or}
 use Rattle.skeleton3.specs.Fields.{is_field, is_media_type, message_of}
-use Rattle.chain_rules.specs.Size.{has_no_number, size_of_pages}
-use Rattle.chain_rules.specs.ChainState.{ChainState, stream_at, is_open}
-use Rattle.chain_rules.specs.Rules.{Rule, first_broken}
+use Rattle.link_chain.specs.Size.{has_no_number, size_of_pages}
+use Rattle.link_chain.specs.ChainState.{ChainState, stream_at, is_open}
+use Rattle.link_chain.specs.Rules.{Rule, first_broken}
 use Rattle.chain_rules.specs.Limits.{longest_first, longest_packet, longest_batch, most_streams, most_headers, most_fields, longest_message, most_entries, most_links, longest_file}
-use Rattle.chain_rules.specs.Progress.{stream_in, position_in, with_position}
-use Rattle.chain_rules.specs.declared.stream_state.StreamState.{StreamState}
+use Rattle.link_chain.specs.Progress.{stream_in, position_in, with_position}
+use Rattle.link_chain.specs.declared.stream_state.StreamState.{StreamState}
 use Rattle.chain_rules.specs.Encoding.{pages_of_command}
 use Rattle.chain_rules.specs.Begun.{stream_count}
 use Rattle.ogg_command.specs.declared.command.Command.{Command}

@@ -7,9 +7,10 @@ use Rattle.skeleton3.specs.Fisbone.{Fisbone, fisbone_bytes_with}
 use Rattle.skeleton3.specs.Fishead.{fishead_bytes}
 use Rattle.skeleton3.specs.declared.fishead.Fishead.{Fishead}
 pub use Rattle.ogg_command.specs.Packets.{header, timed}
-use Rattle.chain_rules.specs.ChainState.{ChainState, chain_state_of}
-use Rattle.chain_rules.specs.Progress.{next_in, position_in, brought_to}
-use Rattle.chain_rules.specs.declared.stream_state.StreamState.{StreamState}
+use Rattle.link_chain.specs.ChainState.{ChainState, chain_state_of}
+pub use Rattle.link_chain.specs.Links.{with_pages}
+use Rattle.link_chain.specs.Progress.{next_in, position_in, brought_to}
+use Rattle.link_chain.specs.declared.stream_state.StreamState.{StreamState}
 use Rattle.ogg_command.specs.declared.command.Command.{Command}
 use Rattle.ogg_command.specs.declared.command.Command.TheVariants.{Begin as BeginOf, Put as PutOf, End as EndOf}
 use Rattle.ogg_command.specs.declared.command.SkeletonHead.{SkeletonHead}
@@ -143,12 +144,6 @@ pages_of_command chain (EndOf serial) = end_page chain serial ∷ []
 -- the bytes that it adds
 abbrev pub command_bytes : ChainState → Command → List ℕ
 command_bytes chain command = bytes_of_pages (pages_of_command chain command)
-
--- pages more for the last link
-abbrev pub with_pages : List (List Page) → List Page → List (List Page)
-with_pages [] pages = []
-with_pages (link ∷ []) pages = (link ++ pages) ∷ []
-with_pages (link ∷ next ∷ links) pages = link ∷ with_pages (next ∷ links) pages
 
 abbrev pub joined_with : List (List Page) → Command → List Page → List (List Page)
 joined_with links (BeginOf begin) pages = links ++ pages ∷ []

@@ -1,6 +1,7 @@
 -- What a file may hold. Ours, but for the first: a packet that lies whole in one page has at most 254 segments of 255
 -- bytes and one of 254 (RFC 3533, section 5).
 use Rattle.std.specs.Prelude.{ℕ, ◌^◌}
+pub use Rattle.link_chain.specs.Limits.{most_streams, most_links}
 
 -- bytes of a stream's first header
 abbrev pub longest_first : ℕ
@@ -13,10 +14,6 @@ longest_packet = 8388608
 -- bytes of a command's packets together
 abbrev pub longest_batch : ℕ
 longest_batch = 16777216
-
--- streams of a link, its Skeleton counted
-abbrev pub most_streams : ℕ
-most_streams = 64
 
 -- headers of a stream
 abbrev pub most_headers : ℕ
@@ -34,9 +31,6 @@ longest_message = 5439
 -- packets of a put
 abbrev pub most_entries : ℕ
 most_entries = 4096
-
-abbrev pub most_links : ℕ
-most_links = 65536
 
 -- bytes of a file, with the byte that follows its pages while it is written
 abbrev pub longest_file : ℕ

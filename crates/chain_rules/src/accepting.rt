@@ -1,46 +1,23 @@
 //! What a command that is kept changes of the last link's streams.
 ghost use Rattle.std.specs.Prelude.{◌≡◌, ◌≤◌, ◌<◌, ◌+◌, ◌++◌, ◌^◌, ℕ, [], false, length, map, sum_by, take, vec_len, vec_capacity};
 ghost use Rattle.std.specs.List.{list_any, fold};
-ghost use Rattle.chain_rules.specs.Begun.{new_state, skeleton_state, skeleton_serial, states_of, serials_in, has_other_headers, has_more_pages};
+ghost use Rattle.chain_rules.specs.Begun.{new_state, skeleton_state, skeleton_serial, states_of, has_other_headers, has_more_pages};
 ghost use Rattle.chain_rules.specs.Encoding.{runs_of, pages_of_runs, with_run};
-ghost use Rattle.chain_rules.specs.Places.{HaveOwnSerials};
-ghost use Rattle.chain_rules.specs.Progress.{change_at, ended_by, next_in};
-ghost use Rattle.chain_rules.specs.Size.{has_no_number, size_of_pages};
+ghost use Rattle.link_chain.specs.Places.{HaveOwnSerials};
+ghost use Rattle.link_chain.specs.Followed.{moved_on};
+ghost use Rattle.arrayvec.specs.ArrayVec.{array_vec_len};
+ghost use Rattle.link_chain.specs.Size.{has_no_number, size_of_pages};
 ghost use Rattle.chain_rules.specs.Decision.{header_bytes, has_many_headers};
 ghost use Rattle.ogg_command.specs.declared.command.Entry.{Entry as EntryOf};
 ghost use Rattle.ogg_command.specs.declared.command.NewStream.{NewStream as StreamOf};
 
 use crate::begin::split_headers;
-use crate::runs::{next_sequence, size_of_runs};
-use crate::serials::Serials;
-use crate::stream_state::StreamState;
+use crate::limits::FEW_STREAMS;
+use crate::runs::size_of_runs;
+use arrayvec::ArrayVec;
+use link_chain::{Chain, MOST_STREAMS, StreamState};
 use ogg_command::{NewStream, Put, SkeletonHead};
 use packetiser::pages_of_run;
-
-/// Ends the stream with this serial by a page without packets.
-pub fn end_stream(streams: &mut [StreamState], serial: u32)
-    requires { next_in streams.old serial < 2 ^ 32 }
-    ensures { streams.new ≡ map (change_at serial (ended_by (next_in streams.old serial + 1))) streams.old }
-{
-    let sequence = next_sequence(streams, serial) + 1;
-    for stream in streams.iter_mut() {
-        *stream = ended(*stream, serial, sequence);
-    }
-}
-
-fn ended(stream: StreamState, serial: u32, sequence: u64) -> StreamState
-    ensures { result ≡ change_at serial (ended_by sequence) stream }
-{
-    if stream.serial == serial {
-        StreamState {
-            next_sequence: sequence,
-            ended: true,
-            ..stream
-        }
-    } else {
-        stream
-    }
-}
 
 /// Counts the packets of a put in, and gives the size of its pages in bytes.
 pub fn add_runs(streams: &mut [StreamState], put: &Put) -> u64
@@ -55,45 +32,73 @@ pub fn add_runs(streams: &mut [StreamState], put: &Put) -> u64
     size_of_runs(streams, put.entries.as_slice()).unwrap()
 }
 
-/// Puts the streams of a new link in the place of those of the last one.
-pub fn add_streams(
-    streams: &mut Vec<StreamState>,
-    serials: &mut Serials,
-    skeleton: Option<SkeletonHead>,
-    new: &[NewStream],
-)
-    requires streams { length new.now + length (skeleton_serial skeleton) ≤ vec_capacity streams.old }
-    requires serials { length new.now + length (skeleton_serial skeleton) ≤ serials.old.room }
-    requires short { sum_by header_bytes new.now ≤ 16777216 }
-    requires few { list_any has_many_headers new.now ≡ false }
-    ensures streams { streams.new.items ≡ states_of skeleton new.now }
-    ensures serials { serials.new.listed ≡ serials.old.listed ++ serials_in skeleton new.now }
-    ensures count { vec_len streams.new ≡ length new.now + length (skeleton_serial skeleton) }
+/// Moves a chain behind a put.
+pub fn add_put(chain: &mut Chain, put: &Put)
+    requires few { length put.now.entries ≤ 4096 }
+    requires short { sum_by (λ (entry : EntryOf). length entry.packet) put.now.entries ≤ 16777216 }
+    requires numbered { list_any has_no_number (pages_of_runs chain.old.chain.streams (runs_of put.now.entries)) ≡ false }
+    requires long { chain.old.chain.length_of + size_of_pages (pages_of_runs chain.old.chain.streams (runs_of put.now.entries)) < 2 ^ 63 }
+    ensures { chain.new.chain ≡ moved_on chain.old.chain (fold with_run chain.old.chain.streams (runs_of put.now.entries))
+        (size_of_pages (pages_of_runs chain.old.chain.streams (runs_of put.now.entries))) }
 {
-    streams.clear();
-    match skeleton {
-        None => push_streams(streams, serials, new),
-        Some(head) => {
-            streams.push_reserved(described(head.serial, new));
-            serials.push_reserved(head.serial);
-            push_streams(streams, serials, new);
-        }
+    // Room is cleared before it is filled, so that a link of few streams takes little.
+    if chain.streams().len() <= FEW_STREAMS {
+        let mut copy = [StreamState::NOBODY; FEW_STREAMS];
+        add_by(&mut copy, chain, put);
+    } else {
+        let mut copy = [StreamState::NOBODY; MOST_STREAMS];
+        add_by(&mut copy, chain, put);
     }
 }
 
+/// Moves a chain behind a put, by way of room for a copy of its streams.
+fn add_by(copy: &mut [StreamState], chain: &mut Chain, put: &Put)
+    requires streams { length chain.old.chain.streams ≤ length copy.old }
+    requires few { length put.now.entries ≤ 4096 }
+    requires short { sum_by (λ (entry : EntryOf). length entry.packet) put.now.entries ≤ 16777216 }
+    requires numbered { list_any has_no_number (pages_of_runs chain.old.chain.streams (runs_of put.now.entries)) ≡ false }
+    requires long { chain.old.chain.length_of + size_of_pages (pages_of_runs chain.old.chain.streams (runs_of put.now.entries)) < 2 ^ 63 }
+    ensures { chain.new.chain ≡ moved_on chain.old.chain (fold with_run chain.old.chain.streams (runs_of put.now.entries))
+        (size_of_pages (pages_of_runs chain.old.chain.streams (runs_of put.now.entries))) }
+{
+    let streams = chain.streams();
+    let (copy, _) = copy.split_at_mut(streams.len());
+    copy.copy_from_slice(streams);
+    let size = add_runs(copy, put);
+    chain.go_on(copy, size);
+}
+
+/// The streams of a new link, behind its pages.
+pub fn streams_of(
+    skeleton: Option<SkeletonHead>,
+    new: &[NewStream],
+) -> ArrayVec<StreamState, MOST_STREAMS>
+    requires streams { length new.now + length (skeleton_serial skeleton) ≤ 64 }
+    requires short { sum_by header_bytes new.now ≤ 16777216 }
+    requires few { list_any has_many_headers new.now ≡ false }
+    ensures { result.items ≡ states_of skeleton new.now }
+{
+    let mut streams = ArrayVec::new();
+    match skeleton {
+        None => push_streams(&mut streams, new),
+        Some(head) => {
+            streams.push(described(head.serial, new));
+            push_streams(&mut streams, new);
+        }
+    }
+    streams
+}
+
 /// Adds the streams of a new link behind its Skeleton.
-fn push_streams(streams: &mut Vec<StreamState>, serials: &mut Serials, new: &[NewStream])
-    requires streams { vec_len streams.old + length new.now ≤ vec_capacity streams.old }
-    requires serials { length new.now ≤ serials.old.room }
+fn push_streams(streams: &mut ArrayVec<StreamState, MOST_STREAMS>, new: &[NewStream])
+    requires streams { array_vec_len streams.old + length new.now ≤ 64 }
     requires short { sum_by header_bytes new.now ≤ 16777216 }
     requires few { list_any has_many_headers new.now ≡ false }
     ensures streams { streams.new.items ≡ streams.old.items ++ map new_state new.now }
-    ensures serials { serials.new.listed ≡ serials.old.listed ++ map (λ (s : StreamOf). s.serial) new.now }
-    ensures count { vec_len streams.new ≡ vec_len streams.old + length new.now }
+    ensures count { array_vec_len streams.new ≡ array_vec_len streams.old + length new.now }
 {
     for stream in new {
-        streams.push_reserved(begun(stream));
-        serials.push_reserved(stream.serial);
+        streams.push(begun(stream));
     }
 }
 

@@ -2,20 +2,20 @@
 ghost use Rattle.std.specs.Prelude.{◌≡◌, ◌≤◌, ◌<◌, ◌+◌, ◌-◌, ◌*◌, ◌++◌, ℕ, [], ◌∷◌, ◌&&◌, false, Some, IfSome, is_some, length, sum_by, nat_lt, nat_le, nat_eq, take, drop, map, reverse, List};
 ghost use Rattle.std.specs.List.{list_any, list_all, flat_map};
 ghost use Rattle.std.specs.Option.{SomeIff};
-ghost use Rattle.chain_rules.specs.Rules.{first_broken};
-ghost use Rattle.chain_rules.specs.ChainState.{ChainState};
+ghost use Rattle.link_chain.specs.Rules.{first_broken};
+ghost use Rattle.link_chain.specs.ChainState.{ChainState};
 ghost use Rattle.chain_rules.specs.Begun.{stream_count, skeleton_serial};
 ghost use Rattle.chain_rules.specs.Decision.{stream_rules, streams_rules, skeleton_rules, parts_rules, has_many_parts, has_many_headers, has_many_fields, has_long_message, header_bytes, is_positive};
 ghost use Rattle.skeleton3.specs.Fields.{is_field, is_media_type};
 ghost use Rattle.chain_rules.specs.Encoding.{first_pages, header_pages, pages_of_begin};
-ghost use Rattle.chain_rules.specs.Size.{has_no_number, size_of_pages};
+ghost use Rattle.link_chain.specs.Size.{has_no_number, size_of_pages};
 ghost use Rattle.ogg_command.specs.declared.command.NewStream.{NewStream as StreamOf};
 
 use crate::limits::{
-    LONGEST_BATCH, LONGEST_FIRST, LONGEST_PACKET, MOST_FIELDS, MOST_HEADERS, MOST_STREAMS,
+    LONGEST_BATCH, LONGEST_FIRST, LONGEST_PACKET, MOST_FIELDS, MOST_HEADERS,
 };
-use crate::serials::Serials;
 use crate::skeleton::size_of_skeleton;
+use link_chain::{MOST_STREAMS, Serials};
 use ogg_command::{Begin, Listed, NewStream, Refusal, SkeletonHead};
 use packetiser::size_of_run;
 use skeleton3::{Field, is_field, is_media_type};

@@ -2,27 +2,18 @@
 ghost use Rattle.std.specs.Prelude.{◌≡◌, ◌≤◌, ◌<◌, ◌+◌, ◌++◌, ◌^◌, Option, Some, None, Ok, Err, IfSome, false, length, nat_lt, not};
 ghost use Rattle.std.specs.List.{list_any};
 ghost use Rattle.std.specs.Option.{option_map_or};
-ghost use Rattle.chain_rules.specs.Places.{HaveOwnSerials};
-ghost use Rattle.chain_rules.specs.Rules.{first_broken};
-ghost use Rattle.chain_rules.specs.ChainState.{ChainState};
+ghost use Rattle.link_chain.specs.Places.{HaveOwnSerials};
+ghost use Rattle.link_chain.specs.Rules.{first_broken};
+ghost use Rattle.link_chain.specs.ChainState.{ChainState};
 ghost use Rattle.chain_rules.specs.Decision.{decision, put_rules, begin_rules, room_rules, entries_rules, size_of};
 ghost use Rattle.chain_rules.specs.Decision.{answer, has_many_parts, has_long_message};
-ghost use Rattle.chain_rules.specs.declared.stream_state.StreamState.{StreamState as State};
 
 use crate::begin::{broken_by_parts, has_many_parts, is_long_begin, size_of_begin};
-use crate::entries::{broken_by_entries, with_serial};
-use crate::limits::{FEW_STREAMS, LONGEST_FILE, MOST_ENTRIES, MOST_LINKS, MOST_STREAMS, SEQUENCES};
+use crate::entries::broken_by_entries;
+use crate::limits::{FEW_STREAMS, LONGEST_FILE, MOST_ENTRIES, SEQUENCES};
 use crate::runs::{is_long_batch, size_of_runs};
-use crate::serials::Serials;
-use crate::stream_state::StreamState;
+use link_chain::{MOST_LINKS, MOST_STREAMS, Serials, StreamState, is_open, stream_in};
 use ogg_command::{Begin, Command, Entry, Put, Refusal};
-
-/// Whether a stream hasn't ended.
-pub fn is_open(streams: &[StreamState]) -> bool
-    ensures { result ≡ list_any (λ (stream : State). not stream.ended) streams.now }
-{
-    streams.iter().any(|stream| !stream.ended)
-}
 
 /// The end of a stream.
 #[tactic(auto, unfolding(crate::specs::Decision::decision, crate::specs::Encoding::pages_of_command))]
@@ -33,7 +24,7 @@ pub fn check_end(streams: &[StreamState], bytes: u64, serial: u32) -> Result<u64
     if !is_open(streams) {
         return Err(Refusal::NoLink);
     }
-    let Some(stream) = with_serial(streams, serial) else {
+    let Some(stream) = stream_in(streams, serial) else {
         return Err(Refusal::UnknownSerial);
     };
     if stream.ended {

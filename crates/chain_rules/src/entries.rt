@@ -2,25 +2,14 @@
 ghost use Rattle.std.specs.Prelude.{◌≡◌, ◌≤◌, ◌<◌, ◌+◌, ◌^◌, ℕ, [], ◌∷◌, length, sum_by, nat_lt, nat_le, nat_eq, take, drop, take_while, map, if◌then◌else◌, List};
 ghost use Rattle.ogg_command.specs.declared.command.Entry.{Entry as EntryOf};
 ghost use Rattle.std.specs.List.{list_any};
-ghost use Rattle.chain_rules.specs.Rules.{first_broken};
+ghost use Rattle.link_chain.specs.Rules.{first_broken};
 ghost use Rattle.chain_rules.specs.Decision.{entry_rules, entries_rules};
-ghost use Rattle.chain_rules.specs.Places.{HaveOwnSerials, IsPlace};
-ghost use Rattle.chain_rules.specs.Progress.{stream_in, with_position, brought_to};
+ghost use Rattle.link_chain.specs.Places.{HaveOwnSerials, IsPlace};
+ghost use Rattle.link_chain.specs.Progress.{stream_in, with_position, brought_to};
 
-use crate::limits::{LONGEST_PACKET, POSITIONS};
-use crate::places::{place_of, stream_at};
-use crate::stream_state::StreamState;
+use crate::limits::LONGEST_PACKET;
+use link_chain::{POSITIONS, StreamState, place_of, stream_at};
 use ogg_command::{Entry, Refusal};
-
-/// The stream with this serial.
-pub fn with_serial(streams: &[StreamState], serial: u32) -> Option<StreamState>
-    ensures { result ≡ stream_in streams.now serial }
-{
-    streams
-        .iter()
-        .copied()
-        .find(|stream| stream.serial == serial)
-}
 
 /// Brings the stream at this place to a position.
 pub fn move_stream(streams: &mut [StreamState], place: usize, position: u64)

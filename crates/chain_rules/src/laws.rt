@@ -3,12 +3,11 @@ ghost use Rattle.std.specs.Prelude.{◌≡◌, ◌++◌, ◌↔◌, Ok, None, Li
 ghost use Rattle.std.specs.List.{AllByRecursion};
 ghost use Rattle.ogg_page.specs.Page.{Page, IsPage, bytes_of_pages};
 ghost use Rattle.ogg_command.specs.Command.{IsCommand};
-ghost use Rattle.chain_rules.specs.Links.{AreLinks};
+ghost use Rattle.link_chain.specs.Links.{AreLinks};
 ghost use Rattle.chain_rules.specs.Recording.{Recording, HoldsLinks, Holds, add, after};
-ghost use Rattle.chain_rules.specs.ChainState.{ChainState, chain_state_of};
+ghost use Rattle.link_chain.specs.ChainState.{ChainState, chain_state_of};
 ghost use Rattle.chain_rules.specs.Decision.{decision};
 ghost use Rattle.chain_rules.specs.Encoding.{command_bytes, links_after};
-ghost use Rattle.chain_rules.specs.Taking.{AreTaken, unfinished_stream};
 ghost use Rattle.chain_rules.specs.Commands.{AreKept, bytes_of_commands, links_behind};
 ghost use Rattle.ogg_command.specs.declared.command.Command.{Command as CommandOf};
 
@@ -38,18 +37,4 @@ pub fn commands_add_their_packets()
     // From no links on their bytes hold just what they say.
     ensures holds { (commands : List CommandOf) → AllByRecursion IsCommand commands → AreKept [] commands →
         Holds (bytes_of_commands [] commands) (after [] commands) }
-{}
-
-/// The pages of a list are taken in turn, from no links on, exactly where their bytes are a chain of
-/// links, and then the links are these (RFC 3533, section 4).
-pub fn pages_in_turn_are_links()
-    ensures { (pages : List Page) (links : List (List Page)) → AllByRecursion IsPage pages →
-        AreTaken [] pages links ↔ AreLinks (bytes_of_pages pages) links }
-{}
-
-/// Links in which no packet is left unfinished hold a recording: what their streams' lacing values
-/// and bodies spell (RFC 3533, section 5).
-pub fn links_left_whole_hold_a_recording()
-    ensures { (bytes : List ℕ) (links : List (List Page)) → AreLinks bytes links → unfinished_stream (chain_state_of links) ≡ None →
-        (recording : Recording) × HoldsLinks links recording }
 {}

@@ -3,22 +3,21 @@ ghost use Rattle.std.specs.Prelude.{◌≡◌, ◌≤◌, ◌<◌, ◌+◌, ◌*
 ghost use Rattle.std.specs.List.{list_any, flat_map};
 ghost use Rattle.ogg_page.specs.Page.{bytes_of_pages};
 ghost use Rattle.packetiser.specs.Run.{pages_of_run, pages_for, run_lacing, run_bytes, size_for, flagged, lengths};
-ghost use Rattle.chain_rules.specs.ChainState.{ChainState};
+ghost use Rattle.link_chain.specs.ChainState.{ChainState};
 ghost use Rattle.chain_rules.specs.Decision.{header_bytes, has_many_headers, has_long_message};
 ghost use Rattle.chain_rules.specs.Encoding.{first_pages, header_pages, pages_of_begin, end_page, runs_of, pages_of_runs};
-ghost use Rattle.chain_rules.specs.Places.{HaveOwnSerials};
-ghost use Rattle.chain_rules.specs.Progress.{next_in};
-ghost use Rattle.chain_rules.specs.Size.{has_no_number, size_of_pages};
+ghost use Rattle.link_chain.specs.Places.{HaveOwnSerials};
+ghost use Rattle.link_chain.specs.Progress.{next_in};
+ghost use Rattle.link_chain.specs.Size.{has_no_number, size_of_pages};
 ghost use Rattle.ogg_command.specs.declared.command.Entry.{Entry as EntryOf};
 
 use crate::Memory;
 use crate::begin::{size_of_begin, split_headers};
-use crate::entries::{bring_stream, with_serial};
-use crate::limits::{FEW_STREAMS, MOST_STREAMS};
-use crate::places::place_of;
-use crate::runs::{next_at, next_sequence, run_length, run_position, run_serial};
+use crate::entries::bring_stream;
+use crate::limits::FEW_STREAMS;
+use crate::runs::{next_at, run_length, run_position, run_serial};
 use crate::skeleton::{lay_fisbones, lay_fishead, lay_skeleton_end};
-use crate::stream_state::StreamState;
+use link_chain::{MOST_STREAMS, StreamState, next_sequence, place_of, stream_in};
 use ogg_command::{Entry, NewStream, SkeletonHead};
 use ogg_page::{PageHead, write_page};
 use packetiser::{TimedPacket, lay_run};
@@ -36,7 +35,7 @@ pub fn lay_end(streams: &[StreamState], serial: u32, out: &mut Vec<u8>) -> Resul
     ensures err { OnErr result (out.new.items ≡ out.old.items) }
     ensures full { OnErr result (vec_capacity out.old < vec_len out.old + 27) }
 {
-    let position = with_serial(streams, serial).map_or(0, |stream| stream.last_position);
+    let position = stream_in(streams, serial).map_or(0, |stream| stream.last_position);
     let head = PageHead {
         flags: LAST,
         position,

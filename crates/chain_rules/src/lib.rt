@@ -12,26 +12,19 @@
 
 mod accepting;
 mod begin;
-mod chain_fault;
 mod checks;
 mod entries;
 mod laws;
 mod laying;
 mod limits;
-mod places;
 mod runs;
-mod serials;
 mod shape;
 mod skeleton;
-mod stream_state;
-mod taking;
 
-pub use chain_fault::ChainFault;
-pub use laws::{
-    command_adds_its_packets, commands_add_their_packets, links_left_whole_hold_a_recording,
-    pages_in_turn_are_links,
+pub use laws::{command_adds_its_packets, commands_add_their_packets};
+pub use link_chain::{
+    Chain, ChainFault, StreamState, links_left_whole_hold_a_recording, pages_in_turn_are_links,
 };
 pub use ogg_command::{Begin, Command, Entry, Listed, NewStream, Put, Refusal, SkeletonHead};
 pub use ogg_page::Memory;
 pub use shape::Shape;
-pub use stream_state::StreamState;

@@ -9,9 +9,6 @@ pub const LONGEST_PACKET: usize = 8_388_608;
 /// Bytes of a command's packets together.
 pub const LONGEST_BATCH: u64 = 16_777_216;
 
-/// Streams of a link.
-pub const MOST_STREAMS: usize = 64;
-
 /// A link with at most so many streams has few.
 pub const FEW_STREAMS: usize = 4;
 
@@ -24,14 +21,8 @@ pub const MOST_FIELDS: usize = 16;
 /// Packets of a put.
 pub const MOST_ENTRIES: usize = 4_096;
 
-/// Links of a file.
-pub const MOST_LINKS: u64 = 65_536;
-
 /// Bytes of a file, with the byte that follows its pages while it is written.
 pub const LONGEST_FILE: u64 = 1 << 40;
-
-/// How many positions there are that a packet may have.
-pub const POSITIONS: u64 = 1 << 63;
 
 /// How many sequence numbers there are (RFC 3533, section 6, field 6).
 pub const SEQUENCES: u64 = 1 << 32;

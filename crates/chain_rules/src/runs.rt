@@ -4,15 +4,14 @@ ghost use Rattle.std.specs.List.{fold};
 ghost use Rattle.std.specs.Option.{SomeIff};
 ghost use Rattle.packetiser.specs.Run.{pages_for, run_lacing, run_bytes};
 ghost use Rattle.chain_rules.specs.Encoding.{runs_of, run_serial, run_position, pages_of_runs, with_run, timed};
-ghost use Rattle.chain_rules.specs.Places.{HaveOwnSerials, IsPlace};
-ghost use Rattle.chain_rules.specs.Progress.{next_in};
-ghost use Rattle.chain_rules.specs.Size.{numbered_size};
+ghost use Rattle.link_chain.specs.Places.{HaveOwnSerials, IsPlace};
+ghost use Rattle.link_chain.specs.Progress.{next_in};
+ghost use Rattle.link_chain.specs.Size.{numbered_size};
 ghost use Rattle.ogg_command.specs.declared.command.Entry.{Entry as EntryOf};
 
-use crate::entries::{bring_stream, with_serial};
+use crate::entries::bring_stream;
 use crate::limits::{LONGEST_BATCH, SEQUENCES};
-use crate::places::{place_of, stream_at};
-use crate::stream_state::StreamState;
+use link_chain::{StreamState, place_of, stream_at};
 use ogg_command::Entry;
 use packetiser::{pages_of, size_of, values_and_bytes};
 
@@ -55,13 +54,6 @@ pub fn run_position(run: &[Entry]) -> u64
 {
     let last = &run[run.len() - 1];
     last.position
-}
-
-/// The number of the next page of the stream with this serial.
-pub fn next_sequence(streams: &[StreamState], serial: u32) -> u64
-    ensures { result ≡ next_in streams.now serial }
-{
-    with_serial(streams, serial).map_or(0, |stream| stream.next_sequence)
 }
 
 /// The number of the next page of the stream at this place.

@@ -3,14 +3,11 @@ ghost use Rattle.std.specs.Prelude.{◌≡◌, ◌≤◌, ◌<◌, ◌+◌, ◌+
 ghost use Rattle.ogg_page.specs.Page.{Page as PageValue, page_size};
 
 use crate::Memory;
-use crate::accepting::{add_runs, add_streams, end_stream, has_more_pages};
+use crate::accepting::{add_put, has_more_pages, streams_of};
 use crate::begin::{size_of_begin, stream_count};
-use crate::chain_fault::ChainFault;
-use crate::checks::{check_begin, check_end, check_put, is_open};
+use crate::checks::{check_begin, check_end, check_put};
 use crate::laying::{lay_begin, lay_end, lay_put};
-use crate::serials::Serials;
-use crate::stream_state::StreamState;
-use crate::taking::{broken_by_page, first_unfinished, follow, is_first, join_link, open_link};
+use link_chain::{Chain, ChainFault};
 use ogg_command::{Begin, Command, Put, Refusal};
 use ogg_page::Page;
 use std::alloc::Global;
@@ -19,46 +16,25 @@ use std::marker::Model;
 /// The chain of the links so far, as far as the rules for a next command look at it.
 #[derive(Debug, Drop)]
 pub struct Shape {
-    // those of the last link
-    streams: Vec<StreamState>,
-    has_data: bool,
-    serials: Serials,
-    links: u64,
-    bytes: u64,
+    chain: Chain,
 }
 
 impl Model for Shape {
-    ghost use Rattle.std.specs.Prelude.{◌≤◌, ◌<◌, ◌^◌, vec_len, vec_capacity};
-    ghost use Rattle.chain_rules.specs.Places.{HaveOwnSerials};
     ghost use Rattle.chain_rules.specs.Shape.{ShapeState};
 
     ghost Value = { ShapeState };
 
-    ghost view = { λ s. record {
-      chain = record {
-        streams = s.streams.items;
-        has_data = s.has_data;
-        serials = s.serials.listed;
-        links = s.links;
-        length_of = s.bytes;
-      };
-      stream_room = vec_capacity s.streams;
-      serial_room = s.serials.room;
-    } };
-
-    ghost invariant = { λ s. (vec_len s.streams ≤ 64) × (s.bytes < 2 ^ 63) × HaveOwnSerials s.streams.items };
+    ghost view = { λ s. s.chain };
 }
 
 impl Shape {
-    ghost use Rattle.chain_rules.specs.ChainState.{ChainState, chain_state_of, is_open};
+    ghost use Rattle.link_chain.specs.ChainState.{ChainState, chain_state_of, is_open};
     ghost use Rattle.chain_rules.specs.Decision.{decision};
     ghost use Rattle.chain_rules.specs.Limits.{longest_file};
     ghost use Rattle.chain_rules.specs.Shape.{HasRoom};
     ghost use Rattle.chain_rules.specs.Encoding.{command_bytes, links_after};
-    ghost use Rattle.chain_rules.specs.Taking.{fault_of_page, links_with, unfinished_stream, HasRoomFor};
-    ghost use Rattle.chain_rules.specs.Followed.{opened, joined, continued};
-    ghost use Rattle.chain_rules.specs.Progress.{stream_in};
-    ghost use Rattle.chain_rules.specs.declared.chain_fault.ChainFault.{ChainFault as ChainFaultOf};
+    ghost use Rattle.link_chain.specs.Taking.{fault_of_page, links_with, unfinished_stream, HasRoomFor};
+    ghost use Rattle.link_chain.specs.declared.chain_fault.ChainFault.{ChainFault as ChainFaultOf};
     ghost use Rattle.ogg_page.specs.LogicalStream.{is_first};
 
     /// The chain of no links.
@@ -66,12 +42,22 @@ impl Shape {
         ensures { result.chain ≡ chain_state_of [] }
     {
         Shape {
-            streams: Vec::new(alloc),
-            has_data: false,
-            serials: Serials::new(alloc),
-            links: 0,
-            bytes: 0,
+            chain: Chain::new(alloc),
         }
+    }
+
+    /// The chain that a command is added to next, as that of a file which is opened.
+    pub fn of(chain: Chain) -> Self
+        ensures { result ≡ chain }
+    {
+        Shape { chain }
+    }
+
+    /// How many bytes the pages of its links have.
+    pub fn len(&self) -> u64
+        ensures { result ≡ self.now.chain.length_of }
+    {
+        self.chain.len()
     }
 
     /// The size in bytes of the pages that a command would add, or why it is refused: the first
@@ -88,14 +74,14 @@ impl Shape {
     {
         match command {
             Command::Begin(begin) => check_begin(
-                self.streams.as_slice(),
-                &self.serials,
-                self.links,
-                self.bytes,
+                self.chain.streams(),
+                self.chain.serials(),
+                self.chain.links(),
+                self.chain.len(),
                 begin,
             ),
-            Command::Put(put) => check_put(self.streams.as_slice(), self.bytes, put),
-            Command::End(serial) => check_end(self.streams.as_slice(), self.bytes, *serial),
+            Command::Put(put) => check_put(self.chain.streams(), self.chain.len(), put),
+            Command::End(serial) => check_end(self.chain.streams(), self.chain.len(), *serial),
         }
     }
 
@@ -128,7 +114,7 @@ impl Shape {
         ensures err { OnErr result (out.new.items ≡ out.old.items) }
         ensures full { OnErr result (vec_capacity out.old < vec_len out.old + length (command_bytes self.now.chain (Command.Put put.now))) }
     {
-        lay_put(self.streams.as_slice(), put.entries.as_slice(), out)
+        lay_put(self.chain.streams(), put.entries.as_slice(), out)
     }
 
     fn lay_end(&self, serial: u32, out: &mut Vec<u8>) -> Result<(), Memory>
@@ -137,7 +123,7 @@ impl Shape {
         ensures err { OnErr result (out.new.items ≡ out.old.items) }
         ensures full { OnErr result (vec_capacity out.old < vec_len out.old + length (command_bytes self.now.chain (Command.End serial))) }
     {
-        lay_end(self.streams.as_slice(), serial, out)
+        lay_end(self.chain.streams(), serial, out)
     }
 
     /// Makes the room that `accept` needs for a command. The chain stays as it is. After `Memory` a
@@ -148,10 +134,7 @@ impl Shape {
         ensures full { OnErr result (HasRoom self.old command.now → ⊥) }
     {
         if let Command::Begin(begin) = command {
-            let count = stream_count(begin);
-            let more = count.saturating_sub(self.streams.len());
-            self.streams.reserve(more)?;
-            self.serials.reserve(count)?;
+            self.chain.reserve_link(stream_count(begin))?;
         }
         Ok(())
     }
@@ -177,9 +160,7 @@ impl Shape {
         ensures { (links : List (List PageValue)) → self.old.chain ≡ chain_state_of links
             → self.new.chain ≡ chain_state_of (links_after links (Command.End serial)) }
     {
-        end_stream(self.streams.as_mut_slice(), serial);
-        self.has_data = true;
-        self.bytes += 27;
+        self.chain.end_stream(serial);
     }
 
     fn accept_put(&mut self, put: &Put)
@@ -187,9 +168,7 @@ impl Shape {
         ensures { (links : List (List PageValue)) → self.old.chain ≡ chain_state_of links
             → self.new.chain ≡ chain_state_of (links_after links (Command.Put put.now)) }
     {
-        let size = add_runs(self.streams.as_mut_slice(), put);
-        self.has_data = true;
-        self.bytes += size;
+        add_put(&mut self.chain, put);
     }
 
     fn accept_begin(&mut self, begin: &Begin)
@@ -199,17 +178,11 @@ impl Shape {
             → self.new.chain ≡ chain_state_of (links_after links (Command.Begin begin.now)) }
         ensures time { IfSome begin.now.skeleton (λ head. length head.utc ≡ 20) }
     {
-        let streams = begin.streams.as_slice();
-        let size = size_of_begin(begin.skeleton, streams);
-        add_streams(
-            &mut self.streams,
-            &mut self.serials,
-            begin.skeleton,
-            streams,
-        );
-        self.has_data = has_more_pages(begin.skeleton, streams);
-        self.links += 1;
-        self.bytes += size;
+        let new = begin.streams.as_slice();
+        let size = size_of_begin(begin.skeleton, new);
+        let streams = streams_of(begin.skeleton, new);
+        let has_data = has_more_pages(begin.skeleton, new);
+        self.chain.add_link(streams.as_slice(), has_data, size);
     }
 
     /// Takes a page that was read into the chain, or says why it may not follow: the first fault in
@@ -227,55 +200,7 @@ impl Shape {
         ensures grows { OnOk result (self.new.chain.length_of ≡ self.old.chain.length_of + page_size page.now) }
         ensures same { OnErr result (self.new.chain ≡ self.old.chain) }
     {
-        let streams = self.streams.as_slice();
-        if let Some(fault) = broken_by_page(streams, self.has_data, self.links, page) {
-            return Err(fault);
-        }
-        if !is_first(page) {
-            self.continue_link(page);
-        } else if is_open(streams) {
-            self.join_link(page)?;
-        } else {
-            self.open_link(page)?;
-        }
-        Ok(())
-    }
-
-    fn continue_link(&mut self, page: &Page<'_>)
-        requires { self.old.chain.length_of + page_size page.now < 2 ^ 63 }
-        ensures { self.new.chain ≡ continued self.old.chain page.now }
-    {
-        follow(self.streams.as_mut_slice(), page);
-        self.has_data = true;
-        self.bytes += page.whole().len() as u64;
-    }
-
-    fn join_link(&mut self, page: &Page<'_>) -> Result<(), Memory>
-        requires long { self.old.chain.length_of + page_size page.now < 2 ^ 63 }
-        requires few { length self.old.chain.streams < 64 }
-        requires fresh { stream_in self.old.chain.streams page.now.serial ≡ None }
-        ensures ok { OnOk result (self.new.chain ≡ joined self.old.chain page.now) }
-        ensures err { OnErr result (self.new.chain ≡ self.old.chain) }
-        ensures full { OnErr result (length self.old.chain.streams + 1 ≤ self.old.stream_room → 1 ≤ self.old.serial_room → ⊥) }
-    {
-        join_link(&mut self.streams, &mut self.serials, page)?;
-        self.bytes += page.whole().len() as u64;
-        Ok(())
-    }
-
-    fn open_link(&mut self, page: &Page<'_>) -> Result<(), Memory>
-        requires long { self.old.chain.length_of + page_size page.now < 2 ^ 63 }
-        requires few { self.old.chain.links < 65536 }
-        ensures ok { OnOk result (self.new.chain ≡ opened self.old.chain page.now) }
-        ensures err { OnErr result (self.new.chain ≡ self.old.chain) }
-        ensures full { OnErr result (1 ≤ self.old.stream_room → 1 ≤ self.old.serial_room → ⊥) }
-    {
-        let links = self.links + 1;
-        open_link(&mut self.streams, &mut self.serials, page)?;
-        self.links = links;
-        self.has_data = false;
-        self.bytes += page.whole().len() as u64;
-        Ok(())
+        self.chain.take_page(page)
     }
 
     /// The serial of the first stream of the last link, in the order of their first pages, that has
@@ -283,7 +208,6 @@ impl Shape {
     pub fn unfinished(&self) -> Option<u32>
         ensures { result ≡ unfinished_stream self.now.chain }
     {
-        let stream = first_unfinished(self.streams.as_slice())?;
-        Some(stream.serial)
+        self.chain.unfinished()
     }
 }

@@ -6,7 +6,7 @@ ghost use Rattle.packetiser.specs.Run.{pages_of_run, flagged};
 ghost use Rattle.skeleton3.specs.Fisbone.{fisbone_of as lent_fisbone};
 ghost use Rattle.chain_rules.specs.Decision.{has_many_headers, has_long_message};
 ghost use Rattle.chain_rules.specs.Encoding.{header, fishead_of, fisbone_of, fisbone_packet, fishead_pages, fisbone_pages, skeleton_end};
-ghost use Rattle.chain_rules.specs.Size.{size_of_pages};
+ghost use Rattle.link_chain.specs.Size.{size_of_pages};
 
 use crate::laying::{FIRST, LAST, append_run};
 use ogg_command::{NewStream, SkeletonHead};

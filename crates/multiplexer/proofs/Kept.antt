@@ -1,6 +1,6 @@
 -- The answer to a command that is kept.
 use Rattle.std.proofs.Common.{◌≡◌, ℕ, ◌+◌, List, [], ◌++◌, inl, refl, sym, ap, ◌∙◌, subst, Result, Ok}
-use Rattle.chain_rules.specs.ChainState.{ChainState, chain_state_of}
+use Rattle.link_chain.specs.ChainState.{ChainState, chain_state_of}
 use Rattle.chain_rules.specs.Decision.{decision}
 use Rattle.chain_rules.specs.Encoding.{command_bytes, links_after}
 use Rattle.ogg_command.specs.declared.command.Command.{Command}

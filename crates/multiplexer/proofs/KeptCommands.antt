@@ -2,7 +2,7 @@
 use Rattle.std.proofs.Common.{◌≡◌, ◌+◌, ℕ, List, [], ◌∷◌, ◌++◌, length, inl, inr, refl, sym, ap, ◌∙◌, subst, arith, Result, Ok, Err}
 use Rattle.std.specs.Prelude.{IsOk}
 use Rattle.std.specs.List.{AllByRecursion}
-use Rattle.chain_rules.specs.ChainState.{chain_state_of}
+use Rattle.link_chain.specs.ChainState.{chain_state_of}
 use Rattle.chain_rules.specs.Commands.{AreKept, bytes_of_commands, links_behind}
 use Rattle.chain_rules.specs.Decision.{decision}
 use Rattle.chain_rules.specs.Encoding.{command_bytes}

@@ -1,7 +1,7 @@
 -- How far a run over a feed has come, and how a command is answered there. Ours.
 use Rattle.std.specs.Prelude.{◌≡◌, ◌⊎◌, ℕ, ◌+◌, Result, Ok, Err, List, [], ◌∷◌, ◌++◌}
 use Rattle.ogg_page.specs.Page.{Page}
-use Rattle.chain_rules.specs.ChainState.{chain_state_of}
+use Rattle.link_chain.specs.ChainState.{chain_state_of}
 use Rattle.chain_rules.specs.Encoding.{command_bytes, links_after}
 use Rattle.chain_rules.specs.Decision.{decision}
 use Rattle.ogg_command.specs.declared.command.Command.{Command}

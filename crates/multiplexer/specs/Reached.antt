@@ -1,6 +1,6 @@
 -- How a run keeps its progress. Ours.
 use Rattle.std.specs.Prelude.{◌≡◌}
-use Rattle.chain_rules.specs.ChainState.{ChainState, chain_state_of}
+use Rattle.link_chain.specs.ChainState.{ChainState, chain_state_of}
 use Rattle.feed_codec.specs.declared.reply.Kept.{Kept}
 use Rattle.feed_codec.specs.declared.reply.Reply.{Reply}
 use Rattle.feed_codec.specs.declared.reply.Reply.TheVariants.{Kept as KeptOf, Refused}

@@ -8,6 +8,7 @@ pub mod Reading
 pub mod Pages
 pub mod Output
 pub mod PageLaws
+pub mod StreamLaws
 pub mod ReadingLaws
 pub mod PagesLaws
 pub mod Laws

@@ -1,5 +1,5 @@
 //! Pages taken into a chain of links, one by one.
-use chain_rules::{ChainFault, Shape};
+use link_chain::{Chain, ChainFault};
 use ogg_page::{PageFault, Pages};
 use std::alloc::Global;
 use std::io::{self, Write};
@@ -40,7 +40,7 @@ pub fn check_chain<W: Write>(alloc: Global, bytes: &[u8], output: &mut W) -> io:
 }
 
 fn take_pages(alloc: Global, bytes: &[u8]) -> Walk {
-    let mut shape = Shape::new(alloc);
+    let mut chain = Chain::new(alloc);
     let mut pages = Pages::of(bytes);
     let mut end = 0;
     let mut fault = None;
@@ -53,7 +53,7 @@ fn take_pages(alloc: Global, bytes: &[u8]) -> Walk {
                 break;
             }
             Some(Ok((offset, page))) => {
-                match shape.take_page(&page) {
+                match chain.take_page(&page) {
                     Ok(()) => {}
                     Err(found) => {
                         fault = Some(WalkFault::Chain(found));
@@ -67,6 +67,6 @@ fn take_pages(alloc: Global, bytes: &[u8]) -> Walk {
     Walk {
         end,
         fault,
-        unfinished: shape.unfinished(),
+        unfinished: chain.unfinished(),
     }
 }

@@ -1,6 +1,6 @@
 use Rattle.std.proofs.Common.{true, [], ◌∷◌, sym, ◌∙◌}
 use Rattle.chain_rules.specs.Decision.{skeleton_rules, streams_rules}
-use Rattle.chain_rules.proofs.Turns.{settled_by, passes_by}
+use Rattle.link_chain.specs.Laws.Rules.{settled_by, passes_by}
 use Rattle.chain_rules.proofs.begin.broken_by_described.Goals as goal
 
 pub returns-then-is_some : goal.returns-then-is_some

@@ -3,9 +3,9 @@ use Rattle.std.specs.Prelude.{is_some}
 use Rattle.ogg_command.specs.declared.command.NewStream.{NewStream}
 use Rattle.ogg_command.specs.declared.refusal.Refusal.{Refusal}
 use Rattle.chain_rules.specs.Begun.{skeleton_serial}
-use Rattle.chain_rules.specs.Rules.{first_broken}
+use Rattle.link_chain.specs.Rules.{first_broken}
 use Rattle.chain_rules.specs.Decision.{stream_rules, streams_rules}
-use Rattle.chain_rules.proofs.Turns.{settled_by, passes_by}
+use Rattle.link_chain.specs.Laws.Rules.{settled_by, passes_by}
 use Rattle.chain_rules.proofs.Streams.{before, stream_next}
 use Rattle.chain_rules.proofs.begin.broken_by_streams.Goals as goal
 

@@ -1,8 +1,8 @@
 use Rattle.std.proofs.Common.{◌≡◌, ◌++◌, map, take, drop}
 use Rattle.std.specs.Prelude.{reverse, is_some}
-use Rattle.chain_rules.specs.ChainState.{ChainState}
+use Rattle.link_chain.specs.ChainState.{ChainState}
 use Rattle.chain_rules.specs.Begun.{skeleton_serial}
-use Rattle.chain_rules.specs.Rules.{first_broken}
+use Rattle.link_chain.specs.Rules.{first_broken}
 use Rattle.chain_rules.specs.Decision.{streams_rules}
 use Rattle.ogg_command.specs.declared.command.NewStream.{NewStream}
 use Rattle.chain_rules.proofs.begin.broken_by_streams.Given as goal

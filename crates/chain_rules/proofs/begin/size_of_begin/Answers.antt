@@ -3,7 +3,7 @@ use Rattle.std.specs.Prelude.{IfSome}
 use Rattle.std.specs.List.{list_any}
 use Rattle.chain_rules.specs.Decision.{has_long_message}
 use Rattle.chain_rules.specs.Encoding.{pages_of_begin}
-use Rattle.chain_rules.specs.Size.{has_no_number}
+use Rattle.link_chain.specs.Size.{has_no_number}
 use Rattle.chain_rules.proofs.BeginPages.{each_small}
 use Rattle.chain_rules.proofs.DescribedPages.{described_numbered}
 use Rattle.chain_rules.proofs.begin.size_of_begin.Goals as goal

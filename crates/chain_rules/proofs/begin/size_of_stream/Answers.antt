@@ -2,7 +2,7 @@ use Rattle.std.proofs.Common.{◌≡◌, ℕ, List, length, map, take, drop, sym
 use Rattle.packetiser.specs.Run.{run_lacing, run_bytes, size_for}
 use Rattle.ogg_command.specs.declared.command.NewStream.{NewStream}
 use Rattle.chain_rules.specs.Encoding.{header, first_pages, header_pages}
-use Rattle.chain_rules.specs.Size.{size_of_pages}
+use Rattle.link_chain.specs.Size.{size_of_pages}
 use Rattle.chain_rules.proofs.BeginPages.{first_size, headers_size, small_stream}
 use Rattle.chain_rules.proofs.begin.size_of_stream.Goals as goal
 

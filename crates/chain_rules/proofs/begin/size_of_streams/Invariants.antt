@@ -2,7 +2,7 @@ use Rattle.std.proofs.Common.{◌≡◌, ◌≤◌, ◌+◌, ◌*◌, sum_by, ta
 use Rattle.std.specs.List.{flat_map}
 use Rattle.chain_rules.specs.Decision.{header_bytes}
 use Rattle.chain_rules.specs.Encoding.{first_pages, header_pages}
-use Rattle.chain_rules.specs.Size.{size_of_pages}
+use Rattle.link_chain.specs.Size.{size_of_pages}
 use Rattle.chain_rules.proofs.begin.size_of_streams.Given as goal
 
 -- the streams so far are counted

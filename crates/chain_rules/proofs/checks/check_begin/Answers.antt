@@ -4,8 +4,8 @@ use Rattle.ogg_command.specs.declared.command.Command.TheVariants.{Begin as Begi
 use Rattle.ogg_command.specs.declared.command.Begin.{Begin}
 use Rattle.ogg_command.specs.declared.command.NewStream.{NewStream}
 use Rattle.ogg_command.specs.declared.refusal.Refusal.{Refusal}
-use Rattle.chain_rules.specs.ChainState.{ChainState}
-use Rattle.chain_rules.specs.Rules.{first_broken}
+use Rattle.link_chain.specs.ChainState.{ChainState}
+use Rattle.link_chain.specs.Rules.{first_broken}
 use Rattle.chain_rules.specs.Decision.{decision, begin_rules, item_rules, parts_rules, room_rules, size_of}
 use Rattle.chain_rules.proofs.Kept.{items_short}
 use Rattle.chain_rules.proofs.Turns.{refused_first, refused_item, by_room}

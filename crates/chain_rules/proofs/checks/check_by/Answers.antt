@@ -3,11 +3,11 @@ use Rattle.ogg_command.specs.declared.command.Command.{Command}
 use Rattle.ogg_command.specs.declared.command.Command.TheVariants.{Put as PutOf}
 use Rattle.ogg_command.specs.declared.command.Entry.{Entry}
 use Rattle.ogg_command.specs.declared.refusal.Refusal.{Refusal}
-use Rattle.chain_rules.specs.declared.stream_state.StreamState.{StreamState}
-use Rattle.chain_rules.specs.ChainState.{ChainState}
-use Rattle.chain_rules.specs.Rules.{first_broken}
+use Rattle.link_chain.specs.declared.stream_state.StreamState.{StreamState}
+use Rattle.link_chain.specs.ChainState.{ChainState}
+use Rattle.link_chain.specs.Rules.{first_broken}
 use Rattle.chain_rules.specs.Decision.{entries_rules, room_rules, size_of, answer}
-use Rattle.chain_rules.proofs.Turns.{settles, passes}
+use Rattle.link_chain.specs.Laws.Rules.{settles, passes}
 use Rattle.chain_rules.proofs.checks.check_by.Goals as goal
 
 -- what was asked of the streams that were copied and of the entries that were lent is so of the chain's and the put's

@@ -3,8 +3,8 @@ use Rattle.ogg_command.specs.declared.command.Command.{Command}
 use Rattle.ogg_command.specs.declared.command.Command.TheVariants.{Put as PutOf}
 use Rattle.ogg_command.specs.declared.command.Entry.{Entry}
 use Rattle.ogg_command.specs.declared.refusal.Refusal.{Refusal}
-use Rattle.chain_rules.specs.ChainState.{ChainState}
-use Rattle.chain_rules.specs.Rules.{first_broken}
+use Rattle.link_chain.specs.ChainState.{ChainState}
+use Rattle.link_chain.specs.Rules.{first_broken}
 use Rattle.chain_rules.specs.Decision.{decision, put_rules, entries_rules, room_rules, size_of}
 use Rattle.chain_rules.proofs.Turns.{refused_first, behind_whole}
 use Rattle.chain_rules.proofs.checks.check_put.Goals as goal

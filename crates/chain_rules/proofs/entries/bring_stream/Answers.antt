@@ -1,9 +1,9 @@
 use Rattle.std.proofs.Common.{List, get_or, sym}
 use Rattle.std.proofs.lemmas.Option.{slice_get-get_or}
-use Rattle.chain_rules.specs.declared.stream_state.StreamState.{StreamState}
-use Rattle.chain_rules.specs.Progress.{advanced}
+use Rattle.link_chain.specs.declared.stream_state.StreamState.{StreamState}
+use Rattle.link_chain.specs.Progress.{advanced}
 use Rattle.chain_rules.proofs.Progress.{nobody}
-use Rattle.chain_rules.proofs.OwnSerials.{change_one, change_none}
+use Rattle.link_chain.specs.Laws.OwnSerials.{change_one, change_none}
 use Rattle.chain_rules.proofs.entries.bring_stream.Goals as goal
 
 pub returns-then-place-streams : goal.returns-then-place-streams

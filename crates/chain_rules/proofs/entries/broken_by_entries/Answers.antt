@@ -2,13 +2,13 @@ use Rattle.std.proofs.Common.{◌≡◌, ◌+◌, ◌∷◌, ℕ, false, List, d
 use Rattle.std.specs.Prelude.{is_some}
 use Rattle.std.proofs.lemmas.List.{drop_more}
 use Rattle.ogg_command.specs.declared.command.Entry.{Entry}
-use Rattle.chain_rules.specs.declared.stream_state.StreamState.{StreamState}
-use Rattle.chain_rules.specs.Rules.{first_broken}
+use Rattle.link_chain.specs.declared.stream_state.StreamState.{StreamState}
+use Rattle.link_chain.specs.Rules.{first_broken}
 use Rattle.chain_rules.specs.Decision.{entry_rules, entries_rules}
-use Rattle.chain_rules.specs.Progress.{with_position, moved_to}
-use Rattle.chain_rules.specs.Places.{HaveOwnSerials}
-use Rattle.chain_rules.proofs.OwnSerials.{own_stay}
-use Rattle.chain_rules.proofs.Turns.{passes_by}
+use Rattle.link_chain.specs.Progress.{with_position, moved_to}
+use Rattle.link_chain.specs.Places.{HaveOwnSerials}
+use Rattle.link_chain.specs.Laws.OwnSerials.{own_stay}
+use Rattle.link_chain.specs.Laws.Rules.{passes_by}
 use Rattle.chain_rules.proofs.entries.broken_by_entries.Goals as goal
 
 pub loop-entry-preserved : goal.loop-entry-preserved

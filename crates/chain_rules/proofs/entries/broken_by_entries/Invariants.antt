@@ -1,7 +1,7 @@
 use Rattle.std.proofs.Common.{◌≡◌, drop}
-use Rattle.chain_rules.specs.Rules.{first_broken}
+use Rattle.link_chain.specs.Rules.{first_broken}
 use Rattle.chain_rules.specs.Decision.{entries_rules}
-use Rattle.chain_rules.specs.Places.{HaveOwnSerials}
+use Rattle.link_chain.specs.Places.{HaveOwnSerials}
 use Rattle.chain_rules.proofs.entries.broken_by_entries.Given as goal
 
 -- the entries so far broke no rule, and the streams are where they have brought them

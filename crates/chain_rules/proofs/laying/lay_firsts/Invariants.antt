@@ -3,7 +3,7 @@ use Rattle.std.specs.Prelude.{vec_capacity}
 use Rattle.std.specs.List.{flat_map}
 use Rattle.ogg_page.specs.Page.{bytes_of_pages}
 use Rattle.chain_rules.specs.Encoding.{first_pages}
-use Rattle.chain_rules.specs.Size.{size_of_pages}
+use Rattle.link_chain.specs.Size.{size_of_pages}
 use Rattle.chain_rules.proofs.laying.lay_firsts.Given as goal
 
 -- the pages so far are appended, and there is room for all

@@ -2,14 +2,14 @@ use Rattle.std.proofs.Common.{◌≡◌, ◌+◌, ◌^◌, ◌≤◌, List, ◌+
 use Rattle.std.specs.List.{list_any}
 use Rattle.ogg_page.specs.Page.{bytes_of_pages}
 use Rattle.ogg_command.specs.declared.command.Entry.{Entry}
-use Rattle.chain_rules.specs.declared.stream_state.StreamState.{StreamState}
-use Rattle.chain_rules.specs.Progress.{next_in, advanced, brought_to}
-use Rattle.chain_rules.specs.Places.{HaveOwnSerials, IsPlace}
+use Rattle.link_chain.specs.declared.stream_state.StreamState.{StreamState}
+use Rattle.link_chain.specs.Progress.{next_in, advanced, brought_to}
+use Rattle.link_chain.specs.Places.{HaveOwnSerials, IsPlace}
 use Rattle.chain_rules.specs.Encoding.{run_serial, pages_behind, with_run, runs_of, pages_of_runs}
-use Rattle.chain_rules.specs.Size.{has_no_number, size_of_pages}
+use Rattle.link_chain.specs.Size.{has_no_number, size_of_pages}
 use Rattle.chain_rules.proofs.RunPages.{entry_bytes, next_streams, numbers_go_on, sizes_go_on}
 use Rattle.chain_rules.proofs.LaidRuns.{IsNextRun, next_run, some_pages, entries_apart, page_count, numbers_fit, few_pages, run_sized, run_written, written_on}
-use Rattle.chain_rules.proofs.OwnSerials.{own_stay}
+use Rattle.link_chain.specs.Laws.OwnSerials.{own_stay}
 use Rattle.chain_rules.proofs.laying.lay_runs.Goals as goal
 
 pub overflow_cast-next : goal.overflow_cast-next

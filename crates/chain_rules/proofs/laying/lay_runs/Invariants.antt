@@ -4,8 +4,8 @@ use Rattle.std.specs.List.{list_any}
 use Rattle.ogg_page.specs.Page.{bytes_of_pages}
 use Rattle.ogg_command.specs.declared.command.Entry.{Entry}
 use Rattle.chain_rules.specs.Encoding.{runs_of, pages_of_runs}
-use Rattle.chain_rules.specs.Size.{has_no_number, size_of_pages}
-use Rattle.chain_rules.specs.Places.{HaveOwnSerials}
+use Rattle.link_chain.specs.Size.{has_no_number, size_of_pages}
+use Rattle.link_chain.specs.Places.{HaveOwnSerials}
 use Rattle.chain_rules.proofs.laying.lay_runs.Given as goal
 
 -- with the pages that are left it will be all pages, and each has a number; what stood in the vector stays

@@ -4,13 +4,13 @@ use Rattle.std.proofs.lemmas.Bool.{cond-true}
 use Rattle.std.proofs.lemmas.List.Sums.{sum_by-append}
 use Rattle.packetiser.specs.Run.{pages_for, run_lacing}
 use Rattle.ogg_command.specs.declared.command.Entry.{Entry}
-use Rattle.chain_rules.specs.declared.stream_state.StreamState.{StreamState}
-use Rattle.chain_rules.specs.Progress.{next_in, advanced, brought_to}
-use Rattle.chain_rules.specs.Places.{HaveOwnSerials, IsPlace}
+use Rattle.link_chain.specs.declared.stream_state.StreamState.{StreamState}
+use Rattle.link_chain.specs.Progress.{next_in, advanced, brought_to}
+use Rattle.link_chain.specs.Places.{HaveOwnSerials, IsPlace}
 use Rattle.chain_rules.specs.Encoding.{timed, run_serial, runs_of, pages_of_runs, pages_behind, with_run}
-use Rattle.chain_rules.specs.Size.{has_no_number, size_of_pages}
+use Rattle.link_chain.specs.Size.{has_no_number, size_of_pages}
 use Rattle.chain_rules.proofs.RunPages.{IsCounted, entry_bytes, run_size, small_size, next_streams, numbers_go_on, numbers_end, sizes_go_on}
-use Rattle.chain_rules.proofs.OwnSerials.{own_stay}
+use Rattle.link_chain.specs.Laws.OwnSerials.{own_stay}
 use Rattle.chain_rules.proofs.runs.size_of_runs.Goals as goal
 
 -- the entries of a list and of its two parts

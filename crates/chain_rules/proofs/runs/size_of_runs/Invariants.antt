@@ -2,8 +2,8 @@ use Rattle.std.proofs.Common.{◌≡◌, ◌≤◌, ◌+◌, ◌*◌, length, su
 use Rattle.std.specs.List.{list_any, fold}
 use Rattle.ogg_command.specs.declared.command.Entry.{Entry}
 use Rattle.chain_rules.specs.Encoding.{runs_of, pages_of_runs, with_run}
-use Rattle.chain_rules.specs.Size.{has_no_number, size_of_pages}
-use Rattle.chain_rules.specs.Places.{HaveOwnSerials}
+use Rattle.link_chain.specs.Size.{has_no_number, size_of_pages}
+use Rattle.link_chain.specs.Places.{HaveOwnSerials}
 use Rattle.chain_rules.proofs.runs.size_of_runs.Given as goal
 
 -- the streams have serials of their own, and the runs so far have their numbers and are counted

@@ -7,7 +7,7 @@ use Rattle.skeleton3.specs.Fields.{NamedValue}
 use Rattle.skeleton3.specs.FisboneLaws.{length-fisbone_bytes_with}
 use Rattle.std.proofs.Common.{List, ℕ, length}
 use Rattle.chain_rules.specs.Encoding.{header, fisbone_of, fisbone_packet}
-use Rattle.chain_rules.specs.Size.{size_of_pages}
+use Rattle.link_chain.specs.Size.{size_of_pages}
 use Rattle.chain_rules.proofs.LaidHeaders.{unflagged}
 use Rattle.chain_rules.proofs.skeleton.lay_fisbone.Goals as goal
 

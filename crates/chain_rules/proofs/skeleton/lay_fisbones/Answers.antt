@@ -4,7 +4,7 @@ use Rattle.ogg_page.specs.Page.{Page, page_bytes, bytes_of_pages}
 use Rattle.packetiser.specs.Run.{pages_of_run}
 use Rattle.ogg_command.specs.declared.command.NewStream.{NewStream}
 use Rattle.chain_rules.specs.Encoding.{header, fisbone_packet, fisbone_pages}
-use Rattle.chain_rules.specs.Size.{size_of_pages}
+use Rattle.link_chain.specs.Size.{size_of_pages}
 use Rattle.chain_rules.proofs.FisbonePages.{pages_more, size_more, size_behind}
 use Rattle.chain_rules.proofs.skeleton.lay_fisbones.Goals as goal
 

@@ -2,7 +2,7 @@ use Rattle.std.proofs.Common.{◌≡◌, ◌≤◌, ◌+◌, ◌++◌, take, vec
 use Rattle.std.specs.Prelude.{vec_capacity}
 use Rattle.ogg_page.specs.Page.{bytes_of_pages}
 use Rattle.chain_rules.specs.Encoding.{fisbone_pages}
-use Rattle.chain_rules.specs.Size.{size_of_pages}
+use Rattle.link_chain.specs.Size.{size_of_pages}
 use Rattle.chain_rules.proofs.skeleton.lay_fisbones.Given as goal
 
 -- the pages so far are appended, and there is room for all

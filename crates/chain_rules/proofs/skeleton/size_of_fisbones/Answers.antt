@@ -2,7 +2,7 @@ use Rattle.std.proofs.Common.{ℕ, ◌+◌, List, [], ◌∷◌, ap, arith}
 use Rattle.packetiser.specs.Run.{pages_of_run}
 use Rattle.ogg_command.specs.declared.command.NewStream.{NewStream}
 use Rattle.chain_rules.specs.Encoding.{header, fisbone_packet}
-use Rattle.chain_rules.specs.Size.{size_of_pages}
+use Rattle.link_chain.specs.Size.{size_of_pages}
 use Rattle.chain_rules.proofs.FisbonePages.{size_more}
 use Rattle.chain_rules.proofs.skeleton.size_of_fisbones.Goals as goal
 

@@ -1,6 +1,6 @@
 use Rattle.std.proofs.Common.{◌≡◌, ◌≤◌, ◌*◌, ℕ, take}
 use Rattle.chain_rules.specs.Encoding.{fisbone_pages}
-use Rattle.chain_rules.specs.Size.{size_of_pages}
+use Rattle.link_chain.specs.Size.{size_of_pages}
 use Rattle.chain_rules.proofs.skeleton.size_of_fisbones.Given as goal
 
 -- the fisbones so far are counted

@@ -1,7 +1,7 @@
 use Rattle.std.proofs.Common.{◌≡◌, ℕ, List, sym, ap, ◌∙◌, subst}
 use Rattle.std.specs.Io.KnownBytes.{Appends}
 use Rattle.ogg_page.specs.Output.{WritesPrefix}
-use Rattle.chain_rules.specs.ChainState.{ChainState}
+use Rattle.link_chain.specs.ChainState.{ChainState}
 use Rattle.chain_rules.specs.Decision.{decision}
 use Rattle.chain_rules.specs.Encoding.{command_bytes}
 use Rattle.multiplexer.specs.Progress.{with_command}

@@ -1,7 +1,7 @@
 use Rattle.std.proofs.Common.{◌≡◌, ◌+◌, ◌<◌, ◌^◌, ℕ, length, length-append, ap, sym, ◌∙◌, subst, arith, Some, Ok}
 use Rattle.ogg_page.specs.Page.{Page, page_bytes, page_size}
 use Rattle.ogg_page.specs.Pages.{FoundPage, PagesLeft, NextPage}
-use Rattle.chain_rules.proofs.ByteSizes.{length-page_bytes}
+use Rattle.ogg_page.specs.PageLaws.{length-page_bytes}
 use Rattle.read_ogg.proofs.chain.take_pages.Goals as goal
 
 -- a page that was passed, by its size

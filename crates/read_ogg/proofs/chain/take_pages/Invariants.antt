@@ -5,4 +5,4 @@ use Rattle.read_ogg.proofs.chain.take_pages.Given as goal
 abbrev pub invariant-loop : goal.invariant-loop
 invariant-loop l =
     (goal.iterator-loop).can_next l.pages × (goal.iterator-loop).is_finite l.pages
-    × (l.shape.chain.length_of ≡ l.pages.offset) × (l.pages.offset + length l.pages.bytes ≡ length l.bytes)
+    × (l.chain.chain.length_of ≡ l.pages.offset) × (l.pages.offset + length l.pages.bytes ≡ length l.bytes)

@@ -1,50 +1,27 @@
-use Rattle.std.proofs.Common.{◌≡◌, ◌<◌, ◌+◌, ◌^◌, ℕ, true, List, length, map, refl, sym, ap, ◌∙◌, subst, arith, vec_len}
+use Rattle.std.proofs.Common.{◌<◌, ◌+◌, ◌^◌, ℕ, sym, ap, ◌∙◌, subst, arith}
 use Rattle.ogg_command.specs.declared.command.Command.TheVariants.{End as EndOf}
-use Rattle.chain_rules.specs.declared.stream_state.StreamState.{StreamState}
-use Rattle.chain_rules.specs.ChainState.{ChainState}
+use Rattle.link_chain.specs.ChainState.{ChainState}
+use Rattle.link_chain.specs.Followed.{moved_by}
+use Rattle.link_chain.specs.Progress.{ended_by, next_in}
 use Rattle.chain_rules.specs.Shape.{ShapeState}
-use Rattle.chain_rules.specs.Progress.{change_at, ended_by, next_in}
 use Rattle.chain_rules.specs.Decision.{decision}
 use Rattle.chain_rules.proofs.EndState.{end_state}
-use Rattle.chain_rules.proofs.Kept.{EndFits, end_fits, kept_size}
-use Rattle.chain_rules.specs.Places.{HaveOwnSerials}
-use Rattle.chain_rules.proofs.OwnSerials.{own_stay}
-use Rattle.chain_rules.proofs.Lent.{given_back}
-use Rattle.chain_rules.proofs.StateBehind.{behind, chain_of}
+use Rattle.chain_rules.proofs.Kept.{end_fits, kept_size}
 use Rattle.chain_rules.proofs.shape.Shape.accept_end.Goals as goal
 
-pub end_stream-requires : goal.end_stream-requires
-end_stream-requires c =
-    let fits : EndFits c.args.self.now.chain c.args.serial = end_fits c.args.self.now.chain c.args.serial c.requires in
-    let lent : c.as_mut_slice.result.now ≡ c.args.self.now.chain.streams = c.as_mut_slice.ensures.value ∙ ap (λ (s : ShapeState). s.chain.streams) c.self.view_is in
-    subst (λ (l : List StreamState). next_in l c.args.serial < 2 ^ 32) (sym lent) fits.number
+pub end_stream-requires-clause-numbered : goal.end_stream-requires-clause-numbered
+end_stream-requires-clause-numbered c =
+    subst (λ (s : ShapeState). next_in s.chain.streams c.args.serial < 2 ^ 32) (sym c.self.view_is) (end_fits c.args.self.now.chain c.args.serial c.requires).number
 
-pub invariant_of-self : goal.invariant_of-self
-invariant_of-self c =
-    let fits : EndFits c.args.self.now.chain c.args.serial = end_fits c.args.self.now.chain c.args.serial c.requires in
-    let bytes : c.self.inside.bytes ≡ c.args.self.now.chain.length_of = ap (λ (s : ShapeState). s.chain.length_of) c.self.view_is in
-    let streams : List StreamState = c.self.inside.streams.items in
-    let after : c.end_stream.new.streams ≡ map (change_at c.args.serial (ended_by (next_in streams c.args.serial + 1))) streams =
-    c.end_stream.ensures
-    ∙ ap (λ (l : List StreamState). map (change_at c.args.serial (ended_by (next_in l c.args.serial + 1))) l) c.as_mut_slice.ensures.value in
-    let as_long : length c.end_stream.new.streams ≡ vec_len c.self.inside.streams = c.end_stream.auto.streams ∙ c.as_mut_slice.ensures.len in (
-      c.self.invariant.0,
-      omega (arith, bytes, fits.room),
-      subst HaveOwnSerials (sym (given_back c.end_stream.new.streams streams (vec_len c.self.inside.streams) as_long ∙ after))
-          (own_stay c.args.serial (ended_by (next_in streams c.args.serial + 1)) streams (λ s. refl) c.self.invariant.2),
-    )
+pub end_stream-requires-clause-long : goal.end_stream-requires-clause-long
+end_stream-requires-clause-long c =
+    subst (λ (s : ShapeState). s.chain.length_of + 27 < 2 ^ 63) (sym c.self.view_is)
+    (omega (arith, (end_fits c.args.self.now.chain c.args.serial c.requires).room))
 
 pub returns : goal.returns
 returns c = λ links e.
-    let chain : ChainState = c.args.self.now.chain in
     let serial : ℕ = c.args.serial in
-    let size = kept_size (decision chain (EndOf serial)) c.requires in
-    let lent : c.as_mut_slice.result.now ≡ chain.streams = c.as_mut_slice.ensures.value ∙ ap (λ (s : ShapeState). s.chain.streams) c.self.view_is in
-    let streams : c.end_stream.new.streams ≡ map (change_at serial (ended_by (next_in chain.streams serial + 1))) chain.streams =
-    c.end_stream.ensures ∙ ap (λ (l : List StreamState). map (change_at serial (ended_by (next_in l serial + 1))) l) lent in
-    let as_long : length c.end_stream.new.streams ≡ vec_len c.self.inside.streams = c.end_stream.auto.streams ∙ c.as_mut_slice.ensures.len in
-    ap (λ (l : List StreamState). chain_of l true c.self.inside.serials.listed c.self.inside.links (c.self.inside.bytes + 27))
-    (given_back c.end_stream.new.streams c.self.inside.streams.items (vec_len c.self.inside.streams) as_long ∙ streams)
-    ∙ ap (λ (s : ShapeState). chain_of (map (change_at serial (ended_by (next_in chain.streams serial + 1))) chain.streams) true s.chain.serials s.chain.links (s.chain.length_of + 27)) c.self.view_is
-    ∙ ap (λ (ch : ChainState). behind ch serial (ended_by (next_in ch.streams serial + 1)) 27) e
+    let size = kept_size (decision c.args.self.now.chain (EndOf serial)) c.requires in
+    let moved : ChainState → ChainState = λ chain. moved_by chain serial (ended_by (next_in chain.streams serial + 1)) 27 in
+    c.end_stream.ensures ∙ ap (λ (s : ShapeState). moved s.chain) c.self.view_is ∙ ap moved e
     ∙ sym (end_state links serial size.0 (ap (λ (ch : ChainState). decision ch (EndOf serial)) (sym e) ∙ size.1))

@@ -5,7 +5,7 @@ use Rattle.ogg_page.specs.Page.{bytes_of_pages}
 use Rattle.ogg_command.specs.declared.command.NewStream.{NewStream}
 use Rattle.chain_rules.specs.Decision.{header_bytes, has_many_headers, has_long_message}
 use Rattle.chain_rules.specs.Encoding.{pages_of_command, pages_of_begin}
-use Rattle.chain_rules.specs.Size.{size_of_pages}
+use Rattle.link_chain.specs.Size.{size_of_pages}
 use Rattle.chain_rules.proofs.ByteSizes.{length-bytes_of_pages}
 use Rattle.chain_rules.proofs.Kept.{begin_fits, few_streams}
 use Rattle.chain_rules.proofs.shape.Shape.lay_begin.Goals as goal

@@ -1,8 +1,0 @@
-use Rattle.std.proofs.Common.{◌≡◌, ◌++◌, map, take, drop}
-use Rattle.chain_rules.specs.Progress.{change_at}
-use Rattle.chain_rules.specs.Followed.{followed}
-use Rattle.chain_rules.proofs.taking.follow.Given as goal
-
--- the streams so far are changed
-abbrev pub invariant-loop-stream : goal.invariant-loop-stream
-invariant-loop-stream l = l.streams ≡ map (change_at l.page.serial (followed l.page)) (take l.stream-index l.initial.streams) ++ drop l.stream-index l.initial.streams

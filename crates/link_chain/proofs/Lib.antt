@@ -1,0 +1,9 @@
+pub mod Progress
+pub mod Lent
+pub mod Flags
+pub mod PageRules
+pub mod PageState
+pub mod TakenLinks
+pub mod Fronts
+pub mod InTurn
+pub mod LeftWhole

@@ -1,0 +1,5 @@
+use Rattle.link_chain.proofs.InTurn.{in_turn}
+use Rattle.link_chain.proofs.laws.pages_in_turn_are_links.Goals as goal
+
+pub returns : goal.returns
+returns c = in_turn

@@ -1,0 +1,75 @@
+-- The chain state behind a page that may follow, behind a link more, and behind pages more of the last one.
+use Rattle.std.specs.Prelude.{◌+◌, ◌^◌, ℕ, List, Bool, true, false, not, ◌||◌, nat_lt, if◌then◌else◌, [], ◌∷◌, ◌++◌, map}
+use Rattle.ogg_page.specs.Page.{Page, page_size}
+use Rattle.ogg_page.specs.LogicalStream.{is_last}
+use Rattle.link_chain.specs.declared.stream_state.StreamState.{StreamState}
+use Rattle.link_chain.specs.ChainState.{ChainState}
+use Rattle.link_chain.specs.Progress.{change_at}
+use Rattle.link_chain.specs.Taking.{leaves_open}
+
+-- a stream behind one page more
+abbrev pub followed : Page → StreamState → StreamState
+followed page stream =
+    record {
+      serial = stream.serial;
+      next_sequence = page.sequence + 1;
+      last_position = if nat_lt page.position (2 ^ 63) then page.position else stream.last_position;
+      ended = stream.ended || is_last page;
+      finished = not (leaves_open page stream);
+    }
+
+-- a stream that has no page yet
+abbrev pub without_pages : ℕ → StreamState
+without_pages serial = record { serial = serial; next_sequence = 0; last_position = 0; ended = false; finished = true }
+
+-- a stream behind its first page
+abbrev pub entered : Page → StreamState
+entered page = followed page (without_pages page.serial)
+
+-- behind the first page of a link
+abbrev pub opened : ChainState → Page → ChainState
+opened chain page =
+    record {
+      streams = entered page ∷ [];
+      has_data = false;
+      serials = chain.serials ++ page.serial ∷ [];
+      links = chain.links + 1;
+      length_of = chain.length_of + page_size page;
+    }
+
+-- behind the first page of one more stream of the last link
+abbrev pub joined : ChainState → Page → ChainState
+joined chain page =
+    record chain {
+      streams = chain.streams ++ entered page ∷ [];
+      serials = chain.serials ++ page.serial ∷ [];
+      length_of = chain.length_of + page_size page;
+    }
+
+-- behind another page of a stream of the last link
+abbrev pub continued : ChainState → Page → ChainState
+continued chain page =
+    record chain {
+      streams = map (change_at page.serial (followed page)) chain.streams;
+      has_data = true;
+      length_of = chain.length_of + page_size page;
+    }
+
+-- behind a link more, whose streams are left so
+abbrev pub with_link : ChainState → List StreamState → Bool → ℕ → ChainState
+with_link chain streams has_data bytes =
+    record {
+      streams = streams;
+      has_data = has_data;
+      serials = chain.serials ++ map (λ (stream : StreamState). stream.serial) streams;
+      links = chain.links + 1;
+      length_of = chain.length_of + bytes;
+    }
+
+-- behind pages of the last link that are no stream's first, by which its streams are left so
+abbrev pub moved_on : ChainState → List StreamState → ℕ → ChainState
+moved_on chain streams bytes = record chain { streams = streams; has_data = true; length_of = chain.length_of + bytes }
+
+-- behind pages of one stream of the last link that aren't its first
+abbrev pub moved_by : ChainState → ℕ → (StreamState → StreamState) → ℕ → ChainState
+moved_by chain serial change bytes = moved_on chain (map (change_at serial change) chain.streams) bytes

@@ -1,0 +1,14 @@
+pub mod ChainFault
+pub mod Links
+pub mod Recording
+pub mod ChainState
+pub mod Rules
+pub mod Limits
+pub mod Size
+pub mod Serials
+pub mod Room
+pub mod Progress
+pub mod Places
+pub mod Taking
+pub mod Followed
+pub mod Laws

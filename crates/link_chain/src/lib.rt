@@ -1,0 +1,31 @@
+//! A chain of links, page by page (RFC 3533, section 4).
+//!
+//! A file is a chain of links, each a group of logical streams. `Chain` stands for the links so far: it
+//! takes pages that were read, one by one, or says why one may not follow, and `unfinished` says
+//! whether they leave a packet unfinished. Crates above move it behind what they add themselves, by
+//! `add_link` and `go_on`. Nothing walks the file, and `reserve_link` has made the room for a link
+//! before it is added.
+//!
+//! Start at `specs/Links.antt`, which says what a link and a chain are, at `specs/Recording.antt`, which
+//! says what a chain holds, and at `specs/Taking.antt`, the rules for a page.
+#![tactic(auto)]
+
+mod chain;
+mod chain_fault;
+mod laws;
+mod limits;
+mod places;
+mod serials;
+mod stream_state;
+mod streams;
+mod taking;
+
+pub use chain::Chain;
+pub use chain_fault::ChainFault;
+pub use laws::{links_left_whole_hold_a_recording, pages_in_turn_are_links};
+pub use limits::{MOST_LINKS, MOST_STREAMS, POSITIONS};
+pub use ogg_page::Memory;
+pub use places::{place_of, stream_at};
+pub use serials::Serials;
+pub use stream_state::StreamState;
+pub use streams::{is_open, next_sequence, stream_in};

@@ -1,0 +1,64 @@
+-- What holds of the pages of a logical stream and their lacing values (RFC 3533, sections 5 and 6). These are laws, to be cited.
+use Rattle.std.proofs.Common.{◌≡◌, ℕ, ◌+◌, ◌-◌, ◌/◌, ◌%◌, Bool, true, false, List, [], ◌∷◌, ◌++◌, length, replicate, refl, sym, ◌∙◌, ap, subst, arith, append_assoc, length-append}
+use Rattle.std.specs.Prelude.{nat_eq, slice_index}
+use Rattle.std.specs.List.{flat_map, concat}
+use Rattle.std.proofs.lemmas.List.{append-nil, get_or-append-add}
+use Rattle.std.proofs.lemmas.List.Concat.{flat_map-append}
+use Rattle.std.proofs.lemmas.Bool.{ne_eqb}
+use Rattle.ogg_page.specs.Page.{Page}
+use Rattle.ogg_page.specs.Lacing.{lace, lacing_of, ends_open}
+use Rattle.ogg_page.specs.LogicalStream.{HoldsPackets, EachBehind, joined_lacing, joined_bodies}
+
+pub false_is_not_true : (b : Bool) {A : Type 0} → b ≡ false → b ≡ true → A
+false_is_not_true b e f = cc
+
+-- ---- each behind
+pub behind_both : (R : List Page → Page → Type 0) (before xs ys : List Page) →
+    EachBehind R before xs → EachBehind R (before ++ xs) ys → EachBehind R before (xs ++ ys)
+behind_both R before [] ys a b = rw append-nil at b
+behind_both R before (x ∷ xs) ys a b =
+    (a.0, behind_both R (before ++ x ∷ []) xs ys a.1 (subst (λ (l : List Page). EachBehind R l ys) (sym (append_assoc before (x ∷ []) xs)) b))
+
+-- ---- unfinished packets
+pub ends_open-at : (xs : List ℕ) (y : ℕ) (ys : List ℕ) → ends_open (xs ++ y ∷ ys) ≡ ends_open (y ∷ ys)
+ends_open-at xs y ys =
+    let at : length (xs ++ y ∷ ys) - 1 ≡ length xs + length ys = omega (arith, length-append xs (y ∷ ys)) in
+    let same : length ys ≡ length (y ∷ ys) - 1 = omega arith in
+    ap (λ v. nat_eq v 255)
+    (ap (λ n. slice_index (xs ++ y ∷ ys) n) at ∙ get_or-append-add xs (y ∷ ys) (length ys) 0 ∙ ap (λ n. slice_index (y ∷ ys) n) same)
+
+pub ends_open-append : (xs ys : List ℕ) → ends_open xs ≡ false → ends_open (xs ++ ys) ≡ ends_open ys
+ends_open-append xs [] e = ap ends_open (append-nil xs) ∙ e
+ends_open-append xs (y ∷ ys) e = ends_open-at xs y ys
+
+pub ends_open-lace : (packet : List ℕ) → ends_open (lace packet) ≡ false
+unfolding lacing_of
+ends_open-lace packet =
+    ends_open-at (replicate (length packet / 255) 255) (length packet % 255) []
+    ∙ ne_eqb (length packet % 255) 255 (λ e. omega arith)
+
+pub ends_open-laces : (packets : List (List ℕ)) → ends_open (flat_map lace packets) ≡ false
+ends_open-laces [] = refl
+ends_open-laces (packet ∷ packets) = ends_open-append (lace packet) (flat_map lace packets) (ends_open-lace packet) ∙ ends_open-laces packets
+
+pub finished : (pages : List Page) (packets : List (List ℕ)) → HoldsPackets pages packets 0 [] → ends_open (joined_lacing pages) ≡ false
+finished pages packets h = ap ends_open (h.lacing ∙ append-nil (flat_map lace packets)) ∙ ends_open-laces packets
+
+pub concat-append : (xs ys : List (List ℕ)) → concat (xs ++ ys) ≡ concat xs ++ concat ys
+concat-append [] ys = refl
+concat-append (x ∷ xs) ys = ap (λ l. x ++ l) (concat-append xs ys) ∙ sym (append_assoc x (concat xs) (concat ys))
+
+-- ---- packets of joined pages
+pub held_both : (xs ys : List Page) (ps qs : List (List ℕ)) → HoldsPackets xs ps 0 [] → HoldsPackets ys qs 0 [] → HoldsPackets (xs ++ ys) (ps ++ qs) 0 []
+held_both xs ys ps qs a b =
+    let la : joined_lacing xs ≡ flat_map lace ps = a.lacing ∙ append-nil (flat_map lace ps) in
+    let lb : joined_lacing ys ≡ flat_map lace qs = b.lacing ∙ append-nil (flat_map lace qs) in
+    let ba : joined_bodies xs ≡ concat ps = a.bodies ∙ append-nil (concat ps) in
+    let bb : joined_bodies ys ≡ concat qs = b.bodies ∙ append-nil (concat qs) in
+    record {
+      lacing = flat_map-append (λ (p : Page). p.lacing) xs ys ∙ ap (λ l. l ++ joined_lacing ys) la ∙ ap (λ l. flat_map lace ps ++ l) lb
+          ∙ sym (flat_map-append lace ps qs) ∙ sym (append-nil (flat_map lace (ps ++ qs)));
+      bodies = flat_map-append (λ (p : Page). p.body) xs ys ∙ ap (λ l. l ++ joined_bodies ys) ba ∙ ap (λ l. concat ps ++ l) bb
+          ∙ sym (concat-append ps qs) ∙ sym (append-nil (concat (ps ++ qs)));
+      rest_size = refl;
+    }
