@@ -4,6 +4,9 @@
     reading.py PROGRAM damage       one byte changed, at every place of a small file, and every cut of it
     reading.py PROGRAM foreign      files that other software makes, and such that none should
     reading.py PROGRAM random       files of random pages, the same in each run
+    reading.py PROGRAM edges        pages that end at, before and behind the edge of a room of 65,307 bytes
+
+Each file is also read through a window, which must find the same pages.
 """
 import hashlib
 import os
@@ -11,6 +14,7 @@ import random
 import struct
 import subprocess
 import sys
+import tempfile
 
 sys.path.insert(0, os.path.dirname(os.path.abspath(__file__)))
 from pages import checksum, page
@@ -201,11 +205,42 @@ def random_files():
         yield data
 
 
-def compare(program, files):
+def sized(size, number):
+    """A page of so many bytes."""
+    values = next(n for n in range(256) if 27 + n + 255 * n >= size)
+    rest = size - 27 - values
+    lacing = ([255] * (rest // 255) + [rest % 255])[:values]
+    lacing = [0] * (values - len(lacing)) + lacing
+    return page(2 if number == 0 else 0, number, 1, number, lacing, bytes(number + at & 255 for at in range(rest)))
+
+
+def edges():
+    # Where a page is cut by the room's edge, its rest is read on, and pages before it are lent out of one read.
+    longest = 65307
+    for first in (27, 28, 1000, 32653, 65279, 65280, 65306, longest):
+        for both in (longest - 1, longest, longest + 1, longest + 26, longest + 27, 2 * longest - 1, 2 * longest):
+            if 27 <= both - first <= longest:
+                pages = sized(first, 0) + sized(both - first, 1) + sized(longest, 2) + sized(27, 3)
+                yield pages
+                yield pages[:-1]
+                yield pages + b"O"
+    changed = sized(40000, 0) + sized(40000, 1)
+    for at in (0, 39999, 40000, 65306, 65307, 79999):
+        yield changed[:at] + bytes([changed[at] ^ 1]) + changed[at + 1 :]
+
+
+def compare(program, files, only_pages):
     count = differences = 0
     for data in files:
-        for words, (text, status) in (([], pages_of(data)), (["1"], packets_of(data, 1)), (["2"], packets_of(data, 2)), (["chain"], chain_of(data))):
-            ran = subprocess.run([program, *words], input=data, capture_output=True, timeout=20)
+        with tempfile.NamedTemporaryFile() as file:
+            file.write(data)
+            file.flush()
+            pages = pages_of(data)
+            wanted = [([], pages), (["window", file.name], pages)]
+            if not only_pages:
+                wanted += [(["1"], packets_of(data, 1)), (["2"], packets_of(data, 2)), (["chain"], chain_of(data))]
+            ran_all = [(words, want, subprocess.run([program, *words], input=data, capture_output=True, timeout=20)) for words, want in wanted]
+        for words, (text, status), ran in ran_all:
             count += 1
             if (ran.stdout.decode(), ran.returncode) != (text, status):
                 differences += 1
@@ -217,4 +252,5 @@ def compare(program, files):
 if __name__ == "__main__":
     if len(sys.argv) != 3:
         sys.exit(__doc__)
-    sys.exit(compare(sys.argv[1], {"damage": damage, "foreign": foreign, "random": random_files}[sys.argv[2]]()) > 0)
+    makers = {"damage": damage, "foreign": foreign, "random": random_files, "edges": edges}
+    sys.exit(compare(sys.argv[1], makers[sys.argv[2]](), sys.argv[2] == "edges") > 0)

@@ -4,7 +4,7 @@ here=$(cd "$(dirname "${BASH_SOURCE[0]}")" && pwd)
 program=${READ_OGG:-$here/../../crates/read_ogg/out/read_ogg}
 passed=0
 failed=0
-for files in damage foreign random; do
+for files in damage foreign random edges; do
     if timeout 300 python3 "$here/reading.py" "$program" "$files"; then
         passed=$((passed + 1))
     else

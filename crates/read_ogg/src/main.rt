@@ -4,17 +4,20 @@
 //! are left that begin with none. With `chain` it takes the pages into a chain of links, one by one:
 //! `chain END`, and then `fault OFFSET CODE NAME` of the first page that may not follow, and
 //! `unfinished SERIAL` where a packet goes on at the end. With a serial it lists the packets of that
-//! stream, `MD5 LENGTH`, and then `end`, or `fault CODE NAME`.
+//! stream, `MD5 LENGTH`, and then `end`, or `fault CODE NAME`. With `window FILE` it counts the pages of
+//! a file through a window, without reading it whole: what is printed is the same.
 //!
-//! The status is 0 where there was no fault, 1 after one, and 2 where standard input can't be read,
-//! standard output can't be written, or the word is none of these.
+//! The status is 0 where there was no fault, 1 after one, and 2 where standard input or the file can't be
+//! read, standard output can't be written, or the word is none of these.
 #![tactic(auto)]
 
 mod chain;
 mod listing;
+mod window;
 
 use crate::chain::check_chain;
 use crate::listing::{count_pages, list_packets};
+use crate::window::count_lent;
 use std::env;
 use std::io::{self, BufWriter, Read, Write};
 use std::process::ExitCode;
@@ -29,11 +32,18 @@ fn main(rt: HostRuntime) -> ExitCode {
 
 /// Whether what was asked for was found without a fault.
 fn run(rt: &HostRuntime) -> io::Result<bool> {
+    let mut output = BufWriter::new(rt.alloc(), rt.stdout())?;
+    let mut words = env::args(rt)?.skip(1);
+    let word = words.next();
+    if let Some(path) = words.next() {
+        let sound = count_lent(rt, path.as_str(), &mut output)?;
+        output.flush()?;
+        return Ok(sound);
+    }
     let mut bytes = Vec::new(rt.alloc());
     rt.stdin().read_to_end(&mut bytes)?;
-    let mut output = BufWriter::new(rt.alloc(), rt.stdout())?;
     let bytes = bytes.as_slice();
-    let sound = match env::args(rt)?.nth(1) {
+    let sound = match word {
         None => count_pages(bytes, &mut output)?,
         Some(word) if word.as_str() == "chain" => check_chain(rt.alloc(), bytes, &mut output)?,
         Some(word) => match word.parse::<u32>() {
