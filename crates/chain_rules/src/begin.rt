@@ -11,9 +11,7 @@ ghost use Rattle.chain_rules.specs.Encoding.{first_pages, header_pages, pages_of
 ghost use Rattle.link_chain.specs.Size.{has_no_number, size_of_pages};
 ghost use Rattle.ogg_command.specs.declared.command.NewStream.{NewStream as StreamOf};
 
-use crate::limits::{
-    LONGEST_BATCH, LONGEST_FIRST, LONGEST_PACKET, MOST_FIELDS, MOST_HEADERS,
-};
+use crate::limits::{LONGEST_BATCH, LONGEST_FIRST, LONGEST_PACKET, MOST_FIELDS, MOST_HEADERS};
 use crate::skeleton::size_of_skeleton;
 use link_chain::{MOST_STREAMS, Serials};
 use ogg_command::{Begin, Listed, NewStream, Refusal, SkeletonHead};

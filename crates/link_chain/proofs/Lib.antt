@@ -1,9 +1,3 @@
 pub mod Progress
 pub mod Lent
 pub mod Flags
-pub mod PageRules
-pub mod PageState
-pub mod TakenLinks
-pub mod Fronts
-pub mod InTurn
-pub mod LeftWhole

@@ -11,4 +11,6 @@ pub mod Progress
 pub mod Places
 pub mod Taking
 pub mod Followed
+pub mod Walk
+pub mod LinkLaws
 pub mod Laws

@@ -19,13 +19,15 @@ mod serials;
 mod stream_state;
 mod streams;
 mod taking;
+mod walking;
 
 pub use chain::Chain;
 pub use chain_fault::ChainFault;
-pub use laws::{links_left_whole_hold_a_recording, pages_in_turn_are_links};
+pub use laws::{bytes_are_one_chain, links_left_whole_hold_a_recording, pages_in_turn_are_links};
 pub use limits::{MOST_LINKS, MOST_STREAMS, POSITIONS};
 pub use ogg_page::Memory;
 pub use places::{place_of, stream_at};
 pub use serials::Serials;
 pub use stream_state::StreamState;
 pub use streams::{is_open, next_sequence, stream_in};
+pub use walking::{Walk, WalkFault, take_pages};

@@ -1,5 +1,5 @@
 -- What holds of the pages of a logical stream and their lacing values (RFC 3533, sections 5 and 6). These are laws, to be cited.
-use Rattle.std.proofs.Common.{◌≡◌, ℕ, ◌+◌, ◌-◌, ◌/◌, ◌%◌, Bool, true, false, List, [], ◌∷◌, ◌++◌, length, replicate, refl, sym, ◌∙◌, ap, subst, arith, append_assoc, length-append}
+use Rattle.std.proofs.Common.{◌≡◌, ◌≢◌, ℕ, zero, suc, ◌<◌, ◌+◌, ◌-◌, ◌/◌, ◌%◌, Bool, true, false, List, [], ◌∷◌, ◌++◌, length, replicate, refl, sym, ◌∙◌, ap, subst, arith, append_assoc, length-append}
 use Rattle.std.specs.Prelude.{nat_eq, slice_index}
 use Rattle.std.specs.List.{flat_map, concat}
 use Rattle.std.proofs.lemmas.List.{append-nil, get_or-append-add}
@@ -7,6 +7,7 @@ use Rattle.std.proofs.lemmas.List.Concat.{flat_map-append}
 use Rattle.std.proofs.lemmas.Bool.{ne_eqb}
 use Rattle.ogg_page.specs.Page.{Page}
 use Rattle.ogg_page.specs.Lacing.{lace, lacing_of, ends_open}
+use Rattle.ogg_page.specs.Laws.Prefixes.{same_fronts}
 use Rattle.ogg_page.specs.LogicalStream.{HoldsPackets, EachBehind, joined_lacing, joined_bodies}
 
 pub false_is_not_true : (b : Bool) {A : Type 0} → b ≡ false → b ≡ true → A
@@ -62,3 +63,45 @@ held_both xs ys ps qs a b =
           ∙ sym (concat-append ps qs) ∙ sym (append-nil (concat (ps ++ qs)));
       rest_size = refl;
     }
+
+-- ---- the pages of a stream hold one list of packets
+same_values : (a b u v : ℕ) (x y : List ℕ) → u < 255 → v < 255 → replicate a 255 ++ u ∷ x ≡ replicate b 255 ++ v ∷ y → (a ≡ b) × (u ≡ v) × (x ≡ y)
+same_values zero zero u v x y hu hv e = (refl, cc, cc)
+same_values zero (suc b) u v x y hu hv e =
+    let head : u ≡ 255 = cc in
+    absurd (omega (arith, hu, head))
+same_values (suc a) zero u v x y hu hv e =
+    let head : v ≡ 255 = cc in
+    absurd (omega (arith, hv, head))
+same_values (suc a) (suc b) u v x y hu hv e =
+    let tail : replicate a 255 ++ u ∷ x ≡ replicate b 255 ++ v ∷ y = cc in
+    let rest = same_values a b u v x y hu hv tail in
+    (ap suc rest.0, rest.1, rest.2)
+
+same_lacing : (p q x y : List ℕ) → lace p ++ x ≡ lace q ++ y → (length p ≡ length q) × (x ≡ y)
+unfolding lacing_of
+same_lacing p q x y e =
+    let m : ℕ = length p in
+    let n : ℕ = length q in
+    let same = same_values (m / 255) (n / 255) (m % 255) (n % 255) x y (omega arith) (omega arith)
+    (sym (append_assoc (replicate (m / 255) 255) (m % 255 ∷ []) x) ∙ e ∙ append_assoc (replicate (n / 255) 255) (n % 255 ∷ []) y) in
+    (omega (arith, same.0, same.1), same.2)
+
+some_values : (p x : List ℕ) → [] ≢ lace p ++ x
+unfolding lacing_of
+some_values p x e =
+    absurd (omega (arith, ap length e, length-append (replicate (length p / 255) 255 ++ length p % 255 ∷ []) x, length-append (replicate (length p / 255) 255) (length p % 255 ∷ [])))
+
+same_packets : (ps qs : List (List ℕ)) → flat_map lace ps ≡ flat_map lace qs → concat ps ≡ concat qs → ps ≡ qs
+same_packets [] [] e f = refl
+same_packets [] (q ∷ qs) e f = absurd (some_values q (flat_map lace qs) e)
+same_packets (p ∷ ps) [] e f = absurd (some_values p (flat_map lace ps) (sym e))
+same_packets (p ∷ ps) (q ∷ qs) e f =
+    let values : (length p ≡ length q) × (flat_map lace ps ≡ flat_map lace qs) = same_lacing p q (flat_map lace ps) (flat_map lace qs) e in
+    let bytes : (p ≡ q) × (concat ps ≡ concat qs) = same_fronts p q (concat ps) (concat qs) values.0 f in
+    ap (λ packet. packet ∷ ps) bytes.0 ∙ ap (λ l. q ∷ l) (same_packets ps qs values.1 bytes.1)
+
+pub held_once : (pages : List Page) (ps qs : List (List ℕ)) → HoldsPackets pages ps 0 [] → HoldsPackets pages qs 0 [] → ps ≡ qs
+held_once pages ps qs a b =
+    same_packets ps qs (sym (append-nil (flat_map lace ps)) ∙ sym a.lacing ∙ b.lacing ∙ append-nil (flat_map lace qs))
+    (sym (append-nil (concat ps)) ∙ sym a.bodies ∙ b.bodies ∙ append-nil (concat qs))

@@ -6,6 +6,7 @@ use crate::records::Record::{Begin, BeginMany, BeginOne, End, Put};
 use crate::records::{Record, append};
 use chain_rules::{ChainFault, Refusal, Shape};
 use feed_codec::Feed;
+use link_chain::{Chain, WalkFault};
 use multiplexer::mux;
 use ogg_page::Pages;
 use packet_view::Packets;
@@ -199,30 +200,17 @@ pub struct Taken {
 
 /// Takes the pages in these bytes, which are pages and nothing else, up to the first fault.
 pub fn take_pages(alloc: Global, bytes: &[u8]) -> Result<Taken, Fail> {
-    let mut shape = Shape::new(alloc);
-    let mut pages = Pages::of(bytes);
-    let mut end = 0;
-    // No page is empty, so there are no more pages than bytes.
-    for _ in 0..=bytes.len() {
-        match pages.next() {
-            None => break,
-            Some(Err(_)) => return Err("no page".into()),
-            Some(Ok((offset, page))) => match shape.take_page(&page) {
-                Ok(()) => end = offset.saturating_add(page.whole().len() as u64),
-                Err(fault) => {
-                    return Ok(Taken {
-                        shape,
-                        end,
-                        fault: Some(fault),
-                    });
-                }
-            },
-        }
-    }
+    let mut chain = Chain::new(alloc);
+    let walk = link_chain::take_pages(&mut chain, bytes);
+    let fault = match walk.fault {
+        None => None,
+        Some(WalkFault::Chain(fault)) => Some(fault),
+        Some(WalkFault::Page(_)) => return Err("no page".into()),
+    };
     Ok(Taken {
-        shape,
-        end,
-        fault: None,
+        shape: Shape::of(chain),
+        end: walk.end as u64,
+        fault,
     })
 }
 

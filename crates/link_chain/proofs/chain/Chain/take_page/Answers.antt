@@ -8,7 +8,7 @@ use Rattle.link_chain.specs.ChainState.{ChainState, is_open}
 use Rattle.link_chain.specs.Room.{ChainWithRoom}
 use Rattle.link_chain.specs.Taking.{fault_of_page}
 use Rattle.link_chain.specs.Followed.{opened, joined, continued}
-use Rattle.link_chain.proofs.PageState.{later_state, opened_state, joined_state, joins_few, joins_fresh, opens_few}
+use Rattle.link_chain.specs.Laws.PageState.{later_state, opened_state, joined_state, joins_few, joins_fresh, opens_few}
 use Rattle.link_chain.proofs.chain.Chain.take_page.Goals as goal
 
 pub join_link-requires-clause-few : goal.join_link-requires-clause-few

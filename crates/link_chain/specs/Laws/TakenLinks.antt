@@ -20,8 +20,8 @@ use Rattle.link_chain.specs.Laws.Grow.{grow_link, all_weaker, all_both, stream_s
 use Rattle.link_chain.specs.Laws.LastLink.{not_false, open_link, open_some, known_stream, spelled_more, pages_more, length_more, ended_more, some_open}
 use Rattle.link_chain.specs.Laws.LastLink.{each_known, ended_links, last_is_link, closed_link}
 use Rattle.link_chain.specs.Laws.Rules.{NoneBroken}
-use Rattle.link_chain.proofs.PageRules.{later_kept, joining_kept, opening_kept}
-use Rattle.link_chain.proofs.PageState.{begins_here, goes_on_open, goes_on_later, not_zero, open_with, absent, all_first, serials_both}
+use Rattle.link_chain.specs.Laws.PageRules.{later_kept, joining_kept, opening_kept}
+use Rattle.link_chain.specs.Laws.PageState.{begins_here, goes_on_open, goes_on_later, not_zero, open_with, absent, all_first, serials_both}
 
 -- ---- pages more for the last link
 each_more : (links : List (List Page)) (pages : List Page) → (IsLink (last_link links) → IsLink (last_link links ++ pages)) → AllByRecursion IsLink links → AllByRecursion IsLink (with_pages links pages)

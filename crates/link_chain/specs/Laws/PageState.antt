@@ -26,7 +26,7 @@ use Rattle.link_chain.specs.Laws.StateBehind.{last_is, state, chain_of, state_be
 use Rattle.link_chain.specs.Followed.{moved_by}
 use Rattle.link_chain.specs.Laws.Rules.{NoneBroken}
 use Rattle.link_chain.specs.Laws.Rules.{none_if}
-use Rattle.link_chain.proofs.PageRules.{later_kept, joining_kept, opening_kept}
+use Rattle.link_chain.specs.Laws.PageRules.{later_kept, joining_kept, opening_kept}
 
 -- ---- the links with the page
 pub and_no : (b : Bool) → (b && false) ≡ false

@@ -11,7 +11,7 @@ use Rattle.ogg_page.specs.StreamLaws.{false_is_not_true}
 use Rattle.link_chain.specs.Links.{IsLink, pages_with, serials_of, has_stream, all_ended}
 use Rattle.link_chain.specs.Laws.Grow.{all_weaker, serials_same}
 use Rattle.link_chain.specs.Laws.LastLink.{all_split}
-use Rattle.link_chain.proofs.PageState.{serials_both}
+use Rattle.link_chain.specs.Laws.PageState.{serials_both}
 
 -- ---- each behind those before it
 parts_of : {X : Type 0} (x y : X) (xs ys : List X) → x ∷ xs ≡ y ∷ ys → (x ≡ y) × (xs ≡ ys)

@@ -18,13 +18,13 @@ use Rattle.link_chain.specs.Links.{with_pages}
 use Rattle.link_chain.specs.Taking.{fault_of_page, links_with, AreTaken, is_one_packet, is_whole_packet, of_stream, leaves_open}
 use Rattle.link_chain.specs.Laws.Grow.{filter_all, stream_some, all_both}
 use Rattle.ogg_page.specs.PageLaws.{length-page_bytes}
-use Rattle.link_chain.proofs.TakenLinks.{taken}
+use Rattle.link_chain.specs.Laws.TakenLinks.{taken}
 use Rattle.link_chain.specs.Laws.LastLink.{found_at, known_stream, open_link}
 use Rattle.link_chain.specs.Laws.LastLink.{closed_link}
-use Rattle.link_chain.proofs.PageRules.{later_none, joining_none, opening_none}
+use Rattle.link_chain.specs.Laws.PageRules.{later_none, joining_none, opening_none}
 use Rattle.link_chain.specs.Laws.StateBehind.{last_is}
-use Rattle.link_chain.proofs.PageState.{open_with, begins_here, goes_on_open}
-use Rattle.link_chain.proofs.Fronts.{behind_at, push_not_nil, front_is_link, page_fits, first_behind, later_behind}
+use Rattle.link_chain.specs.Laws.PageState.{open_with, begins_here, goes_on_open}
+use Rattle.link_chain.specs.Laws.Fronts.{behind_at, push_not_nil, front_is_link, page_fits, first_behind, later_behind}
 
 and_no : (b c : Bool) → c ≡ false → (b && c) ≡ false
 and_no true c e = e
@@ -225,7 +225,7 @@ no_bytes : (page : Page) (more : List ℕ) → [] ≢ page_bytes page ++ more
 no_bytes page more e = absurd (omega (arith, ap length e, length-append (page_bytes page) more, length-page_bytes page))
 
 -- bytes are joined from one list of pages
-same_pages : (p q : List Page) → AllByRecursion IsPage p → AllByRecursion IsPage q → bytes_of_pages p ≡ bytes_of_pages q → p ≡ q
+pub same_pages : (p q : List Page) → AllByRecursion IsPage p → AllByRecursion IsPage q → bytes_of_pages p ≡ bytes_of_pages q → p ≡ q
 same_pages [] [] a b e = refl
 same_pages [] (y ∷ q) a b e = absurd (no_bytes y (bytes_of_pages q) e)
 same_pages (x ∷ p) [] a b e = absurd (no_bytes x (bytes_of_pages p) (sym e))
@@ -233,12 +233,12 @@ same_pages (x ∷ p) (y ∷ q) a b e =
     let first : (x ≡ y) × (bytes_of_pages p ≡ bytes_of_pages q) = one_page x y (bytes_of_pages p) (bytes_of_pages q) a.0 b.0 e in
     ap (λ l. l ∷ p) first.0 ∙ ap (λ (l : List Page). y ∷ l) (same_pages p q a.1 b.1 first.1)
 
-bytes_flattened : (links : List (List Page)) → flat_map bytes_of_pages links ≡ bytes_of_pages (flattened links)
+pub bytes_flattened : (links : List (List Page)) → flat_map bytes_of_pages links ≡ bytes_of_pages (flattened links)
 bytes_flattened [] = refl
 bytes_flattened (link ∷ links) =
     ap (λ l. bytes_of_pages link ++ l) (bytes_flattened links) ∙ sym (flat_map-append page_bytes link (flattened links))
 
-pages_flattened : (links : List (List Page)) → AllByRecursion (AllByRecursion IsPage) links → AllByRecursion IsPage (flattened links)
+pub pages_flattened : (links : List (List Page)) → AllByRecursion (AllByRecursion IsPage) links → AllByRecursion IsPage (flattened links)
 pages_flattened [] h = tt
 pages_flattened (link ∷ links) h = all_both IsPage link (flattened links) h.0 (pages_flattened links h.1)
 
