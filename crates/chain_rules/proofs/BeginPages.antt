@@ -6,8 +6,8 @@ use Rattle.std.proofs.lemmas.List.Folds.{list_any-append}
 use Rattle.std.proofs.lemmas.List.Sums.{sum_by-cons, sum_by-take-drop}
 use Rattle.ogg_page.specs.Page.{Page, page_size}
 use Rattle.packetiser.specs.Run.{Timed, pages_of_run, pages_for, run_lacing, run_bytes, lengths, size_for, flagged}
-use Rattle.packetiser.proofs.Pieces.{run_bytes_all}
-use Rattle.packetiser.proofs.Sizes.{bytes_in, length-run_bytes, sum_by-map}
+use Rattle.packetiser.specs.Laws.Pieces.{run_bytes_all}
+use Rattle.packetiser.specs.Laws.Sizes.{bytes_in, length-run_bytes, sum_by-map}
 use Rattle.ogg_command.specs.declared.command.NewStream.{NewStream}
 use Rattle.chain_rules.specs.Decision.{header_bytes, has_many_headers}
 use Rattle.chain_rules.specs.Encoding.{header, first_pages, header_pages, first_flag}

@@ -8,8 +8,8 @@ use Rattle.ogg_page.specs.Page.{Page, IsPage, IsByte}
 use Rattle.ogg_page.specs.Lacing.{lace, lacing_of}
 use Rattle.ogg_page.specs.LogicalStream.{HoldsPackets, FitsBehind, joined_lacing, joined_bodies, is_first, is_last, is_continued}
 use Rattle.packetiser.specs.Run.{Timed, IsTimed, flagged, counted, pages_of_run, page_of_run, pages_for, run_lacing, values_at, values_before}
-use Rattle.packetiser.proofs.Pieces.{run_is_held, run_pages}
-use Rattle.packetiser.proofs.Ranges.{run_is_pages}
+use Rattle.packetiser.specs.Laws.Pieces.{run_is_held, run_pages}
+use Rattle.packetiser.specs.Laws.Ranges.{run_is_pages}
 use Rattle.ogg_command.specs.declared.command.NewStream.{NewStream}
 use Rattle.link_chain.specs.ChainState.{ChainState}
 use Rattle.chain_rules.specs.Encoding.{first_flag, header, first_pages, header_pages}

@@ -4,8 +4,8 @@ use Rattle.std.proofs.lemmas.List.{take_more, append-nil}
 use Rattle.std.proofs.lemmas.List.Sums.{sum_by-cons, sum_by-append}
 use Rattle.ogg_page.specs.Page.{Page, page_size}
 use Rattle.packetiser.specs.Run.{pages_of_run, run_lacing, run_bytes, lengths, size_for}
-use Rattle.packetiser.proofs.Pieces.{run_bytes_all}
-use Rattle.packetiser.proofs.Sizes.{length-run_lacing, length-run_bytes, values_in, bytes_in}
+use Rattle.packetiser.specs.Laws.Pieces.{run_bytes_all}
+use Rattle.packetiser.specs.Laws.Sizes.{length-run_lacing, length-run_bytes, values_in, bytes_in}
 use Rattle.ogg_command.specs.declared.command.NewStream.{NewStream}
 use Rattle.chain_rules.specs.Encoding.{header, fisbone_packet, fisbone_pages}
 use Rattle.link_chain.specs.Size.{size_of_pages}

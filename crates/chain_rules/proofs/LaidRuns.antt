@@ -7,7 +7,7 @@ use Rattle.std.proofs.lemmas.List.Concat.{flat_map-append}
 use Rattle.std.proofs.lemmas.List.Sums.{sum_by-append}
 use Rattle.ogg_page.specs.Page.{Page, page_bytes, bytes_of_pages}
 use Rattle.packetiser.specs.Run.{pages_of_run, pages_for, run_lacing, run_bytes, size_for, flagged}
-use Rattle.packetiser.proofs.Pieces.{run_bytes_all}
+use Rattle.packetiser.specs.Laws.Pieces.{run_bytes_all}
 use Rattle.ogg_command.specs.declared.command.Entry.{Entry}
 use Rattle.link_chain.specs.declared.stream_state.StreamState.{StreamState}
 use Rattle.link_chain.specs.Progress.{next_in}

@@ -10,9 +10,9 @@ use Rattle.ogg_page.specs.Page.{Page}
 use Rattle.ogg_page.specs.Lacing.{ends_open, lacing_of}
 use Rattle.ogg_page.specs.LogicalStream.{HoldsPackets, FitsBehind, is_first, is_last, joined_lacing, number_behind}
 use Rattle.packetiser.specs.Run.{pages_of_run, pages_for, run_lacing}
-use Rattle.packetiser.proofs.Pieces.{run_pages}
+use Rattle.packetiser.specs.Laws.Pieces.{run_pages}
 use Rattle.ogg_page.specs.StreamLaws.{finished, ends_open-append}
-use Rattle.packetiser.proofs.Behind.{run_fits, number_behind_run}
+use Rattle.packetiser.specs.Laws.Behind.{run_fits, number_behind_run}
 use Rattle.link_chain.specs.declared.stream_state.StreamState.{StreamState}
 use Rattle.ogg_command.specs.declared.command.NewStream.{NewStream}
 use Rattle.ogg_command.specs.declared.command.SkeletonHead.{SkeletonHead}

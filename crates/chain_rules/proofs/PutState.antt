@@ -8,7 +8,7 @@ use Rattle.std.proofs.lemmas.List.Sums.{sum_by-append}
 use Rattle.ogg_page.specs.Page.{Page, page_size}
 use Rattle.ogg_page.specs.LogicalStream.{number_behind}
 use Rattle.packetiser.specs.Run.{Timed, pages_of_run}
-use Rattle.packetiser.proofs.Pieces.{run_pages}
+use Rattle.packetiser.specs.Laws.Pieces.{run_pages}
 use Rattle.ogg_command.specs.declared.command.Command.TheVariants.{Put as PutOf}
 use Rattle.ogg_command.specs.declared.command.Entry.{Entry}
 use Rattle.ogg_command.specs.declared.command.Put.{Put}

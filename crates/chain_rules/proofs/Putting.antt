@@ -9,9 +9,9 @@ use Rattle.std.proofs.lemmas.Bool.{cond-true, cond-false, cond_both, ne_eqb, eqb
 use Rattle.ogg_page.specs.Page.{Page, IsPage}
 use Rattle.ogg_page.specs.LogicalStream.{number_behind}
 use Rattle.packetiser.specs.Run.{Timed, IsTimed, pages_of_run}
-use Rattle.packetiser.proofs.Pieces.{run_is_held, run_pages}
-use Rattle.packetiser.proofs.Behind.{run_fits, number_behind_run}
-use Rattle.packetiser.proofs.Ranges.{run_is_pages}
+use Rattle.packetiser.specs.Laws.Pieces.{run_is_held, run_pages}
+use Rattle.packetiser.specs.Laws.Behind.{run_fits, number_behind_run}
+use Rattle.packetiser.specs.Laws.Ranges.{run_is_pages}
 use Rattle.ogg_command.specs.declared.command.Command.TheVariants.{Put as PutOf}
 use Rattle.ogg_command.specs.declared.command.Put.{Put}
 use Rattle.ogg_command.specs.declared.command.Entry.{Entry}

@@ -7,8 +7,8 @@ use Rattle.std.proofs.lemmas.List.Folds.{list_any-append}
 use Rattle.std.proofs.lemmas.List.Sums.{sum_by-append, sum_by-cons}
 use Rattle.ogg_page.specs.Page.{Page, page_size}
 use Rattle.packetiser.specs.Run.{Timed, counted, page_of_run, pages_of_run, pages_for, run_lacing, run_bytes, lengths, size_for}
-use Rattle.packetiser.proofs.Pieces.{run_pages, run_bytes_all}
-use Rattle.packetiser.proofs.Sizes.{values_in, bytes_in, length-run_lacing, length-run_bytes, sum_by-map}
+use Rattle.packetiser.specs.Laws.Pieces.{run_pages, run_bytes_all}
+use Rattle.packetiser.specs.Laws.Sizes.{values_in, bytes_in, length-run_lacing, length-run_bytes, sum_by-map}
 use Rattle.ogg_command.specs.declared.command.Entry.{Entry}
 use Rattle.link_chain.specs.declared.stream_state.StreamState.{StreamState}
 use Rattle.link_chain.specs.Progress.{next_in, brought_to}

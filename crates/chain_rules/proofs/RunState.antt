@@ -9,8 +9,8 @@ use Rattle.ogg_page.specs.Lacing.{ends_open}
 use Rattle.ogg_page.specs.LogicalStream.{is_first, is_last, joined_lacing, number_behind}
 use Rattle.packetiser.specs.Run.{Timed, pages_of_run, run_lacing}
 use Rattle.ogg_page.specs.StreamLaws.{ends_open-at}
-use Rattle.packetiser.proofs.Behind.{run_is_plain, IsPlain, number_behind_run}
-use Rattle.packetiser.proofs.Pieces.{run_is_held, run_pages, lacing_again}
+use Rattle.packetiser.specs.Laws.Behind.{run_is_plain, IsPlain, number_behind_run}
+use Rattle.packetiser.specs.Laws.Pieces.{run_is_held, run_pages, lacing_again}
 use Rattle.link_chain.specs.Links.{pages_with, has_ended}
 use Rattle.link_chain.specs.ChainState.{state_of, last_position}
 use Rattle.link_chain.specs.Progress.{advanced}

@@ -11,11 +11,11 @@ use Rattle.ogg_page.specs.Page.{Page, IsPage, IsByte}
 use Rattle.ogg_page.specs.Lacing.{ends_open, lacing_of}
 use Rattle.ogg_page.specs.LogicalStream.{HoldsPackets, FitsBehind, EachBehind, joined_lacing, number_behind, is_first, is_last}
 use Rattle.packetiser.specs.Run.{Timed, pages_of_run, page_of_run, page_position, pages_for, run_lacing, run_bytes, values_at, values_before}
-use Rattle.packetiser.proofs.Pieces.{run_is_held, run_pages}
+use Rattle.packetiser.specs.Laws.Pieces.{run_is_held, run_pages}
 use Rattle.ogg_page.specs.StreamLaws.{behind_both, held_both, finished, ends_open-append}
-use Rattle.packetiser.proofs.Behind.{run_fits, number_behind_run}
-use Rattle.packetiser.proofs.Ranges.{run_is_pages}
-use Rattle.packetiser.proofs.Sizes.{length-run_lacing, values_in}
+use Rattle.packetiser.specs.Laws.Behind.{run_fits, number_behind_run}
+use Rattle.packetiser.specs.Laws.Ranges.{run_is_pages}
+use Rattle.packetiser.specs.Laws.Sizes.{length-run_lacing, values_in}
 use Rattle.ogg_page.specs.Numbers.{u16_bytes, u32_bytes, i64_bytes}
 use Rattle.skeleton3.specs.Fishead.{fishead_bytes, fishead_with}
 use Rattle.skeleton3.specs.Fisbone.{fisbone_name, fixed_part}

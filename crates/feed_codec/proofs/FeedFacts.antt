@@ -18,8 +18,8 @@ use Rattle.feed_codec.specs.declared.record.RecordKind.{RecordKind}
 use Rattle.feed_codec.specs.declared.record.RecordKind.TheVariants.{Begin, Put, End}
 use Rattle.feed_codec.specs.declared.fault.FeedFault.{FeedFault}
 use Rattle.feed_codec.specs.declared.fault.FeedFault.TheVariants.{Truncated, Form, Read, Memory}
-use Rattle.ogg_page.proofs.Prefixes.{same_fronts}
-use Rattle.ogg_page.proofs.NumberBytes.{same_u32, length-u32_bytes}
+use Rattle.ogg_page.specs.Laws.Prefixes.{same_fronts}
+use Rattle.ogg_page.specs.Laws.NumberBytes.{same_u32, length-u32_bytes}
 use Rattle.feed_codec.proofs.HeadFacts.{head_is_fine, length_field}
 
 kind_with : (command : Command) → (kind : RecordKind) × (number_of kind ≡ kind_of command)

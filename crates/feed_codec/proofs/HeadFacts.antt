@@ -9,7 +9,7 @@ use Rattle.feed_codec.specs.Feed.{IsKind, head_fault, payload_length}
 use Rattle.feed_codec.specs.RecordKind.{number_of}
 use Rattle.feed_codec.specs.declared.record.RecordKind.{RecordKind}
 use Rattle.feed_codec.specs.declared.record.RecordKind.TheVariants.{Begin, Put, End}
-use Rattle.ogg_page.proofs.NumberBytes.{length-u32_bytes}
+use Rattle.ogg_page.specs.Laws.NumberBytes.{length-u32_bytes}
 use Rattle.feed_codec.specs.declared.fault.FeedFault.TheVariants.{Truncated, Kind, Length}
 
 pub fault_short : (bytes : List ℕ) → length bytes < 5 → head_fault bytes ≡ Some Truncated

@@ -15,7 +15,7 @@ use Rattle.ogg_page.specs.Numbers.{u16_bytes, u32_bytes, u64_bytes, i64_bytes, f
 use Rattle.feed_codec.specs.Record.{packet_bytes, media_bytes, skeleton_bytes, stream_bytes, entry_bytes, payload_of, FitsFields, FitsHeader, FitsStream, FitsEntry}
 use Rattle.feed_codec.specs.Payload.{Begins, BeginsNone, AreMany, IsPacket, IsMedia, IsEntryOfFeed, IsStreamOfFeed, Tail, IsTail, tail_bytes, tail_of_stream, skeleton_head_bytes, IsPayload}
 use Rattle.feed_codec.proofs.Lists.{all_front, all_back, all_joined, all_as, split_joins}
-use Rattle.ogg_page.proofs.NumberBytes.{IsU16, IsU32, IsU64, same_u16, same_u32, same_u64, length-u16_bytes, length-u32_bytes, length-u64_bytes, length-i64_bytes, read_u32}
+use Rattle.ogg_page.specs.Laws.NumberBytes.{IsU16, IsU32, IsU64, same_u16, same_u32, same_u64, length-u16_bytes, length-u32_bytes, length-u64_bytes, length-i64_bytes, read_u32}
 use Rattle.feed_codec.proofs.Spellings.{PrefixFree, front, fronts, same_packet, same_media, same_many, same_skeleton, entry_packet, stream_parts, stream_headers, stream_tail, command_streams, command_entries}
 
 -- ---- packets and media types

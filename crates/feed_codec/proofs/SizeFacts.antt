@@ -15,7 +15,7 @@ use Rattle.ogg_command.specs.declared.command.Entry.{Entry}
 use Rattle.ogg_page.specs.Numbers.{u16_bytes, u32_bytes, u64_bytes, i64_bytes, fraction_bytes}
 use Rattle.feed_codec.specs.Record.{packet_bytes, media_bytes, skeleton_bytes, stream_bytes, entry_bytes, payload_of, record_of}
 use Rattle.feed_codec.specs.Payload.{Tail, tail_bytes, tail_of_stream}
-use Rattle.ogg_page.proofs.NumberBytes.{length-u16_bytes, length-u32_bytes, length-u64_bytes, length-i64_bytes}
+use Rattle.ogg_page.specs.Laws.NumberBytes.{length-u16_bytes, length-u32_bytes, length-u64_bytes, length-i64_bytes}
 use Rattle.feed_codec.proofs.Spellings.{stream_parts}
 
 -- one item more

@@ -12,9 +12,9 @@ use Rattle.ogg_command.specs.declared.command.Entry.{Entry}
 use Rattle.ogg_page.specs.Numbers.{u16_bytes, u32_bytes, u64_bytes, i64_bytes, fraction_bytes, IsFraction}
 use Rattle.feed_codec.specs.Record.{packet_bytes, media_bytes, skeleton_bytes, stream_bytes, entry_bytes, payload_of, kind_of, record_of, FitsFields, FitsHeader, FitsStream, FitsEntry, HasRecord, BeginsNoRecord, IsFeed}
 use Rattle.feed_codec.specs.Payload.{AreMany, IsPacket, IsMedia, IsEntryOfFeed, IsStreamOfFeed, IsTail, tail_bytes, tail_of_stream, skeleton_head_bytes}
-use Rattle.ogg_page.proofs.Prefixes.{same_fronts}
+use Rattle.ogg_page.specs.Laws.Prefixes.{same_fronts}
 use Rattle.feed_codec.proofs.Lists.{all_of_two}
-use Rattle.ogg_page.proofs.NumberBytes.{IsU16, IsU32, IsU64, IsI64, same_u16, same_u32, same_u64, same_i64, same_fraction}
+use Rattle.ogg_page.specs.Laws.NumberBytes.{IsU16, IsU32, IsU64, IsI64, same_u16, same_u32, same_u64, same_i64, same_fraction}
 
 -- whose spellings begin the same bytes are one, and the same bytes follow
 abbrev pub PrefixFree : {X : Type 0} → (X → Type 0) → (X → List ℕ) → Type 0

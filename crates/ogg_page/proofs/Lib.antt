@@ -1,6 +1,4 @@
 pub mod TableRule
-pub mod Prefixes
-pub mod NumberBytes
 pub mod Vectors
 pub mod Slices
 pub mod Tables

@@ -3,6 +3,7 @@ pub mod Division
 pub mod BitNumbers
 pub mod ByteStep
 pub mod Prefixes
+pub mod NumberBytes
 pub mod ReadAgain
 pub mod PageBytes
 pub mod Sight

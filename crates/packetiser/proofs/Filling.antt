@@ -8,7 +8,7 @@ use Rattle.ogg_page.specs.Lacing.{lacing_of, ends_open}
 use Rattle.packetiser.specs.Run.{Timed, run_lacing, run_bytes, packets_ended, position_of, no_position}
 use Rattle.packetiser.specs.Place.{values_left, bytes_left, IsWithin}
 use Rattle.ogg_page.specs.StreamLaws.{ends_open-at}
-use Rattle.packetiser.proofs.Pieces.{sum_app}
+use Rattle.packetiser.specs.Laws.Pieces.{sum_app}
 
 -- what a page holds so far of the run of which `run` was left, and what is left now
 pub record IsFilled (run : List Timed) (begun : ℕ) (lacing : List ℕ) (position : ℕ) (rest : List Timed) (done : ℕ) : Type 0 where

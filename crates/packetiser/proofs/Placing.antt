@@ -9,8 +9,8 @@ use Rattle.ogg_page.specs.Lacing.{lacing_of, ends_open}
 use Rattle.packetiser.specs.Run.{Timed, counted, run_lacing, run_bytes, values_at, values_before, packets_ended, position_of, no_position, page_position, page_of_run, pages_of_run, pages_for, size_for, flagged}
 use Rattle.packetiser.specs.Place.{values_left, bytes_left, next_values, next_page, added, IsWithin, IsBehind, IsAt}
 use Rattle.ogg_page.specs.StreamLaws.{ends_open-at}
-use Rattle.packetiser.proofs.Pieces.{sum_app, sum-run, sum-lacing_of, before_more, run_bytes_all}
-use Rattle.packetiser.proofs.Ranges.{front_sum}
+use Rattle.packetiser.specs.Laws.Pieces.{sum_app, sum-run, sum-lacing_of, before_more, run_bytes_all}
+use Rattle.packetiser.specs.Laws.Ranges.{front_sum}
 use Rattle.packetiser.proofs.Filling.{none_done}
 
 -- ---- values and bytes that are left

@@ -1,3 +1,4 @@
 pub mod Run
 pub mod Place
 pub mod RunPages
+pub mod Laws

@@ -15,8 +15,8 @@ use Rattle.std.specs.List.{AllByRecursion}
 use Rattle.skeleton3.specs.Fisbone.{Fisbone, HoldsFisbone, IsFisbone, fisbone_name, fixed_part, fisbone_bytes, fisbone_bytes_with, fisbone_fault}
 use Rattle.skeleton3.specs.declared.fault.SkeletonFault.{SkeletonFault}
 use Rattle.skeleton3.specs.declared.fault.SkeletonFault.TheVariants.{Length, Name, Fields}
-use Rattle.ogg_page.proofs.NumberBytes.{behind_u32, same_u32, same_i64, same_fraction}
-use Rattle.ogg_page.proofs.Prefixes.{same_fronts}
+use Rattle.ogg_page.specs.Laws.NumberBytes.{behind_u32, same_u32, same_i64, same_fraction}
+use Rattle.ogg_page.specs.Laws.Prefixes.{same_fronts}
 use Rattle.skeleton3.proofs.WrittenFields.{media_is_read}
 
 length-fixed_part : (offset : ℕ) (padding : List ℕ) (fisbone : Fisbone) → length padding ≡ 3 → length (fixed_part offset padding fisbone) ≡ 52

@@ -8,8 +8,8 @@ use Rattle.skeleton3.specs.Fishead.{HoldsFishead, IsFishead, fishead_name, fishe
 use Rattle.skeleton3.specs.declared.fishead.Fishead.{Fishead}
 use Rattle.skeleton3.specs.declared.fault.SkeletonFault.{SkeletonFault}
 use Rattle.skeleton3.specs.declared.fault.SkeletonFault.TheVariants.{Length, Name, Version}
-use Rattle.ogg_page.proofs.NumberBytes.{behind_u16, same_u16, same_fraction}
-use Rattle.ogg_page.proofs.Prefixes.{same_fronts}
+use Rattle.ogg_page.specs.Laws.NumberBytes.{behind_u16, same_u16, same_fraction}
+use Rattle.ogg_page.specs.Laws.Prefixes.{same_fronts}
 
 -- what is looked at once the length is right
 abbrev fault_of_size : Bool → List ℕ → Option SkeletonFault

@@ -1,6 +1,6 @@
 use Rattle.std.proofs.Common.{◌≡◌, ◌+◌, ℕ, List, length, map, drop, sym, ap, ◌∙◌, arith, length-drop}
 use Rattle.packetiser.specs.Run.{run_lacing, pages_for}
-use Rattle.packetiser.proofs.Pieces.{run_pages}
+use Rattle.packetiser.specs.Laws.Pieces.{run_pages}
 use Rattle.ogg_command.specs.declared.command.NewStream.{NewStream}
 use Rattle.chain_rules.specs.Begun.{new_state}
 use Rattle.chain_rules.specs.Encoding.{header, header_pages}

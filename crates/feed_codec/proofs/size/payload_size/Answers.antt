@@ -2,7 +2,7 @@ use Rattle.std.proofs.Common.{◌++◌, ap, length, length-append, arith}
 use Rattle.std.specs.List.{flat_map}
 use Rattle.ogg_page.specs.Numbers.{u16_bytes}
 use Rattle.feed_codec.specs.Record.{payload_of, skeleton_bytes, stream_bytes, entry_bytes}
-use Rattle.ogg_page.proofs.NumberBytes.{length-u16_bytes, length-u32_bytes}
+use Rattle.ogg_page.specs.Laws.NumberBytes.{length-u16_bytes, length-u32_bytes}
 use Rattle.feed_codec.proofs.size.payload_size.Goals as goal
 
 pub returns-in-Begin : goal.returns-in-Begin

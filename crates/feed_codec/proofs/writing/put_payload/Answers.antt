@@ -1,6 +1,6 @@
 use Rattle.std.proofs.Common.{ap, length, arith}
 use Rattle.feed_codec.specs.Record.{payload_of}
-use Rattle.ogg_page.proofs.NumberBytes.{length-u32_bytes}
+use Rattle.ogg_page.specs.Laws.NumberBytes.{length-u32_bytes}
 use Rattle.feed_codec.proofs.SizeFacts.{length-begin, length-put}
 use Rattle.feed_codec.proofs.writing.put_payload.Goals as goal
 

@@ -1,7 +1,7 @@
 use Rattle.std.proofs.Common.{◌∙◌, ap, ◌++◌, List, ℕ, to_z, of_z}
 use Rattle.std.specs.Int.{w64}
 use Rattle.std.proofs.lemmas.Int.{of_z-to_z}
-use Rattle.ogg_page.proofs.NumberBytes.{from_u64}
+use Rattle.ogg_page.specs.Laws.NumberBytes.{from_u64}
 use Rattle.ogg_page.proofs.numbers.take_i64.Goals as goal
 
 pub returns-clause-value : goal.returns-clause-value

@@ -1,5 +1,5 @@
 use Rattle.std.proofs.Common.{arith}
-use Rattle.ogg_page.proofs.NumberBytes.{front_u16}
+use Rattle.ogg_page.specs.Laws.NumberBytes.{front_u16}
 use Rattle.ogg_page.proofs.numbers.take_u16.Goals as goal
 
 pub returns-clause-value : goal.returns-clause-value

@@ -4,7 +4,7 @@ use Rattle.std.proofs.lemmas.List.Concat.{flat_map-append}
 use Rattle.ogg_page.specs.Page.{Page, page_size, page_bytes, bytes_of_pages}
 use Rattle.packetiser.specs.Run.{Timed, run_lacing, page_of_run, pages_of_run, pages_for, flagged}
 use Rattle.packetiser.specs.Place.{next_values, next_page, added, IsAt}
-use Rattle.packetiser.proofs.Pieces.{run_bytes_all}
+use Rattle.packetiser.specs.Laws.Pieces.{run_bytes_all}
 use Rattle.packetiser.proofs.Placing.{at_start, at_next, page_there, page_with, pages_to, flagged_more, room_of, size_more, next_whole}
 use Rattle.packetiser.proofs.encoding.append_pages.Goals as goal
 

@@ -1,6 +1,6 @@
 use Rattle.std.proofs.Common.{◌≤◌, length, map, sum_by, sym, ◌∙◌, ap, arith}
 use Rattle.std.proofs.lemmas.List.{take_all}
-use Rattle.packetiser.proofs.Sizes.{values_in, bytes_in, length-run_lacing, length-run_bytes, sum_by-map}
+use Rattle.packetiser.specs.Laws.Sizes.{values_in, bytes_in, length-run_lacing, length-run_bytes, sum_by-map}
 use Rattle.packetiser.proofs.size.values_and_bytes.Goals as goal
 
 pub returns-clause-values : goal.returns-clause-values

@@ -1,5 +1,5 @@
 use Rattle.std.proofs.Common.{◌≡◌, ◌≤◌, ◌+◌, ◌*◌, sum_by, take}
-use Rattle.packetiser.proofs.Sizes.{values_in, bytes_in}
+use Rattle.packetiser.specs.Laws.Sizes.{values_in, bytes_in}
 use Rattle.packetiser.proofs.size.values_and_bytes.Given as goal
 
 -- the packets so far are counted, and each has one value beside those of its whole segments

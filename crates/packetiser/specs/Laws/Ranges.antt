@@ -7,7 +7,7 @@ use Rattle.std.proofs.lemmas.Bool.{cond_both}
 use Rattle.ogg_page.specs.Page.{IsPage, IsByte}
 use Rattle.ogg_page.specs.Lacing.{lace, lacing_of, ends_open}
 use Rattle.packetiser.specs.Run.{Timed, IsTimed, counted, values_at, values_before, run_lacing, run_bytes, page_of_run, pages_of_run, pages_for, page_position, position_of, packets_ended, no_position}
-use Rattle.packetiser.proofs.Pieces.{before_more, sum_app, sum-run}
+use Rattle.packetiser.specs.Laws.Pieces.{before_more, sum_app, sum-run}
 
 all_app : {X : Type 0} (P : X → Type 0) (xs ys : List X) → AllByRecursion P xs → AllByRecursion P ys → AllByRecursion P (xs ++ ys)
 all_app P [] ys a b = b
