@@ -29,3 +29,4 @@ pub mod Held
 pub mod Longer
 pub mod TakenRows
 pub mod OwnSerials
+pub mod Adding

@@ -1,15 +1,17 @@
 //! What always holds of the commands and the pages that a chain takes.
-ghost use Rattle.std.specs.Prelude.{◌≡◌, ◌++◌, ◌↔◌, Ok, None, List, [], ℕ, length};
+ghost use Rattle.std.specs.Prelude.{◌≡◌, ◌≤◌, ◌<◌, ◌++◌, Ok, Err, List, [], ℕ, length};
 ghost use Rattle.std.specs.List.{AllByRecursion};
-ghost use Rattle.ogg_page.specs.Page.{Page, IsPage, bytes_of_pages};
+ghost use Rattle.ogg_page.specs.Page.{Page, IsPage};
 ghost use Rattle.ogg_command.specs.Command.{IsCommand};
 ghost use Rattle.link_chain.specs.Links.{AreLinks};
 ghost use Rattle.chain_rules.specs.Recording.{Recording, HoldsLinks, Holds, add, after};
 ghost use Rattle.link_chain.specs.ChainState.{ChainState, chain_state_of};
 ghost use Rattle.chain_rules.specs.Decision.{decision};
-ghost use Rattle.chain_rules.specs.Encoding.{command_bytes, links_after};
+ghost use Rattle.chain_rules.specs.Encoding.{command_bytes, links_after, pages_of_command};
 ghost use Rattle.chain_rules.specs.Commands.{AreKept, bytes_of_commands, links_behind};
+ghost use Rattle.ogg_command.specs.Refusal.{code_of};
 ghost use Rattle.ogg_command.specs.declared.command.Command.{Command as CommandOf};
+ghost use Rattle.ogg_command.specs.declared.refusal.Refusal.{Refusal as RefusalOf};
 
 /// A command that isn't refused adds its packets, and nothing else changes: the links behind it hold
 /// the recording with the command added, and the bytes that it appends are as many as its size says
@@ -37,4 +39,21 @@ pub fn commands_add_their_packets()
     // From no links on their bytes hold just what they say.
     ensures holds { (commands : List CommandOf) → AllByRecursion IsCommand commands → AreKept [] commands →
         Holds (bytes_of_commands [] commands) (after [] commands) }
+{}
+
+/// A command that isn't refused adds at least one page, and what it adds are pages.
+pub fn command_adds_pages()
+    ensures some { (bytes : List ℕ) (links : List (List Page)) (recording : Recording) (command : CommandOf) (size : ℕ) →
+        IsCommand command → AreLinks bytes links → HoldsLinks links recording → decision (chain_state_of links) command ≡ Ok size →
+        0 < length (pages_of_command (chain_state_of links) command) }
+    ensures pages { (bytes : List ℕ) (links : List (List Page)) (recording : Recording) (command : CommandOf) (size : ℕ) →
+        IsCommand command → AreLinks bytes links → HoldsLinks links recording → decision (chain_state_of links) command ≡ Ok size →
+        AllByRecursion IsPage (pages_of_command (chain_state_of links) command) }
+{}
+
+/// `check` refuses a command for a reason of the table alone, `LinkOpen` to `FileFull`: that a recorder
+/// has failed, that memory was refused or that the disk failed is for others to say.
+pub fn refusals_are_of_the_table()
+    ensures { (chain : ChainState) (command : CommandOf) (refusal : RefusalOf) → decision chain command ≡ Err refusal →
+        (2 ≤ code_of refusal) × (code_of refusal ≤ 19) }
 {}

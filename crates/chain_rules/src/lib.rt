@@ -21,7 +21,10 @@ mod runs;
 mod shape;
 mod skeleton;
 
-pub use laws::{command_adds_its_packets, commands_add_their_packets};
+pub use laws::{
+    command_adds_its_packets, command_adds_pages, commands_add_their_packets,
+    refusals_are_of_the_table,
+};
 pub use link_chain::{
     Chain, ChainFault, StreamState, links_left_whole_hold_a_recording, pages_in_turn_are_links,
 };
