@@ -10,9 +10,11 @@
 mod command;
 mod listed;
 mod packets;
+mod ranges;
 mod refusal;
 
 pub use command::{Begin, Command, Entry, NewStream, Put, SkeletonHead};
 pub use listed::Listed;
 pub use ogg_page::Memory;
+pub use ranges::command_is_in_range;
 pub use refusal::Refusal;
