@@ -4,7 +4,7 @@ use Rattle.std.specs.List.{list_all, list_any}
 use Rattle.std.specs.Option.{option_map_or}
 use Rattle.skeleton3.specs.Fields.{is_field, is_media_type, message_of}
 use Rattle.link_chain.specs.Size.{has_no_number, size_of_pages}
-use Rattle.link_chain.specs.ChainState.{ChainState, stream_at, is_open}
+use Rattle.link_chain.specs.ChainState.{ChainState, is_open}
 use Rattle.link_chain.specs.Rules.{Rule, first_broken}
 use Rattle.chain_rules.specs.Limits.{longest_first, longest_packet, longest_batch, most_streams, most_headers, most_fields, longest_message, most_entries, most_links, longest_file}
 use Rattle.link_chain.specs.Progress.{stream_in, position_in, with_position}
@@ -102,8 +102,8 @@ entries_rules streams (entry ∷ entries) = entry_rules streams entry ++ entries
 abbrev pub end_rules : ChainState → ℕ → List (Rule Refusal)
 end_rules chain serial =
     (not (is_open chain), NoLink)
-    ∷ (is_none (stream_at chain serial), UnknownSerial)
-    ∷ (option_map_or (λ stream. stream.ended) (stream_at chain serial) false, StreamEnded)
+    ∷ (is_none (stream_in chain.streams serial), UnknownSerial)
+    ∷ (option_map_or (λ stream. stream.ended) (stream_in chain.streams serial) false, StreamEnded)
     ∷ []
 
 -- ---- by the whole

@@ -1,6 +1,6 @@
 -- What the rules for a next command or page look at, of all pages so far.
-use Rattle.std.specs.Prelude.{ℕ, ◌^◌, Option, Bool, not, nat_eq, nat_lt, if◌then◌else◌, List, [], ◌∷◌, length, map, sum_by}
-use Rattle.std.specs.List.{flat_map, list_any, fold, find}
+use Rattle.std.specs.Prelude.{ℕ, ◌^◌, Bool, not, nat_eq, nat_lt, if◌then◌else◌, List, [], ◌∷◌, length, map, sum_by}
+use Rattle.std.specs.List.{flat_map, list_any, fold}
 use Rattle.ogg_page.specs.Page.{Page, page_size}
 use Rattle.ogg_page.specs.Lacing.{ends_open}
 use Rattle.ogg_page.specs.LogicalStream.{is_first, joined_lacing, number_behind}
@@ -50,7 +50,3 @@ chain_state_of links =
 -- a link is open while one of its streams has not ended
 abbrev pub is_open : ChainState → Bool
 is_open chain = list_any (λ stream. not stream.ended) chain.streams
-
--- the stream of the last link with this serial
-abbrev pub stream_at : ChainState → ℕ → Option StreamState
-stream_at chain serial = find (λ stream. nat_eq stream.serial serial) chain.streams

@@ -8,7 +8,8 @@ use Rattle.ogg_page.specs.LogicalStream.{is_first, is_last, is_continued}
 use Rattle.link_chain.specs.declared.stream_state.StreamState.{StreamState}
 use Rattle.link_chain.specs.declared.chain_fault.ChainFault.{ChainFault}
 use Rattle.link_chain.specs.declared.chain_fault.ChainFault.TheVariants.{Sequence, Continued, BosPlace, BosShape, SerialTwice, NoStream, AfterEos, BosWhileOpen, TooMany, EosUnfinished}
-use Rattle.link_chain.specs.ChainState.{ChainState, chain_state_of, stream_at, is_open}
+use Rattle.link_chain.specs.Progress.{stream_in}
+use Rattle.link_chain.specs.ChainState.{ChainState, chain_state_of, is_open}
 use Rattle.link_chain.specs.Links.{with_pages}
 use Rattle.link_chain.specs.Limits.{most_streams, most_links}
 use Rattle.link_chain.specs.Rules.{Rule, first_broken}
@@ -40,7 +41,7 @@ opening_rules chain page = (not (is_whole_packet page), BosShape) ∷ (nat_le mo
 abbrev pub joining_rules : ChainState → Page → List (Rule ChainFault)
 joining_rules chain page =
     (chain.has_data, BosWhileOpen)
-    ∷ (is_some (stream_at chain page.serial), SerialTwice)
+    ∷ (is_some (stream_in chain.streams page.serial), SerialTwice)
     ∷ (not (is_whole_packet page), BosShape)
     ∷ (nat_le most_streams (length chain.streams), TooMany)
     ∷ []
@@ -51,12 +52,12 @@ abbrev pub leaves_open : Page → StreamState → Bool
 leaves_open page stream = if nat_eq (length page.lacing) 0 then not stream.finished else ends_open page.lacing
 
 abbrev pub of_stream : ChainState → Page → (StreamState → Bool) → Bool
-of_stream chain page test = option_map_or test (stream_at chain page.serial) false
+of_stream chain page test = option_map_or test (stream_in chain.streams page.serial) false
 
 abbrev pub later_rules : ChainState → Page → List (Rule ChainFault)
 later_rules chain page =
     (nat_eq chain.links 0, BosPlace)
-    ∷ (is_none (stream_at chain page.serial), NoStream)
+    ∷ (is_none (stream_in chain.streams page.serial), NoStream)
     ∷ (of_stream chain page (λ stream. stream.ended), AfterEos)
     ∷ (of_stream chain page (λ stream. not (nat_eq page.sequence stream.next_sequence)), Sequence)
     ∷ (of_stream chain page (λ stream. if is_continued page then stream.finished else not stream.finished), Continued)

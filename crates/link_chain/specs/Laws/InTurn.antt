@@ -13,7 +13,8 @@ use Rattle.ogg_page.specs.LogicalStream.{FitsBehind, joined_lacing, number_behin
 use Rattle.ogg_page.specs.StreamLaws.{false_is_not_true}
 use Rattle.link_chain.specs.declared.stream_state.StreamState.{StreamState}
 use Rattle.link_chain.specs.Links.{IsLink, AreLinks, AllButLast, pages_with, serials_of, has_stream, all_ended, flattened}
-use Rattle.link_chain.specs.ChainState.{ChainState, chain_state_of, state_of, last_link, is_open, stream_at}
+use Rattle.link_chain.specs.Progress.{stream_in}
+use Rattle.link_chain.specs.ChainState.{ChainState, chain_state_of, state_of, last_link, is_open}
 use Rattle.link_chain.specs.Links.{with_pages}
 use Rattle.link_chain.specs.Taking.{fault_of_page, links_with, AreTaken, is_one_packet, is_whole_packet, of_stream, leaves_open}
 use Rattle.link_chain.specs.Laws.Grow.{filter_all, stream_some, all_both}
@@ -49,8 +50,8 @@ later_is_taken links page back some later l =
     let serial : ℕ = page.serial in
     let own : List Page = pages_with serial front in
     let there : has_stream front serial ≡ true = later_behind front page back later l in
-    let found : stream_at chain serial ≡ Some (state_of front serial) = found_at front serial (serials_of front) there in
-    let at : (test : StreamState → Bool) → option_map_or test (stream_at chain serial) false ≡ test (state_of front serial) = λ test. ap (λ o. option_map_or test o false) found in
+    let found : stream_in chain.streams serial ≡ Some (state_of front serial) = found_at front serial (serials_of front) there in
+    let at : (test : StreamState → Bool) → option_map_or test (stream_in chain.streams serial) false ≡ test (state_of front serial) = λ test. ap (λ o. option_map_or test o false) found in
     let fits : FitsBehind own page = page_fits front page back l in
     let closed : is_last page ≡ true → leaves_open page (state_of front serial) ≡ false =
     λ last. (sym (open_with (joined_lacing own) page.lacing)
@@ -105,10 +106,10 @@ still_open links l e =
       | inr closed ↦ false_is_not_true (all_ended (last_link links)) e (closed_link links l closed)
     ]
 
-missing : (links : List (List Page)) (serial : ℕ) → has_stream (last_link links) serial ≡ false → is_some (stream_at (chain_state_of links) serial) ≡ false
+missing : (links : List (List Page)) (serial : ℕ) → has_stream (last_link links) serial ≡ false → is_some (stream_in (chain_state_of links).streams serial) ≡ false
 missing links serial e =
-    elim (cases_Bool (is_none (stream_at (chain_state_of links) serial))) [
-      | inl none ↦ not_some (stream_at (chain_state_of links) serial) none
+    elim (cases_Bool (is_none (stream_in (chain_state_of links).streams serial))) [
+      | inl none ↦ not_some (stream_in (chain_state_of links).streams serial) none
       | inr some ↦ false_is_not_true (has_stream (last_link links) serial) e (known_stream links serial some).0
     ]
   where

@@ -10,8 +10,8 @@ use Rattle.ogg_page.specs.LogicalStream.{number_behind, is_first}
 use Rattle.link_chain.specs.declared.stream_state.StreamState.{StreamState}
 use Rattle.link_chain.specs.Links.{IsLink, AreLinks, AllButLast, pages_with, with_pages, serials_of, has_stream, has_ended, all_ended}
 use Rattle.link_chain.specs.Recording.{Stream, Recording, HoldsLink, HoldsLinks, change_last}
-use Rattle.link_chain.specs.ChainState.{chain_state_of, state_of, last_link, last_position, is_open, stream_at}
-use Rattle.link_chain.specs.Progress.{next_in}
+use Rattle.link_chain.specs.ChainState.{chain_state_of, state_of, last_link, last_position, is_open}
+use Rattle.link_chain.specs.Progress.{stream_in, next_in}
 use Rattle.link_chain.specs.Laws.Grow.{all_both, all_weaker, filter_all, serials_same}
 
 pub all_split : {X : Type 0} (P : X → Type 0) (xs ys : List X) → AllByRecursion P (xs ++ ys) → AllByRecursion P xs × AllByRecursion P ys
@@ -76,8 +76,8 @@ looked_up link serial (x ∷ xs) e =
           (ap (λ b. b || list_any (nat_eq serial) xs) (ne_eqb serial x (λ s. other (sym s))) ∙ later.0, skipped ∙ later.1)
     ]
 
-pub known_stream : (links : List (List Page)) (serial : ℕ) → is_none (stream_at (chain_state_of links) serial) ≡ false →
-    (has_stream (last_link links) serial ≡ true) × (stream_at (chain_state_of links) serial ≡ Some (state_of (last_link links) serial))
+pub known_stream : (links : List (List Page)) (serial : ℕ) → is_none (stream_in (chain_state_of links).streams serial) ≡ false →
+    (has_stream (last_link links) serial ≡ true) × (stream_in (chain_state_of links).streams serial ≡ Some (state_of (last_link links) serial))
 known_stream links serial e = looked_up (last_link links) serial (serials_of (last_link links)) e
 
 pub found_at : (link : List Page) (serial : ℕ) (xs : List ℕ) → list_any (nat_eq serial) xs ≡ true →
@@ -98,12 +98,12 @@ next_is links serial e =
     ap (λ o. option_map_or (λ (stream : StreamState). stream.next_sequence) o 0) (found_at (last_link links) serial (serials_of (last_link links)) e)
 
 pub not_ended_is : (links : List (List Page)) (serial : ℕ) → has_stream (last_link links) serial ≡ true →
-    option_map_or (λ (stream : StreamState). stream.ended) (stream_at (chain_state_of links) serial) false ≡ has_ended (last_link links) serial
+    option_map_or (λ (stream : StreamState). stream.ended) (stream_in (chain_state_of links).streams serial) false ≡ has_ended (last_link links) serial
 not_ended_is links serial e =
     ap (λ o. option_map_or (λ (stream : StreamState). stream.ended) o false) (found_at (last_link links) serial (serials_of (last_link links)) e)
 
 pub position_is : (links : List (List Page)) (serial : ℕ) → has_stream (last_link links) serial ≡ true →
-    option_map_or (λ (stream : StreamState). stream.last_position) (stream_at (chain_state_of links) serial) 0 ≡ last_position (pages_with serial (last_link links))
+    option_map_or (λ (stream : StreamState). stream.last_position) (stream_in (chain_state_of links).streams serial) 0 ≡ last_position (pages_with serial (last_link links))
 position_is links serial e =
     ap (λ o. option_map_or (λ (stream : StreamState). stream.last_position) o 0) (found_at (last_link links) serial (serials_of (last_link links)) e)
 

@@ -14,7 +14,7 @@ use Rattle.ogg_page.specs.LogicalStream.{is_first, is_last, joined_lacing, numbe
 use Rattle.ogg_page.specs.StreamLaws.{ends_open-at}
 use Rattle.link_chain.specs.declared.stream_state.StreamState.{StreamState}
 use Rattle.link_chain.specs.Links.{pages_with, serials_of, has_stream, has_ended}
-use Rattle.link_chain.specs.ChainState.{ChainState, chain_state_of, state_of, last_link, last_position, is_open, stream_at}
+use Rattle.link_chain.specs.ChainState.{ChainState, chain_state_of, state_of, last_link, last_position, is_open}
 use Rattle.link_chain.specs.Links.{with_pages}
 use Rattle.link_chain.specs.Size.{size_of_pages}
 use Rattle.link_chain.specs.Progress.{stream_in}
@@ -138,7 +138,7 @@ all_first (page ∷ pages) e =
     (not_false (is_first page) parts.0, all_first pages parts.1)
 
 -- no stream with this serial
-pub absent : (links : List (List Page)) (serial : ℕ) → is_some (stream_at (chain_state_of links) serial) ≡ false → has_stream (last_link links) serial ≡ false
+pub absent : (links : List (List Page)) (serial : ℕ) → is_some (stream_in (chain_state_of links).streams serial) ≡ false → has_stream (last_link links) serial ≡ false
 absent links serial e =
     elim (cases_Bool (has_stream (last_link links) serial)) [
       | inl there ↦ some_none (state_of (last_link links) serial) (sym (ap is_some (found_at (last_link links) serial (serials_of (last_link links)) there)) ∙ e)

@@ -13,7 +13,8 @@ use Rattle.ogg_page.specs.LogicalStream.{FitsBehind, FlagsFit, joined_lacing, nu
 use Rattle.ogg_page.specs.StreamLaws.{false_is_not_true, behind_both, ends_open-lace}
 use Rattle.link_chain.specs.declared.stream_state.StreamState.{StreamState}
 use Rattle.link_chain.specs.Links.{IsLink, AreLinks, pages_with, serials_of, has_stream, has_ended, all_ended}
-use Rattle.link_chain.specs.ChainState.{ChainState, chain_state_of, state_of, last_link, is_open, stream_at}
+use Rattle.link_chain.specs.Progress.{stream_in}
+use Rattle.link_chain.specs.ChainState.{ChainState, chain_state_of, state_of, last_link, is_open}
 use Rattle.link_chain.specs.Links.{with_pages}
 use Rattle.link_chain.specs.Taking.{fault_of_page, later_rules, joining_rules, opening_rules, links_with, AreTaken, is_one_packet, is_whole_packet, leaves_open}
 use Rattle.link_chain.specs.Laws.Grow.{grow_link, all_weaker, all_both, stream_some, with_own, with_other, filter_all, filter_none}
@@ -60,8 +61,8 @@ some_unended ended serial (x ∷ xs) e there =
     or_later true b h = refl
     or_later false b h = h
 
-at_stream : (links : List (List Page)) (serial : ℕ) (test : StreamState → Bool) → stream_at (chain_state_of links) serial ≡ Some (state_of (last_link links) serial) →
-    option_map_or test (stream_at (chain_state_of links) serial) false ≡ test (state_of (last_link links) serial)
+at_stream : (links : List (List Page)) (serial : ℕ) (test : StreamState → Bool) → stream_in (chain_state_of links).streams serial ≡ Some (state_of (last_link links) serial) →
+    option_map_or test (stream_in (chain_state_of links).streams serial) false ≡ test (state_of (last_link links) serial)
 at_stream links serial test e = ap (λ o. option_map_or test o false) e
 
 later_link : (links : List (List Page)) (page : Page) → is_first page ≡ false → NoneBroken (later_rules (chain_state_of links) page) → IsLink (last_link links) → IsLink (last_link links ++ page ∷ [])
@@ -70,8 +71,8 @@ later_link links page unmarked kept l =
     let chain : ChainState = chain_state_of links in
     let serial : ℕ = page.serial in
     let own : List Page = pages_with serial link in
-    let known : (has_stream link serial ≡ true) × (stream_at chain serial ≡ Some (state_of link serial)) = known_stream links serial kept.1.0 in
-    let at : (test : StreamState → Bool) → option_map_or test (stream_at chain serial) false ≡ test (state_of link serial) = λ test. at_stream links serial test known.1 in
+    let known : (has_stream link serial ≡ true) × (stream_in chain.streams serial ≡ Some (state_of link serial)) = known_stream links serial kept.1.0 in
+    let at : (test : StreamState → Bool) → option_map_or test (stream_in chain.streams serial) false ≡ test (state_of link serial) = λ test. at_stream links serial test known.1 in
     let unended : has_ended link serial ≡ false = sym (at (λ stream. stream.ended)) ∙ kept.1.1.0 in
     let number : page.sequence ≡ number_behind own =
     eqb-true page.sequence (number_behind own) (not_false (nat_eq page.sequence (number_behind own)) (sym (at (λ stream. not (nat_eq page.sequence stream.next_sequence))) ∙ kept.1.1.1.0)) in
