@@ -20,9 +20,6 @@ values_alone packet = length-run_lacing (header packet ∷ []) ∙ omega (arith,
 pub bytes_alone : (packet : List ℕ) → length (run_bytes (header packet ∷ [])) ≡ length packet
 bytes_alone packet = length-run_bytes (header packet ∷ []) ∙ omega (arith, sum_by-cons bytes_in (header packet) [])
 
-pub lengths_alone : (packet : List ℕ) → lengths (header packet ∷ []) ≡ length packet
-lengths_alone packet = omega (arith, sum_by-cons bytes_in (header packet) [])
-
 pub size_alone : (serial first : ℕ) (packet : List ℕ) → size_of_pages (pages_of_run serial first (header packet ∷ [])) ≡ size_for (length packet / 255 + 1) (length packet)
 size_alone serial first packet =
     run_bytes_all serial first (header packet ∷ [])

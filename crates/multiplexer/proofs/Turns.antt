@@ -100,10 +100,6 @@ goes_on start old new chain next so_far counts count come behind reply reached o
       );
     }
 
--- the counts and the chain tell the same length
-pub end_here : (start now : Streams) (chain : ChainState) (so_far : Kept) (count : ℕ) → HasCome start now chain so_far count → so_far.end ≡ chain.length_of
-end_here start now chain so_far count come = come.reached.end_is ∙ ap (λ (s : ChainState). s.length_of) (sym come.reached.chain_is)
-
 -- a fault over one record is the run's
 pub ends_so : (fault : RunFault) (start at now : Streams) (chain : ChainState) (so_far : Kept) (count : ℕ) (come : HasCome start at chain so_far count) → count < 4294967295
     → StopsBy fault at now come.behind → EndsBy fault start now
