@@ -1,0 +1,7 @@
+pub mod Crash
+pub mod Ends
+pub mod Kept
+pub mod Moment
+pub mod Passing
+pub mod Seal
+pub mod Staged

@@ -1,0 +1,9 @@
+pub mod Commit
+pub mod CommitLaws
+pub mod DiskSource
+pub mod Found
+pub mod Gate
+pub mod GateFile
+pub mod OpenFault
+pub mod Reading
+pub mod Visiting

@@ -1,0 +1,256 @@
+//! A file whose committed bytes grow by whole appends.
+ghost use Rattle.std.specs.Prelude.{◌≡◌, ◌≢◌, ◌↔◌, ◌⊎◌, ◌+◌, ◌-◌, ◌^◌, ◌<◌, ◌≤◌, ◌++◌, [], ℕ, length, take, drop, true, false, OnOk, OnErr, IfOk, IfErr, IsErr};
+ghost use Rattle.disk_model.specs.Image.{IsSettled};
+ghost use Rattle.disk_model.specs.Clock.{LeavesOnly};
+ghost use Rattle.disk_model.specs.Fault.{HasCause};
+ghost use Rattle.gate_file.specs.Commit.{ArePages, CommitsTo, CommitsToEither};
+ghost use Rattle.gate_file.specs.Gate.{IsAppend, IsReadyAt, EachImage, pages_in};
+ghost use Rattle.gate_file.specs.GateFile.{committed, staged_bytes};
+ghost use Rattle.gate_file.specs.Reading.{OnlyReads};
+
+use crate::committing::{append_pages, commit_staged};
+use crate::sealing::cut_behind;
+use crate::staging::{stage_last_pages, stage_pages};
+use disk_model::{Disk, DiskFault};
+use std::marker::Model;
+
+/// A file whose committed bytes grow by whole appends, and by whole groups of pages that are staged and then committed.
+/// It owns its disk. Once a write or a sync has failed it has failed: it can still be read and given back.
+#[derive(Drop)]
+pub struct GateFile<D: Disk> {
+    disk: D,
+    end: u64,
+    staged: u64,
+    whole: bool,
+    failed: bool,
+}
+
+impl<D: Disk> Model for GateFile<D> {
+    ghost use Rattle.gate_file.specs.GateFile.{GateState, gate_state, IsKept};
+
+    ghost Value = { GateState D };
+
+    ghost view = { λ f. gate_state f.disk f.end f.staged f.whole f.failed };
+
+    ghost invariant = { λ f. IsKept D.is_honest D.state (gate_state f.disk f.end f.staged f.whole f.failed) };
+}
+
+impl<D: Disk> GateFile<D> {
+    ghost use Rattle.gate_file.specs.GateFile.{gate_state};
+
+    /// A file whose committed bytes end here, with a closed byte behind them.
+    pub(crate) fn at(disk: D, end: u64) -> GateFile<D>
+        requires short { end < 2 ^ 63 }
+        requires ready { D.is_honest disk → IsReadyAt end (D.state disk) }
+        ensures { result ≡ gate_state disk end 0 false false }
+    {
+        GateFile {
+            disk,
+            end,
+            staged: 0,
+            whole: false,
+            failed: false,
+        }
+    }
+
+    /// The length of the committed bytes.
+    pub fn end(&self) -> u64
+        ensures { result ≡ self.now.end }
+    {
+        self.end
+    }
+
+    /// Whether a write or a sync has failed.
+    pub fn is_failed(&self) -> bool
+        ensures { result ≡ self.now.failed }
+    {
+        self.failed
+    }
+
+    /// How many bytes are staged.
+    pub fn staged(&self) -> u64
+        ensures { result ≡ self.now.staged }
+    {
+        self.staged
+    }
+
+    /// Whether the last page is staged, so that what is staged can be committed.
+    pub fn is_whole(&self) -> bool
+        ensures { result ≡ self.now.whole }
+    {
+        self.whole
+    }
+
+    /// The disk as it stands. What is staged is lost.
+    pub fn give_back(self) -> D
+        ensures { result ≡ self.disk }
+    {
+        self.disk
+    }
+
+    /// Fills the buffer with committed bytes from `from` on, after a fault too. If the read fails the buffer may hold
+    /// anything, and the file hasn't failed.
+    pub fn read(&mut self, from: u64, buffer: &mut [u8]) -> Result<(), DiskFault>
+        requires { from + length buffer.old ≤ self.old.end }
+        ensures read { OnOk result (D.is_honest self.old.disk
+            → buffer.new ≡ take (length buffer.old) (drop from (committed D.state self.old))) }
+        ensures reads { OnlyReads D.is_honest D.state D.moment D.images_since self.old.disk self.new.disk }
+        ensures same { self.new ≡ gate_state self.new.disk self.old.end self.old.staged self.old.whole self.old.failed }
+        ensures cause { HasCause (D.failures self.old.disk) (D.failures self.new.disk) result }
+    {
+        self.disk.read_at(from, buffer)
+    }
+
+    /// Commits one page or more, which one byte 00 follows in the slice, by four calls of the disk: a write, a sync, the
+    /// write of the one byte that decides, a sync. After a fault the file has failed, and opening finds the bytes that
+    /// were committed before, without these pages or with them.
+    pub fn append(&mut self, bytes: &[u8]) -> Result<(), DiskFault>
+        requires pages { IsAppend bytes.now }
+        requires good { self.old.failed ≡ false }
+        requires none { self.old.staged ≡ 0 }
+
+        ensures failed { self.new.failed ≡ true ↔ IsErr result }
+        ensures none { OnOk result (self.new.staged ≡ 0) }
+        ensures end { OnOk result (self.new.end ≡ self.old.end + length (pages_in bytes.now)) }
+        ensures end_err { OnErr result (self.new.end ≡ self.old.end) }
+        ensures grown { OnOk result (D.is_honest self.old.disk
+            → committed D.state self.new ≡ committed D.state self.old ++ pages_in bytes.now) }
+
+        // The committed bytes stay in front, after a fault too.
+        ensures front { D.is_honest self.old.disk
+            → take self.old.end (D.state self.new.disk).contents ≡ committed D.state self.old }
+
+        // Every image since the call began commits to the bytes before, without the pages or with them; in the end with
+        // them.
+        ensures any_moment { D.is_honest self.old.disk → LeavesOnly D.moment D.images_since self.old.disk self.new.disk
+            (CommitsToEither (committed D.state self.old) (pages_in bytes.now)) }
+        ensures only { OnOk result (D.is_honest self.old.disk → EachImage (D.state self.new.disk)
+            (CommitsTo (committed D.state self.old ++ pages_in bytes.now))) }
+        ensures honest { D.is_honest self.old.disk ↔ D.is_honest self.new.disk }
+        ensures cause { HasCause (D.failures self.old.disk) (D.failures self.new.disk) result }
+    {
+        self.failed = true;
+        append_pages(&mut self.disk, self.end, bytes)?;
+        self.end += bytes.len() as u64 - 1;
+        self.failed = false;
+        Ok(())
+    }
+
+    /// Stages pages behind those that are staged, by one write. They count once the last ones are staged and
+    /// committed. After a fault the file has failed, and what was staged is lost.
+    pub fn stage(&mut self, pages: &[u8]) -> Result<(), DiskFault>
+        requires pages { ArePages pages.now }
+        requires some { pages.now ≢ [] }
+        requires good { self.old.failed ≡ false }
+
+        ensures failed { self.new.failed ≡ true ↔ IsErr result }
+        ensures whole { OnOk result (self.new.whole ≡ false) }
+        ensures size { OnOk result (self.new.staged ≡ self.old.staged + length pages.now) }
+        ensures end { self.new.end ≡ self.old.end }
+        ensures staged { OnOk result (D.is_honest self.old.disk
+            → staged_bytes D.state self.new ≡ staged_bytes D.state self.old ++ pages.now) }
+        ensures front { D.is_honest self.old.disk → committed D.state self.new ≡ committed D.state self.old }
+
+        // Every image since the call began commits to the bytes before.
+        ensures any_moment { D.is_honest self.old.disk → LeavesOnly D.moment D.images_since self.old.disk self.new.disk
+            (CommitsTo (committed D.state self.old)) }
+        ensures honest { D.is_honest self.old.disk ↔ D.is_honest self.new.disk }
+        ensures cause { HasCause (D.failures self.old.disk) (D.failures self.new.disk) result }
+    {
+        self.failed = true;
+        stage_pages(&mut self.disk, self.end, self.staged, pages)?;
+        self.staged += pages.len() as u64;
+        self.whole = false;
+        self.failed = false;
+        Ok(())
+    }
+
+    /// Stages the last pages, which one byte 00 follows in the slice, by one write. They can be committed then, or further
+    /// pages are staged: these are written over that byte. After a fault the file has failed, and what was staged is lost.
+    pub fn stage_last(&mut self, bytes: &[u8]) -> Result<(), DiskFault>
+        requires pages { IsAppend bytes.now }
+        requires good { self.old.failed ≡ false }
+
+        ensures failed { self.new.failed ≡ true ↔ IsErr result }
+        ensures whole { OnOk result (self.new.whole ≡ true) }
+        ensures size { OnOk result (self.new.staged ≡ self.old.staged + length (pages_in bytes.now)) }
+        ensures end { self.new.end ≡ self.old.end }
+        ensures staged { OnOk result (D.is_honest self.old.disk
+            → staged_bytes D.state self.new ≡ staged_bytes D.state self.old ++ pages_in bytes.now) }
+        ensures front { D.is_honest self.old.disk → committed D.state self.new ≡ committed D.state self.old }
+
+        // Every image since the call began commits to the bytes before.
+        ensures any_moment { D.is_honest self.old.disk → LeavesOnly D.moment D.images_since self.old.disk self.new.disk
+            (CommitsTo (committed D.state self.old)) }
+        ensures honest { D.is_honest self.old.disk ↔ D.is_honest self.new.disk }
+        ensures cause { HasCause (D.failures self.old.disk) (D.failures self.new.disk) result }
+    {
+        self.failed = true;
+        stage_last_pages(&mut self.disk, self.end, self.staged, bytes)?;
+        self.staged += bytes.len() as u64 - 1;
+        self.whole = true;
+        self.failed = false;
+        Ok(())
+    }
+
+    /// Commits what is staged, by three calls of the disk: a sync, the write of the one byte that decides, a sync. After a
+    /// fault the file has failed, and opening finds the bytes that were committed before, without the staged ones or with
+    /// all of them.
+    pub fn commit(&mut self) -> Result<(), DiskFault>
+        requires good { self.old.failed ≡ false }
+        requires whole { self.old.whole ≡ true }
+
+        ensures failed { self.new.failed ≡ true ↔ IsErr result }
+        ensures none { OnOk result (self.new.staged ≡ 0) }
+        ensures end { OnOk result (self.new.end ≡ self.old.end + self.old.staged) }
+        ensures end_err { OnErr result (self.new.end ≡ self.old.end) }
+        ensures grown { OnOk result (D.is_honest self.old.disk
+            → committed D.state self.new ≡ committed D.state self.old ++ staged_bytes D.state self.old) }
+        ensures front { D.is_honest self.old.disk
+            → take self.old.end (D.state self.new.disk).contents ≡ committed D.state self.old }
+
+        // Every image since the call began commits to the bytes before, without the staged ones or with them; in the end
+        // with them.
+        ensures any_moment { D.is_honest self.old.disk → LeavesOnly D.moment D.images_since self.old.disk self.new.disk
+            (CommitsToEither (committed D.state self.old) (staged_bytes D.state self.old)) }
+        ensures only { OnOk result (D.is_honest self.old.disk → EachImage (D.state self.new.disk)
+            (CommitsTo (committed D.state self.old ++ staged_bytes D.state self.old))) }
+        ensures honest { D.is_honest self.old.disk ↔ D.is_honest self.new.disk }
+        ensures cause { HasCause (D.failures self.old.disk) (D.failures self.new.disk) result }
+    {
+        self.failed = true;
+        commit_staged(&mut self.disk, self.end, self.staged)?;
+        self.end += self.staged;
+        self.staged = 0;
+        self.whole = false;
+        self.failed = false;
+        Ok(())
+    }
+
+    /// Cuts the file to its committed bytes and syncs. After a fault the disk is given back: opening finds the same bytes.
+    pub fn seal(self) -> Result<D, (DiskFault, D)>
+        requires good { self.failed ≡ false }
+        requires none { self.staged ≡ 0 }
+
+        ensures sealed { IfOk result (λ disk. D.is_honest self.disk
+            → IsSettled (D.state disk) × ((D.state disk).contents ≡ committed D.state self)) }
+        ensures front { IfErr result (λ e. D.is_honest self.disk
+            → take self.end (D.state e.1).contents ≡ committed D.state self) }
+
+        // Every image since the call began commits to the same bytes.
+        ensures any_moment { IfOk result (λ disk. D.is_honest self.disk
+            → LeavesOnly D.moment D.images_since self.disk disk (CommitsTo (committed D.state self))) }
+        ensures any_moment_err { IfErr result (λ e. D.is_honest self.disk
+            → LeavesOnly D.moment D.images_since self.disk e.1 (CommitsTo (committed D.state self))) }
+        ensures honest { IfOk result (λ disk. D.is_honest self.disk ↔ D.is_honest disk) }
+        ensures honest_err { IfErr result (λ e. D.is_honest self.disk ↔ D.is_honest e.1) }
+        ensures later { IfOk result (λ disk. D.failures self.disk ≤ D.failures disk) }
+        ensures cause { IfErr result (λ e. (D.failures self.disk < D.failures e.1) ⊎ (D.failures e.1 ≡ 2 ^ 64 - 1)) }
+    {
+        let GateFile { mut disk, end, .. } = self;
+        match cut_behind(&mut disk, end) {
+            Ok(()) => Ok(disk),
+            Err(fault) => Err((fault, disk)),
+        }
+    }
+}

@@ -1,0 +1,170 @@
+//! Where the committed bytes of a file end: one sync, and one pass over its pages.
+ghost use Rattle.std.specs.Prelude.{◌≡◌, ◌≢◌, ◌↔◌, ◌⊎◌, ◌+◌, ◌-◌, ◌^◌, ◌<◌, ◌≤◌, ℕ, length, take, drop, slice_index, OnOk, IfOk, IfErr, IsTrue, List, Err};
+ghost use Rattle.disk_model.specs.Image.{IsImage, IsSettled};
+ghost use Rattle.disk_model.specs.Clock.{LeavesOnly};
+ghost use Rattle.disk_model.specs.Fault.{HasCause};
+ghost use Rattle.ogg_page.specs.declared.fault.PageFault.{PageFault as PageFaultOf};
+ghost use Rattle.ogg_page.specs.Page.{Page as PageValue, bytes_of_pages};
+ghost use Rattle.ogg_page.specs.declared.fault.WindowFault.TheVariants.{Source as SourceVariant};
+ghost use Rattle.gate_file.specs.Reading.{OnlyReads};
+ghost use Rattle.gate_file.specs.Visiting.{EndsAfter, all_of};
+ghost use Rattle.gate_file.specs.Found.{HasEnd, HasSeen, IsDamagedAt, found_bytes};
+
+use crate::source::DiskSource;
+use crate::steps::{CAPTURE, settle};
+use crate::visiting::{Nobody, walk};
+use crate::{Found, GateFile, Memory, OpenFault, PageVisitor};
+use disk_model::{Disk, DiskFault};
+use ogg_page::{PageBuffer, Window, WindowFault};
+use std::alloc::Global;
+
+impl<D: Disk> GateFile<D> {
+    /// Syncs, and finds where the committed bytes end. It writes nothing. It reads the file once, and takes memory for one
+    /// page. The faults are `Disk`, `Page` and `Memory`; after `Memory` no call of the disk was made.
+    pub fn find(alloc: Global, disk: D) -> Result<Found<D>, (OpenFault, D)>
+        ensures same { IfOk result (λ found. D.is_honest disk
+            → (D.state found.disk).contents ≡ (D.state disk).contents) }
+        ensures damaged { IfErr result (λ e. (offset : ℕ) (fault : PageFaultOf) → e.0 ≡ OpenFault.Page offset fault
+            → D.is_honest disk → IsDamagedAt (D.state disk).contents offset fault × IsSettled (D.state e.1)
+            × ((D.state e.1).contents ≡ (D.state disk).contents)) }
+        ensures memory { IfErr result (λ e. e.0 ≡ OpenFault.Memory → e.1 ≡ disk) }
+        ensures faults { IfErr result (λ e. (e.0 ≡ OpenFault.Disk) ⊎ ((e.0 ≡ OpenFault.Memory)
+            ⊎ ((offset : ℕ) × (fault : PageFaultOf) × (e.0 ≡ OpenFault.Page offset fault)))) }
+
+        // Every image since the call began is one of those at its start.
+        ensures any_moment { IfOk result (λ found. D.is_honest disk
+            → LeavesOnly D.moment D.images_since disk found.disk (IsImage (D.state disk))) }
+        ensures any_moment_err { IfErr result (λ e. D.is_honest disk
+            → LeavesOnly D.moment D.images_since disk e.1 (IsImage (D.state disk))) }
+        ensures honest { IfOk result (λ found. D.is_honest disk ↔ D.is_honest found.disk) }
+        ensures honest_err { IfErr result (λ e. D.is_honest disk ↔ D.is_honest e.1) }
+        ensures later { IfOk result (λ found. D.failures disk ≤ D.failures found.disk) }
+        ensures cause { IfErr result (λ e. (D.failures disk ≤ D.failures e.1)
+            × (e.0 ≡ OpenFault.Disk → (D.failures disk < D.failures e.1) ⊎ (D.failures e.1 ≡ 2 ^ 64 - 1))) }
+    {
+        let buffer = match PageBuffer::new(alloc) {
+            Ok(buffer) => buffer,
+            Err(Memory) => return Err((OpenFault::Memory, disk)),
+        };
+        match GateFile::find_with(disk, buffer, &mut Nobody) {
+            Ok((found, _)) => Ok(found),
+            Err(fault) => Err(fault),
+        }
+    }
+
+    /// Finds where the committed bytes end, as `find` does, and shows each page to the visitor as it passes, in the same
+    /// pass. The buffer is given back. Every page has passed before a fault `Page` is answered, and `Memory` isn't.
+    pub fn find_with<V: PageVisitor>(
+        disk: D,
+        buffer: PageBuffer,
+        visitor: &mut V,
+    ) -> Result<(Found<D>, PageBuffer), (OpenFault, D)>
+        ensures same { IfOk result (λ found. D.is_honest disk
+            → (D.state found.0.disk).contents ≡ (D.state disk).contents) }
+        ensures seen { IfOk result (λ found. D.is_honest disk
+            → HasSeen V.sees visitor.old visitor.new (found_bytes D.state found.0)) }
+        ensures damaged { IfErr result (λ e. (offset : ℕ) (fault : PageFaultOf) → e.0 ≡ OpenFault.Page offset fault
+            → D.is_honest disk → IsDamagedAt (D.state disk).contents offset fault × IsSettled (D.state e.1)
+            × ((D.state e.1).contents ≡ (D.state disk).contents)) }
+        ensures faults { IfErr result (λ e. (e.0 ≡ OpenFault.Disk)
+            ⊎ ((offset : ℕ) × (fault : PageFaultOf) × (e.0 ≡ OpenFault.Page offset fault))) }
+        ensures any_moment { IfOk result (λ found. D.is_honest disk
+            → LeavesOnly D.moment D.images_since disk found.0.disk (IsImage (D.state disk))) }
+        ensures any_moment_err { IfErr result (λ e. D.is_honest disk
+            → LeavesOnly D.moment D.images_since disk e.1 (IsImage (D.state disk))) }
+        ensures honest { IfOk result (λ found. D.is_honest disk ↔ D.is_honest found.0.disk) }
+        ensures honest_err { IfErr result (λ e. D.is_honest disk ↔ D.is_honest e.1) }
+        ensures later { IfOk result (λ found. D.failures disk ≤ D.failures found.0.disk) }
+        ensures cause { IfErr result (λ e. (D.failures disk ≤ D.failures e.1)
+            × (e.0 ≡ OpenFault.Disk → (D.failures disk < D.failures e.1) ⊎ (D.failures e.1 ≡ 2 ^ 64 - 1))) }
+    {
+        let mut disk = disk;
+        let size = match measure(&mut disk) {
+            Ok(size) => size,
+            Err(DiskFault) => return Err((OpenFault::Disk, disk)),
+        };
+        let mut window = Window::new(DiskSource::of(disk, size), buffer, 0, size);
+        let walked = walk(&mut window, visitor);
+        let (source, buffer) = window.into_parts();
+        let mut disk = source.into_disk();
+        match end_of(&mut disk, size, walked) {
+            Ok((end, closed)) => Ok((Found::at(disk, end, size - end, closed), buffer)),
+            Err(fault) => Err((fault, disk)),
+        }
+    }
+}
+
+/// Syncs, and asks how long the disk is.
+fn measure<D: Disk>(disk: &mut D) -> Result<u64, DiskFault>
+    ensures ok { IfOk result (λ size. D.is_honest disk.old → IsSettled (D.state disk.new)
+        × ((D.state disk.new).contents ≡ (D.state disk.old).contents)
+        × (length (D.state disk.old).contents ≡ size)) }
+    ensures short { IfOk result (λ size. size < 2 ^ 63) }
+    ensures any_moment { D.is_honest disk.old → LeavesOnly D.moment D.images_since disk.old disk.new
+        (IsImage (D.state disk.old)) }
+    ensures honest { D.is_honest disk.old ↔ D.is_honest disk.new }
+    ensures cause { HasCause (D.failures disk.old) (D.failures disk.new) result }
+{
+    settle(disk)?;
+    disk.len()
+}
+
+/// Where the committed bytes end and whether a closed byte follows them, by how the walk over their pages ended.
+fn end_of<D: Disk>(
+    disk: &mut D,
+    size: u64,
+    walked: Result<(), WindowFault>,
+) -> Result<(u64, bool), OpenFault>
+    requires size { D.is_honest disk.old → length (D.state disk.old).contents ≡ size }
+    requires settled { D.is_honest disk.old → IsSettled (D.state disk.old) }
+    requires passed { D.is_honest disk.old → (pages : List PageValue) × EndsAfter pages (all_of (D.state disk.old).contents) walked }
+    ensures ends { IfOk result (λ (end, closed). D.is_honest disk.old → HasEnd end (size - end) closed (D.state disk.new)) }
+    ensures pages { IfOk result (λ (end, closed). D.is_honest disk.old → (pages : List PageValue)
+        → EndsAfter pages (all_of (D.state disk.old).contents) walked
+        → take end (D.state disk.new).contents ≡ bytes_of_pages pages) }
+    ensures inside { IfOk result (λ (end, closed). end ≤ size) }
+    ensures damaged { IfErr result (λ e. (offset : ℕ) (fault : PageFaultOf) → e ≡ OpenFault.Page offset fault
+        → D.is_honest disk.old → IsDamagedAt (D.state disk.old).contents offset fault) }
+    ensures faults { IfErr result (λ e. (e ≡ OpenFault.Disk)
+        ⊎ ((offset : ℕ) × (fault : PageFaultOf) × (e ≡ OpenFault.Page offset fault))) }
+    ensures reads { OnlyReads D.is_honest D.state D.moment D.images_since disk.old disk.new }
+    ensures later { D.failures disk.old ≤ D.failures disk.new }
+    ensures cause { IfErr result (λ e. e ≡ OpenFault.Disk → (walked ≡ Err SourceVariant)
+        ⊎ ((D.failures disk.old < D.failures disk.new) ⊎ (D.failures disk.new ≡ 2 ^ 64 - 1))) }
+{
+    match walked {
+        Ok(()) => Ok((size, false)),
+        Err(wrong) => match wrong {
+            WindowFault::Source => Err(OpenFault::Disk),
+            WindowFault::Page(place, fault) => {
+                // Of a disk that isn't honest nothing is known, so its place may lie anywhere.
+                let at = place.min(size);
+                match begins_page(disk, at) {
+                    Ok(false) => Ok((at, true)),
+                    Ok(true) => {
+                        // One byte alone is what a stop may leave behind the committed ones.
+                        if size - at > 1 {
+                            Err(OpenFault::Page(at, fault))
+                        } else {
+                            Ok((at, false))
+                        }
+                    }
+                    Err(DiskFault) => Err(OpenFault::Disk),
+                }
+            }
+        },
+    }
+}
+
+/// Whether the byte at this place is the one that a page begins with.
+fn begins_page<D: Disk>(disk: &mut D, at: u64) -> Result<bool, DiskFault>
+    requires { D.is_honest disk.old → at < length (D.state disk.old).contents }
+    ensures capture { IfOk result (λ is. D.is_honest disk.old
+        → IsTrue is ↔ (slice_index (D.state disk.old).contents at ≡ 0x4F)) }
+    ensures reads { OnlyReads D.is_honest D.state D.moment D.images_since disk.old disk.new }
+    ensures cause { HasCause (D.failures disk.old) (D.failures disk.new) result }
+{
+    let mut byte = [0];
+    disk.read_at(at, &mut byte)?;
+    Ok(byte[0] == CAPTURE)
+}

@@ -1,0 +1,168 @@
+//! A file whose committed bytes were found.
+ghost use Rattle.std.specs.Prelude.{◌≡◌, ◌↔◌, ◌⊎◌, ◌+◌, ◌-◌, ◌^◌, ◌<◌, ◌≤◌, ℕ, length, take, drop, true, false, OnOk, IfOk, IfErr, IsTrue};
+ghost use Rattle.disk_model.specs.Clock.{LeavesOnly};
+ghost use Rattle.disk_model.specs.Fault.{HasCause};
+ghost use Rattle.gate_file.specs.Commit.{CommitsTo};
+ghost use Rattle.gate_file.specs.Found.{FoundState, HasEnd, found_bytes, found_state};
+ghost use Rattle.gate_file.specs.Gate.{IsReadyAt};
+ghost use Rattle.gate_file.specs.GateFile.{committed, gate_state};
+ghost use Rattle.gate_file.specs.Reading.{OnlyReads, nothing_read, reads_then};
+
+use crate::steps::write_synced;
+use crate::{GateFile, OpenFault};
+use disk_model::{Disk, DiskFault};
+use ogg_page::{PageSource, SourceFault};
+use std::marker::Model;
+
+/// A disk whose committed bytes were found. It is read as a source of their pages, and made ready for writing.
+#[derive(Drop)]
+pub struct Found<D: Disk> {
+    disk: D,
+    end: u64,
+    tail: u64,
+    closed: bool,
+}
+
+impl<D: Disk> Model for Found<D> {
+    ghost use Rattle.gate_file.specs.Found.{FoundState, IsFound, found_state};
+
+    ghost Value = { FoundState D };
+
+    ghost view = { λ f. found_state f.disk f.end f.tail f.closed };
+
+    ghost invariant = { λ f. IsFound D.is_honest D.state (found_state f.disk f.end f.tail f.closed) };
+}
+
+impl<D: Disk> Found<D> {
+    ghost use Rattle.gate_file.specs.Found.{FoundState, HasEnd, found_bytes, found_state};
+
+    /// The committed bytes end here, and so many follow.
+    pub(crate) fn at(disk: D, end: u64, tail: u64, closed: bool) -> Found<D>
+        requires short { end + tail < 2 ^ 63 }
+        requires ends { D.is_honest disk → HasEnd end tail closed (D.state disk) }
+        ensures { result ≡ found_state disk end tail closed }
+    {
+        Found {
+            disk,
+            end,
+            tail,
+            closed,
+        }
+    }
+
+    /// The length of the committed bytes.
+    pub fn end(&self) -> u64
+        ensures { result ≡ self.now.end }
+    {
+        self.end
+    }
+
+    /// How many bytes follow them. They aren't part of the file's pages, and the next append writes over them.
+    pub fn tail(&self) -> u64
+        ensures { result ≡ self.now.tail }
+    {
+        self.tail
+    }
+
+    /// The disk as it stands.
+    pub fn give_back(self) -> D
+        ensures { result ≡ self.disk }
+    {
+        self.disk
+    }
+
+    /// Fills the buffer with committed bytes from `from` on. If the read fails the buffer may hold anything.
+    pub fn read(&mut self, from: u64, buffer: &mut [u8]) -> Result<(), DiskFault>
+        requires { from + length buffer.old ≤ self.old.end }
+        ensures read { OnOk result (D.is_honest self.old.disk
+            → buffer.new ≡ take (length buffer.old) (drop from (found_bytes D.state self.old))) }
+        ensures reads { OnlyReads D.is_honest D.state D.moment D.images_since self.old.disk self.new.disk }
+        ensures same { self.new ≡ found_state self.new.disk self.old.end self.old.tail self.old.closed }
+        ensures cause { HasCause (D.failures self.old.disk) (D.failures self.new.disk) result }
+    {
+        self.disk.read_at(from, buffer)
+    }
+
+    /// Makes the file ready for pages: where no closed byte follows the committed bytes, one byte 00 is written there and
+    /// synced. Otherwise no call of the disk is made. The one fault is `Disk`, and opening then finds the same bytes.
+    pub fn ready(self) -> Result<GateFile<D>, (OpenFault, D)>
+        ensures ready { IfOk result (λ file. file ≡ gate_state file.disk self.end 0 false false) }
+        ensures same { IfOk result (λ file. D.is_honest self.disk
+            → committed D.state file ≡ found_bytes D.state self) }
+        ensures front { IfErr result (λ e. D.is_honest self.disk
+            → take self.end (D.state e.1).contents ≡ found_bytes D.state self) }
+
+        // Every image since the call began commits to the bytes that were found.
+        ensures any_moment { IfOk result (λ file. D.is_honest self.disk
+            → LeavesOnly D.moment D.images_since self.disk file.disk (CommitsTo (found_bytes D.state self))) }
+        ensures any_moment_err { IfErr result (λ e. D.is_honest self.disk
+            → LeavesOnly D.moment D.images_since self.disk e.1 (CommitsTo (found_bytes D.state self))) }
+        ensures honest { IfOk result (λ file. D.is_honest self.disk ↔ D.is_honest file.disk) }
+        ensures honest_err { IfErr result (λ e. D.is_honest self.disk ↔ D.is_honest e.1) }
+        ensures later { IfOk result (λ file. D.failures self.disk ≤ D.failures file.disk) }
+        ensures cause { IfErr result (λ e. (e.0 ≡ OpenFault.Disk)
+            × ((D.failures self.disk < D.failures e.1) ⊎ (D.failures e.1 ≡ 2 ^ 64 - 1))) }
+    {
+        let Found {
+            mut disk,
+            end,
+            closed,
+            ..
+        } = self;
+        match close_behind(&mut disk, end, closed) {
+            Ok(()) => Ok(GateFile::at(disk, end)),
+            Err(DiskFault) => Err((OpenFault::Disk, disk)),
+        }
+    }
+}
+
+/// Writes a closed byte behind the committed bytes, where there is none.
+fn close_behind<D: Disk>(disk: &mut D, end: u64, closed: bool) -> Result<(), DiskFault>
+    requires ends { D.is_honest disk.old → (tail : ℕ) × HasEnd end tail closed (D.state disk.old) }
+    ensures ready { OnOk result (D.is_honest disk.old → IsReadyAt end (D.state disk.new)) }
+    ensures front { D.is_honest disk.old
+        → take end (D.state disk.new).contents ≡ take end (D.state disk.old).contents }
+    ensures any_moment { D.is_honest disk.old → LeavesOnly D.moment D.images_since disk.old disk.new
+        (CommitsTo (take end (D.state disk.old).contents)) }
+    ensures honest { D.is_honest disk.old ↔ D.is_honest disk.new }
+    ensures cause { HasCause (D.failures disk.old) (D.failures disk.new) result }
+{
+    if !closed {
+        write_synced(disk, end, &[0])?;
+    }
+    Ok(())
+}
+
+impl<D: Disk> PageSource for Found<D> {
+    ghost use Rattle.std.specs.Prelude.{◌≡◌, ◌≤◌, length, take};
+    ghost use Rattle.gate_file.specs.Found.{found_bytes};
+    ghost use Rattle.gate_file.specs.Reading.{OnlyReads, nothing_read, reads_then};
+
+    ghost bytes = { λ f. found_bytes D.state f };
+
+    ghost size = { λ f. f.end };
+
+    ghost is_honest = { λ f. D.is_honest f.disk × (length (found_bytes D.state f) ≡ f.end) };
+
+    ghost failures = { λ f. D.failures f.disk };
+
+    ghost only_reads = { λ old new. OnlyReads D.is_honest D.state D.moment D.images_since old.disk new.disk };
+
+    fn end(&self) -> u64 {
+        self.end
+    }
+
+    fn read_at(&mut self, at: u64, buffer: &mut [u8]) -> Result<(), SourceFault> {
+        match self.disk.read_at(at, buffer) {
+            Ok(()) => Ok(()),
+            Err(_) => Err(SourceFault),
+        }
+    }
+
+    ghost fits = { λ f h. h.1 };
+
+    ghost reads_nothing = { λ f. nothing_read D.is_honest D.state D.moment D.images_since f.disk
+        (λ h image since. (D.laws f.disk h).only_now image since) };
+
+    ghost reads_on = { λ a b c first second. reads_then D.is_honest D.state D.moment D.images_since a.disk b.disk c.disk first second };
+}

@@ -1,0 +1,81 @@
+//! Pages are staged: they lie on the disk behind a closed byte, and no stop shows them.
+ghost use Rattle.std.specs.Prelude.{◌≡◌, ◌≢◌, ◌↔◌, ◌+◌, ◌-◌, ◌^◌, ◌<◌, ◌≤◌, ◌++◌, [], length, take, OnOk};
+ghost use Rattle.disk_model.specs.Clock.{LeavesOnly};
+ghost use Rattle.disk_model.specs.Fault.{HasCause};
+ghost use Rattle.gate_file.specs.Commit.{CommitsTo, ArePages};
+ghost use Rattle.gate_file.specs.Gate.{IsAppend, IsStaged, IsStagedWhole, HasStaged, LiesBehind, pages_in, staged_in};
+
+use crate::steps::write_behind;
+use disk_model::{Disk, DiskFault};
+
+/// Stages pages behind those that are staged.
+pub(crate) fn stage_pages<D: Disk>(
+    disk: &mut D,
+    end: u64,
+    staged: u64,
+    pages: &[u8],
+) -> Result<(), DiskFault>
+    requires pages { ArePages pages.now }
+    requires some { pages.now ≢ [] }
+    requires short { end + staged < 2 ^ 63 }
+    requires staged { D.is_honest disk.old → IsStaged end staged (D.state disk.old) }
+    ensures staged { OnOk result (D.is_honest disk.old
+        → HasStaged end staged (length pages.now) pages.now (D.state disk.old) (D.state disk.new)) }
+    ensures short { OnOk result (end + staged + length pages.now < 2 ^ 63) }
+    ensures front { D.is_honest disk.old
+        → take end (D.state disk.new).contents ≡ take end (D.state disk.old).contents }
+    ensures any_moment { D.is_honest disk.old → LeavesOnly D.moment D.images_since disk.old disk.new
+        (CommitsTo (take end (D.state disk.old).contents)) }
+    ensures honest { D.is_honest disk.old ↔ D.is_honest disk.new }
+    ensures cause { HasCause (D.failures disk.old) (D.failures disk.new) result }
+{
+    write_next(disk, end, staged, pages)
+}
+
+/// Stages the last pages, which one byte 00 follows in the slice and on the disk.
+pub(crate) fn stage_last_pages<D: Disk>(
+    disk: &mut D,
+    end: u64,
+    staged: u64,
+    bytes: &[u8],
+) -> Result<(), DiskFault>
+    requires pages { IsAppend bytes.now }
+    requires short { end + staged < 2 ^ 63 }
+    requires staged { D.is_honest disk.old → IsStaged end staged (D.state disk.old) }
+    ensures staged { OnOk result (D.is_honest disk.old → HasStaged end staged (length bytes.now - 1)
+        (pages_in bytes.now) (D.state disk.old) (D.state disk.new)) }
+    ensures whole { OnOk result (D.is_honest disk.old
+        → IsStagedWhole end (staged + (length bytes.now - 1)) (D.state disk.new)) }
+    ensures short { OnOk result (end + staged + length bytes.now < 2 ^ 63) }
+    ensures front { D.is_honest disk.old
+        → take end (D.state disk.new).contents ≡ take end (D.state disk.old).contents }
+    ensures any_moment { D.is_honest disk.old → LeavesOnly D.moment D.images_since disk.old disk.new
+        (CommitsTo (take end (D.state disk.old).contents)) }
+    ensures honest { D.is_honest disk.old ↔ D.is_honest disk.new }
+    ensures cause { HasCause (D.failures disk.old) (D.failures disk.new) result }
+{
+    write_next(disk, end, staged, bytes)
+}
+
+/// Writes behind what is staged, over the closed byte where one follows it. Of all staged bytes the first is left out:
+/// its place is that of the closed byte behind the committed ones.
+fn write_next<D: Disk>(disk: &mut D, end: u64, staged: u64, bytes: &[u8]) -> Result<(), DiskFault>
+    requires some { 0 < length bytes.now }
+    requires short { end + staged < 2 ^ 63 }
+    requires staged { D.is_honest disk.old → IsStaged end staged (D.state disk.old) }
+    ensures written { OnOk result (D.is_honest disk.old → LiesBehind (take end (D.state disk.old).contents)
+        (staged_in end staged (D.state disk.old).contents ++ bytes.now) (D.state disk.new)) }
+    ensures short { OnOk result (end + staged + length bytes.now < 2 ^ 63) }
+    ensures front { D.is_honest disk.old
+        → take end (D.state disk.new).contents ≡ take end (D.state disk.old).contents }
+    ensures any_moment { D.is_honest disk.old → LeavesOnly D.moment D.images_since disk.old disk.new
+        (CommitsTo (take end (D.state disk.old).contents)) }
+    ensures honest { D.is_honest disk.old ↔ D.is_honest disk.new }
+    ensures cause { HasCause (D.failures disk.old) (D.failures disk.new) result }
+{
+    if staged == 0 {
+        write_behind(disk, end + 1, end + 1, &bytes[1..])
+    } else {
+        write_behind(disk, end + 1, end + staged, bytes)
+    }
+}
