@@ -1,124 +1,152 @@
 -- What reading a record says of the reader's bytes.
-use Rattle.std.proofs.Common.{◌≡◌, ◌≢◌, ℕ, ◌+◌, ◌<◌, ◌≤◌, List, [], ◌∷◌, ◌++◌, ◌⊎◌, inl, inr, length, refl, sym, ap, ◌∙◌, subst, arith, append_assoc, append-nil, length-append, Option, None, Some, true, false}
-use Rattle.std.specs.Prelude.{nat_lt}
+use Rattle.std.proofs.Common.{◌≡◌, ◌≢◌, ℕ, ◌+◌, ◌<◌, ◌≤◌, List, [], ◌∷◌, ◌++◌, ◌⊎◌, inl, inr, length, refl, sym, ap, ◌∙◌, subst, arith, append_assoc, append-nil, length-append, Bool, Option, None, Some, true, false}
+use Rattle.std.specs.Prelude.{nat_lt, IfNone}
 use Rattle.std.proofs.lemmas.Bool.{lt-ltb, le-ltb}
-use Rattle.std.specs.Io.KnownBytes.{Consumes}
-use Rattle.std.proofs.KnownBytes.{Consumes-trans}
-use Rattle.ogg_command.specs.Command.{IsCommand}
-use Rattle.ogg_command.specs.declared.command.Command.{Command}
+use Rattle.std.specs.Io.KnownBytes.{Consumes, Keeps, IsAtEnd}
+use Rattle.std.proofs.KnownBytes.{Consumes-nil, Consumes-trans}
 use Rattle.ogg_command.specs.declared.command.Command.TheVariants.{Begin as BeginOf, Put as PutOf, End as EndOf}
 use Rattle.ogg_page.specs.Numbers.{u32_bytes}
-use Rattle.feed_codec.specs.Record.{HasRecord, FitsFields, record_of, payload_of, kind_of, most_payload}
+use Rattle.feed_codec.specs.declared.version.Version.{Version}
+use Rattle.feed_codec.specs.declared.version.Version.TheVariants.{One, Two}
+use Rattle.feed_codec.specs.declared.item.Record.{Record as RecordOf}
+use Rattle.feed_codec.specs.declared.item.Record.TheVariants.{Command as CommandOf, Flush}
+use Rattle.feed_codec.specs.declared.item.Item.{Item}
+use Rattle.feed_codec.specs.declared.item.Item.TheVariants.{Announcement, Record as RecordItem}
+use Rattle.feed_codec.specs.Record.{HasItem, announcement, item_bytes, kind_in, most_payload, payload_in}
 use Rattle.feed_codec.specs.RecordKind.{number_of}
-use Rattle.feed_codec.specs.Feed.{HasFault, TakesWhereMemoryEnds, head_fault, payload_length}
-use Rattle.feed_codec.specs.Reading.{HasHeadFault, IsShort, head_bytes}
-use Rattle.feed_codec.specs.Payload.{IsPayload}
-use Rattle.feed_codec.specs.declared.record.Head.{Head}
-use Rattle.feed_codec.specs.declared.record.RecordKind.{RecordKind}
-use Rattle.feed_codec.specs.declared.record.RecordKind.TheVariants.{Begin, Put, End}
+use Rattle.feed_codec.specs.Feed.{GivesEnd, HasFaultAt, HasItemFault, TakesItemPart, head_fault, is_kind, payload_length}
+use Rattle.feed_codec.specs.Reading.{HasHeadFault, IsHead, IsShort, head_bytes}
+use Rattle.feed_codec.specs.Payload.{IsItem, IsPayload}
+use Rattle.feed_codec.specs.declared.head.Head.{Head}
+use Rattle.feed_codec.specs.declared.head.RecordKind.{RecordKind}
+use Rattle.feed_codec.specs.declared.head.RecordKind.TheVariants.{Announcement as AnnouncementKind, Begin, Put, End, Flush as FlushKind}
 use Rattle.feed_codec.specs.declared.fault.FeedFault.{FeedFault}
 use Rattle.feed_codec.specs.declared.fault.FeedFault.TheVariants.{Truncated, Form, Read, Memory}
 use Rattle.ogg_page.specs.Laws.Prefixes.{same_fronts}
 use Rattle.ogg_page.specs.Laws.NumberBytes.{same_u32, length-u32_bytes}
 use Rattle.feed_codec.proofs.HeadFacts.{head_is_fine, length_field}
+use Rattle.feed_codec.proofs.Spellings.{is_item, payload_fits}
 
-kind_with : (command : Command) → (kind : RecordKind) × (number_of kind ≡ kind_of command)
-kind_with (BeginOf begin) = (Begin, refl)
-kind_with (PutOf put) = (Put, refl)
-kind_with (EndOf serial) = (End, refl)
+kind_with : (item : Item) → (kind : RecordKind) × (number_of kind ≡ kind_in item)
+kind_with Announcement = (AnnouncementKind, refl)
+kind_with (RecordItem (CommandOf (BeginOf begin))) = (Begin, refl)
+kind_with (RecordItem (CommandOf (PutOf put))) = (Put, refl)
+kind_with (RecordItem (CommandOf (EndOf serial))) = (End, refl)
+kind_with (RecordItem Flush) = (FlushKind, refl)
 
--- a record in its three parts, with what follows
-record_parts : (command : Command) (rest : List ℕ) → record_of command ++ rest ≡ kind_of command ∷ (u32_bytes (length (payload_of command)) ++ (payload_of command ++ rest))
-unfolding record_of
-record_parts command rest = ap (λ l. kind_of command ∷ l) (append_assoc (u32_bytes (length (payload_of command))) (payload_of command) rest)
+-- the kind of what may stand there may stand there
+kind_allowed : (first : Bool) (v : Version) (item : Item) → HasItem first v item → is_kind first (kind_in item) ≡ true
+kind_allowed true v Announcement h = refl
+kind_allowed false v Announcement h = cc h
+kind_allowed true v (RecordItem (CommandOf (BeginOf begin))) h = refl
+kind_allowed true v (RecordItem (CommandOf (PutOf put))) h = refl
+kind_allowed true v (RecordItem (CommandOf (EndOf serial))) h = refl
+kind_allowed true v (RecordItem Flush) h = refl
+kind_allowed false v (RecordItem (CommandOf (BeginOf begin))) h = refl
+kind_allowed false v (RecordItem (CommandOf (PutOf put))) h = refl
+kind_allowed false v (RecordItem (CommandOf (EndOf serial))) h = refl
+kind_allowed false v (RecordItem Flush) h = refl
 
-record_is_fine : (command : Command) (rest : List ℕ) → HasRecord command → head_fault (record_of command ++ rest) ≡ None
-record_is_fine command rest h =
-    let (kind, named) = kind_with command in
-    ap head_fault (record_parts command rest ∙ ap (λ k. k ∷ (u32_bytes (length (payload_of command)) ++ (payload_of command ++ rest))) (sym named))
-    ∙ head_is_fine kind (length (payload_of command)) (payload_of command ++ rest) h.fits.payload
+-- an item in its three parts, with what follows
+record_parts : (v : Version) (item : Item) (rest : List ℕ) → item_bytes v item ++ rest ≡ kind_in item ∷ (u32_bytes (length (payload_in v item)) ++ (payload_in v item ++ rest))
+unfolding item_bytes
+record_parts v item rest = ap (λ l. kind_in item ∷ l) (append_assoc (u32_bytes (length (payload_in v item))) (payload_in v item) rest)
 
-pub fault_of_head : (known : Option (List ℕ)) (fault : FeedFault) → HasHeadFault known fault → HasFault known fault
-fault_of_head None fault h = tt
-fault_of_head (Some bytes) fault (some, found) = (
+record_is_fine : (first : Bool) (v : Version) (item : Item) (rest : List ℕ) → HasItem first v item → head_fault first (item_bytes v item ++ rest) ≡ None
+record_is_fine first v item rest h =
+    let (kind, named) = kind_with item in
+    ap (head_fault first) (record_parts v item rest ∙ ap (λ k. k ∷ (u32_bytes (length (payload_in v item)) ++ (payload_in v item ++ rest))) (sym named))
+    ∙ head_is_fine first kind (length (payload_in v item)) (payload_in v item ++ rest) (ap (is_kind first) named ∙ kind_allowed first v item h) (payload_fits first v item h)
+
+pub fault_of_head : (first : Bool) (v : Version) (known : Option (List ℕ)) (fault : FeedFault) → HasHeadFault first known fault → HasItemFault first v known fault
+fault_of_head first v None fault h = tt
+fault_of_head first v (Some bytes) fault (some, found) = (
   some,
-  λ command rest h e. let fine = record_is_fine command rest h in let both = sym found ∙ ap head_fault e ∙ fine in cc both,
+  λ item rest h e. let fine = record_is_fine first v item rest h in let both = sym found ∙ ap (head_fault first) e ∙ fine in cc both,
   rw found refl,
 )
 
 -- the record that begins these bytes has this head
-record_at : (kind : RecordKind) (n : ℕ) (behind : List ℕ) (command : Command) (rest : List ℕ) → n ≤ most_payload → HasRecord command
-    → number_of kind ∷ (u32_bytes n ++ behind) ≡ record_of command ++ rest → (kind_of command ≡ number_of kind) × (n ≡ length (payload_of command)) × (behind ≡ payload_of command ++ rest)
-record_at kind n behind command rest fits h e =
-    let whole = e ∙ record_parts command rest in
-    let kinds : number_of kind ≡ kind_of command = cc whole in
-    let tails : u32_bytes n ++ behind ≡ u32_bytes (length (payload_of command)) ++ (payload_of command ++ rest) = cc whole in
-    let sizes = same_u32 n (length (payload_of command)) behind (payload_of command ++ rest) (omega (arith, fits)) (omega (arith, h.fits.payload)) tails in
+record_at : (first : Bool) (v : Version) (kind : RecordKind) (n : ℕ) (behind : List ℕ) (item : Item) (rest : List ℕ) → n ≤ most_payload → HasItem first v item
+    → number_of kind ∷ (u32_bytes n ++ behind) ≡ item_bytes v item ++ rest → (kind_in item ≡ number_of kind) × (n ≡ length (payload_in v item)) × (behind ≡ payload_in v item ++ rest)
+record_at first v kind n behind item rest fits h e =
+    let whole = e ∙ record_parts v item rest in
+    let kinds : number_of kind ≡ kind_in item = cc whole in
+    let tails : u32_bytes n ++ behind ≡ u32_bytes (length (payload_in v item)) ++ (payload_in v item ++ rest) = cc whole in
+    let sizes = same_u32 n (length (payload_in v item)) behind (payload_in v item ++ rest) (omega (arith, fits)) (omega (arith, payload_fits first v item h)) tails in
     (sym kinds, sizes.0, sizes.1)
 
-short_record : (kind : RecordKind) (n : ℕ) (behind : List ℕ) → n ≤ most_payload → length behind < n → HasFault (Some (number_of kind ∷ (u32_bytes n ++ behind))) Truncated
-short_record kind n behind fits short =
+short_record : (first : Bool) (v : Version) (kind : RecordKind) (n : ℕ) (behind : List ℕ) → is_kind first (number_of kind) ≡ true → n ≤ most_payload → length behind < n → HasFaultAt first v (number_of kind ∷ (u32_bytes n ++ behind)) Truncated
+short_record first v kind n behind named fits short =
     let bytes : List ℕ = number_of kind ∷ (u32_bytes n ++ behind) in
-    let fine : head_fault bytes ≡ None = head_is_fine kind n behind fits in
+    let fine : head_fault first bytes ≡ None = head_is_fine first kind n behind named fits in
     let size : payload_length bytes ≡ n = length_field (number_of kind) n behind (omega (arith, fits)) in
     let cut : nat_lt (length bytes) (5 + payload_length bytes) ≡ true =
     lt-ltb (length bytes) (5 + payload_length bytes) (omega (arith, size, short, length-append (u32_bytes n) behind, length-u32_bytes n)) in (
       (λ e. cc e),
-      (λ command rest h e. let found = record_at kind n behind command rest fits h e in omega (arith, short, found.1, ap length found.2, length-append (payload_of command) rest)),
+      (λ item rest h e. let found = record_at first v kind n behind item rest fits h e in omega (arith, short, found.1, ap length found.2, length-append (payload_in v item) rest)),
       rw (fine, cut) refl,
     )
 
-bad_record : (kind : RecordKind) (n : ℕ) (payload more : List ℕ) → n ≤ most_payload → length payload ≡ n → ¬ IsPayload (number_of kind) payload
-    → HasFault (Some (number_of kind ∷ (u32_bytes n ++ (payload ++ more)))) Form
-bad_record kind n payload more fits whole bad =
+bad_record : (first : Bool) (v : Version) (kind : RecordKind) (n : ℕ) (payload more : List ℕ) → is_kind first (number_of kind) ≡ true → n ≤ most_payload → length payload ≡ n → ¬ IsPayload v (number_of kind) payload
+    → HasFaultAt first v (number_of kind ∷ (u32_bytes n ++ (payload ++ more))) Form
+bad_record first v kind n payload more named fits whole bad =
     let bytes : List ℕ = number_of kind ∷ (u32_bytes n ++ (payload ++ more)) in
-    let fine : head_fault bytes ≡ None = head_is_fine kind n (payload ++ more) fits in
+    let fine : head_fault first bytes ≡ None = head_is_fine first kind n (payload ++ more) named fits in
     let size : payload_length bytes ≡ n = length_field (number_of kind) n (payload ++ more) (omega (arith, fits)) in
     let long : nat_lt (length bytes) (5 + payload_length bytes) ≡ false =
     le-ltb (length bytes) (5 + payload_length bytes) (omega (arith, size, whole, length-append (u32_bytes n) (payload ++ more), length-append payload more, length-u32_bytes n)) in (
       (λ e. cc e),
-      (λ command rest h e.
-          let found = record_at kind n (payload ++ more) command rest fits h e in
-          let same = same_fronts payload (payload_of command) more rest (whole ∙ found.1) found.2 in
-          bad (command, h.numbers, h.fits.fields, found.0, sym same.0)),
+      (λ item rest h e.
+          let found = record_at first v kind n (payload ++ more) item rest fits h e in
+          let same = same_fronts payload (payload_in v item) more rest (whole ∙ found.1) found.2 in
+          bad (item, is_item first v item h, found.0, sym same.0)),
       rw (fine, long) refl,
     )
 
-pub short_payload : (old new : Option (List ℕ)) (head : Head) → head.length ≤ most_payload → Consumes old new (head_bytes head) → IsShort new head.length → HasFault old Truncated
-short_payload None new head fits c short = tt
-short_payload (Some bytes) None head fits c short = absurd c
-short_payload (Some bytes) (Some behind) head fits c short =
-    subst (λ l. HasFault (Some l) Truncated) (sym c) (short_record head.kind head.length behind fits short)
+pub short_payload : (first : Bool) (v : Version) (old new : Option (List ℕ)) (head : Head) → IsHead first head → Consumes old new (head_bytes head) → IsShort new head.length → HasItemFault first v old Truncated
+short_payload first v None new head is c short = tt
+short_payload first v (Some bytes) None head is c short = absurd c
+short_payload first v (Some bytes) (Some behind) head is c short =
+    subst (λ l. HasFaultAt first v l Truncated) (sym c) (short_record first v head.kind head.length behind is.kind is.fits short)
 
-pub bad_payload : (old mid new : Option (List ℕ)) (head : Head) (payload : List ℕ) → head.length ≤ most_payload → Consumes old mid (head_bytes head) → Consumes mid new payload
-    → length payload ≡ head.length → ¬ IsPayload (number_of head.kind) payload → HasFault old Form
-bad_payload None mid new head payload fits c d whole bad = tt
-bad_payload (Some bytes) None new head payload fits c d whole bad = absurd c
-bad_payload (Some bytes) (Some behind) None head payload fits c d whole bad = absurd d
-bad_payload (Some bytes) (Some behind) (Some more) head payload fits c d whole bad =
-    subst (λ l. HasFault (Some l) Form) (sym (c ∙ ap (λ l. head_bytes head ++ l) d)) (bad_record head.kind head.length payload more fits whole bad)
+pub bad_payload : (first : Bool) (v : Version) (old mid new : Option (List ℕ)) (head : Head) (payload : List ℕ) → IsHead first head → Consumes old mid (head_bytes head) → Consumes mid new payload
+    → length payload ≡ head.length → ¬ IsPayload v (number_of head.kind) payload → HasItemFault first v old Form
+bad_payload first v None mid new head payload is c d whole bad = tt
+bad_payload first v (Some bytes) None new head payload is c d whole bad = absurd c
+bad_payload first v (Some bytes) (Some behind) None head payload is c d whole bad = absurd d
+bad_payload first v (Some bytes) (Some behind) (Some more) head payload is c d whole bad =
+    subst (λ l. HasFaultAt first v l Form) (sym (c ∙ ap (λ l. head_bytes head ++ l) d)) (bad_record first v head.kind head.length payload more is.kind is.fits whole bad)
 
-pub read_record : (old mid new : Option (List ℕ)) (head : Head) (payload : List ℕ) (command : Command) → head.length ≤ most_payload → Consumes old mid (head_bytes head) → Consumes mid new payload
-    → length payload ≡ head.length → IsCommand command → FitsFields command → kind_of command ≡ number_of head.kind → payload_of command ≡ payload
-    → HasRecord command × Consumes old new (record_of command)
-unfolding record_of
-read_record old mid new head payload command fits c d whole numbers fields kind spelled =
-    let size : length (payload_of command) ≡ head.length = ap length spelled ∙ whole in
-    let record_is : head_bytes head ++ payload ≡ record_of command =
+-- what was read may stand where it stands
+has_item : (first : Bool) (v : Version) (item : Item) (kind : RecordKind) → is_kind first (number_of kind) ≡ true → kind_in item ≡ number_of kind → IsItem v item → length (payload_in v item) ≤ most_payload
+    → HasItem first v item
+has_item true v Announcement kind named same is fits = refl
+has_item false v Announcement kind named same is fits = cc (named, same)
+has_item first v (RecordItem (CommandOf command)) kind named same is fits = record { numbers = is.0; fits = record { fields = is.1; payload = fits } }
+has_item first v (RecordItem Flush) kind named same is fits = tt
+
+pub read_record : (first : Bool) (v : Version) (old mid new : Option (List ℕ)) (head : Head) (payload : List ℕ) (item : Item) → IsHead first head → Consumes old mid (head_bytes head) → Consumes mid new payload
+    → length payload ≡ head.length → IsItem v item → kind_in item ≡ number_of head.kind → payload_in v item ≡ payload
+    → HasItem first v item × Consumes old new (item_bytes v item)
+unfolding item_bytes
+read_record first v old mid new head payload item is c d whole held kind spelled =
+    let size : length (payload_in v item) ≡ head.length = ap length spelled ∙ whole in
+    let record_is : head_bytes head ++ payload ≡ item_bytes v item =
     ap (λ k. k ∷ (u32_bytes head.length ++ payload)) (sym kind)
-    ∙ ap (λ n. kind_of command ∷ (u32_bytes n ++ payload)) (sym size)
-    ∙ ap (λ l. kind_of command ∷ (u32_bytes (length (payload_of command)) ++ l)) (sym spelled) in (
-      record { numbers = numbers; fits = record { fields = fields; payload = omega (arith, size, fits) } },
+    ∙ ap (λ n. kind_in item ∷ (u32_bytes n ++ payload)) (sym size)
+    ∙ ap (λ l. kind_in item ∷ (u32_bytes (length (payload_in v item)) ++ l)) (sym spelled) in (
+      has_item first v item head.kind is.kind kind held (omega (arith, size, is.fits)),
       subst (Consumes old new) record_is (Consumes-trans old mid new (head_bytes head) payload c d),
     )
 
 -- memory was refused where a payload was to be read
-pub no_payload : (old new : Option (List ℕ)) (head : Head) → head.length ≤ most_payload → Consumes old new (head_bytes head) → TakesWhereMemoryEnds old new
-no_payload old new head fits c =
+pub no_payload : (first : Bool) (v : Version) (old new : Option (List ℕ)) (head : Head) → IsHead first head → Consumes old new (head_bytes head) → TakesItemPart first v old new
+no_payload first v old new head is c =
     inl (
       head_bytes head,
       omega (arith, length-u32_bytes head.length),
-      ap (λ l. head_fault (number_of head.kind ∷ l)) (sym (append-nil (u32_bytes head.length))) ∙ head_is_fine head.kind head.length [] fits,
+      ap (λ l. head_fault first (number_of head.kind ∷ l)) (sym (append-nil (u32_bytes head.length))) ∙ head_is_fine first head.kind head.length [] is.kind is.fits,
       c,
     )
 
@@ -126,22 +154,36 @@ no_payload old new head fits c =
 abbrev pub PayloadFault : FeedFault → Type 0 → Type 0 → Type 0
 PayloadFault fault Untouched Short = (fault ≡ Read) ⊎ ((fault ≡ Memory) × Untouched) ⊎ ((fault ≡ Truncated) × Short)
 
-pub payload_fault : (old mid : Option (List ℕ)) (head : Head) (fault : FeedFault) (Untouched : Type 0) → head.length ≤ most_payload → Consumes old mid (head_bytes head)
-    → fault ≢ Read → fault ≢ Memory → PayloadFault fault Untouched (IsShort mid head.length) → HasFault old fault
-payload_fault old mid head fault Untouched fits c read memory (inl is) = absurd (read is)
-payload_fault old mid head fault Untouched fits c read memory (inr (inl (is, same))) = absurd (memory is)
-payload_fault old mid head fault Untouched fits c read memory (inr (inr (is, short))) = subst (HasFault old) (sym is) (short_payload old mid head fits c short)
+pub payload_fault : (first : Bool) (v : Version) (old mid : Option (List ℕ)) (head : Head) (fault : FeedFault) (Untouched : Type 0) → IsHead first head → Consumes old mid (head_bytes head)
+    → fault ≢ Read → fault ≢ Memory → PayloadFault fault Untouched (IsShort mid head.length) → HasItemFault first v old fault
+payload_fault first v old mid head fault Untouched is c read memory (inl same) = absurd (read same)
+payload_fault first v old mid head fault Untouched is c read memory (inr (inl (same, stays))) = absurd (memory same)
+payload_fault first v old mid head fault Untouched is c read memory (inr (inr (same, short))) = subst (HasItemFault first v old) (sym same) (short_payload first v old mid head is c short)
 
-pub payload_memory : (old mid new : Option (List ℕ)) (head : Head) (fault : FeedFault) (Untouched : Type 0) → head.length ≤ most_payload → Consumes old mid (head_bytes head)
-    → (Untouched → new ≡ mid) → fault ≡ Memory → PayloadFault fault Untouched (IsShort mid head.length) → TakesWhereMemoryEnds old new
-payload_memory old mid new head fault Untouched fits c same memory (inl is) = let both = sym is ∙ memory in absurd (cc both)
-payload_memory old mid new head fault Untouched fits c same memory (inr (inl (is, untouched))) =
-    no_payload old new head fits (subst (λ m. Consumes old m (head_bytes head)) (sym (same untouched)) c)
-payload_memory old mid new head fault Untouched fits c same memory (inr (inr (is, short))) = let both = sym is ∙ memory in absurd (cc both)
+pub payload_memory : (first : Bool) (v : Version) (old mid new : Option (List ℕ)) (head : Head) (fault : FeedFault) (Untouched : Type 0) → IsHead first head → Consumes old mid (head_bytes head)
+    → (Untouched → new ≡ mid) → fault ≡ Memory → PayloadFault fault Untouched (IsShort mid head.length) → TakesItemPart first v old new
+payload_memory first v old mid new head fault Untouched is c same memory (inl found) = let both = sym found ∙ memory in absurd (cc both)
+payload_memory first v old mid new head fault Untouched is c same memory (inr (inl (found, untouched))) =
+    no_payload first v old new head is (subst (λ m. Consumes old m (head_bytes head)) (sym (same untouched)) c)
+payload_memory first v old mid new head fault Untouched is c same memory (inr (inr (found, short))) = let both = sym found ∙ memory in absurd (cc both)
 
 -- memory was refused for a command
-pub no_command : (old mid new : Option (List ℕ)) (head : Head) (payload : List ℕ) → head.length ≤ most_payload → Consumes old mid (head_bytes head) → Consumes mid new payload
-    → length payload ≡ head.length → IsPayload (number_of head.kind) payload → TakesWhereMemoryEnds old new
-no_command old mid new head payload fits c d whole (command, numbers, fields, kind, spelled) =
-    let taken = read_record old mid new head payload command fits c d whole numbers fields kind spelled in
-    inr (command, taken.0, taken.1)
+pub no_command : (first : Bool) (v : Version) (old mid new : Option (List ℕ)) (head : Head) (payload : List ℕ) → IsHead first head → Consumes old mid (head_bytes head) → Consumes mid new payload
+    → length payload ≡ head.length → IsPayload v (number_of head.kind) payload → TakesItemPart first v old new
+no_command first v old mid new head payload is c d whole (item, held, kind, spelled) =
+    let taken = read_record first v old mid new head payload item is c d whole held kind spelled in
+    inr (item, taken.0, taken.1)
+
+-- ---- the end
+
+pub end_here : (before behind : Option (List ℕ)) → IsAtEnd before × Keeps before behind → GivesEnd None before behind
+end_here before behind (end, kept) = record { version = One; left = before; read = Consumes-nil before; end = end; kept = kept }
+
+pub end_behind_announcement : (before left behind : Option (List ℕ)) (found : Option RecordOf) → Consumes before left announcement → IfNone found (IsAtEnd left × Keeps left behind)
+    → IfNone found (GivesEnd None before behind)
+end_behind_announcement before left behind None read (end, kept) = record { version = Two; left = left; read = read; end = end; kept = kept }
+end_behind_announcement before left behind (Some given) read end = tt
+
+pub end_later : (version : Version) (before behind : Option (List ℕ)) (found : Option RecordOf) → IfNone found (IsAtEnd before × Keeps before behind) → IfNone found (GivesEnd (Some version) before behind)
+end_later version before behind None (end, kept) = record { version = version; left = before; read = Consumes-nil before; end = end; kept = kept }
+end_later version before behind (Some given) end = tt

@@ -1,33 +1,32 @@
 -- What the head of a record says of the bytes.
-use Rattle.std.proofs.Common.{◌≡◌, ℕ, ◌<◌, ◌≤◌, ◌^◌, List, [], ◌∷◌, ◌++◌, length, refl, sym, ap, ◌∙◌, arith, length-append, None, Some, true, false}
+use Rattle.std.proofs.Common.{◌≡◌, ℕ, ◌<◌, ◌≤◌, ◌^◌, List, [], ◌∷◌, ◌++◌, length, refl, sym, ap, ◌∙◌, arith, length-append, Bool, None, Some, true, false}
 use Rattle.std.specs.Prelude.{slice_index, nat_lt}
 use Rattle.std.proofs.lemmas.Bool.{lt-ltb, le-ltb}
 use Rattle.byteorder.specs.Numbers.{little_number-reads_back}
 use Rattle.ogg_page.specs.Numbers.{u32_bytes}
 use Rattle.feed_codec.specs.Record.{most_payload}
-use Rattle.feed_codec.specs.Feed.{IsKind, head_fault, payload_length}
+use Rattle.feed_codec.specs.Feed.{is_kind, head_fault, payload_length}
 use Rattle.feed_codec.specs.RecordKind.{number_of}
-use Rattle.feed_codec.specs.declared.record.RecordKind.{RecordKind}
-use Rattle.feed_codec.specs.declared.record.RecordKind.TheVariants.{Begin, Put, End}
+use Rattle.feed_codec.specs.declared.head.RecordKind.{RecordKind}
 use Rattle.ogg_page.specs.Laws.NumberBytes.{length-u32_bytes}
 use Rattle.feed_codec.specs.declared.fault.FeedFault.TheVariants.{Truncated, Kind, Length}
 
-pub fault_short : (bytes : List ℕ) → length bytes < 5 → head_fault bytes ≡ Some Truncated
-fault_short bytes l = let short : nat_lt (length bytes) 5 ≡ true = lt-ltb (length bytes) 5 l in rw short refl
+pub fault_short : (first : Bool) (bytes : List ℕ) → length bytes < 5 → head_fault first bytes ≡ Some Truncated
+fault_short first bytes l = let short : nat_lt (length bytes) 5 ≡ true = lt-ltb (length bytes) 5 l in rw short refl
 
-pub fault_kind : (bytes : List ℕ) → 5 ≤ length bytes → IsKind (slice_index bytes 0) ≡ false → head_fault bytes ≡ Some Kind
-fault_kind bytes l kind =
+pub fault_kind : (first : Bool) (bytes : List ℕ) → 5 ≤ length bytes → is_kind first (slice_index bytes 0) ≡ false → head_fault first bytes ≡ Some Kind
+fault_kind first bytes l kind =
     let long : nat_lt (length bytes) 5 ≡ false = le-ltb (length bytes) 5 l in
     rw (long, kind) refl
 
-pub fault_length : (bytes : List ℕ) → 5 ≤ length bytes → IsKind (slice_index bytes 0) ≡ true → most_payload < payload_length bytes → head_fault bytes ≡ Some Length
-fault_length bytes l kind n =
+pub fault_length : (first : Bool) (bytes : List ℕ) → 5 ≤ length bytes → is_kind first (slice_index bytes 0) ≡ true → most_payload < payload_length bytes → head_fault first bytes ≡ Some Length
+fault_length first bytes l kind n =
     let long : nat_lt (length bytes) 5 ≡ false = le-ltb (length bytes) 5 l in
     let over : nat_lt most_payload (payload_length bytes) ≡ true = lt-ltb most_payload (payload_length bytes) n in
     rw (long, kind, over) refl
 
-pub fault_none : (bytes : List ℕ) → 5 ≤ length bytes → IsKind (slice_index bytes 0) ≡ true → payload_length bytes ≤ most_payload → head_fault bytes ≡ None
-fault_none bytes l kind n =
+pub fault_none : (first : Bool) (bytes : List ℕ) → 5 ≤ length bytes → is_kind first (slice_index bytes 0) ≡ true → payload_length bytes ≤ most_payload → head_fault first bytes ≡ None
+fault_none first bytes l kind n =
     let long : nat_lt (length bytes) 5 ≡ false = le-ltb (length bytes) 5 l in
     let within : nat_lt most_payload (payload_length bytes) ≡ false = le-ltb most_payload (payload_length bytes) n in
     rw (long, kind, within) refl
@@ -49,29 +48,24 @@ front_length (a ∷ b ∷ c ∷ d ∷ []) rest l = absurd (omega arith)
 front_length (a ∷ b ∷ c ∷ d ∷ e ∷ head) rest l = refl
 
 -- only the head tells the fault of a head
-pub head_fault-append : (head rest : List ℕ) → length head ≡ 5 → head_fault (head ++ rest) ≡ head_fault head
-head_fault-append head rest l =
+pub head_fault-append : (first : Bool) (head rest : List ℕ) → length head ≡ 5 → head_fault first (head ++ rest) ≡ head_fault first head
+head_fault-append first head rest l =
     let long : nat_lt (length (head ++ rest)) 5 ≡ nat_lt (length head) 5 =
     le-ltb (length (head ++ rest)) 5 (omega (arith, length-append head rest, l)) ∙ sym (le-ltb (length head) 5 (omega (arith, l))) in
     let byte = front_byte head rest l in
     let size = front_length head rest l in
     rw (long, byte, size) refl
 
-pub is_kind : (kind : RecordKind) → IsKind (number_of kind) ≡ true
-is_kind Begin = refl
-is_kind Put = refl
-is_kind End = refl
-
 -- where a kind and a length stand in front, and the length is within bounds, the head has no fault
-pub head_is_fine : (kind : RecordKind) (n : ℕ) (more : List ℕ) → n ≤ most_payload → head_fault (number_of kind ∷ (u32_bytes n ++ more)) ≡ None
-head_is_fine kind n more fits =
+pub head_is_fine : (first : Bool) (kind : RecordKind) (n : ℕ) (more : List ℕ) → is_kind first (number_of kind) ≡ true → n ≤ most_payload → head_fault first (number_of kind ∷ (u32_bytes n ++ more)) ≡ None
+head_is_fine first kind n more named fits =
     let size = length_field (number_of kind) n more (omega (arith, fits)) in
-    fault_none (number_of kind ∷ (u32_bytes n ++ more)) (omega (arith, length-append (u32_bytes n) more, length-u32_bytes n)) (is_kind kind) (omega (arith, size, fits))
+    fault_none first (number_of kind ∷ (u32_bytes n ++ more)) (omega (arith, length-append (u32_bytes n) more, length-u32_bytes n)) named (omega (arith, size, fits))
 
-pub head_is_long : (bytes rest more : List ℕ) (kind : RecordKind) (number n : ℕ) → n < 2 ^ 32 → most_payload < n → number_of kind ≡ number → bytes ≡ number ∷ rest → rest ≡ u32_bytes n ++ more
-    → head_fault bytes ≡ Some Length
-head_is_long bytes rest more kind number n small over named e f =
+pub head_is_long : (first : Bool) (bytes rest more : List ℕ) (kind : RecordKind) (number n : ℕ) → n < 2 ^ 32 → most_payload < n → number_of kind ≡ number → is_kind first number ≡ true → bytes ≡ number ∷ rest → rest ≡ u32_bytes n ++ more
+    → head_fault first bytes ≡ Some Length
+head_is_long first bytes rest more kind number n small over named is e f =
     let whole : bytes ≡ number_of kind ∷ (u32_bytes n ++ more) = e ∙ ap (λ k. k ∷ rest) (sym named) ∙ ap (λ l. number_of kind ∷ l) f in
     let size = length_field (number_of kind) n more small in
-    ap head_fault whole
-    ∙ fault_length (number_of kind ∷ (u32_bytes n ++ more)) (omega (arith, length-append (u32_bytes n) more, length-u32_bytes n)) (is_kind kind) (omega (arith, size, over))
+    ap (head_fault first) whole
+    ∙ fault_length first (number_of kind ∷ (u32_bytes n ++ more)) (omega (arith, length-append (u32_bytes n) more, length-u32_bytes n)) (ap (is_kind first) named ∙ is) (omega (arith, size, over))

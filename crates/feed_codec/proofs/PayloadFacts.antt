@@ -6,17 +6,22 @@ use Rattle.std.specs.List.{AllByRecursion, IsSplitAt, flat_map}
 use Rattle.std.proofs.lemmas.Bool.{eqb-true}
 use Rattle.std.proofs.lemmas.List.Concat.{flat_map-append}
 use Rattle.ogg_page.specs.Page.{IsByte}
-use Rattle.ogg_command.specs.Command.{IsCommand, IsNewStream, IsEntry, IsSkeletonHead, IsSkeleton}
+use Rattle.ogg_command.specs.Command.{AreFieldBytes, IsCommand, IsNewStream, IsEntry, IsSkeletonHead, IsSkeleton}
 use Rattle.ogg_command.specs.declared.command.Command.TheVariants.{Begin as BeginOf, Put as PutOf, End as EndOf}
 use Rattle.ogg_command.specs.declared.command.SkeletonHead.{SkeletonHead}
 use Rattle.ogg_command.specs.declared.command.NewStream.{NewStream}
 use Rattle.ogg_command.specs.declared.command.Entry.{Entry}
 use Rattle.ogg_page.specs.Numbers.{u16_bytes, u32_bytes, u64_bytes, i64_bytes, fraction_bytes, IsFraction}
-use Rattle.feed_codec.specs.Record.{packet_bytes, media_bytes, skeleton_bytes, stream_bytes, entry_bytes, payload_of, FitsFields, FitsHeader, FitsStream, FitsEntry}
-use Rattle.feed_codec.specs.Payload.{Begins, BeginsNone, AreMany, IsPacket, IsMedia, IsEntryOfFeed, IsStreamOfFeed, Tail, IsTail, tail_bytes, tail_of_stream, skeleton_head_bytes, IsPayload}
+use Rattle.skeleton3.specs.Fields.{NamedValue}
+use Rattle.feed_codec.specs.declared.version.Version.{Version}
+use Rattle.feed_codec.specs.declared.version.Version.TheVariants.{One, Two}
+use Rattle.feed_codec.specs.declared.item.Record.TheVariants.{Command as CommandOf, Flush}
+use Rattle.feed_codec.specs.declared.item.Item.TheVariants.{Announcement, Record as RecordItem}
+use Rattle.feed_codec.specs.Record.{packet_bytes, media_bytes, skeleton_bytes, field_bytes, fields_bytes, stream_bytes, entry_bytes, payload_of, FitsFields, FitsField, FitsMessage, FitsHeader, FitsStream, FitsEntry}
+use Rattle.feed_codec.specs.Payload.{Begins, BeginsNone, AreMany, IsPacket, IsMedia, IsFieldOfFeed, AreFields, IsEntryOfFeed, IsStreamOfFeed, Tail, IsTail, tail_bytes, Behind, IsBehind, behind_bytes, behind_of_stream, skeleton_head_bytes, IsPayload}
 use Rattle.feed_codec.proofs.Lists.{all_front, all_back, all_joined, all_as, split_joins}
 use Rattle.ogg_page.specs.Laws.NumberBytes.{IsU16, IsU32, IsU64, same_u16, same_u32, same_u64, length-u16_bytes, length-u32_bytes, length-u64_bytes, length-i64_bytes, read_u32}
-use Rattle.feed_codec.proofs.Spellings.{PrefixFree, front, fronts, same_packet, same_media, same_many, same_skeleton, entry_packet, stream_parts, stream_headers, stream_tail, command_streams, command_entries}
+use Rattle.feed_codec.proofs.Spellings.{PrefixFree, front, fronts, same_packet, same_media, same_many, same_tail, same_skeleton, entry_packet, stream_parts, stream_headers, stream_behind_headers, command_streams, command_entries}
 
 -- ---- packets and media types
 
@@ -263,15 +268,117 @@ tail_found bytes b1 b2 b3 b4 more media rate base_granule preroll shift hm hr hg
       e1 ∙ ap (λ l. media_bytes media ++ l) j2 ∙ sym (append_assoc (media_bytes media) (fraction_bytes rate ++ (i64_bytes base_granule ++ (u32_bytes preroll ++ shift ∷ []))) more),
     )
 
--- ---- streams
+-- ---- message fields
 
-pub stream_short : (bytes : List ℕ) → length bytes < 6 → BeginsNone IsStreamOfFeed stream_bytes bytes
-stream_short bytes l s rest h e =
-    let behind : List ℕ = flat_map packet_bytes s.headers ++ tail_bytes (tail_of_stream s) in
+pub field_cut : (bytes : List ℕ) → BeginsNone IsMedia media_bytes bytes → BeginsNone IsFieldOfFeed field_bytes bytes
+field_cut bytes none field more h e = none field.0 (media_bytes field.1 ++ more) h.name (e ∙ append_assoc (media_bytes field.0) (media_bytes field.1) more)
+
+pub value_cut : (bytes rest name : List ℕ) → IsMedia name → bytes ≡ media_bytes name ++ rest → BeginsNone IsMedia media_bytes rest → BeginsNone IsFieldOfFeed field_bytes bytes
+value_cut bytes rest name hn is none field more h e =
+    let behind = front IsMedia media_bytes same_media name field.0 rest (media_bytes field.1) more hn h.name (sym is ∙ e) in
+    none field.1 more h.value behind.1
+
+pub field_found : (bytes rest name value more : List ℕ) → IsMedia name → IsMedia value → bytes ≡ media_bytes name ++ rest → rest ≡ media_bytes value ++ more
+    → IsFieldOfFeed (name, value) × (bytes ≡ field_bytes (name, value) ++ more)
+field_found bytes rest name value more hn hv is then = (
+  record { name = hn; value = hv },
+  is ∙ ap (λ l. media_bytes name ++ l) then ∙ sym (append_assoc (media_bytes name) (media_bytes value) more),
+)
+
+pub fields_short : (bytes : List ℕ) → length bytes < 2 → BeginsNone (AreFields Two) (fields_bytes Two) bytes
+fields_short bytes l fields rest h e =
     omega (
       arith,
       l,
-      ap length (e ∙ ap (λ l. l ++ rest) (stream_parts s)),
+      ap length e,
+      length-append (u16_bytes (length fields) ++ flat_map field_bytes fields) rest,
+      length-append (u16_bytes (length fields)) (flat_map field_bytes fields),
+      length-u16_bytes (length fields),
+    )
+
+pub fields_cut : (bytes rest : List ℕ) (n : ℕ) → n < 2 ^ 16 → bytes ≡ u16_bytes n ++ rest → BeginsNone (AreMany IsFieldOfFeed n) (flat_map field_bytes) rest
+    → BeginsNone (AreFields Two) (fields_bytes Two) bytes
+fields_cut bytes rest n small is none fields more h e =
+    let count = front IsU16 u16_bytes same_u16 n (length fields) rest (flat_map field_bytes fields) more small h.0 (sym is ∙ e) in
+    none fields more (sym count.0, h.1) count.1
+
+pub fields_found : (bytes rest more : List ℕ) (n : ℕ) (fields : List NamedValue) → n < 2 ^ 16 → bytes ≡ u16_bytes n ++ rest → AreMany IsFieldOfFeed n fields → rest ≡ flat_map field_bytes fields ++ more
+    → AreFields Two fields × (bytes ≡ fields_bytes Two fields ++ more)
+fields_found bytes rest more n fields small is many e = (
+  (omega (arith, many.0, small), many.1),
+  is ∙ ap (λ k. u16_bytes k ++ rest) (sym many.0) ∙ ap (λ l. u16_bytes (length fields) ++ l) e ∙ sym (append_assoc (u16_bytes (length fields)) (flat_map field_bytes fields) more),
+)
+
+-- the same of what is left behind each
+pub fields_split : (r : Option (Bor (List ℕ))) (bytes rest : List ℕ) (n : ℕ) → n < 2 ^ 16 → bytes ≡ u16_bytes n ++ rest
+    → MatchOption r (BeginsNone (AreMany IsFieldOfFeed n) (flat_map field_bytes) rest) (λ p. Begins (AreMany IsFieldOfFeed n) (flat_map field_bytes) rest p.now)
+    → MatchOption r (BeginsNone (AreFields Two) (fields_bytes Two) bytes) (λ p. Begins (AreFields Two) (fields_bytes Two) bytes p.now)
+fields_split None bytes rest n small is none = fields_cut bytes rest n small is none
+fields_split (Some p) bytes rest n small is (fields, many, e) =
+    let found = fields_found bytes rest p.now n fields small is many e in
+    (fields, found.0, found.1)
+
+-- what stands in front of message fields, and behind their number
+pub fields_long : (bytes : List ℕ) → ((rest : List ℕ) × Begins (AreFields Two) (fields_bytes Two) bytes rest) → 2 ≤ length bytes
+fields_long bytes (rest, (fields, h, e)) =
+    omega (
+      arith,
+      ap length e,
+      length-append (u16_bytes (length fields) ++ flat_map field_bytes fields) rest,
+      length-append (u16_bytes (length fields)) (flat_map field_bytes fields),
+      length-u16_bytes (length fields),
+    )
+
+pub fields_stand : (bytes rest : List ℕ) (n : ℕ) → n < 2 ^ 16 → bytes ≡ u16_bytes n ++ rest → ((more : List ℕ) × Begins (AreFields Two) (fields_bytes Two) bytes more)
+    → (more : List ℕ) × Begins (AreMany IsFieldOfFeed n) (flat_map field_bytes) rest more
+fields_stand bytes rest n small is (more, (fields, h, e)) =
+    let count = front IsU16 u16_bytes same_u16 n (length fields) rest (flat_map field_bytes fields) more small h.0 (sym is ∙ e) in
+    (more, (fields, (sym count.0, h.1), count.1))
+
+-- ---- all that stands behind a stream's headers
+
+pub behind_cut : (v : Version) (bytes : List ℕ) → BeginsNone IsTail tail_bytes bytes → BeginsNone (IsBehind v) (behind_bytes v) bytes
+behind_cut v bytes none behind more h e = none behind.0 (fields_bytes v behind.1 ++ more) h.tail (e ∙ append_assoc (tail_bytes behind.0) (fields_bytes v behind.1) more)
+
+pub behind_fields_cut : (v : Version) (bytes rest : List ℕ) (tail : Tail) → IsTail tail → bytes ≡ tail_bytes tail ++ rest → BeginsNone (AreFields v) (fields_bytes v) rest
+    → BeginsNone (IsBehind v) (behind_bytes v) bytes
+behind_fields_cut v bytes rest tail ht is none behind more h e =
+    let fields = front IsTail tail_bytes same_tail tail behind.0 rest (fields_bytes v behind.1) more ht h.tail (sym is ∙ e) in
+    none behind.1 more h.fields fields.1
+
+pub behind_found : (v : Version) (bytes rest more : List ℕ) (tail : Tail) (fields : List NamedValue) → IsTail tail → bytes ≡ tail_bytes tail ++ rest → AreFields v fields → rest ≡ fields_bytes v fields ++ more
+    → IsBehind v (tail, fields) × (bytes ≡ behind_bytes v (tail, fields) ++ more)
+behind_found v bytes rest more tail fields ht is hf then = (
+  record { tail = ht; fields = hf },
+  is ∙ ap (λ l. tail_bytes tail ++ l) then ∙ sym (append_assoc (tail_bytes tail) (fields_bytes v fields) more),
+)
+
+pub behind_split : (v : Version) (r : Option (Bor (List ℕ))) (bytes rest : List ℕ) (tail : Tail) → IsTail tail → bytes ≡ tail_bytes tail ++ rest
+    → MatchOption r (BeginsNone (AreFields v) (fields_bytes v) rest) (λ p. Begins (AreFields v) (fields_bytes v) rest p.now)
+    → MatchOption r (BeginsNone (IsBehind v) (behind_bytes v) bytes) (λ p. Begins (IsBehind v) (behind_bytes v) bytes p.now)
+behind_split v None bytes rest tail ht is none = behind_fields_cut v bytes rest tail ht is none
+behind_split v (Some p) bytes rest tail ht is (fields, hf, e) =
+    let found = behind_found v bytes rest p.now tail fields ht is hf e in
+    ((tail, fields), found.0, found.1)
+
+pub behind_tail_stands : (v : Version) (bytes : List ℕ) → ((rest : List ℕ) × Begins (IsBehind v) (behind_bytes v) bytes rest) → ¬ BeginsNone IsTail tail_bytes bytes
+behind_tail_stands v bytes (rest, (behind, h, e)) none = behind_cut v bytes none behind rest h e
+
+pub behind_fields_stand : (v : Version) (bytes rest : List ℕ) (tail : Tail) → IsTail tail → bytes ≡ tail_bytes tail ++ rest → ((more : List ℕ) × Begins (IsBehind v) (behind_bytes v) bytes more)
+    → (more : List ℕ) × Begins (AreFields v) (fields_bytes v) rest more
+behind_fields_stand v bytes rest tail ht is (more, (behind, h, e)) =
+    let fields = front IsTail tail_bytes same_tail tail behind.0 rest (fields_bytes v behind.1) more ht h.tail (sym is ∙ e) in
+    (more, (behind.1, h.fields, fields.1))
+
+-- ---- streams
+
+pub stream_short : (v : Version) (bytes : List ℕ) → length bytes < 6 → BeginsNone (IsStreamOfFeed v) (stream_bytes v) bytes
+stream_short v bytes l s rest h e =
+    let behind : List ℕ = flat_map packet_bytes s.headers ++ behind_bytes v (behind_of_stream s) in
+    omega (
+      arith,
+      l,
+      ap length (e ∙ ap (λ l. l ++ rest) (stream_parts v s)),
       length-append (u32_bytes s.serial ++ (u16_bytes (length s.headers) ++ behind)) rest,
       length-append (u32_bytes s.serial) (u16_bytes (length s.headers) ++ behind),
       length-append (u16_bytes (length s.headers)) behind,
@@ -280,40 +387,47 @@ stream_short bytes l s rest h e =
     )
 
 -- what stands behind the serial and the number of headers of a stream
-stream_behind : (bytes b1 b2 more : List ℕ) (serial count : ℕ) (s : NewStream) → serial < 2 ^ 32 → count < 2 ^ 16 → bytes ≡ u32_bytes serial ++ b1 → b1 ≡ u16_bytes count ++ b2
-    → IsStreamOfFeed s → bytes ≡ stream_bytes s ++ more → (count ≡ length s.headers) × (b2 ≡ (flat_map packet_bytes s.headers ++ tail_bytes (tail_of_stream s)) ++ more)
-stream_behind bytes b1 b2 more serial count s hs hc e1 e2 h e =
-    let behind : List ℕ = flat_map packet_bytes s.headers ++ tail_bytes (tail_of_stream s) in
-    let first = front IsU32 u32_bytes same_u32 serial s.serial b1 (u16_bytes (length s.headers) ++ behind) more hs h.numbers.serial (sym e1 ∙ e ∙ ap (λ l. l ++ more) (stream_parts s)) in
+stream_behind : (v : Version) (bytes b1 b2 more : List ℕ) (serial count : ℕ) (s : NewStream) → serial < 2 ^ 32 → count < 2 ^ 16 → bytes ≡ u32_bytes serial ++ b1 → b1 ≡ u16_bytes count ++ b2
+    → IsStreamOfFeed v s → bytes ≡ stream_bytes v s ++ more → (count ≡ length s.headers) × (b2 ≡ (flat_map packet_bytes s.headers ++ behind_bytes v (behind_of_stream s)) ++ more)
+stream_behind v bytes b1 b2 more serial count s hs hc e1 e2 h e =
+    let behind : List ℕ = flat_map packet_bytes s.headers ++ behind_bytes v (behind_of_stream s) in
+    let first = front IsU32 u32_bytes same_u32 serial s.serial b1 (u16_bytes (length s.headers) ++ behind) more hs h.numbers.serial (sym e1 ∙ e ∙ ap (λ l. l ++ more) (stream_parts v s)) in
     front IsU16 u16_bytes same_u16 count (length s.headers) b2 behind more hc h.fits.headers (sym e2 ∙ first.1)
 
-pub stream_cut : (bytes b1 b2 : List ℕ) (serial count : ℕ) → serial < 2 ^ 32 → count < 2 ^ 16 → bytes ≡ u32_bytes serial ++ b1 → b1 ≡ u16_bytes count ++ b2
-    → BeginsNone (AreMany IsPacket count) (flat_map packet_bytes) b2 → BeginsNone IsStreamOfFeed stream_bytes bytes
-stream_cut bytes b1 b2 serial count hs hc e1 e2 none s more h e =
-    let behind = stream_behind bytes b1 b2 more serial count s hs hc e1 e2 h e in
-    none s.headers (tail_bytes (tail_of_stream s) ++ more) (sym behind.0, stream_headers s h)
-    (behind.1 ∙ append_assoc (flat_map packet_bytes s.headers) (tail_bytes (tail_of_stream s)) more)
+pub stream_cut : (v : Version) (bytes b1 b2 : List ℕ) (serial count : ℕ) → serial < 2 ^ 32 → count < 2 ^ 16 → bytes ≡ u32_bytes serial ++ b1 → b1 ≡ u16_bytes count ++ b2
+    → BeginsNone (AreMany IsPacket count) (flat_map packet_bytes) b2 → BeginsNone (IsStreamOfFeed v) (stream_bytes v) bytes
+stream_cut v bytes b1 b2 serial count hs hc e1 e2 none s more h e =
+    let behind = stream_behind v bytes b1 b2 more serial count s hs hc e1 e2 h e in
+    none s.headers (behind_bytes v (behind_of_stream s) ++ more) (sym behind.0, stream_headers v s h)
+    (behind.1 ∙ append_assoc (flat_map packet_bytes s.headers) (behind_bytes v (behind_of_stream s)) more)
 
-pub stream_tail_cut : (bytes b1 b2 b3 : List ℕ) (serial count : ℕ) → serial < 2 ^ 32 → count < 2 ^ 16 → bytes ≡ u32_bytes serial ++ b1 → b1 ≡ u16_bytes count ++ b2
-    → Begins (AreMany IsPacket count) (flat_map packet_bytes) b2 b3 → BeginsNone IsTail tail_bytes b3 → BeginsNone IsStreamOfFeed stream_bytes bytes
-stream_tail_cut bytes b1 b2 b3 serial count hs hc e1 e2 some none s more h e =
-    let behind = stream_behind bytes b1 b2 more serial count s hs hc e1 e2 h e in
-    let headers = front (AreMany IsPacket count) (flat_map packet_bytes) (same_many IsPacket packet_bytes same_packet count) some.0 s.headers b3 (tail_bytes (tail_of_stream s)) more
-    some.1 (sym behind.0, stream_headers s h) (sym some.2 ∙ behind.1) in
-    none (tail_of_stream s) more (stream_tail s h) headers.1
+pub stream_tail_cut : (v : Version) (bytes b1 b2 b3 : List ℕ) (serial count : ℕ) → serial < 2 ^ 32 → count < 2 ^ 16 → bytes ≡ u32_bytes serial ++ b1 → b1 ≡ u16_bytes count ++ b2
+    → Begins (AreMany IsPacket count) (flat_map packet_bytes) b2 b3 → BeginsNone (IsBehind v) (behind_bytes v) b3 → BeginsNone (IsStreamOfFeed v) (stream_bytes v) bytes
+stream_tail_cut v bytes b1 b2 b3 serial count hs hc e1 e2 some none s more h e =
+    let behind = stream_behind v bytes b1 b2 more serial count s hs hc e1 e2 h e in
+    let headers = front (AreMany IsPacket count) (flat_map packet_bytes) (same_many IsPacket packet_bytes same_packet count) some.0 s.headers b3 (behind_bytes v (behind_of_stream s)) more
+    some.1 (sym behind.0, stream_headers v s h) (sym some.2 ∙ behind.1) in
+    none (behind_of_stream s) more (stream_behind_headers v s h) headers.1
 
--- the stream with this serial, these headers and this tail
-abbrev pub stream_with : ℕ → List (List ℕ) → Tail → NewStream
-stream_with serial headers tail =
-    record { serial = serial; headers = headers; media = tail.media; fields = []; rate = tail.rate; base_granule = tail.base_granule; preroll = tail.preroll; shift = tail.shift }
+-- the stream with this serial, these headers, and this behind them
+abbrev pub stream_with : ℕ → List (List ℕ) → Behind → NewStream
+stream_with serial headers (tail, fields) =
+    record { serial = serial; headers = headers; media = tail.media; fields = fields; rate = tail.rate; base_granule = tail.base_granule; preroll = tail.preroll; shift = tail.shift }
 
-pub stream_found : (bytes b1 b2 b3 more : List ℕ) (serial count : ℕ) (headers : List (List ℕ)) (tail : Tail) → serial < 2 ^ 32 → count < 2 ^ 16
+fields_bytes_fit : (v : Version) (fields : List NamedValue) → AreFields v fields → AllByRecursion AreFieldBytes fields × FitsMessage v fields
+fields_bytes_fit One fields none = (subst (AllByRecursion AreFieldBytes) (sym none) tt, none)
+fields_bytes_fit Two fields (few, all) = (
+  all_as IsFieldOfFeed AreFieldBytes (λ f h. (h.name.bytes, h.value.bytes)) fields all,
+  (few, all_as IsFieldOfFeed FitsField (λ f h. (h.name.fits, h.value.fits)) fields all),
+)
+
+pub stream_found : (v : Version) (bytes b1 b2 b3 more : List ℕ) (serial count : ℕ) (headers : List (List ℕ)) (tail : Behind) → serial < 2 ^ 32 → count < 2 ^ 16
     → bytes ≡ u32_bytes serial ++ b1 → b1 ≡ u16_bytes count ++ b2 → AreMany IsPacket count headers → b2 ≡ flat_map packet_bytes headers ++ b3
-    → IsTail tail → b3 ≡ tail_bytes tail ++ more
-    → IsStreamOfFeed (stream_with serial headers tail) × (bytes ≡ stream_bytes (stream_with serial headers tail) ++ more)
-stream_found bytes b1 b2 b3 more serial count headers tail hs hc e1 e2 hh e3 ht e4 =
-    let behind : List ℕ = flat_map packet_bytes headers ++ tail_bytes tail in
-    let j3 : b2 ≡ behind ++ more = e3 ∙ ap (λ l. flat_map packet_bytes headers ++ l) e4 ∙ sym (append_assoc (flat_map packet_bytes headers) (tail_bytes tail) more) in
+    → IsBehind v tail → b3 ≡ behind_bytes v tail ++ more
+    → IsStreamOfFeed v (stream_with serial headers tail) × (bytes ≡ stream_bytes v (stream_with serial headers tail) ++ more)
+stream_found v bytes b1 b2 b3 more serial count headers tail hs hc e1 e2 hh e3 ht e4 =
+    let behind : List ℕ = flat_map packet_bytes headers ++ behind_bytes v tail in
+    let j3 : b2 ≡ behind ++ more = e3 ∙ ap (λ l. flat_map packet_bytes headers ++ l) e4 ∙ sym (append_assoc (flat_map packet_bytes headers) (behind_bytes v tail) more) in
     let j2 : b1 ≡ (u16_bytes (length headers) ++ behind) ++ more =
     e2 ∙ ap (λ n. u16_bytes n ++ b2) (sym hh.0) ∙ ap (λ l. u16_bytes (length headers) ++ l) j3 ∙ sym (append_assoc (u16_bytes (length headers)) behind more) in
     let j1 : bytes ≡ (u32_bytes serial ++ (u16_bytes (length headers) ++ behind)) ++ more =
@@ -322,45 +436,60 @@ stream_found bytes b1 b2 b3 more serial count headers tail hs hc e1 e2 hh e3 ht 
         numbers = record {
           serial = hs;
           headers = all_as IsPacket (AllByRecursion IsByte) (λ p h. h.bytes) headers hh.1;
-          media = ht.media.bytes;
-          fields = tt;
-          rate = ht.rate;
-          base_granule = ht.base_granule;
-          preroll = ht.preroll;
-          shift = ht.shift;
+          media = ht.tail.media.bytes;
+          fields = (fields_bytes_fit v tail.1 ht.fields).0;
+          rate = ht.tail.rate;
+          base_granule = ht.tail.base_granule;
+          preroll = ht.tail.preroll;
+          shift = ht.tail.shift;
         };
         fits = record {
           headers = omega (arith, hh.0, hc);
           each = all_as IsPacket FitsHeader (λ p h. h.fits) headers hh.1;
-          media = ht.media.fits;
-          fields = refl;
+          media = ht.tail.media.fits;
+          fields = (fields_bytes_fit v tail.1 ht.fields).1;
         };
       },
-      j1 ∙ ap (λ l. l ++ more) (sym (stream_parts (stream_with serial headers tail))),
+      j1 ∙ ap (λ l. l ++ more) (sym (stream_parts v (stream_with serial headers tail))),
     )
+
+pub stream_split : (v : Version) (r : Option (Bor (List ℕ))) (bytes b1 b2 b3 : List ℕ) (serial count : ℕ) → serial < 2 ^ 32 → count < 2 ^ 16 → bytes ≡ u32_bytes serial ++ b1 → b1 ≡ u16_bytes count ++ b2
+    → Begins (AreMany IsPacket count) (flat_map packet_bytes) b2 b3
+    → MatchOption r (BeginsNone (IsBehind v) (behind_bytes v) b3) (λ p. Begins (IsBehind v) (behind_bytes v) b3 p.now)
+    → MatchOption r (BeginsNone (IsStreamOfFeed v) (stream_bytes v) bytes) (λ p. Begins (IsStreamOfFeed v) (stream_bytes v) bytes p.now)
+stream_split v None bytes b1 b2 b3 serial count hs hc e1 e2 some none = stream_tail_cut v bytes b1 b2 b3 serial count hs hc e1 e2 some none
+stream_split v (Some p) bytes b1 b2 b3 serial count hs hc e1 e2 (headers, many, e3) (behind, hb, e4) =
+    let found = stream_found v bytes b1 b2 b3 p.now serial count headers behind hs hc e1 e2 many e3 hb e4 in
+    (stream_with serial headers behind, found.0, found.1)
 
 -- ---- payloads
 
-pub not_begin : (payload : List ℕ) → BeginsNone IsSkeleton skeleton_bytes payload → ¬ IsPayload 1 payload
-not_begin payload none (BeginOf begin, h, f, kind, e) =
-    none begin.skeleton (u16_bytes (length begin.streams) ++ flat_map stream_bytes begin.streams) h.0 (sym e)
-not_begin payload none (PutOf put, h, f, kind, e) = omega arith
-not_begin payload none (EndOf serial, h, f, kind, e) = omega arith
+pub not_begin : (v : Version) (payload : List ℕ) → BeginsNone IsSkeleton skeleton_bytes payload → ¬ IsPayload v 1 payload
+not_begin v payload none (RecordItem (CommandOf (BeginOf begin)), h, kind, e) =
+    none begin.skeleton (u16_bytes (length begin.streams) ++ flat_map (stream_bytes v) begin.streams) h.0.0 (sym e)
+not_begin v payload none (RecordItem (CommandOf (PutOf put)), h, kind, e) = omega (arith, kind)
+not_begin v payload none (RecordItem (CommandOf (EndOf serial)), h, kind, e) = omega (arith, kind)
+not_begin v payload none (RecordItem Flush, h, kind, e) = omega (arith, kind)
+not_begin v payload none (Announcement, h, kind, e) = omega (arith, kind)
 
 -- what stands behind the Skeleton of a begin
-pub begin_behind : (payload rest : List ℕ) (skeleton : Option SkeletonHead) → IsSkeleton skeleton → payload ≡ skeleton_bytes skeleton ++ rest → IsPayload 1 payload
-    → (streams : List NewStream) × AllByRecursion IsStreamOfFeed streams × (length streams < 2 ^ 16) × (rest ≡ u16_bytes (length streams) ++ flat_map stream_bytes streams)
-begin_behind payload rest skeleton hs is (BeginOf begin, h, f, kind, e) =
-    let behind = same_skeleton skeleton begin.skeleton rest (u16_bytes (length begin.streams) ++ flat_map stream_bytes begin.streams) hs h.0 (sym is ∙ sym e) in
-    (begin.streams, command_streams begin h f, f.0, behind.1)
-begin_behind payload rest skeleton hs is (PutOf put, h, f, kind, e) = absurd (omega arith)
-begin_behind payload rest skeleton hs is (EndOf serial, h, f, kind, e) = absurd (omega arith)
+pub begin_behind : (v : Version) (payload rest : List ℕ) (skeleton : Option SkeletonHead) → IsSkeleton skeleton → payload ≡ skeleton_bytes skeleton ++ rest → IsPayload v 1 payload
+    → (streams : List NewStream) × AllByRecursion (IsStreamOfFeed v) streams × (length streams < 2 ^ 16) × (rest ≡ u16_bytes (length streams) ++ flat_map (stream_bytes v) streams)
+begin_behind v payload rest skeleton hs is (RecordItem (CommandOf (BeginOf begin)), h, kind, e) =
+    let behind = same_skeleton skeleton begin.skeleton rest (u16_bytes (length begin.streams) ++ flat_map (stream_bytes v) begin.streams) hs h.0.0 (sym is ∙ sym e) in
+    (begin.streams, command_streams v begin h.0 h.1, h.1.0, behind.1)
+begin_behind v payload rest skeleton hs is (RecordItem (CommandOf (PutOf put)), h, kind, e) = absurd (omega (arith, kind))
+begin_behind v payload rest skeleton hs is (RecordItem (CommandOf (EndOf serial)), h, kind, e) = absurd (omega (arith, kind))
+begin_behind v payload rest skeleton hs is (RecordItem Flush, h, kind, e) = absurd (omega (arith, kind))
+begin_behind v payload rest skeleton hs is (Announcement, h, kind, e) = absurd (omega (arith, kind))
 
-pub put_behind : (payload : List ℕ) → IsPayload 2 payload
+pub put_behind : (v : Version) (payload : List ℕ) → IsPayload v 2 payload
     → (entries : List Entry) × AllByRecursion IsEntryOfFeed entries × (length entries < 2 ^ 16) × (payload ≡ u16_bytes (length entries) ++ flat_map entry_bytes entries)
-put_behind payload (PutOf put, h, f, kind, e) = (put.entries, command_entries put h f, f.0, sym e)
-put_behind payload (BeginOf begin, h, f, kind, e) = absurd (omega arith)
-put_behind payload (EndOf serial, h, f, kind, e) = absurd (omega arith)
+put_behind v payload (RecordItem (CommandOf (PutOf put)), h, kind, e) = (put.entries, command_entries v put h.0 h.1, h.1.0, sym e)
+put_behind v payload (RecordItem (CommandOf (BeginOf begin)), h, kind, e) = absurd (omega (arith, kind))
+put_behind v payload (RecordItem (CommandOf (EndOf serial)), h, kind, e) = absurd (omega (arith, kind))
+put_behind v payload (RecordItem Flush, h, kind, e) = absurd (omega (arith, kind))
+put_behind v payload (Announcement, h, kind, e) = absurd (omega (arith, kind))
 
 -- how many there are, and then they, up to the end
 abbrev pub Counted : {X : Type 0} → (X → Type 0) → (X → List ℕ) → List ℕ → Type 0
@@ -388,45 +517,62 @@ pub counted_found : {X : Type 0} (Is : X → Type 0) (spell : X → List ℕ) (b
 counted_found Is spell bytes rest n xs is many e = is ∙ ap (λ l. u16_bytes n ++ l) e ∙ ap (λ k. u16_bytes k ++ flat_map spell xs) (sym many.0)
 
 -- what a command is that was made of these parts
-pub put_facts : (payload : List ℕ) (n : ℕ) (entries : List Entry) → n < 2 ^ 16 → AreMany IsEntryOfFeed n entries → payload ≡ u16_bytes (length entries) ++ flat_map entry_bytes entries
-    → IsCommand (PutOf (record { entries = entries })) × FitsFields (PutOf (record { entries = entries })) × (payload_of (PutOf (record { entries = entries })) ≡ payload)
-put_facts payload n entries small many e = (
+pub put_facts : (v : Version) (payload : List ℕ) (n : ℕ) (entries : List Entry) → n < 2 ^ 16 → AreMany IsEntryOfFeed n entries → payload ≡ u16_bytes (length entries) ++ flat_map entry_bytes entries
+    → IsCommand (PutOf (record { entries = entries })) × FitsFields v (PutOf (record { entries = entries })) × (payload_of v (PutOf (record { entries = entries })) ≡ payload)
+put_facts v payload n entries small many e = (
   all_as IsEntryOfFeed IsEntry (λ p h. h.numbers) entries many.1,
   (omega (arith, many.0, small), all_as IsEntryOfFeed FitsEntry (λ p h. h.fits) entries many.1),
   sym e,
 )
 
-pub begin_facts : (payload rest : List ℕ) (n : ℕ) (skeleton : Option SkeletonHead) (streams : List NewStream) → n < 2 ^ 16 → IsSkeleton skeleton → payload ≡ skeleton_bytes skeleton ++ rest
-    → AreMany IsStreamOfFeed n streams → rest ≡ u16_bytes (length streams) ++ flat_map stream_bytes streams
-    → IsCommand (BeginOf (record { skeleton = skeleton; streams = streams })) × FitsFields (BeginOf (record { skeleton = skeleton; streams = streams }))
-    × (payload_of (BeginOf (record { skeleton = skeleton; streams = streams })) ≡ payload)
-begin_facts payload rest n skeleton streams small hs is many e = (
-  (hs, all_as IsStreamOfFeed IsNewStream (λ p h. h.numbers) streams many.1),
-  (omega (arith, many.0, small), all_as IsStreamOfFeed FitsStream (λ p h. h.fits) streams many.1),
+pub begin_facts : (v : Version) (payload rest : List ℕ) (n : ℕ) (skeleton : Option SkeletonHead) (streams : List NewStream) → n < 2 ^ 16 → IsSkeleton skeleton → payload ≡ skeleton_bytes skeleton ++ rest
+    → AreMany (IsStreamOfFeed v) n streams → rest ≡ u16_bytes (length streams) ++ flat_map (stream_bytes v) streams
+    → IsCommand (BeginOf (record { skeleton = skeleton; streams = streams })) × FitsFields v (BeginOf (record { skeleton = skeleton; streams = streams }))
+    × (payload_of v (BeginOf (record { skeleton = skeleton; streams = streams })) ≡ payload)
+begin_facts v payload rest n skeleton streams small hs is many e = (
+  (hs, all_as (IsStreamOfFeed v) IsNewStream (λ p h. h.numbers) streams many.1),
+  (omega (arith, many.0, small), all_as (IsStreamOfFeed v) (FitsStream v) (λ p h. h.fits) streams many.1),
   sym (is ∙ ap (λ l. skeleton_bytes skeleton ++ l) e),
 )
 
-pub put_found : (payload : List ℕ) (n : ℕ) (entries : List Entry) → n < 2 ^ 16 → AreMany IsEntryOfFeed n entries → payload ≡ u16_bytes (length entries) ++ flat_map entry_bytes entries
-    → IsPayload 2 payload
-put_found payload n entries small many e =
-    let facts = put_facts payload n entries small many e in
-    (PutOf (record { entries = entries }), facts.0, facts.1, refl, facts.2)
+pub put_found : (v : Version) (payload : List ℕ) (n : ℕ) (entries : List Entry) → n < 2 ^ 16 → AreMany IsEntryOfFeed n entries → payload ≡ u16_bytes (length entries) ++ flat_map entry_bytes entries
+    → IsPayload v 2 payload
+put_found v payload n entries small many e =
+    let facts = put_facts v payload n entries small many e in
+    (RecordItem (CommandOf (PutOf (record { entries = entries }))), (facts.0, facts.1), refl, facts.2)
 
-pub begin_found : (payload rest : List ℕ) (n : ℕ) (skeleton : Option SkeletonHead) (streams : List NewStream) → n < 2 ^ 16 → IsSkeleton skeleton → payload ≡ skeleton_bytes skeleton ++ rest
-    → AreMany IsStreamOfFeed n streams → rest ≡ u16_bytes (length streams) ++ flat_map stream_bytes streams → IsPayload 1 payload
-begin_found payload rest n skeleton streams small hs is many e =
-    let facts = begin_facts payload rest n skeleton streams small hs is many e in
-    (BeginOf (record { skeleton = skeleton; streams = streams }), facts.0, facts.1, refl, facts.2)
+pub begin_found : (v : Version) (payload rest : List ℕ) (n : ℕ) (skeleton : Option SkeletonHead) (streams : List NewStream) → n < 2 ^ 16 → IsSkeleton skeleton → payload ≡ skeleton_bytes skeleton ++ rest
+    → AreMany (IsStreamOfFeed v) n streams → rest ≡ u16_bytes (length streams) ++ flat_map (stream_bytes v) streams → IsPayload v 1 payload
+begin_found v payload rest n skeleton streams small hs is many e =
+    let facts = begin_facts v payload rest n skeleton streams small hs is many e in
+    (RecordItem (CommandOf (BeginOf (record { skeleton = skeleton; streams = streams }))), (facts.0, facts.1), refl, facts.2)
 
-pub end_found : (payload : List ℕ) → length payload ≡ 4 → AllByRecursion IsByte payload → IsPayload 3 payload
-end_found payload l all =
+pub end_found : (v : Version) (payload : List ℕ) → length payload ≡ 4 → AllByRecursion IsByte payload → IsPayload v 3 payload
+end_found v payload l all =
     let serial = read_u32 payload l all in
-    (EndOf serial.0, serial.1, tt, refl, serial.2)
+    (RecordItem (CommandOf (EndOf serial.0)), (serial.1, tt), refl, serial.2)
 
-pub end_behind : (payload : List ℕ) → IsPayload 3 payload → length payload ≡ 4
-end_behind payload (BeginOf begin, h, f, kind, e) = absurd (omega arith)
-end_behind payload (PutOf put, h, f, kind, e) = absurd (omega arith)
-end_behind payload (EndOf serial, h, f, kind, e) = ap length (sym e) ∙ length-u32_bytes serial
+pub end_behind : (v : Version) (payload : List ℕ) → IsPayload v 3 payload → length payload ≡ 4
+end_behind v payload (RecordItem (CommandOf (BeginOf begin)), h, kind, e) = absurd (omega (arith, kind))
+end_behind v payload (RecordItem (CommandOf (PutOf put)), h, kind, e) = absurd (omega (arith, kind))
+end_behind v payload (RecordItem (CommandOf (EndOf serial)), h, kind, e) = ap length (sym e) ∙ length-u32_bytes serial
+end_behind v payload (RecordItem Flush, h, kind, e) = absurd (omega (arith, kind))
+end_behind v payload (Announcement, h, kind, e) = absurd (omega (arith, kind))
+
+-- an announcement holds the one byte 2, and a flush nothing
+pub announcement_behind : (v : Version) (payload : List ℕ) → IsPayload v 0 payload → payload ≡ 2 ∷ []
+announcement_behind v payload (RecordItem (CommandOf (BeginOf begin)), h, kind, e) = absurd (omega (arith, kind))
+announcement_behind v payload (RecordItem (CommandOf (PutOf put)), h, kind, e) = absurd (omega (arith, kind))
+announcement_behind v payload (RecordItem (CommandOf (EndOf serial)), h, kind, e) = absurd (omega (arith, kind))
+announcement_behind v payload (RecordItem Flush, h, kind, e) = absurd (omega (arith, kind))
+announcement_behind v payload (Announcement, h, kind, e) = sym e
+
+pub flush_behind : (v : Version) (payload : List ℕ) → IsPayload v 4 payload → payload ≡ []
+flush_behind v payload (RecordItem (CommandOf (BeginOf begin)), h, kind, e) = absurd (omega (arith, kind))
+flush_behind v payload (RecordItem (CommandOf (PutOf put)), h, kind, e) = absurd (omega (arith, kind))
+flush_behind v payload (RecordItem (CommandOf (EndOf serial)), h, kind, e) = absurd (omega (arith, kind))
+flush_behind v payload (RecordItem Flush, h, kind, e) = sym e
+flush_behind v payload (Announcement, h, kind, e) = absurd (omega (arith, kind))
 
 pub is_nothing : (xs : List ℕ) (b : Bool) → b ≡ (length xs == 0) → IsTrue b → xs ≡ []
 is_nothing [] b e t = refl
@@ -444,12 +590,12 @@ left_first Is spell rest more done count l (x ∷ xs, many, e) =
     (flat_map spell xs ++ more, (x, many.1.0, e ∙ append_assoc (spell x) (flat_map spell xs) more))
 
 -- what stands in front of a stream, and behind its serial and the number of its headers
-pub stream_long : (bytes : List ℕ) → ((rest : List ℕ) × Begins IsStreamOfFeed stream_bytes bytes rest) → 6 ≤ length bytes
-stream_long bytes (rest, (s, h, e)) =
-    let behind : List ℕ = flat_map packet_bytes s.headers ++ tail_bytes (tail_of_stream s) in
+pub stream_long : (v : Version) (bytes : List ℕ) → ((rest : List ℕ) × Begins (IsStreamOfFeed v) (stream_bytes v) bytes rest) → 6 ≤ length bytes
+stream_long v bytes (rest, (s, h, e)) =
+    let behind : List ℕ = flat_map packet_bytes s.headers ++ behind_bytes v (behind_of_stream s) in
     omega (
       arith,
-      ap length (e ∙ ap (λ l. l ++ rest) (stream_parts s)),
+      ap length (e ∙ ap (λ l. l ++ rest) (stream_parts v s)),
       length-append (u32_bytes s.serial ++ (u16_bytes (length s.headers) ++ behind)) rest,
       length-append (u32_bytes s.serial) (u16_bytes (length s.headers) ++ behind),
       length-append (u16_bytes (length s.headers)) behind,
@@ -457,17 +603,20 @@ stream_long bytes (rest, (s, h, e)) =
       length-u16_bytes (length s.headers),
     )
 
-pub stream_headers_stand : (bytes b1 b2 : List ℕ) (serial count : ℕ) → serial < 2 ^ 32 → count < 2 ^ 16 → bytes ≡ u32_bytes serial ++ b1 → b1 ≡ u16_bytes count ++ b2
-    → ((rest : List ℕ) × Begins IsStreamOfFeed stream_bytes bytes rest) → (rest : List ℕ) × Begins (AreMany IsPacket count) (flat_map packet_bytes) b2 rest
-stream_headers_stand bytes b1 b2 serial count hs hc e1 e2 (more, (s, h, e)) =
-    let behind = stream_behind bytes b1 b2 more serial count s hs hc e1 e2 h e in
-    (tail_bytes (tail_of_stream s) ++ more, (s.headers, (sym behind.0, stream_headers s h), behind.1 ∙ append_assoc (flat_map packet_bytes s.headers) (tail_bytes (tail_of_stream s)) more))
+pub stream_headers_stand : (v : Version) (bytes b1 b2 : List ℕ) (serial count : ℕ) → serial < 2 ^ 32 → count < 2 ^ 16 → bytes ≡ u32_bytes serial ++ b1 → b1 ≡ u16_bytes count ++ b2
+    → ((rest : List ℕ) × Begins (IsStreamOfFeed v) (stream_bytes v) bytes rest) → (rest : List ℕ) × Begins (AreMany IsPacket count) (flat_map packet_bytes) b2 rest
+stream_headers_stand v bytes b1 b2 serial count hs hc e1 e2 (more, (s, h, e)) =
+    let behind = stream_behind v bytes b1 b2 more serial count s hs hc e1 e2 h e in
+    (behind_bytes v (behind_of_stream s) ++ more, (s.headers, (sym behind.0, stream_headers v s h), behind.1 ∙ append_assoc (flat_map packet_bytes s.headers) (behind_bytes v (behind_of_stream s)) more))
 
-pub stream_tail_stands : (bytes b1 b2 b3 : List ℕ) (serial count : ℕ) (headers : List (List ℕ)) → serial < 2 ^ 32 → count < 2 ^ 16 → bytes ≡ u32_bytes serial ++ b1 → b1 ≡ u16_bytes count ++ b2
+pub stream_behind_stands : (v : Version) (bytes b1 b2 b3 : List ℕ) (serial count : ℕ) (headers : List (List ℕ)) → serial < 2 ^ 32 → count < 2 ^ 16 → bytes ≡ u32_bytes serial ++ b1 → b1 ≡ u16_bytes count ++ b2
     → AreMany IsPacket count headers → b2 ≡ flat_map packet_bytes headers ++ b3
-    → ((rest : List ℕ) × Begins IsStreamOfFeed stream_bytes bytes rest) → ¬ BeginsNone IsTail tail_bytes b3
-stream_tail_stands bytes b1 b2 b3 serial count headers hs hc e1 e2 many e3 (more, (s, h, e)) none =
-    stream_tail_cut bytes b1 b2 b3 serial count hs hc e1 e2 (headers, many, e3) none s more h e
+    → ((rest : List ℕ) × Begins (IsStreamOfFeed v) (stream_bytes v) bytes rest) → (rest : List ℕ) × Begins (IsBehind v) (behind_bytes v) b3 rest
+stream_behind_stands v bytes b1 b2 b3 serial count headers hs hc e1 e2 many e3 (more, (s, h, e)) =
+    let behind = stream_behind v bytes b1 b2 more serial count s hs hc e1 e2 h e in
+    let same = front (AreMany IsPacket count) (flat_map packet_bytes) (same_many IsPacket packet_bytes same_packet count) headers s.headers b3 (behind_bytes v (behind_of_stream s)) more
+    many (sym behind.0, stream_headers v s h) (sym e3 ∙ behind.1) in
+    (more, (behind_of_stream s, stream_behind_headers v s h, same.1))
 
 pub counted_long : {X : Type 0} (Is : X → Type 0) (spell : X → List ℕ) (bytes : List ℕ) → Counted Is spell bytes → 2 ≤ length bytes
 counted_long Is spell bytes (xs, all, fits, e) =

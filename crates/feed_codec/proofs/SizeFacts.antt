@@ -13,8 +13,13 @@ use Rattle.ogg_command.specs.declared.command.SkeletonHead.{SkeletonHead}
 use Rattle.ogg_command.specs.declared.command.NewStream.{NewStream}
 use Rattle.ogg_command.specs.declared.command.Entry.{Entry}
 use Rattle.ogg_page.specs.Numbers.{u16_bytes, u32_bytes, u64_bytes, i64_bytes, fraction_bytes}
-use Rattle.feed_codec.specs.Record.{packet_bytes, media_bytes, skeleton_bytes, stream_bytes, entry_bytes, payload_of, record_of}
-use Rattle.feed_codec.specs.Payload.{Tail, tail_bytes, tail_of_stream}
+use Rattle.feed_codec.specs.Record.{packet_bytes, media_bytes, skeleton_bytes, field_bytes, fields_bytes, stream_bytes, entry_bytes, payload_of, item_bytes, record_of}
+use Rattle.skeleton3.specs.Fields.{NamedValue}
+use Rattle.feed_codec.specs.Writing.{stream_size}
+use Rattle.feed_codec.specs.declared.version.Version.{Version}
+use Rattle.feed_codec.specs.declared.version.Version.TheVariants.{Two}
+use Rattle.feed_codec.specs.declared.item.Record.TheVariants.{Command as CommandOf}
+use Rattle.feed_codec.specs.Payload.{Tail, tail_bytes, tail_of_stream, behind_bytes, behind_of_stream}
 use Rattle.ogg_page.specs.Laws.NumberBytes.{length-u16_bytes, length-u32_bytes, length-u64_bytes, length-i64_bytes}
 use Rattle.feed_codec.proofs.Spellings.{stream_parts}
 
@@ -80,32 +85,47 @@ length-tail_bytes tail =
       length-u32_bytes tail.preroll,
     )
 
-pub length-stream_bytes : (s : NewStream) → length (stream_bytes s) ≡ 37 + length (flat_map packet_bytes s.headers) + length s.media
-length-stream_bytes s =
+pub length-field_bytes : (field : NamedValue) → length (field_bytes field) ≡ 4 + length field.0 + length field.1
+length-field_bytes field =
     omega (
       arith,
-      ap length (stream_parts s),
-      length-append (u32_bytes s.serial) (u16_bytes (length s.headers) ++ (flat_map packet_bytes s.headers ++ tail_bytes (tail_of_stream s))),
-      length-append (u16_bytes (length s.headers)) (flat_map packet_bytes s.headers ++ tail_bytes (tail_of_stream s)),
-      length-append (flat_map packet_bytes s.headers) (tail_bytes (tail_of_stream s)),
+      length-append (media_bytes field.0) (media_bytes field.1),
+      length-append (u16_bytes (length field.0)) field.0,
+      length-append (u16_bytes (length field.1)) field.1,
+      length-u16_bytes (length field.0),
+      length-u16_bytes (length field.1),
+    )
+
+pub length-fields_bytes : (fields : List NamedValue) → length (fields_bytes Two fields) ≡ 2 + length (flat_map field_bytes fields)
+length-fields_bytes fields = omega (arith, length-append (u16_bytes (length fields)) (flat_map field_bytes fields), length-u16_bytes (length fields))
+
+pub length-stream_bytes : (v : Version) (s : NewStream) → length (stream_bytes v s) ≡ stream_size v s
+length-stream_bytes v s =
+    omega (
+      arith,
+      ap length (stream_parts v s),
+      length-append (u32_bytes s.serial) (u16_bytes (length s.headers) ++ (flat_map packet_bytes s.headers ++ behind_bytes v (behind_of_stream s))),
+      length-append (u16_bytes (length s.headers)) (flat_map packet_bytes s.headers ++ behind_bytes v (behind_of_stream s)),
+      length-append (flat_map packet_bytes s.headers) (behind_bytes v (behind_of_stream s)),
+      length-append (tail_bytes (tail_of_stream s)) (fields_bytes v s.fields),
       length-u32_bytes s.serial,
       length-u16_bytes (length s.headers),
       length-tail_bytes (tail_of_stream s),
     )
 
-pub length-begin : (begin : Begin) → length (payload_of (BeginOf begin)) ≡ length (skeleton_bytes begin.skeleton) + 2 + length (flat_map stream_bytes begin.streams)
-length-begin begin =
+pub length-begin : (v : Version) (begin : Begin) → length (payload_of v (BeginOf begin)) ≡ length (skeleton_bytes begin.skeleton) + 2 + length (flat_map (stream_bytes v) begin.streams)
+length-begin v begin =
     omega (
       arith,
-      length-append (skeleton_bytes begin.skeleton) (u16_bytes (length begin.streams) ++ flat_map stream_bytes begin.streams),
-      length-append (u16_bytes (length begin.streams)) (flat_map stream_bytes begin.streams),
+      length-append (skeleton_bytes begin.skeleton) (u16_bytes (length begin.streams) ++ flat_map (stream_bytes v) begin.streams),
+      length-append (u16_bytes (length begin.streams)) (flat_map (stream_bytes v) begin.streams),
       length-u16_bytes (length begin.streams),
     )
 
-pub length-put : (put : Put) → length (payload_of (PutOf put)) ≡ 2 + length (flat_map entry_bytes put.entries)
-length-put put = omega (arith, length-append (u16_bytes (length put.entries)) (flat_map entry_bytes put.entries), length-u16_bytes (length put.entries))
+pub length-put : (v : Version) (put : Put) → length (payload_of v (PutOf put)) ≡ 2 + length (flat_map entry_bytes put.entries)
+length-put v put = omega (arith, length-append (u16_bytes (length put.entries)) (flat_map entry_bytes put.entries), length-u16_bytes (length put.entries))
 
-pub length-record_of : (command : Command) → length (record_of command) ≡ 5 + length (payload_of command)
-unfolding record_of
-length-record_of command =
-    omega (arith, length-append (u32_bytes (length (payload_of command))) (payload_of command), length-u32_bytes (length (payload_of command)))
+pub length-record_of : (v : Version) (command : Command) → length (record_of v (CommandOf command)) ≡ 5 + length (payload_of v command)
+unfolding item_bytes
+length-record_of v command =
+    omega (arith, length-append (u32_bytes (length (payload_of v command))) (payload_of v command), length-u32_bytes (length (payload_of v command)))

@@ -1,48 +1,101 @@
 -- What a feed answers. Ours.
-use Rattle.std.specs.Prelude.{◌≡◌, ◌≢◌, ◌⊎◌, ℕ, ◌+◌, Bool, nat_lt, nat_le, not, ◌&&◌, if◌then◌else◌, unwrap_or, Option, Some, None, Result, Ok, Err, List, [], length, drop, slice_index, ⊤}
-use Rattle.std.specs.Io.KnownBytes.{Consumes}
+use Rattle.std.specs.Prelude.{◌≡◌, ◌≢◌, ◌⊎◌, ℕ, ◌+◌, Bool, true, false, nat_eq, nat_lt, nat_le, not, ◌&&◌, ◌||◌, if◌then◌else◌, unwrap_or, Option, Some, None, Result, Ok, Err, List, [], ◌++◌, length, drop, slice_index, ⊤}
+use Rattle.std.specs.Io.KnownBytes.{Consumes, IsAtEnd, Keeps}
 use Rattle.byteorder.specs.Endian.{little_number}
-use Rattle.ogg_command.specs.declared.command.Command.{Command}
 use Rattle.feed_codec.specs.declared.fault.FeedFault.{FeedFault}
 use Rattle.feed_codec.specs.declared.fault.FeedFault.TheVariants.{Truncated, Kind, Length, Form}
-use Rattle.feed_codec.specs.Record.{BeginsNoRecord, HasRecord, record_of, most_payload}
+use Rattle.feed_codec.specs.declared.version.Version.{Version}
+use Rattle.feed_codec.specs.declared.version.Version.TheVariants.{One, Two}
+use Rattle.feed_codec.specs.declared.item.Item.{Item}
+use Rattle.feed_codec.specs.declared.item.Record.{Record as RecordOf}
+use Rattle.feed_codec.specs.Record.{BeginsNoItem, HasItem, HasRecord, announcement, item_bytes, most_payload, opening, record_of}
 
 -- a record's head: one byte for the kind, and the payload's length
 abbrev pub head_size : ℕ
 head_size = 5
 
-abbrev pub IsKind : ℕ → Bool
-IsKind kind = nat_le 1 kind && nat_le kind 3
+-- An announcement, which has the number 0, may be the first alone.
+abbrev pub is_kind : Bool → ℕ → Bool
+is_kind first kind = (first && nat_eq kind 0) || (nat_le 1 kind && nat_le kind 4)
 
 abbrev pub payload_length : List ℕ → ℕ
 payload_length bytes = little_number 4 (drop 1 bytes)
 
 -- the first thing wrong with the head of a record, if there is one
-abbrev pub head_fault : List ℕ → Option FeedFault
-head_fault bytes =
+abbrev pub head_fault : Bool → List ℕ → Option FeedFault
+head_fault first bytes =
     if nat_lt (length bytes) head_size then Some Truncated
-    else (if not (IsKind (slice_index bytes 0)) then Some Kind
+    else (if not (is_kind first (slice_index bytes 0)) then Some Kind
     else (if nat_lt most_payload (payload_length bytes) then Some Length
     else None))
 
 -- the first thing wrong with bytes that begin with no record
-abbrev pub fault_of : List ℕ → FeedFault
-fault_of bytes =
-    unwrap_or (head_fault bytes) (if nat_lt (length bytes) (head_size + payload_length bytes) then Truncated else Form)
+abbrev pub fault_of : Bool → List ℕ → FeedFault
+fault_of first bytes =
+    unwrap_or (head_fault first bytes) (if nat_lt (length bytes) (head_size + payload_length bytes) then Truncated else Form)
 
--- where the bytes are known, they aren't empty, begin with no record, and this is the first thing wrong with them
-abbrev pub HasFault : Option (List ℕ) → FeedFault → Type 0
-HasFault None fault = ⊤
-HasFault (Some bytes) fault = (bytes ≢ []) × BeginsNoRecord bytes × (fault_of bytes ≡ fault)
+-- the bytes aren't empty, begin with no item, and this is the first thing wrong with them
+abbrev pub HasFaultAt : Bool → Version → List ℕ → FeedFault → Type 0
+HasFaultAt first version bytes fault = (bytes ≢ []) × BeginsNoItem first version bytes × (fault_of first bytes ≡ fault)
+
+-- the same, where the bytes are known
+abbrev pub HasItemFault : Bool → Version → Option (List ℕ) → FeedFault → Type 0
+HasItemFault first version None fault = ⊤
+HasItemFault first version (Some bytes) fault = HasFaultAt first version bytes fault
+
+-- What is wrong with the bytes of a feed, where they are known: at its front, or after its announcement; or after records
+-- of a version.
+abbrev pub HasFault : Option Version → Option (List ℕ) → FeedFault → Type 0
+HasFault known None fault = ⊤
+HasFault (Some version) (Some bytes) fault = HasFaultAt false version bytes fault
+HasFault None (Some bytes) fault =
+    HasFaultAt true One bytes fault ⊎ ((rest : List ℕ) × (bytes ≡ announcement ++ rest) × HasFaultAt false Two rest fault)
 
 -- What was taken from a reader where memory was refused: a head without a fault, as there was no room for its payload,
 -- or a whole record, as there was none for its command.
-abbrev pub TakesWhereMemoryEnds : Option (List ℕ) → Option (List ℕ) → Type 0
-TakesWhereMemoryEnds old new =
-    ((head : List ℕ) × (length head ≡ head_size) × (head_fault head ≡ None) × Consumes old new head)
-    ⊎ ((command : Command) × HasRecord command × Consumes old new (record_of command))
+abbrev pub TakesItemPart : Bool → Version → Option (List ℕ) → Option (List ℕ) → Type 0
+TakesItemPart first version old new =
+    ((head : List ℕ) × (length head ≡ head_size) × (head_fault first head ≡ None) × Consumes old new head)
+    ⊎ ((item : Item) × HasItem first version item × Consumes old new (item_bytes version item))
+
+-- the same of a feed, of which an announcement may have been taken before
+abbrev pub TakesWhereMemoryEnds : Option Version → Option (List ℕ) → Option (List ℕ) → Type 0
+TakesWhereMemoryEnds (Some version) old new = TakesItemPart false version old new
+TakesWhereMemoryEnds None old new =
+    TakesItemPart true One old new ⊎ ((mid : Option (List ℕ)) × Consumes old mid announcement × TakesItemPart false Two mid new)
+
+-- A feed: the version of its records, once it is known, and how it has ended, if it has.
+pub record FeedState : Type 0 where
+  pub version : Option Version
+  pub outcome : Option (Result (Unit {0}) FeedFault)
+
+-- what stands in front of the next record, if it turns out to be of this version
+abbrev pub front_of : Option Version → Version → List ℕ
+front_of None version = opening version
+front_of (Some known) version = []
+
+-- the version stays once it is known
+abbrev pub Continues : Option Version → Version → Type 0
+Continues None version = ⊤
+Continues (Some known) version = known ≡ version
+
+-- a record was read, and no more
+pub record GivesRecord (old new : Option Version) (before behind : Option (List ℕ)) (given : RecordOf) : Type 0 where
+  pub version : Version
+  pub is_record : HasRecord version given
+  pub continues : Continues old version
+  pub known : new ≡ Some version
+  pub read : Consumes before behind (front_of old version ++ record_of version given)
+
+-- no byte is left, and only an announcement was read, if anything
+pub record GivesEnd (old : Option Version) (before behind : Option (List ℕ)) : Type 0 where
+  pub version : Version
+  pub left : Option (List ℕ)
+  pub read : Consumes before left (front_of old version)
+  pub end : IsAtEnd left
+  pub kept : Keeps left behind
 
 -- what a feed answers that has come to this end
-abbrev pub answer_at : Result (Unit {0}) FeedFault → Result (Option Command) FeedFault
+abbrev pub answer_at : Result (Unit {0}) FeedFault → Result (Option RecordOf) FeedFault
 answer_at (Ok _) = Ok None
 answer_at (Err fault) = Err fault

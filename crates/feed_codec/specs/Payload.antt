@@ -1,16 +1,21 @@
 -- How the front of a payload is looked through. Ours.
-use Rattle.std.specs.Prelude.{◌≡◌, ◌≢◌, ℕ, ℤ, ◌<◌, ◌^◌, List, [], ◌∷◌, ◌++◌, length}
+use Rattle.std.specs.Prelude.{◌≡◌, ◌≢◌, ℕ, ℤ, ◌<◌, ◌^◌, List, [], ◌∷◌, ◌++◌, length, ⊤}
 use Rattle.std.specs.Int.{w64}
 use Rattle.std.specs.Prelude.{FitsSigned}
 use Rattle.std.specs.List.{AllByRecursion}
 use Rattle.ogg_page.specs.Page.{IsByte}
 use Rattle.ogg_command.specs.Command.{IsCommand, IsNewStream, IsEntry}
-use Rattle.ogg_command.specs.declared.command.Command.{Command}
 use Rattle.ogg_command.specs.declared.command.SkeletonHead.{SkeletonHead}
 use Rattle.ogg_command.specs.declared.command.NewStream.{NewStream}
 use Rattle.ogg_command.specs.declared.command.Entry.{Entry}
 use Rattle.ogg_page.specs.Numbers.{u32_bytes, i64_bytes, fraction_bytes, IsFraction}
-use Rattle.feed_codec.specs.Record.{FitsStream, FitsEntry, FitsFields, media_bytes, kind_of, payload_of}
+use Rattle.skeleton3.specs.Fields.{NamedValue}
+use Rattle.feed_codec.specs.declared.version.Version.{Version}
+use Rattle.feed_codec.specs.declared.version.Version.TheVariants.{One, Two}
+use Rattle.feed_codec.specs.declared.item.Record.TheVariants.{Command as CommandOf, Flush}
+use Rattle.feed_codec.specs.declared.item.Item.{Item}
+use Rattle.feed_codec.specs.declared.item.Item.TheVariants.{Announcement, Record as RecordItem}
+use Rattle.feed_codec.specs.Record.{FitsStream, FitsEntry, FitsFields, media_bytes, fields_bytes, kind_in, payload_in}
 
 -- the bytes begin with the spelling of some x, and then comes the rest
 abbrev pub Begins : {X : Type 0} → (X → Type 0) → (X → List ℕ) → List ℕ → List ℕ → Type 0
@@ -36,11 +41,21 @@ pub record IsEntryOfFeed (entry : Entry) : Type 0 where
   pub numbers : IsEntry entry
   pub fits : FitsEntry entry
 
-pub record IsStreamOfFeed (stream : NewStream) : Type 0 where
-  pub numbers : IsNewStream stream
-  pub fits : FitsStream stream
+-- a message field, which is spelled as two media types
+pub record IsFieldOfFeed (field : NamedValue) : Type 0 where
+  pub name : IsMedia field.0
+  pub value : IsMedia field.1
 
--- what stands behind a stream's headers
+-- the message fields of a stream
+abbrev pub AreFields : Version → List NamedValue → Type 0
+AreFields One fields = fields ≡ []
+AreFields Two fields = (length fields < 2 ^ 16) × AllByRecursion IsFieldOfFeed fields
+
+pub record IsStreamOfFeed (version : Version) (stream : NewStream) : Type 0 where
+  pub numbers : IsNewStream stream
+  pub fits : FitsStream version stream
+
+-- what stands behind a stream's headers, but for its message fields
 pub record Tail : Type 0 where
   pub media : List ℕ
   pub rate : ℤ × ℤ
@@ -61,10 +76,27 @@ tail_bytes tail =
     ++ (fraction_bytes tail.rate
     ++ (i64_bytes tail.base_granule ++ (u32_bytes tail.preroll ++ tail.shift ∷ [])))
 
--- the payload is exactly the spelling of a command of this kind
-abbrev pub IsPayload : ℕ → List ℕ → Type 0
-IsPayload kind payload =
-    (command : Command) × IsCommand command × FitsFields command × (kind_of command ≡ kind) × (payload_of command ≡ payload)
+-- all that stands behind a stream's headers
+abbrev pub Behind : Type 0
+Behind = Tail × List NamedValue
+
+pub record IsBehind (version : Version) (behind : Behind) : Type 0 where
+  pub tail : IsTail behind.0
+  pub fields : AreFields version behind.1
+
+abbrev pub behind_bytes : Version → Behind → List ℕ
+behind_bytes version behind = tail_bytes behind.0 ++ fields_bytes version behind.1
+
+-- what an item of this version can hold
+abbrev pub IsItem : Version → Item → Type 0
+IsItem version Announcement = ⊤
+IsItem version (RecordItem (CommandOf command)) = IsCommand command × FitsFields version command
+IsItem version (RecordItem Flush) = ⊤
+
+-- the payload is exactly that of an item of this kind
+abbrev pub IsPayload : Version → ℕ → List ℕ → Type 0
+IsPayload version kind payload =
+    (item : Item) × IsItem version item × (kind_in item ≡ kind) × (payload_in version item ≡ payload)
 
 -- the head of a Skeleton, behind the byte that announces it
 unfoldable pub skeleton_head_bytes : SkeletonHead → List ℕ
@@ -75,3 +107,6 @@ skeleton_head_bytes head =
 abbrev pub tail_of_stream : NewStream → Tail
 tail_of_stream stream =
     record { media = stream.media; rate = stream.rate; base_granule = stream.base_granule; preroll = stream.preroll; shift = stream.shift }
+
+abbrev pub behind_of_stream : NewStream → Behind
+behind_of_stream stream = (tail_of_stream stream, stream.fields)

@@ -1,18 +1,24 @@
 -- What reading takes from a reader. Ours.
-use Rattle.std.specs.Prelude.{◌≡◌, ◌≢◌, ℕ, ◌<◌, Option, Some, None, List, [], ◌∷◌, length, ⊤}
+use Rattle.std.specs.Prelude.{◌≡◌, ◌≢◌, ℕ, ◌<◌, ◌≤◌, Bool, IsTrue, Option, Some, None, List, [], ◌∷◌, length, ⊤}
 use Rattle.ogg_page.specs.Numbers.{u32_bytes}
-use Rattle.feed_codec.specs.Feed.{head_fault}
+use Rattle.feed_codec.specs.Record.{most_payload}
+use Rattle.feed_codec.specs.Feed.{head_fault, is_kind}
 use Rattle.feed_codec.specs.RecordKind.{number_of}
-use Rattle.feed_codec.specs.declared.record.Head.{Head}
+use Rattle.feed_codec.specs.declared.head.Head.{Head}
 use Rattle.feed_codec.specs.declared.fault.FeedFault.{FeedFault}
 
 abbrev pub head_bytes : Head → List ℕ
 head_bytes head = number_of head.kind ∷ u32_bytes head.length
 
+-- a head without a fault
+pub record IsHead (first : Bool) (head : Head) : Type 0 where
+  pub kind : IsTrue (is_kind first (number_of head.kind))
+  pub fits : head.length ≤ most_payload
+
 -- where the bytes are known, they aren't empty, and this is the first thing wrong with the head at their front
-abbrev pub HasHeadFault : Option (List ℕ) → FeedFault → Type 0
-HasHeadFault None fault = ⊤
-HasHeadFault (Some bytes) fault = (bytes ≢ []) × (head_fault bytes ≡ Some fault)
+abbrev pub HasHeadFault : Bool → Option (List ℕ) → FeedFault → Type 0
+HasHeadFault first None fault = ⊤
+HasHeadFault first (Some bytes) fault = (bytes ≢ []) × (head_fault first bytes ≡ Some fault)
 
 -- where the bytes are known, they are fewer
 abbrev pub IsShort : Option (List ℕ) → ℕ → Type 0

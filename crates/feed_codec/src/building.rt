@@ -1,55 +1,73 @@
-//! Commands, built from payloads that have been looked through.
+//! Records, built from payloads that have been looked through.
 ghost use Rattle.std.specs.Prelude.{◌≡◌, ◌++◌, [], IfOk, List, ℕ};
 ghost use Rattle.std.specs.List.{flat_map};
-ghost use Rattle.feed_codec.specs.Record.{packet_bytes, entry_bytes, stream_bytes, kind_of, payload_of, FitsFields};
+ghost use Rattle.feed_codec.specs.Record.{packet_bytes, field_bytes, fields_bytes, entry_bytes, stream_bytes, kind_in, kind_of, payload_in, payload_of, FitsFields};
 ghost use Rattle.feed_codec.specs.RecordKind.{number_of};
-ghost use Rattle.feed_codec.specs.Payload.{Begins, AreMany, IsPacket, IsEntryOfFeed, IsStreamOfFeed, IsPayload};
+ghost use Rattle.feed_codec.specs.Payload.{Begins, AreMany, IsPacket, IsFieldOfFeed, AreFields, IsEntryOfFeed, IsStreamOfFeed, IsItem, IsPayload};
 ghost use Rattle.ogg_command.specs.Command.{IsCommand};
+ghost use Rattle.skeleton3.specs.Fields.{shown};
 
-use crate::payload::{split_entry, split_packet, split_skeleton, split_tail};
-use crate::record::RecordKind;
+use crate::head::RecordKind;
+use crate::item::{Item, Record};
+use crate::payload::{split_entry, split_field, split_packet, split_skeleton, split_tail};
 use crate::spare::Spare;
+use crate::version::Version;
 use ogg_command::{Begin, Command, Entry, Listed, Memory, NewStream, Put};
 use ogg_page::{take_u16, take_u32};
 use skeleton3::Field;
 use std::alloc::Global;
 
-/// The command that the payload spells. A put is made of spare memory, as far as there is some.
-pub fn command_of(
+/// What the payload spells. A put is made of spare memory, as far as there is some.
+pub fn item_of(
     alloc: Global,
     spare: &mut Spare,
+    version: Version,
     kind: RecordKind,
     payload: &[u8],
-) -> Result<Command, Memory>
-    requires { IsPayload (number_of kind) payload.now }
-    ensures { IfOk result (λ command. IsCommand command × FitsFields command
-        × (kind_of command ≡ number_of kind) × (payload_of command ≡ payload.now)) }
+) -> Result<Item, Memory>
+    requires { IsPayload version (number_of kind) payload.now }
+    ensures { IfOk result (λ item. IsItem version item
+        × (kind_in item ≡ number_of kind) × (payload_in version item ≡ payload.now)) }
 {
-    match kind {
-        RecordKind::Begin => begin_of(alloc, payload),
-        RecordKind::Put => put_of(alloc, spare, payload),
-        RecordKind::End => {
-            let (serial, _) = take_u32(payload);
-            Ok(Command::End(serial))
-        }
-    }
+    let command = match kind {
+        RecordKind::Announcement => return Ok(Item::Announcement),
+        RecordKind::Flush => return Ok(Item::Record(Record::Flush)),
+        RecordKind::Begin => begin_of(alloc, version, payload)?,
+        RecordKind::Put => put_of(alloc, spare, version, payload)?,
+        RecordKind::End => end_of(version, payload),
+    };
+    Ok(Item::Record(Record::Command(command)))
 }
 
-fn begin_of(alloc: Global, payload: &[u8]) -> Result<Command, Memory>
-    requires { IsPayload 1 payload.now }
-    ensures { IfOk result (λ command. IsCommand command × FitsFields command
-        × (kind_of command ≡ 1) × (payload_of command ≡ payload.now)) }
+fn end_of(_version: Version, payload: &[u8]) -> Command
+    requires { IsPayload _version 3 payload.now }
+    ensures { IsCommand result × FitsFields _version result
+        × (kind_of result ≡ 3) × (payload_of _version result ≡ payload.now) }
+{
+    let (serial, _) = take_u32(payload);
+    Command::End(serial)
+}
+
+fn begin_of(alloc: Global, version: Version, payload: &[u8]) -> Result<Command, Memory>
+    requires { IsPayload version 1 payload.now }
+    ensures { IfOk result (λ command. IsCommand command × FitsFields version command
+        × (kind_of command ≡ 1) × (payload_of version command ≡ payload.now)) }
 {
     let (skeleton, rest) = split_skeleton(payload).unwrap();
     let (count, rest) = take_u16(rest);
-    let streams = streams_of(alloc, count, rest)?;
+    let streams = streams_of(alloc, version, count, rest)?;
     Ok(Command::Begin(Begin { skeleton, streams }))
 }
 
-fn put_of(alloc: Global, spare: &mut Spare, payload: &[u8]) -> Result<Command, Memory>
-    requires { IsPayload 2 payload.now }
-    ensures { IfOk result (λ command. IsCommand command × FitsFields command
-        × (kind_of command ≡ 2) × (payload_of command ≡ payload.now)) }
+fn put_of(
+    alloc: Global,
+    spare: &mut Spare,
+    _version: Version,
+    payload: &[u8],
+) -> Result<Command, Memory>
+    requires { IsPayload _version 2 payload.now }
+    ensures { IfOk result (λ command. IsCommand command × FitsFields _version command
+        × (kind_of command ≡ 2) × (payload_of _version command ≡ payload.now)) }
 {
     let (count, rest) = take_u16(payload);
     let entries = entries_of(alloc, spare, count, rest)?;
@@ -82,14 +100,20 @@ fn entries_of(
 }
 
 /// The streams that the bytes spell.
-fn streams_of(alloc: Global, count: u16, bytes: &[u8]) -> Result<Listed<NewStream>, Memory>
-    requires { Begins (AreMany IsStreamOfFeed count) (flat_map stream_bytes) bytes.now [] }
-    ensures { IfOk result (λ streams. AreMany IsStreamOfFeed count streams × (bytes.now ≡ flat_map stream_bytes streams)) }
+fn streams_of(
+    alloc: Global,
+    version: Version,
+    count: u16,
+    bytes: &[u8],
+) -> Result<Listed<NewStream>, Memory>
+    requires { Begins (AreMany (IsStreamOfFeed version) count) (flat_map (stream_bytes version)) bytes.now [] }
+    ensures { IfOk result (λ streams. AreMany (IsStreamOfFeed version) count streams
+        × (bytes.now ≡ flat_map (stream_bytes version) streams)) }
 {
     let mut streams = Vec::with_capacity(alloc, usize::from(count))?;
     let mut rest = bytes;
     for _ in 0..count {
-        let (stream, behind) = stream_of(alloc, rest)?;
+        let (stream, behind) = stream_of(alloc, version, rest)?;
         streams.push_reserved(stream);
         rest = behind;
     }
@@ -97,20 +121,22 @@ fn streams_of(alloc: Global, count: u16, bytes: &[u8]) -> Result<Listed<NewStrea
 }
 
 /// The stream at the front, and what follows.
-fn stream_of(alloc: Global, bytes: &[u8]) -> Result<(NewStream, &[u8]), Memory>
-    requires { (rest : List ℕ) × Begins IsStreamOfFeed stream_bytes bytes.now rest }
-    ensures { IfOk result (λ (stream, rest). IsStreamOfFeed stream × (bytes.now ≡ stream_bytes stream ++ rest.now)) }
+fn stream_of(alloc: Global, version: Version, bytes: &[u8]) -> Result<(NewStream, &[u8]), Memory>
+    requires { (rest : List ℕ) × Begins (IsStreamOfFeed version) (stream_bytes version) bytes.now rest }
+    ensures { IfOk result (λ (stream, rest). IsStreamOfFeed version stream
+        × (bytes.now ≡ stream_bytes version stream ++ rest.now)) }
 {
     let (serial, rest) = take_u32(bytes);
     let (count, rest) = take_u16(rest);
     let (headers, rest) = headers_of(alloc, count, rest)?;
     let (tail, rest) = split_tail(rest).unwrap();
     let media = packet_of(alloc, tail.media)?;
+    let (fields, rest) = fields_of(alloc, version, rest)?;
     let stream = NewStream {
         serial,
         headers,
         media,
-        fields: no_fields(alloc),
+        fields,
         rate: tail.rate,
         base_granule: tail.base_granule,
         preroll: tail.preroll,
@@ -119,11 +145,50 @@ fn stream_of(alloc: Global, bytes: &[u8]) -> Result<(NewStream, &[u8]), Memory>
     Ok((stream, rest))
 }
 
-/// No message fields. It takes no memory.
-fn no_fields(alloc: Global) -> Listed<Field>
-    ensures { result ≡ [] }
+/// The message fields of a stream, and what follows.
+fn fields_of(
+    alloc: Global,
+    version: Version,
+    bytes: &[u8],
+) -> Result<(Listed<Field>, &[u8]), Memory>
+    requires { (rest : List ℕ) × Begins (AreFields version) (fields_bytes version) bytes.now rest }
+    ensures { IfOk result (λ (fields, rest). AreFields version fields
+        × (bytes.now ≡ fields_bytes version fields ++ rest.now)) }
 {
-    Listed::of(Vec::new(alloc))
+    match version {
+        Version::One => Ok((Listed::of(Vec::new(alloc)), bytes)),
+        Version::Two => {
+            let (count, rest) = take_u16(bytes);
+            each_field_of(alloc, count, rest)
+        }
+    }
+}
+
+/// The first `count` message fields, and what follows.
+fn each_field_of(alloc: Global, count: u16, bytes: &[u8]) -> Result<(Listed<Field>, &[u8]), Memory>
+    requires { (rest : List ℕ) × Begins (AreMany IsFieldOfFeed count) (flat_map field_bytes) bytes.now rest }
+    ensures { IfOk result (λ (fields, rest). AreMany IsFieldOfFeed count fields
+        × (bytes.now ≡ flat_map field_bytes fields ++ rest.now)) }
+{
+    let mut fields = Vec::with_capacity(alloc, usize::from(count))?;
+    let mut rest = bytes;
+    for _ in 0..count {
+        let (field, behind) = split_field(rest).unwrap();
+        fields.push_reserved(field_of(alloc, field)?);
+        rest = behind;
+    }
+    Ok((Listed::of(fields), rest))
+}
+
+/// A copy of a message field.
+fn field_of(alloc: Global, field: (&[u8], &[u8])) -> Result<Field, Memory>
+    ensures { IfOk result (λ copy. copy ≡ shown field.entry) }
+{
+    let (name, value) = field;
+    Ok(Field::of(
+        Vec::from_slice(alloc, name)?,
+        Vec::from_slice(alloc, value)?,
+    ))
 }
 
 /// So many headers at the front, and what follows.

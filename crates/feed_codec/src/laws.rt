@@ -1,28 +1,32 @@
 //! What always holds of records.
-ghost use Rattle.std.specs.Prelude.{◌≡◌, ◌++◌, List, ℕ, Option, Some};
+ghost use Rattle.std.specs.Prelude.{◌≡◌, ◌++◌, Bool, true, List, ℕ, Option, Some, None};
 ghost use Rattle.std.specs.Io.KnownBytes.{Consumes, IsAtEnd};
-ghost use Rattle.ogg_command.specs.declared.command.Command.{Command};
-ghost use Rattle.feed_codec.specs.Record.{HasRecord, IsFeed, record_of};
+ghost use Rattle.feed_codec.specs.Record.{HasItem, HasRecord, IsFeed, item_bytes, record_of};
 ghost use Rattle.feed_codec.specs.Feed.{HasFault};
 ghost use Rattle.feed_codec.specs.declared.fault.FeedFault.{FeedFault};
+ghost use Rattle.feed_codec.specs.declared.item.Item.{Item};
+ghost use Rattle.feed_codec.specs.declared.item.Record.{Record};
+ghost use Rattle.feed_codec.specs.declared.version.Version.{Version};
 
-/// Where two commands' records begin the same bytes, they are one command, and the same bytes follow.
-/// So no record's bytes are a proper prefix of another's.
+/// Where two records of one version begin the same bytes, they are one record, and the same bytes follow.
+/// So no record's bytes are a proper prefix of another's, nor of the announcement's.
 pub fn records_are_prefix_free()
-    ensures { (a b : Command) (x y : List ℕ) → HasRecord a → HasRecord b → record_of a ++ x ≡ record_of b ++ y → (a ≡ b) × (x ≡ y) }
+    ensures { (version : Version) (a b : Item) (x y : List ℕ) → HasItem true version a → HasItem true version b
+        → item_bytes version a ++ x ≡ item_bytes version b ++ y → (a ≡ b) × (x ≡ y) }
 {}
 
 /// A record is read back: bytes that it begins aren't the feed's end, have no fault, and give no
-/// other command and leave nothing else behind it.
+/// other record and leave nothing else behind it.
 pub fn records_are_read_back()
-    ensures not_the_end { (command : Command) (rest : List ℕ) → ¬ IsAtEnd (Some (record_of command ++ rest)) }
-    ensures no_fault { (command : Command) (rest : List ℕ) (fault : FeedFault) → HasRecord command
-        → ¬ HasFault (Some (record_of command ++ rest)) fault }
-    ensures same { (command other : Command) (rest new : List ℕ) → HasRecord command → HasRecord other
-        → Consumes (Some (record_of command ++ rest)) (Some new) (record_of other) → (other ≡ command) × (new ≡ rest) }
+    ensures not_the_end { (version : Version) (given : Record) (rest : List ℕ) → ¬ IsAtEnd (Some (record_of version given ++ rest)) }
+    ensures no_fault { (version : Version) (given : Record) (rest : List ℕ) (fault : FeedFault) → HasRecord version given
+        → ¬ HasFault (Some version) (Some (record_of version given ++ rest)) fault }
+    ensures same { (version : Version) (given other : Record) (rest new : List ℕ) → HasRecord version given → HasRecord version other
+        → Consumes (Some (record_of version given ++ rest)) (Some new) (record_of version other) → (other ≡ given) × (new ≡ rest) }
 {}
 
-/// A feed's bytes tell its commands, and the rest behind them.
+/// A feed's bytes tell its version, its records, and the rest behind them.
 pub fn feeds_are_unambiguous()
-    ensures { (bytes : List ℕ) (cs ds : List Command) (x y : List ℕ) → IsFeed bytes cs x → IsFeed bytes ds y → (cs ≡ ds) × (x ≡ y) }
+    ensures { (bytes : List ℕ) (v w : Version) (cs ds : List Record) (x y : List ℕ) → IsFeed bytes v cs x → IsFeed bytes w ds y
+        → (v ≡ w) × (cs ≡ ds) × (x ≡ y) }
 {}

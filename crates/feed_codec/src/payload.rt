@@ -1,13 +1,15 @@
 //! Payloads, looked through without taking memory.
 ghost use Rattle.std.specs.Prelude.{◌≡◌, ◌++◌, ◌↔◌, IsTrue, MatchOption};
 ghost use Rattle.std.specs.List.{flat_map};
-ghost use Rattle.feed_codec.specs.Record.{packet_bytes, media_bytes, entry_bytes, stream_bytes, skeleton_bytes};
+ghost use Rattle.feed_codec.specs.Record.{packet_bytes, media_bytes, field_bytes, fields_bytes, entry_bytes, stream_bytes, skeleton_bytes};
 ghost use Rattle.feed_codec.specs.RecordKind.{number_of};
-ghost use Rattle.feed_codec.specs.Payload.{Begins, BeginsNone, AreMany, IsPacket, IsMedia, IsEntryOfFeed, IsStreamOfFeed, IsTail, tail_bytes, skeleton_head_bytes, IsPayload};
+ghost use Rattle.feed_codec.specs.Payload.{Begins, BeginsNone, AreMany, IsPacket, IsMedia, IsFieldOfFeed, AreFields, IsEntryOfFeed, IsStreamOfFeed, IsTail, tail_bytes, IsBehind, behind_bytes, skeleton_head_bytes, IsPayload};
 ghost use Rattle.feed_codec.specs.PayloadParts.{entry_of, tail_of};
+ghost use Rattle.skeleton3.specs.Fields.{shown};
 ghost use Rattle.ogg_command.specs.Command.{IsSkeleton, IsSkeletonHead};
 
-use crate::record::RecordKind;
+use crate::head::RecordKind;
+use crate::version::Version;
 use ogg_command::SkeletonHead;
 use ogg_page::{take_fraction, take_i64, take_u8, take_u16, take_u32, take_u64};
 
@@ -19,7 +21,7 @@ pub struct EntryPart<'a> {
     pub packet: &'a [u8],
 }
 
-/// What stands behind a stream's headers, where it lies.
+/// What stands behind a stream's headers, but for its message fields, where it lies.
 #[derive(Clone, Copy)]
 pub struct TailPart<'a> {
     pub media: &'a [u8],
@@ -29,19 +31,41 @@ pub struct TailPart<'a> {
     pub shift: u8,
 }
 
-/// Whether the payload is exactly the spelling of a command of this kind.
-pub fn is_payload(kind: RecordKind, payload: &[u8]) -> bool
-    ensures { IsTrue result ↔ IsPayload (number_of kind) payload.now }
+/// Whether the payload is exactly that of an item of this kind.
+pub fn is_payload(version: Version, kind: RecordKind, payload: &[u8]) -> bool
+    ensures { IsTrue result ↔ IsPayload version (number_of kind) payload.now }
 {
     match kind {
-        RecordKind::Begin => is_begin(payload),
-        RecordKind::Put => is_put(payload),
-        RecordKind::End => payload.len() == 4,
+        RecordKind::Announcement => is_announcement(version, payload),
+        RecordKind::Begin => is_begin(version, payload),
+        RecordKind::Put => is_put(version, payload),
+        RecordKind::End => is_end(version, payload),
+        RecordKind::Flush => is_flush(version, payload),
     }
 }
 
-fn is_begin(payload: &[u8]) -> bool
-    ensures { IsTrue result ↔ IsPayload 1 payload.now }
+/// An announcement holds the one byte 2.
+fn is_announcement(_version: Version, payload: &[u8]) -> bool
+    ensures { IsTrue result ↔ IsPayload _version 0 payload.now }
+{
+    matches!(payload, [2])
+}
+
+fn is_end(_version: Version, payload: &[u8]) -> bool
+    ensures { IsTrue result ↔ IsPayload _version 3 payload.now }
+{
+    payload.len() == 4
+}
+
+/// A flush has no payload.
+fn is_flush(_version: Version, payload: &[u8]) -> bool
+    ensures { IsTrue result ↔ IsPayload _version 4 payload.now }
+{
+    payload.is_empty()
+}
+
+fn is_begin(version: Version, payload: &[u8]) -> bool
+    ensures { IsTrue result ↔ IsPayload version 1 payload.now }
 {
     let Some((_, rest)) = split_skeleton(payload) else {
         return false;
@@ -50,14 +74,14 @@ fn is_begin(payload: &[u8]) -> bool
         return false;
     }
     let (count, rest) = take_u16(rest);
-    match skip_streams(count, rest) {
+    match skip_streams(version, count, rest) {
         Some(rest) => rest.is_empty(),
         None => false,
     }
 }
 
-fn is_put(payload: &[u8]) -> bool
-    ensures { IsTrue result ↔ IsPayload 2 payload.now }
+fn is_put(_version: Version, payload: &[u8]) -> bool
+    ensures { IsTrue result ↔ IsPayload _version 2 payload.now }
 {
     if payload.len() < 2 {
         return false;
@@ -91,6 +115,16 @@ fn split_media(bytes: &[u8]) -> Option<(&[u8], &[u8])>
     }
     let (length, rest) = take_u16(bytes);
     rest.split_at_checked(length as usize)
+}
+
+/// The message field at the front, and what follows.
+pub fn split_field(bytes: &[u8]) -> Option<((&[u8], &[u8]), &[u8])>
+    ensures { MatchOption result (BeginsNone IsFieldOfFeed field_bytes bytes.now)
+        (λ (field, rest). IsFieldOfFeed (shown field) × (bytes.now ≡ field_bytes (shown field) ++ rest.now)) }
+{
+    let (name, rest) = split_media(bytes)?;
+    let (value, rest) = split_media(rest)?;
+    Some(((name, value), rest))
 }
 
 /// The entry at the front, and what follows.
@@ -201,10 +235,49 @@ fn skip_headers(count: u16, bytes: &[u8]) -> Option<&[u8]>
     Some(rest)
 }
 
+/// What follows the first `count` message fields.
+fn skip_each_field(count: u16, bytes: &[u8]) -> Option<&[u8]>
+    ensures { MatchOption result (BeginsNone (AreMany IsFieldOfFeed count) (flat_map field_bytes) bytes.now)
+        (λ rest. Begins (AreMany IsFieldOfFeed count) (flat_map field_bytes) bytes.now rest.now) }
+{
+    let mut rest = bytes;
+    for _ in 0..count {
+        let (_, behind) = split_field(rest)?;
+        rest = behind;
+    }
+    Some(rest)
+}
+
+/// What follows the message fields of a stream.
+fn skip_fields(version: Version, bytes: &[u8]) -> Option<&[u8]>
+    ensures { MatchOption result (BeginsNone (AreFields version) (fields_bytes version) bytes.now)
+        (λ rest. Begins (AreFields version) (fields_bytes version) bytes.now rest.now) }
+{
+    match version {
+        Version::One => Some(bytes),
+        Version::Two => {
+            if bytes.len() < 2 {
+                return None;
+            }
+            let (count, rest) = take_u16(bytes);
+            skip_each_field(count, rest)
+        }
+    }
+}
+
+/// What follows all that stands behind a stream's headers.
+fn skip_behind(version: Version, bytes: &[u8]) -> Option<&[u8]>
+    ensures { MatchOption result (BeginsNone (IsBehind version) (behind_bytes version) bytes.now)
+        (λ rest. Begins (IsBehind version) (behind_bytes version) bytes.now rest.now) }
+{
+    let (_, rest) = split_tail(bytes)?;
+    skip_fields(version, rest)
+}
+
 /// What follows the stream at the front.
-fn skip_stream(bytes: &[u8]) -> Option<&[u8]>
-    ensures { MatchOption result (BeginsNone IsStreamOfFeed stream_bytes bytes.now)
-        (λ rest. Begins IsStreamOfFeed stream_bytes bytes.now rest.now) }
+fn skip_stream(version: Version, bytes: &[u8]) -> Option<&[u8]>
+    ensures { MatchOption result (BeginsNone (IsStreamOfFeed version) (stream_bytes version) bytes.now)
+        (λ rest. Begins (IsStreamOfFeed version) (stream_bytes version) bytes.now rest.now) }
 {
     if bytes.len() < 6 {
         return None;
@@ -212,18 +285,17 @@ fn skip_stream(bytes: &[u8]) -> Option<&[u8]>
     let (_, rest) = take_u32(bytes);
     let (count, rest) = take_u16(rest);
     let rest = skip_headers(count, rest)?;
-    let (_, rest) = split_tail(rest)?;
-    Some(rest)
+    skip_behind(version, rest)
 }
 
 /// What follows so many streams at the front.
-fn skip_streams(count: u16, bytes: &[u8]) -> Option<&[u8]>
-    ensures { MatchOption result (BeginsNone (AreMany IsStreamOfFeed count) (flat_map stream_bytes) bytes.now)
-        (λ rest. Begins (AreMany IsStreamOfFeed count) (flat_map stream_bytes) bytes.now rest.now) }
+fn skip_streams(version: Version, count: u16, bytes: &[u8]) -> Option<&[u8]>
+    ensures { MatchOption result (BeginsNone (AreMany (IsStreamOfFeed version) count) (flat_map (stream_bytes version)) bytes.now)
+        (λ rest. Begins (AreMany (IsStreamOfFeed version) count) (flat_map (stream_bytes version)) bytes.now rest.now) }
 {
     let mut rest = bytes;
     for _ in 0..count {
-        rest = skip_stream(rest)?;
+        rest = skip_stream(version, rest)?;
     }
     Some(rest)
 }

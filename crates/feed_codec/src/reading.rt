@@ -1,74 +1,84 @@
 //! Feeds, read one record at a time.
-ghost use Rattle.std.specs.Prelude.{◌≡◌, ◌≢◌, ◌≤◌, ◌<◌, ◌⊎◌, ◌∷◌, IfOk, IfErr, IfSome, IfNone, OnOk, length, take, vec_len, Some, None, Err, Ok};
+ghost use Rattle.std.specs.Prelude.{◌≡◌, ◌≢◌, ◌≤◌, ◌<◌, ◌⊎◌, ◌∷◌, false, IfOk, IfErr, IfSome, IfNone, OnOk, length, take, vec_len, Some, None, Err, Ok};
 ghost use Rattle.std.specs.Io.KnownBytes.{Consumes, Keeps, IsAtEnd};
-ghost use Rattle.feed_codec.specs.Record.{HasRecord, record_of, most_payload};
-ghost use Rattle.feed_codec.specs.Feed.{HasFault, TakesWhereMemoryEnds, answer_at};
-ghost use Rattle.feed_codec.specs.Reading.{head_bytes, HasHeadFault, IsShort};
+ghost use Rattle.feed_codec.specs.Record.{HasItem, HasRecord, item_bytes, record_of};
+ghost use Rattle.feed_codec.specs.Feed.{FeedState, GivesEnd, GivesRecord, HasFault, HasItemFault, TakesItemPart, TakesWhereMemoryEnds, answer_at};
+ghost use Rattle.feed_codec.specs.Reading.{IsHead, head_bytes, HasHeadFault, IsShort};
 
-use crate::building::command_of;
+use crate::building::item_of;
 use crate::fault::FeedFault;
+use crate::head::{HEAD, Head, head_of};
+use crate::item::{Item, Record};
 use crate::payload::is_payload;
-use crate::record::{HEAD, Head, head_of};
 use crate::spare::Spare;
+use crate::version::Version;
 use ogg_command::Command;
 use std::alloc::Global;
 use std::io::Read;
 use std::marker::Model;
 
-/// Reads commands, one after the other, and keeps the memory of one payload between them, and that of
-/// the commands that are given back. What a contract sees of it is how the feed has ended, if it has.
+/// Reads records, one after the other, and keeps the memory of one payload between them, and that of
+/// the commands that are given back. What a contract sees of it is the version of the feed, once it is
+/// known, and how the feed has ended, if it has.
 #[derive(Debug, Drop)]
 pub struct Feed {
     alloc: Global,
     payload: Vec<u8>,
     spare: Spare,
+    version: Option<Version>,
     outcome: Option<Result<(), FeedFault>>,
 }
 
 impl Model for Feed {
-    ghost use Rattle.std.specs.Prelude.{Option, Result};
-    ghost use Rattle.feed_codec.specs.declared.fault.FeedFault.{FeedFault};
+    ghost use Rattle.feed_codec.specs.Feed.{FeedState};
 
-    ghost Value = { Option (Result (Unit {0}) FeedFault) };
+    ghost Value = { FeedState };
 
-    ghost view = { λ feed. feed.outcome };
+    ghost view = { λ feed. record { version = feed.version; outcome = feed.outcome } };
 }
 
 impl Feed {
     /// A feed that hasn't been read yet. It takes no memory.
     pub fn new(alloc: Global) -> Self
-        ensures { result ≡ None }
+        ensures { result ≡ record { version = None; outcome = None } }
     {
         Feed {
             alloc,
             payload: Vec::new(alloc),
             spare: Spare::new(alloc),
+            version: None,
             outcome: None,
         }
     }
 
-    /// The command whose record stands at the front, or none at the end. After the end or a fault
-    /// the answer stays, and nothing is read.
-    pub fn next<R: Read + Drop>(&mut self, reader: &mut R) -> Result<Option<Command>, FeedFault>
-        // The record of a command is consumed, and no more.
-        ensures command { IfOk result (λ found. IfSome found (λ command. HasRecord command
-            × Consumes (R.remaining reader.old) (R.remaining reader.new) (record_of command)
-            × (self.old ≡ None) × (self.new ≡ None))) }
+    /// The version of the feed, once its first record was read.
+    pub fn version(&self) -> Option<Version>
+        ensures { result ≡ self.now.version }
+    {
+        self.version
+    }
+
+    /// The record at the front, or none at the end. An announcement in front of all records is passed over. After the
+    /// end or a fault the answer stays, and nothing is read.
+    pub fn next<R: Read + Drop>(&mut self, reader: &mut R) -> Result<Option<Record>, FeedFault>
+        // The record is consumed, with the announcement if it is the first, and no more.
+        ensures record { IfOk result (λ found. IfSome found (λ given. (self.old.outcome ≡ None) × (self.new.outcome ≡ None)
+            × GivesRecord self.old.version self.new.version (R.remaining reader.old) (R.remaining reader.new) given)) }
 
         // The end is where no byte is left.
-        ensures end { IfOk result (λ found. IfNone found (self.old ≡ None →
-            IsAtEnd (R.remaining reader.old) × Keeps (R.remaining reader.old) (R.remaining reader.new))) }
+        ensures end { IfOk result (λ found. IfNone found (self.old.outcome ≡ None
+            → GivesEnd self.old.version (R.remaining reader.old) (R.remaining reader.new))) }
 
         // A fault is the first of bytes that begin with no record, or the reader failed, or memory was refused.
-        ensures fault { IfErr result (λ fault. self.old ≡ None → fault ≢ FeedFault.Read → fault ≢ FeedFault.Memory
-            → HasFault (R.remaining reader.old) fault) }
-        ensures memory { result ≡ Err FeedFault.Memory → self.old ≡ None
-            → TakesWhereMemoryEnds (R.remaining reader.old) (R.remaining reader.new) }
+        ensures fault { IfErr result (λ fault. self.old.outcome ≡ None → fault ≢ FeedFault.Read → fault ≢ FeedFault.Memory
+            → HasFault self.old.version (R.remaining reader.old) fault) }
+        ensures memory { result ≡ Err FeedFault.Memory → self.old.outcome ≡ None
+            → TakesWhereMemoryEnds self.old.version (R.remaining reader.old) (R.remaining reader.new) }
 
         // The end and each fault stay.
-        ensures ends { IfOk result (λ found. IfNone found (self.new ≡ Some (Ok tt))) }
-        ensures fails { IfErr result (λ fault. self.new ≡ Some (Err fault)) }
-        ensures stays { IfSome self.old (λ outcome. (result ≡ answer_at outcome)
+        ensures ends { IfOk result (λ found. IfNone found (self.new.outcome ≡ Some (Ok tt))) }
+        ensures fails { IfErr result (λ fault. self.new.outcome ≡ Some (Err fault)) }
+        ensures stays { IfSome self.old.outcome (λ outcome. (result ≡ answer_at outcome)
             × (self.new ≡ self.old) × (reader.new ≡ reader.old)) }
     {
         match self.outcome {
@@ -76,8 +86,15 @@ impl Feed {
             Some(Err(fault)) => return Err(fault),
             None => {}
         }
-        match next_command(self.alloc, &mut self.spare, &mut self.payload, reader) {
-            Ok(Some(command)) => Ok(Some(command)),
+        let answer = next_record(
+            self.alloc,
+            &mut self.spare,
+            &mut self.payload,
+            &mut self.version,
+            reader,
+        );
+        match answer {
+            Ok(Some(record)) => Ok(Some(record)),
             Ok(None) => {
                 self.outcome = Some(Ok(()));
                 Ok(None)
@@ -99,23 +116,111 @@ impl Feed {
     }
 }
 
-/// The command whose record stands at the front, or none where no byte is left.
-fn next_command<R: Read + Drop>(
+/// The record at the front, of a feed of this version, or of one whose version its front tells.
+fn next_record<R: Read + Drop>(
     alloc: Global,
     spare: &mut Spare,
     payload: &mut Vec<u8>,
+    version: &mut Option<Version>,
     reader: &mut R,
-) -> Result<Option<Command>, FeedFault>
-    ensures command { IfOk result (λ found. IfSome found (λ command. HasRecord command
-        × Consumes (R.remaining reader.old) (R.remaining reader.new) (record_of command))) }
+) -> Result<Option<Record>, FeedFault>
+    ensures record { IfOk result (λ found. IfSome found (λ given.
+        GivesRecord version.old version.new (R.remaining reader.old) (R.remaining reader.new) given)) }
+    ensures end { IfOk result (λ found. IfNone found (GivesEnd version.old (R.remaining reader.old) (R.remaining reader.new))) }
+    ensures fault { IfErr result (λ fault. fault ≢ FeedFault.Read → fault ≢ FeedFault.Memory
+        → HasFault version.old (R.remaining reader.old) fault) }
+    ensures memory { IfErr result (λ fault. fault ≡ FeedFault.Memory
+        → TakesWhereMemoryEnds version.old (R.remaining reader.old) (R.remaining reader.new)) }
+{
+    match *version {
+        None => first_record(alloc, spare, payload, version, reader),
+        Some(known) => match later_record(alloc, spare, payload, known, reader) {
+            Ok(found) => Ok(found),
+            Err(fault) => Err(fault),
+        },
+    }
+}
+
+/// The first record of a feed, after the announcement if there is one, or none where no byte is left. The version is
+/// that of the announcement.
+fn first_record<R: Read + Drop>(
+    alloc: Global,
+    spare: &mut Spare,
+    payload: &mut Vec<u8>,
+    version: &mut Option<Version>,
+    reader: &mut R,
+) -> Result<Option<Record>, FeedFault>
+    requires { version.old ≡ None }
+    ensures record { IfOk result (λ found. IfSome found (λ given.
+        GivesRecord None version.new (R.remaining reader.old) (R.remaining reader.new) given)) }
+    ensures end { IfOk result (λ found. IfNone found (GivesEnd None (R.remaining reader.old) (R.remaining reader.new))) }
+    ensures fault { IfErr result (λ fault. fault ≢ FeedFault.Read → fault ≢ FeedFault.Memory
+        → HasFault None (R.remaining reader.old) fault) }
+    ensures memory { IfErr result (λ fault. fault ≡ FeedFault.Memory
+        → TakesWhereMemoryEnds None (R.remaining reader.old) (R.remaining reader.new)) }
+{
+    match next_item(alloc, spare, payload, true, Version::One, reader) {
+        Ok(Some(Item::Record(record))) => {
+            *version = Some(Version::One);
+            Ok(Some(record))
+        }
+        Ok(Some(Item::Announcement)) => {
+            *version = Some(Version::Two);
+            match later_record(alloc, spare, payload, Version::Two, reader) {
+                Ok(found) => Ok(found),
+                Err(fault) => Err(fault),
+            }
+        }
+        Ok(None) => Ok(None),
+        Err(fault) => Err(fault),
+    }
+}
+
+/// The record at the front, behind the first record or the announcement of a feed; none where no byte is left.
+fn later_record<R: Read + Drop>(
+    alloc: Global,
+    spare: &mut Spare,
+    payload: &mut Vec<u8>,
+    version: Version,
+    reader: &mut R,
+) -> Result<Option<Record>, FeedFault>
+    ensures record { IfOk result (λ found. IfSome found (λ given. HasRecord version given
+        × Consumes (R.remaining reader.old) (R.remaining reader.new) (record_of version given))) }
     ensures end { IfOk result (λ found. IfNone found (
         IsAtEnd (R.remaining reader.old) × Keeps (R.remaining reader.old) (R.remaining reader.new))) }
     ensures fault { IfErr result (λ fault. fault ≢ FeedFault.Read → fault ≢ FeedFault.Memory
-        → HasFault (R.remaining reader.old) fault) }
+        → HasItemFault false version (R.remaining reader.old) fault) }
     ensures memory { IfErr result (λ fault. fault ≡ FeedFault.Memory
-        → TakesWhereMemoryEnds (R.remaining reader.old) (R.remaining reader.new)) }
+        → TakesItemPart false version (R.remaining reader.old) (R.remaining reader.new)) }
 {
-    let head = match next_head(reader) {
+    match next_item(alloc, spare, payload, false, version, reader) {
+        Ok(Some(Item::Record(record))) => Ok(Some(record)),
+        // No announcement follows.
+        Ok(Some(Item::Announcement)) => unreachable!(),
+        Ok(None) => Ok(None),
+        Err(fault) => Err(fault),
+    }
+}
+
+/// What stands at the front, or none where no byte is left.
+fn next_item<R: Read + Drop>(
+    alloc: Global,
+    spare: &mut Spare,
+    payload: &mut Vec<u8>,
+    first: bool,
+    version: Version,
+    reader: &mut R,
+) -> Result<Option<Item>, FeedFault>
+    ensures item { IfOk result (λ found. IfSome found (λ item. HasItem first version item
+        × Consumes (R.remaining reader.old) (R.remaining reader.new) (item_bytes version item))) }
+    ensures end { IfOk result (λ found. IfNone found (
+        IsAtEnd (R.remaining reader.old) × Keeps (R.remaining reader.old) (R.remaining reader.new))) }
+    ensures fault { IfErr result (λ fault. fault ≢ FeedFault.Read → fault ≢ FeedFault.Memory
+        → HasItemFault first version (R.remaining reader.old) fault) }
+    ensures memory { IfErr result (λ fault. fault ≡ FeedFault.Memory
+        → TakesItemPart first version (R.remaining reader.old) (R.remaining reader.new)) }
+{
+    let head = match next_head(first, reader) {
         Ok(Some(head)) => head,
         Ok(None) => return Ok(None),
         Err(fault) => return Err(fault),
@@ -126,28 +231,28 @@ fn next_command<R: Read + Drop>(
     }
     let payload = &payload[..head.length];
     // Before any memory is asked for, so that a malformed payload costs none.
-    if !is_payload(head.kind, payload) {
+    if !is_payload(version, head.kind, payload) {
         return Err(FeedFault::Form);
     }
-    match command_of(alloc, spare, head.kind, payload) {
-        Ok(command) => Ok(Some(command)),
+    match item_of(alloc, spare, version, head.kind, payload) {
+        Ok(item) => Ok(Some(item)),
         Err(_) => Err(FeedFault::Memory),
     }
 }
 
 /// The head of the record at the front, or none where no byte is left.
-fn next_head<R: Read + Drop>(reader: &mut R) -> Result<Option<Head>, FeedFault>
-    ensures head { IfOk result (λ found. IfSome found (λ head. (head.length ≤ most_payload)
+fn next_head<R: Read + Drop>(first: bool, reader: &mut R) -> Result<Option<Head>, FeedFault>
+    ensures head { IfOk result (λ found. IfSome found (λ head. IsHead first head
         × Consumes (R.remaining reader.old) (R.remaining reader.new) (head_bytes head))) }
     ensures end { IfOk result (λ found. IfNone found (
         IsAtEnd (R.remaining reader.old) × Keeps (R.remaining reader.old) (R.remaining reader.new))) }
-    ensures fault { IfErr result (λ fault. fault ≢ FeedFault.Read → HasHeadFault (R.remaining reader.old) fault) }
+    ensures fault { IfErr result (λ fault. fault ≢ FeedFault.Read → HasHeadFault first (R.remaining reader.old) fault) }
     ensures taken { IfErr result (λ fault. fault ≢ FeedFault.Memory) }
 {
     let mut bytes = [0u8; HEAD];
     match fill(reader, &mut bytes, HEAD) {
         Ok(0) => Ok(None),
-        Ok(HEAD) => match head_of(&bytes) {
+        Ok(HEAD) => match head_of(first, &bytes) {
             Ok(head) => Ok(Some(head)),
             Err(fault) => Err(fault),
         },

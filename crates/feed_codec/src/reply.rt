@@ -12,7 +12,9 @@ use std::io::Write;
 /// The answer to a command.
 #[derive(Clone, Copy, Debug, PartialEq, Eq)]
 pub enum Reply {
-    /// The command was kept.
+    /// The command waits, with so many commands accepted so far, until its group is kept.
+    Held(u64),
+    /// The command was kept, and with it all that waited.
     Kept(Kept),
     /// It was refused.
     Refused(Refusal),
@@ -59,6 +61,10 @@ fn put_line(reply: &Reply, line: &mut [u8; LINE]) -> usize
             let end = put_text(b" ", line, end);
             let end = put_number(u64::from(refusal.code()), line, end);
             put_text(b"refused ", line, end)
+        }
+        Reply::Held(count) => {
+            let end = put_number(count, line, end);
+            put_text(b"held ", line, end)
         }
     }
 }

@@ -1,18 +1,20 @@
 //! How long payloads are.
 ghost use Rattle.std.specs.Prelude.{◌≡◌, ◌+◌, ◌≤◌, ◌<◌, ◌^◌, length};
 ghost use Rattle.std.specs.List.{flat_map};
-ghost use Rattle.feed_codec.specs.Record.{FitsRecord, payload_of, packet_bytes, skeleton_bytes, stream_bytes, entry_bytes};
+ghost use Rattle.feed_codec.specs.Record.{FitsRecord, payload_of, packet_bytes, field_bytes, fields_bytes, skeleton_bytes, stream_bytes, entry_bytes};
 
+use crate::version::Version;
 use ogg_command::{Command, Entry, Listed, NewStream, SkeletonHead};
+use skeleton3::Field;
 
 /// How long the command's payload is.
-pub fn payload_size(command: &Command) -> usize
-    requires { FitsRecord command.now }
-    ensures { result ≡ length (payload_of command.now) }
+pub fn payload_size(version: Version, command: &Command) -> usize
+    requires { FitsRecord version command.now }
+    ensures { result ≡ length (payload_of version command.now) }
 {
     match command {
         Command::Begin(begin) => {
-            skeleton_size(&begin.skeleton) + 2 + streams_size(begin.streams.as_slice())
+            skeleton_size(&begin.skeleton) + 2 + streams_size(version, begin.streams.as_slice())
         }
         Command::Put(put) => 2 + entries_size(put.entries.as_slice()),
         Command::End(_) => 4,
@@ -29,22 +31,52 @@ fn skeleton_size(skeleton: &Option<SkeletonHead>) -> usize
     }
 }
 
-fn streams_size(streams: &[NewStream]) -> usize
-    requires { length (flat_map stream_bytes streams.now) < 2 ^ 32 }
-    ensures { result ≡ length (flat_map stream_bytes streams.now) }
+fn streams_size(version: Version, streams: &[NewStream]) -> usize
+    requires { length (flat_map (stream_bytes version) streams.now) < 2 ^ 32 }
+    ensures { result ≡ length (flat_map (stream_bytes version) streams.now) }
 {
     let mut size = 0;
     for stream in streams {
-        size += stream_size(stream);
+        size += stream_size(version, stream);
     }
     size
 }
 
-fn stream_size(stream: &NewStream) -> usize
-    requires { length (stream_bytes stream.now) < 2 ^ 32 }
-    ensures { result ≡ length (stream_bytes stream.now) }
+fn stream_size(version: Version, stream: &NewStream) -> usize
+    requires { length (stream_bytes version stream.now) < 2 ^ 32 }
+    ensures { result ≡ length (stream_bytes version stream.now) }
 {
-    37 + headers_size(stream.headers.as_slice()) + stream.media.len()
+    37 + headers_size(stream.headers.as_slice())
+        + stream.media.len()
+        + fields_size(version, stream.fields.as_slice())
+}
+
+fn fields_size(version: Version, fields: &[Field]) -> usize
+    requires { length (fields_bytes version fields.now) < 2 ^ 32 }
+    ensures { result ≡ length (fields_bytes version fields.now) }
+{
+    match version {
+        Version::One => 0,
+        Version::Two => 2 + each_field_size(fields),
+    }
+}
+
+fn each_field_size(fields: &[Field]) -> usize
+    requires { length (flat_map field_bytes fields.now) < 2 ^ 32 }
+    ensures { result ≡ length (flat_map field_bytes fields.now) }
+{
+    let mut size = 0;
+    for field in fields {
+        size += field_size(field);
+    }
+    size
+}
+
+fn field_size(field: &Field) -> usize
+    requires { length (field_bytes field.now) < 2 ^ 32 }
+    ensures { result ≡ length (field_bytes field.now) }
+{
+    4 + field.name().len() + field.value().len()
 }
 
 fn headers_size(headers: &[Listed<u8>]) -> usize

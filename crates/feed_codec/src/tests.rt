@@ -1,4 +1,8 @@
 //! Feeds and lines written out by hand, cut and broken everywhere.
+ghost use Rattle.std.specs.Prelude.{◌≡◌, Some};
+ghost use Rattle.feed_codec.specs.Record.{FitsRecord};
+ghost use Rattle.feed_codec.specs.declared.version.Version.{Version as VersionOf};
+
 use super::*;
 use crate::tests::fakes::{FakeReader, FakeWriter};
 use ogg_command::{Command, Memory, Refusal};
@@ -16,6 +20,14 @@ const FEED: [u8; 89] = *b"\x01\x2f\0\0\0\0\x01\0\x01\0\0\0\x01\0\x03\0\0\0abc\0\
     \x02\x17\0\0\0\x01\0\x01\0\0\0\x05\0\0\0\0\0\0\0\x05\0\0\0hello\
     \x03\x04\0\0\0\x01\0\0\0";
 
+/// A feed of version 2: its announcement, a begin of a stream with serial 1, the header `abc` and the field `Title`, and
+/// a flush: 6, 66 and 5 bytes.
+const FEED_2: [u8; 77] = *b"\0\x01\0\0\0\x02\
+    \x01\x3d\0\0\0\0\x01\0\x01\0\0\0\x01\0\x03\0\0\0abc\0\0\
+    \0\0\0\0\0\0\0\0\0\0\0\0\0\0\0\0\0\0\0\0\0\0\0\0\0\0\0\0\0\
+    \x01\0\x05\0Title\x03\0One\
+    \x04\0\0\0\0";
+
 /// Where its records end.
 const ENDS: [usize; 3] = [52, 80, 89];
 
@@ -25,12 +37,20 @@ const SKELETON: [u8; 64] =
     \x03\0\0\0\0\0\0\0\x04\0\0\0\0\0\0\0uuuuuuuuuuuuuuuuuuuu\0\0";
 
 /// Bytes that begin with no record, and what is wrong with them.
-const FAULTY: [(&[u8], FeedFault); 12] = [
+const FAULTY: [(&[u8], FeedFault); 20] = [
     (b"\x01", FeedFault::Truncated),
     (b"\x09\xff\xff\xff", FeedFault::Truncated),
     (b"\x09\xff\xff\xff\xff", FeedFault::Kind),
-    (b"\0\x04\0\0\0\x01\0\0\0", FeedFault::Kind),
-    (b"\x04\x04\0\0\0\x01\0\0\0", FeedFault::Kind),
+    (b"\x05\x04\0\0\0\x01\0\0\0", FeedFault::Kind),
+    (b"\0\x04\0\0\0\x02\0\0\0", FeedFault::Form),
+    (b"\x04\x04\0\0\0\x01\0\0\0", FeedFault::Form),
+    (b"\0\x01\0\0", FeedFault::Truncated),
+    (b"\0\x01\0\0\x02", FeedFault::Length),
+    (b"\0\x01\0\0\0", FeedFault::Truncated),
+    (b"\0\x01\0\0\0\x03", FeedFault::Form),
+    (b"\0\x01\0\0\0\x02\0\x01\0\0\0\x02", FeedFault::Kind),
+    (b"\0\x01\0\0\0\x02\x04", FeedFault::Truncated),
+    (b"\0\x01\0\0\0\x02\x01\x03\0\0\0\x02\0\0", FeedFault::Form),
     (b"\x01\x01\0\0\x02", FeedFault::Length),
     (b"\x01\0\0\0\x02", FeedFault::Truncated),
     (b"\x03\x03\0\0\0\x01\0\0", FeedFault::Form),
@@ -54,8 +74,12 @@ fn read(rt: &impl Abort, alloc: Global, mut reader: FakeReader) -> Result<Outcom
     let mut feed = Feed::new(alloc);
     for commands in 0..4 {
         let fault = match feed.next(&mut reader) {
-            Ok(Some(command)) => {
-                write_command(&command, &mut records)?;
+            Ok(Some(Record::Command(command))) => {
+                write_again(&feed, &command, &mut records)?;
+                continue;
+            }
+            Ok(Some(Record::Flush)) => {
+                write_flush(&mut records)?;
                 continue;
             }
             Ok(None) => None,
@@ -79,6 +103,17 @@ fn read(rt: &impl Abort, alloc: Global, mut reader: FakeReader) -> Result<Outcom
     }
     assert!(rt; false, "a fourth command");
     Err(Memory)
+}
+
+/// Writes a command as it was read.
+fn write_again(feed: &Feed, command: &Command, records: &mut Vec<u8>) -> Result<(), Memory>
+    requires { (version : VersionOf) × (feed.now.version ≡ Some version) × FitsRecord version command.now }
+{
+    match feed.version() {
+        Some(Version::One) => write_command(command, records),
+        Some(Version::Two) => write_command_2(command, records),
+        None => Ok(()),
+    }
 }
 
 /// The same, and once more where memory was refused.
@@ -130,11 +165,78 @@ fn what_was_read_is_written_the_same(rt: HostRuntime) -> Result<(), Fail> {
 }
 
 #[test]
+fn version_2_is_announced_once_and_read_back(rt: HostRuntime) -> Result<(), Fail> {
+    let all = run(&rt, rt.alloc(), &FEED_2, 1, 0)?;
+    assert_eq!(rt; (all.commands, all.fault), (2, None));
+    let mut written = Vec::new(rt.alloc());
+    write_version(&mut written)?;
+    written.extend_from_slice(all.records.as_slice())?;
+    assert_eq!(rt; written.as_slice(), FEED_2.as_slice());
+    for length in 1..77usize {
+        let (bytes, _) = FEED_2.split_at(length);
+        let run = run(&rt, rt.alloc(), bytes, 64, 0)?;
+        let between = length == 6 || length == 72;
+        assert_eq!(rt; run.fault.is_none(), between, "{length} bytes");
+    }
+    Ok(())
+}
+
+#[test]
+fn records_of_one_version_are_none_of_the_other(rt: HostRuntime) -> Result<(), Fail> {
+    // A begin of version 1 behind the announcement, and the announcement behind a record.
+    let mut early = Vec::new(rt.alloc());
+    write_version(&mut early)?;
+    early.extend_from_slice(&FEED[..52])?;
+    let run_early = run(&rt, rt.alloc(), early.as_slice(), 64, 0)?;
+    assert_eq!(rt;
+        (run_early.commands, run_early.fault),
+        (0, Some(FeedFault::Form))
+    );
+    let mut late = FEED[..52].to_vec(rt.alloc())?;
+    write_version(&mut late)?;
+    let run_late = run(&rt, rt.alloc(), late.as_slice(), 64, 0)?;
+    assert_eq!(rt;
+        (run_late.commands, run_late.fault),
+        (1, Some(FeedFault::Kind))
+    );
+    // A begin of version 2 with no announcement.
+    let run_bare = run(&rt, rt.alloc(), &FEED_2[6..72], 64, 0)?;
+    assert_eq!(rt;
+        (run_bare.commands, run_bare.fault),
+        (0, Some(FeedFault::Form))
+    );
+    Ok(())
+}
+
+#[test]
+fn message_fields_are_read(rt: HostRuntime) -> Result<(), Fail> {
+    let mut feed = Feed::new(rt.alloc());
+    let mut reader = FakeReader::new(&FEED_2, 64, 0);
+    assert_eq!(rt; feed.version(), None);
+    match feed.next(&mut reader) {
+        Ok(Some(Record::Command(Command::Begin(begin)))) => {
+            assert_eq!(rt; begin.streams.len(), 1);
+            for stream in begin.streams.as_slice() {
+                assert_eq!(rt; stream.fields.len(), 1);
+                for field in stream.fields.as_slice() {
+                    assert_eq!(rt; field.name(), b"Title".as_slice());
+                    assert_eq!(rt; field.value(), b"One".as_slice());
+                }
+            }
+        }
+        other => assert!(rt; matches!(other, Err(FeedFault::Memory)), "no begin"),
+    }
+    assert_eq!(rt; feed.version(), Some(Version::Two));
+    assert!(rt; matches!(feed.next(&mut reader), Ok(Some(Record::Flush))));
+    Ok(())
+}
+
+#[test]
 fn a_record_tells_its_command(rt: HostRuntime) -> Result<(), Fail> {
     let mut feed = Feed::new(rt.alloc());
     let mut reader = FakeReader::new(&FEED, 64, 0);
     match feed.next(&mut reader) {
-        Ok(Some(Command::Begin(begin))) => {
+        Ok(Some(Record::Command(Command::Begin(begin)))) => {
             assert_eq!(rt; begin.skeleton, None);
             assert_eq!(rt; begin.streams.len(), 1);
             for stream in begin.streams.as_slice() {
@@ -150,7 +252,7 @@ fn a_record_tells_its_command(rt: HostRuntime) -> Result<(), Fail> {
         other => assert!(rt; matches!(other, Err(FeedFault::Memory)), "no begin"),
     }
     match feed.next(&mut reader) {
-        Ok(Some(Command::Put(put))) => {
+        Ok(Some(Record::Command(Command::Put(put)))) => {
             assert_eq!(rt; put.entries.len(), 1);
             for entry in put.entries.as_slice() {
                 assert_eq!(rt; (entry.serial, entry.position), (1, 5));
@@ -160,12 +262,12 @@ fn a_record_tells_its_command(rt: HostRuntime) -> Result<(), Fail> {
         other => assert!(rt; matches!(other, Err(FeedFault::Memory)), "no put"),
     }
     match feed.next(&mut reader) {
-        Ok(Some(Command::End(serial))) => assert_eq!(rt; serial, 1),
+        Ok(Some(Record::Command(Command::End(serial)))) => assert_eq!(rt; serial, 1),
         other => assert!(rt; matches!(other, Err(FeedFault::Memory)), "no end"),
     }
     let mut reader = FakeReader::new(&SKELETON, 64, 0);
     match Feed::new(rt.alloc()).next(&mut reader) {
-        Ok(Some(Command::Begin(begin))) => {
+        Ok(Some(Record::Command(Command::Begin(begin)))) => {
             let head = begin.skeleton.ok_or("no Skeleton")?;
             assert_eq!(rt;
                 (head.serial, head.presentation, head.base),
@@ -205,7 +307,8 @@ fn a_failing_reader_is_a_fault_that_stays(rt: HostRuntime) -> Result<(), Fail> {
 }
 
 /// Replies, and their lines.
-const LINES: [(Reply, &str); 4] = [
+const LINES: [(Reply, &str); 5] = [
+    (Reply::Held(3), "held 3\n"),
     (Reply::Kept(Kept { count: 2, end: 64 }), "kept 2 64\n"),
     (Reply::Kept(Kept { count: 0, end: 0 }), "kept 0 0\n"),
     (
@@ -234,7 +337,7 @@ fn replies_are_lines(rt: HostRuntime) -> Result<(), Fail> {
 
 #[test]
 fn a_failing_writer_has_a_front_of_the_line(rt: HostRuntime) -> Result<(), Fail> {
-    let (reply, _) = LINES[0];
+    let (reply, _) = LINES[1];
     let mut stuck = FakeWriter::new(Vec::with_capacity(rt.alloc(), 64)?, 0, 0);
     assert_eq!(rt; write_reply(&reply, &mut stuck), Err(WriteFault));
     assert_eq!(rt; stuck.written(), b"".as_slice());

@@ -2,27 +2,75 @@
 ghost use Rattle.std.specs.Prelude.{◌≡◌, ◌+◌, ◌≤◌, ◌<◌, ◌^◌, ◌++◌, ◌∷◌, [], length, OnOk, OnErr, vec_len, vec_capacity};
 ghost use Rattle.std.specs.List.{flat_map, AllByRecursion};
 ghost use Rattle.ogg_page.specs.Numbers.{u16_bytes, u32_bytes, u64_bytes, i64_bytes, fraction_bytes};
-ghost use Rattle.feed_codec.specs.Record.{FitsRecord, FitsFields, FitsStream, FitsHeader, FitsEntry, record_of, kind_of, payload_of, packet_bytes, media_bytes, skeleton_bytes, stream_bytes, entry_bytes};
+ghost use Rattle.feed_codec.specs.Record.{FitsRecord, FitsFields, FitsStream, FitsHeader, FitsField, FitsMessage, FitsEntry, record_of, announcement, kind_of, payload_of, packet_bytes, media_bytes, field_bytes, fields_bytes, skeleton_bytes, stream_bytes, entry_bytes};
+ghost use Rattle.feed_codec.specs.declared.version.Version.{Version as VersionOf};
 ghost use Rattle.feed_codec.specs.Payload.{tail_bytes, tail_of_stream};
-ghost use Rattle.feed_codec.specs.Writing.{Grows};
+ghost use Rattle.feed_codec.specs.Writing.{Grows, stream_size};
 
-use crate::record::HEAD;
+use crate::head::HEAD;
+use crate::item::Record;
 use crate::size::payload_size;
+use crate::version::Version;
 use ogg_command::{Command, Entry, Listed, Memory, NewStream, SkeletonHead};
+use skeleton3::Field;
 
-/// Appends the command's record. After `Memory` the vector is unchanged.
+/// Appends the command's record, of version 1. Its streams have no message fields. After `Memory` the vector is unchanged.
 pub fn write_command(command: &Command, out: &mut Vec<u8>) -> Result<(), Memory>
-    requires { FitsRecord command.now }
-    ensures ok { OnOk result (out.new.items ≡ out.old.items ++ record_of command.now) }
+    requires { FitsRecord Version.One command.now }
+    ensures ok { OnOk result (out.new.items ≡ out.old.items ++ record_of Version.One (Record.Command command.now)) }
     ensures err { OnErr result (out.new.items ≡ out.old.items) }
-    ensures full { OnErr result (vec_capacity out.old < vec_len out.old + length (record_of command.now)) }
+    ensures full { OnErr result (vec_capacity out.old
+        < vec_len out.old + length (record_of Version.One (Record.Command command.now))) }
 {
-    let size = payload_size(command);
+    write_record(Version::One, command, out)
+}
+
+/// Appends the command's record, of version 2: it may stand in a feed whose first record is that of
+/// [`write_version`]. After `Memory` the vector is unchanged.
+pub fn write_command_2(command: &Command, out: &mut Vec<u8>) -> Result<(), Memory>
+    requires { FitsRecord Version.Two command.now }
+    ensures ok { OnOk result (out.new.items ≡ out.old.items ++ record_of Version.Two (Record.Command command.now)) }
+    ensures err { OnErr result (out.new.items ≡ out.old.items) }
+    ensures full { OnErr result (vec_capacity out.old
+        < vec_len out.old + length (record_of Version.Two (Record.Command command.now))) }
+{
+    write_record(Version::Two, command, out)
+}
+
+/// Appends a flush record, which is the same in both versions. After `Memory` the vector is unchanged.
+#[tactic(auto, unfolding(crate::specs::Record::item_bytes, ogg_page::specs::Numbers::u32_bytes))]
+pub fn write_flush(out: &mut Vec<u8>) -> Result<(), Memory>
+    ensures ok { OnOk result ((version : VersionOf) → out.new.items ≡ out.old.items ++ record_of version Record.Flush) }
+    ensures err { OnErr result (out.new.items ≡ out.old.items) }
+    ensures full { OnErr result (vec_capacity out.old < vec_len out.old + 5) }
+{
+    out.extend_from_slice(&[4, 0, 0, 0, 0])
+}
+
+/// Appends the announcement that the feed is of version 2. It stands in front of all records. After `Memory` the vector is
+/// unchanged.
+#[tactic(auto, unfolding(crate::specs::Record::item_bytes, ogg_page::specs::Numbers::u32_bytes))]
+pub fn write_version(out: &mut Vec<u8>) -> Result<(), Memory>
+    ensures ok { OnOk result (out.new.items ≡ out.old.items ++ announcement) }
+    ensures err { OnErr result (out.new.items ≡ out.old.items) }
+    ensures full { OnErr result (vec_capacity out.old < vec_len out.old + 6) }
+{
+    out.extend_from_slice(&[0, 1, 0, 0, 0, 2])
+}
+
+fn write_record(version: Version, command: &Command, out: &mut Vec<u8>) -> Result<(), Memory>
+    requires { FitsRecord version command.now }
+    ensures ok { OnOk result (out.new.items ≡ out.old.items ++ record_of version (Record.Command command.now)) }
+    ensures err { OnErr result (out.new.items ≡ out.old.items) }
+    ensures full { OnErr result (vec_capacity out.old
+        < vec_len out.old + length (record_of version (Record.Command command.now))) }
+{
+    let size = payload_size(version, command);
     // The one step that can fail comes first.
     out.reserve(HEAD + size)?;
     put_bytes(&[kind_number(command)], out);
     put_u32(size as u32, out);
-    put_payload(command, out);
+    put_payload(version, command, out);
     Ok(())
 }
 
@@ -37,16 +85,16 @@ fn kind_number(command: &Command) -> u8
     }
 }
 
-fn put_payload(command: &Command, out: &mut Vec<u8>)
-    requires fields { FitsFields command.now }
-    requires room { vec_len out.old + length (payload_of command.now) ≤ vec_capacity out.old }
-    ensures items { out.new.items ≡ out.old.items ++ payload_of command.now }
+fn put_payload(version: Version, command: &Command, out: &mut Vec<u8>)
+    requires fields { FitsFields version command.now }
+    requires room { vec_len out.old + length (payload_of version command.now) ≤ vec_capacity out.old }
+    ensures items { out.new.items ≡ out.old.items ++ payload_of version command.now }
 {
     match command {
         Command::Begin(begin) => {
             put_skeleton(&begin.skeleton, out);
             put_u16(begin.streams.len() as u16, out);
-            put_streams(begin.streams.as_slice(), out);
+            put_streams(version, begin.streams.as_slice(), out);
         }
         Command::Put(put) => {
             put_u16(put.entries.len() as u16, out);
@@ -72,25 +120,68 @@ fn put_skeleton(skeleton: &Option<SkeletonHead>, out: &mut Vec<u8>)
     }
 }
 
-fn put_streams(streams: &[NewStream], out: &mut Vec<u8>)
-    requires fields { AllByRecursion FitsStream streams.now }
-    requires room { vec_len out.old + length (flat_map stream_bytes streams.now) ≤ vec_capacity out.old }
-    ensures { Grows out.old out.new (flat_map stream_bytes streams.now) (length (flat_map stream_bytes streams.now)) }
+fn put_streams(version: Version, streams: &[NewStream], out: &mut Vec<u8>)
+    requires fields { AllByRecursion (FitsStream version) streams.now }
+    requires room { vec_len out.old + length (flat_map (stream_bytes version) streams.now) ≤ vec_capacity out.old }
+    ensures { Grows out.old out.new (flat_map (stream_bytes version) streams.now) (length (flat_map (stream_bytes version) streams.now)) }
 {
     for stream in streams {
-        put_stream(stream, out);
+        put_stream(version, stream, out);
     }
 }
 
-fn put_stream(stream: &NewStream, out: &mut Vec<u8>)
-    requires fields { FitsStream stream.now }
-    requires room { vec_len out.old + (37 + length (flat_map packet_bytes stream.now.headers) + length stream.now.media) ≤ vec_capacity out.old }
-    ensures { Grows out.old out.new (stream_bytes stream.now) (37 + length (flat_map packet_bytes stream.now.headers) + length stream.now.media) }
+fn put_stream(version: Version, stream: &NewStream, out: &mut Vec<u8>)
+    requires fields { FitsStream version stream.now }
+    requires room { vec_len out.old + stream_size version stream.now ≤ vec_capacity out.old }
+    ensures { Grows out.old out.new (stream_bytes version stream.now) (stream_size version stream.now) }
 {
     put_u32(stream.serial, out);
     put_u16(stream.headers.len() as u16, out);
     put_headers(stream.headers.as_slice(), out);
     put_tail(stream, out);
+    put_fields(version, stream.fields.as_slice(), out);
+}
+
+fn put_fields(version: Version, fields: &[Field], out: &mut Vec<u8>)
+    requires fields { FitsMessage version fields.now }
+    requires room { vec_len out.old + length (fields_bytes version fields.now) ≤ vec_capacity out.old }
+    ensures { Grows out.old out.new (fields_bytes version fields.now) (length (fields_bytes version fields.now)) }
+{
+    match version {
+        Version::One => {}
+        Version::Two => {
+            put_u16(fields.len() as u16, out);
+            put_each_field(fields, out);
+        }
+    }
+}
+
+fn put_each_field(fields: &[Field], out: &mut Vec<u8>)
+    requires fields { AllByRecursion FitsField fields.now }
+    requires room { vec_len out.old + length (flat_map field_bytes fields.now) ≤ vec_capacity out.old }
+    ensures { Grows out.old out.new (flat_map field_bytes fields.now) (length (flat_map field_bytes fields.now)) }
+{
+    for field in fields {
+        put_field(field, out);
+    }
+}
+
+fn put_field(field: &Field, out: &mut Vec<u8>)
+    requires fields { FitsField field.now }
+    requires room { vec_len out.old + (4 + length field.now.0 + length field.now.1) ≤ vec_capacity out.old }
+    ensures { Grows out.old out.new (field_bytes field.now) (4 + length field.now.0 + length field.now.1) }
+{
+    put_media(field.name(), out);
+    put_media(field.value(), out);
+}
+
+fn put_media(media: &[u8], out: &mut Vec<u8>)
+    requires fields { length media.now < 2 ^ 16 }
+    requires room { vec_len out.old + (2 + length media.now) ≤ vec_capacity out.old }
+    ensures { Grows out.old out.new (media_bytes media.now) (2 + length media.now) }
+{
+    put_u16(media.len() as u16, out);
+    put_bytes(media, out);
 }
 
 fn put_headers(headers: &[Listed<u8>], out: &mut Vec<u8>)
@@ -103,7 +194,7 @@ fn put_headers(headers: &[Listed<u8>], out: &mut Vec<u8>)
     }
 }
 
-/// What stands behind a stream's headers.
+/// What stands behind a stream's headers, but for its message fields.
 #[tactic(auto, unfolding(crate::specs::Payload::tail_bytes))]
 fn put_tail(stream: &NewStream, out: &mut Vec<u8>)
     requires fields { length stream.now.media < 2 ^ 16 }

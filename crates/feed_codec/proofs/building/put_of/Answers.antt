@@ -5,18 +5,18 @@ use Rattle.feed_codec.proofs.PayloadFacts.{put_behind, put_facts, counted_long, 
 use Rattle.feed_codec.proofs.building.put_of.Goals as goal
 
 pub take_u16-count-requires : goal.take_u16-count-requires
-take_u16-count-requires c = counted_long IsEntryOfFeed entry_bytes c.args.payload.now (put_behind c.args.payload.now c.requires)
+take_u16-count-requires c = counted_long IsEntryOfFeed entry_bytes c.args.payload.now (put_behind c.args._version c.args.payload.now c.requires)
 
 pub entries_of-requires : goal.entries_of-requires
 entries_of-requires c =
     counted_stand IsEntryOfFeed entry_bytes c.args.payload.now c.take_u16-count.result.1.now c.take_u16-count.result.0
-    c.take_u16-count.ensures.fits c.take_u16-count.ensures.value (put_behind c.args.payload.now c.requires)
+    c.take_u16-count.ensures.fits c.take_u16-count.ensures.value (put_behind c.args._version c.args.payload.now c.requires)
 
 pub returns : goal.returns
 returns c =
     let payload : List ℕ = c.args.payload.now in
     let n : ℕ = c.take_u16-count.result.0 in
     let (many, whole) = c.in_ok-entries.ensures in
-    let facts = put_facts payload n c.in_ok-entries.entries c.take_u16-count.ensures.fits many
+    let facts = put_facts c.args._version payload n c.in_ok-entries.entries c.take_u16-count.ensures.fits many
     (counted_found IsEntryOfFeed entry_bytes payload c.take_u16-count.result.1.now n c.in_ok-entries.entries c.take_u16-count.ensures.value many whole) in
     (facts.0, facts.1, refl, facts.2)

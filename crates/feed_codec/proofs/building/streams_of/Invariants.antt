@@ -7,8 +7,8 @@ use Rattle.feed_codec.proofs.building.streams_of.Given as goal
 -- so many streams have been built, the others stand in front, and there is room for them
 abbrev pub invariant-loop : goal.invariant-loop
 invariant-loop l =
-    AreMany IsStreamOfFeed l.counter l.streams.items
-    × (l.bytes ≡ flat_map stream_bytes l.streams.items ++ l.rest)
-    × (Begins (AreMany IsStreamOfFeed (l.count - l.counter)) (flat_map stream_bytes) l.rest [])
+    AreMany (IsStreamOfFeed l.version) l.counter l.streams.items
+    × (l.bytes ≡ flat_map (stream_bytes l.version) l.streams.items ++ l.rest)
+    × (Begins (AreMany (IsStreamOfFeed l.version) (l.count - l.counter)) (flat_map (stream_bytes l.version)) l.rest [])
     × (vec_len l.streams ≡ l.counter)
     × (l.count ≤ vec_capacity l.streams)

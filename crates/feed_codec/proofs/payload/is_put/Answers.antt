@@ -8,13 +8,13 @@ use Rattle.feed_codec.proofs.payload.is_put.Goals as goal
 
 pub returns-then-payload-lt2 : goal.returns-then-payload-lt2
 returns-then-payload-lt2 c =
-    (λ t. absurd (cc t), λ p. absurd (counted_short IsEntryOfFeed entry_bytes c.args.payload.now c.if-payload-lt2.true (put_behind c.args.payload.now p)))
+    (λ t. absurd (cc t), λ p. absurd (counted_short IsEntryOfFeed entry_bytes c.args.payload.now c.if-payload-lt2.true (put_behind c.args._version c.args.payload.now p)))
 
 pub returns-in-None : goal.returns-in-None
 returns-in-None c = (
   λ t. absurd (cc t),
   λ p. absurd (counted_cut IsEntryOfFeed entry_bytes c.args.payload.now c.take_u16-count.result.1.now c.take_u16-count.result.0
-      c.take_u16-count.ensures.fits c.take_u16-count.ensures.value c.in-None.ensures (put_behind c.args.payload.now p)),
+      c.take_u16-count.ensures.fits c.take_u16-count.ensures.value c.in-None.ensures (put_behind c.args._version c.args.payload.now p)),
 )
 
 pub returns-in-Some : goal.returns-in-Some
@@ -23,11 +23,11 @@ returns-in-Some c =
     let n : ℕ = c.take_u16-count.result.0 in
     let rest : List ℕ = c.take_u16-count.result.1.now in
     let some = c.in-Some.ensures in
-    let found : c.in-Some.rest.now ≡ [] → IsPayload 2 payload =
-    λ none. put_found payload n some.0 c.take_u16-count.ensures.fits some.1
+    let found : c.in-Some.rest.now ≡ [] → IsPayload c.args._version 2 payload =
+    λ none. put_found c.args._version payload n some.0 c.take_u16-count.ensures.fits some.1
     (counted_found IsEntryOfFeed entry_bytes payload rest n some.0 c.take_u16-count.ensures.value some.1
     (some.2 ∙ ap (λ l. flat_map entry_bytes some.0 ++ l) none ∙ append-nil (flat_map entry_bytes some.0))) in (
       λ t. found (is_nothing c.in-Some.rest.now c.is_empty.result c.is_empty.ensures t),
       λ p. nothing_is c.in-Some.rest.now c.is_empty.result c.is_empty.ensures
-          (counted_whole IsEntryOfFeed entry_bytes same_entry payload rest c.in-Some.rest.now n c.take_u16-count.ensures.fits c.take_u16-count.ensures.value some (put_behind payload p)),
+          (counted_whole IsEntryOfFeed entry_bytes same_entry payload rest c.in-Some.rest.now n c.take_u16-count.ensures.fits c.take_u16-count.ensures.value some (put_behind c.args._version payload p)),
     )

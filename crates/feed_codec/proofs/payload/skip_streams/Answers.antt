@@ -7,19 +7,19 @@ use Rattle.feed_codec.proofs.PayloadFacts.{many_none, many_more, many_cut}
 use Rattle.feed_codec.proofs.payload.skip_streams.Goals as goal
 
 pub loop-init : goal.loop-init
-loop-init c = many_none IsStreamOfFeed stream_bytes c.args.bytes.now
+loop-init c = many_none (IsStreamOfFeed c.args.version) (stream_bytes c.args.version) c.args.bytes.now
 
 pub loop-preserved : goal.loop-preserved
 loop-preserved c =
-    many_more IsStreamOfFeed stream_bytes c.args.bytes.now c.loop.rest.now c.in_ok-rest.rest.now c.loop.counter c.loop.invariant
+    many_more (IsStreamOfFeed c.args.version) (stream_bytes c.args.version) c.args.bytes.now c.loop.rest.now c.in_ok-rest.rest.now c.loop.counter c.loop.invariant
     c.in_ok-rest.ensures
 
 pub returns-in_err-rest : goal.returns-in_err-rest
 returns-in_err-rest c =
     rw c.from_residual.ensures
-    (many_cut IsStreamOfFeed stream_bytes same_stream c.args.bytes.now c.loop.rest.now c.loop.counter c.args.count c.loop-test.true c.loop.invariant c.in_err-rest.ensures)
+    (many_cut (IsStreamOfFeed c.args.version) (stream_bytes c.args.version) (same_stream c.args.version) c.args.bytes.now c.loop.rest.now c.loop.counter c.args.count c.loop-test.true c.loop.invariant c.in_err-rest.ensures)
 
 pub returns : goal.returns
 returns c =
     let all : c.loop.counter ≡ c.args.count = omega arith in
-    subst (λ n. Begins (AreMany IsStreamOfFeed n) (flat_map stream_bytes) c.args.bytes.now c.loop.rest.now) all c.loop.invariant
+    subst (λ n. Begins (AreMany (IsStreamOfFeed c.args.version) n) (flat_map (stream_bytes c.args.version)) c.args.bytes.now c.loop.rest.now) all c.loop.invariant

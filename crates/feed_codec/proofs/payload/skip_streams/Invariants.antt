@@ -5,4 +5,4 @@ use Rattle.feed_codec.proofs.payload.skip_streams.Given as goal
 
 -- so many streams have been passed
 abbrev pub invariant-loop : goal.invariant-loop
-invariant-loop l = Begins (AreMany IsStreamOfFeed l.counter) (flat_map stream_bytes) l.bytes l.rest
+invariant-loop l = Begins (AreMany (IsStreamOfFeed l.version) l.counter) (flat_map (stream_bytes l.version)) l.bytes l.rest

@@ -5,4 +5,4 @@ use Rattle.feed_codec.proofs.size.streams_size.Given as goal
 
 -- the streams so far are counted
 abbrev pub invariant-loop-stream : goal.invariant-loop-stream
-invariant-loop-stream l = l.size ≡ length (flat_map stream_bytes (take l.stream-index l.streams))
+invariant-loop-stream l = l.size ≡ length (flat_map (stream_bytes l.version) (take l.stream-index l.streams))

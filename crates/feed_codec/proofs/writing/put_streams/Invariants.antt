@@ -7,4 +7,4 @@ use Rattle.feed_codec.proofs.writing.put_streams.Given as goal
 -- the streams so far are written
 abbrev pub invariant-loop-stream : goal.invariant-loop-stream
 invariant-loop-stream l =
-    Grows l.initial.out l.out (flat_map stream_bytes (take l.stream-index l.streams)) (length (flat_map stream_bytes (take l.stream-index l.streams)))
+    Grows l.initial.out l.out (flat_map (stream_bytes l.version) (take l.stream-index l.streams)) (length (flat_map (stream_bytes l.version) (take l.stream-index l.streams)))

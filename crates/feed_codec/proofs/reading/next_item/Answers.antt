@@ -2,23 +2,23 @@ use Rattle.std.proofs.Common.{◌≡◌, ℕ, List, length, take, ap, ◌∙◌,
 use Rattle.std.proofs.lemmas.List.{length-take-le}
 use Rattle.std.specs.Io.KnownBytes.{Consumes}
 use Rattle.feed_codec.proofs.FeedFacts.{fault_of_head, payload_fault, payload_memory, bad_payload, read_record, no_command}
-use Rattle.feed_codec.proofs.reading.next_command.Goals as goal
+use Rattle.feed_codec.proofs.reading.next_item.Goals as goal
 
 pub returns-in-Err-clause-fault : goal.returns-in-Err-clause-fault
-returns-in-Err-clause-fault g c = λ read memory. fault_of_head (g.R.Read.remaining c.args.reader.now) c.in-Err.fault (c.in-Err.ensures.fault read)
+returns-in-Err-clause-fault g c = λ read memory. fault_of_head c.args.first c.args.version (g.R.Read.remaining c.args.reader.now) c.in-Err.fault (c.in-Err.ensures.fault read)
 
 pub returns-in-Err-read_payload-clause-fault : goal.returns-in-Err-read_payload-clause-fault
 returns-in-Err-read_payload-clause-fault g c =
     let head = rw c.in-Ok-Some.field-0-is at c.in-Ok-Some.ensures.head in
     λ read memory.
-    payload_fault (g.R.Read.remaining c.args.reader.now) (g.R.Read.remaining c.next_head.new.reader) c.in-Ok-Some.head c.in-Err-read_payload.fault _
+    payload_fault c.args.first c.args.version (g.R.Read.remaining c.args.reader.now) (g.R.Read.remaining c.next_head.new.reader) c.in-Ok-Some.head c.in-Err-read_payload.fault _
     head.0 head.1 read memory c.in-Err-read_payload.ensures.fault
 
 pub returns-in-Err-read_payload-clause-memory : goal.returns-in-Err-read_payload-clause-memory
 returns-in-Err-read_payload-clause-memory g c =
     let head = rw c.in-Ok-Some.field-0-is at c.in-Ok-Some.ensures.head in
     λ memory.
-    payload_memory (g.R.Read.remaining c.args.reader.now) (g.R.Read.remaining c.next_head.new.reader) (g.R.Read.remaining c.read_payload.new.reader)
+    payload_memory c.args.first c.args.version (g.R.Read.remaining c.args.reader.now) (g.R.Read.remaining c.next_head.new.reader) (g.R.Read.remaining c.read_payload.new.reader)
     c.in-Ok-Some.head c.in-Err-read_payload.fault (c.read_payload.new.reader ≡ c.next_head.new.reader)
     head.0 head.1 (λ same. ap (λ r. g.R.Read.remaining r) same) memory c.in-Err-read_payload.ensures.fault
 
@@ -31,24 +31,24 @@ returns-then-not-is_payload-clause-fault g c =
     subst (λ l. Consumes (g.R.Read.remaining c.next_head.new.reader) (g.R.Read.remaining c.read_payload.new.reader) (take n l)) (sym c.deref.ensures.value) c.in-Ok.ensures.ok.1 in
     let whole : length (take n buffer) ≡ n = length-take-le n buffer (omega (arith, c.deref.ensures.len, c.in-Ok.ensures.ok.0)) in
     λ read memory.
-    bad_payload (g.R.Read.remaining c.args.reader.now) (g.R.Read.remaining c.next_head.new.reader) (g.R.Read.remaining c.read_payload.new.reader)
+    bad_payload c.args.first c.args.version (g.R.Read.remaining c.args.reader.now) (g.R.Read.remaining c.next_head.new.reader) (g.R.Read.remaining c.read_payload.new.reader)
     c.in-Ok-Some.head (take n buffer) head.0 head.1 taken whole
     (λ spelled. let both = sym c.if-not-is_payload.true ∙ c.is_payload.ensures.1 spelled in cc both)
 
-pub returns-in-Ok-command_of-clause-command : goal.returns-in-Ok-command_of-clause-command
-returns-in-Ok-command_of-clause-command g c =
+pub returns-in-Ok-item_of-clause-item : goal.returns-in-Ok-item_of-clause-item
+returns-in-Ok-item_of-clause-item g c =
     let head = rw c.in-Ok-Some.field-0-is at c.in-Ok-Some.ensures.head in
     let n : ℕ = c.in-Ok-Some.head.length in
     let buffer : List ℕ = c.deref.result.now in
     let taken : Consumes (g.R.Read.remaining c.next_head.new.reader) (g.R.Read.remaining c.read_payload.new.reader) (take n buffer) =
     subst (λ l. Consumes (g.R.Read.remaining c.next_head.new.reader) (g.R.Read.remaining c.read_payload.new.reader) (take n l)) (sym c.deref.ensures.value) c.in-Ok.ensures.ok.1 in
     let whole : length (take n buffer) ≡ n = length-take-le n buffer (omega (arith, c.deref.ensures.len, c.in-Ok.ensures.ok.0)) in
-    let (numbers, fields, kind, spelled) = c.in-Ok-command_of.ensures in
-    read_record (g.R.Read.remaining c.args.reader.now) (g.R.Read.remaining c.next_head.new.reader) (g.R.Read.remaining c.read_payload.new.reader)
-    c.in-Ok-Some.head (take n buffer) c.in-Ok-command_of.command head.0 head.1 taken whole numbers fields kind spelled
+    let (held, kind, spelled) = c.in-Ok-item_of.ensures in
+    read_record c.args.first c.args.version (g.R.Read.remaining c.args.reader.now) (g.R.Read.remaining c.next_head.new.reader) (g.R.Read.remaining c.read_payload.new.reader)
+    c.in-Ok-Some.head (take n buffer) c.in-Ok-item_of.item head.0 head.1 taken whole held kind spelled
 
-pub returns-in-Err-command_of-clause-memory : goal.returns-in-Err-command_of-clause-memory
-returns-in-Err-command_of-clause-memory g c =
+pub returns-in-Err-item_of-clause-memory : goal.returns-in-Err-item_of-clause-memory
+returns-in-Err-item_of-clause-memory g c =
     let head = rw c.in-Ok-Some.field-0-is at c.in-Ok-Some.ensures.head in
     let n : ℕ = c.in-Ok-Some.head.length in
     let buffer : List ℕ = c.deref.result.now in
@@ -56,5 +56,5 @@ returns-in-Err-command_of-clause-memory g c =
     subst (λ l. Consumes (g.R.Read.remaining c.next_head.new.reader) (g.R.Read.remaining c.read_payload.new.reader) (take n l)) (sym c.deref.ensures.value) c.in-Ok.ensures.ok.1 in
     let whole : length (take n buffer) ≡ n = length-take-le n buffer (omega (arith, c.deref.ensures.len, c.in-Ok.ensures.ok.0)) in
     λ _.
-    no_command (g.R.Read.remaining c.args.reader.now) (g.R.Read.remaining c.next_head.new.reader) (g.R.Read.remaining c.read_payload.new.reader)
+    no_command c.args.first c.args.version (g.R.Read.remaining c.args.reader.now) (g.R.Read.remaining c.next_head.new.reader) (g.R.Read.remaining c.read_payload.new.reader)
     c.in-Ok-Some.head (take n buffer) head.0 head.1 taken whole (c.is_payload.ensures.0 c.if-not-is_payload.false)

@@ -1,20 +1,20 @@
 use Rattle.std.proofs.Common.{◌++◌, ◌∷◌, [], ◌∙◌, ℕ, List, ap, arith, append_assoc}
 use Rattle.std.proofs.lemmas.Result.{err_from_is_err_and}
 use Rattle.ogg_page.specs.Numbers.{u32_bytes}
-use Rattle.feed_codec.specs.Record.{record_of, payload_of, kind_of}
+use Rattle.feed_codec.specs.Record.{item_bytes, payload_of, kind_of}
 use Rattle.feed_codec.proofs.SizeFacts.{length-record_of}
-use Rattle.feed_codec.proofs.writing.write_command.Goals as goal
+use Rattle.feed_codec.proofs.writing.write_record.Goals as goal
 
 pub returns-in_err-reserve-clause-full : goal.returns-in_err-reserve-clause-full
 returns-in_err-reserve-clause-full c =
     let p = err_from_is_err_and c.from_residual.result c.from_residual.ensures.1 in
-    rw p.1 (omega (arith, length-record_of c.args.command.now, c.payload_size-size.ensures, c.in_err-reserve.ensures.full))
+    rw p.1 (omega (arith, length-record_of c.args.version c.args.command.now, c.payload_size-size.ensures, c.in_err-reserve.ensures.full))
 
 pub returns-clause-ok : goal.returns-clause-ok
-unfolding record_of
+unfolding item_bytes
 returns-clause-ok c =
     let old : List ℕ = c.args.out.now.items in
-    let payload : List ℕ = payload_of c.args.command.now in
+    let payload : List ℕ = payload_of c.args.version c.args.command.now in
     let kind : ℕ = c.kind_number.result in
     let size : ℕ = c.payload_size-size.result in
     c.put_payload.ensures.items
