@@ -9,8 +9,10 @@ use Rattle.chain_rules.specs.Encoding.{command_bytes}
 use Rattle.ogg_command.specs.declared.command.Command.{Command}
 use Rattle.ogg_command.specs.declared.refusal.Refusal.{Refusal}
 use Rattle.feed_codec.specs.declared.reply.Reply.{Reply}
-use Rattle.feed_codec.specs.declared.reply.Reply.TheVariants.{Kept as KeptOf, Refused}
-use Rattle.multiplexer.specs.Progress.{Progress, AnsweredBy, AnswersAll, kept_of, with_command}
+use Rattle.feed_codec.specs.declared.reply.Reply.TheVariants.{Held, Kept as KeptOf, Refused}
+use Rattle.feed_codec.specs.declared.item.Record.{Record}
+use Rattle.feed_codec.specs.declared.item.Record.TheVariants.{Command as CommandOf, Flush}
+use Rattle.multiplexer.specs.Progress.{Progress, AnsweredBy, AnswersAll, commands_in, kept_of, with_command}
 
 -- what the commands of a run have come to, behind where they began
 pub record CameTo (before : Progress) (kept : List Command) (bytes : List ℕ) (behind : Progress) : Type 0 where
@@ -43,30 +45,38 @@ taken before next command size kept own later bytes behind decided pages more wh
       count_is = omega (arith, there.count_is);
     }
 
-one_kept : (decided : Result ℕ Refusal) (before next : Progress) (command : Command) (commands : List Command) (reply : Reply) (replies : List Reply) (own later bytes : List ℕ) (behind : Progress)
+one_kept : (decided : Result ℕ Refusal) (before next : Progress) (command : Command) (records : List Record) (reply : Reply) (replies : List Reply) (own later bytes : List ℕ) (behind : Progress)
     → decision (chain_state_of before.links) command ≡ decided → AnsweredBy decided before command reply own next → bytes ≡ own ++ later
-    → CameTo next (kept_of commands replies) later behind → CameTo before (kept_of (command ∷ commands) (reply ∷ replies)) bytes behind
-one_kept (Err refusal) before next command commands (KeptOf kept) replies own later bytes behind is (told, none, same) whole came = absurd (cc told)
-one_kept (Err refusal) before next command commands (Refused r) replies own later bytes behind is (told, none, same) whole came =
-    passed before next (kept_of commands replies) own later bytes behind none same whole came
-one_kept (Ok size) before next command commands (KeptOf kept) replies own later bytes behind is (inl (told, pages, more)) whole came =
-    taken before next command size (kept_of commands replies) own later bytes behind is pages more whole came
-one_kept (Ok size) before next command commands (Refused r) replies own later bytes behind is (inl (told, pages, more)) whole came = absurd (cc told)
-one_kept (Ok size) before next command commands (KeptOf kept) replies own later bytes behind is (inr (told, none, same)) whole came = absurd (cc told)
-one_kept (Ok size) before next command commands (Refused r) replies own later bytes behind is (inr (told, none, same)) whole came =
-    passed before next (kept_of commands replies) own later bytes behind none same whole came
+    → CameTo next (kept_of records replies) later behind → CameTo before (kept_of (CommandOf command ∷ records) (reply ∷ replies)) bytes behind
+one_kept (Err refusal) before next command records (KeptOf kept) replies own later bytes behind is (told, none, same) whole came = absurd (cc told)
+one_kept (Err refusal) before next command records (Held count) replies own later bytes behind is (told, none, same) whole came = absurd (cc told)
+one_kept (Err refusal) before next command records (Refused r) replies own later bytes behind is (told, none, same) whole came =
+    passed before next (kept_of records replies) own later bytes behind none same whole came
+one_kept (Ok size) before next command records (KeptOf kept) replies own later bytes behind is (inl (told, pages, more)) whole came =
+    taken before next command size (kept_of records replies) own later bytes behind is pages more whole came
+one_kept (Ok size) before next command records (Held count) replies own later bytes behind is (inl (told, pages, more)) whole came = absurd (cc told)
+one_kept (Ok size) before next command records (Refused r) replies own later bytes behind is (inl (told, pages, more)) whole came = absurd (cc told)
+one_kept (Ok size) before next command records (KeptOf kept) replies own later bytes behind is (inr (told, none, same)) whole came = absurd (cc told)
+one_kept (Ok size) before next command records (Held count) replies own later bytes behind is (inr (told, none, same)) whole came = absurd (cc told)
+one_kept (Ok size) before next command records (Refused r) replies own later bytes behind is (inr (told, none, same)) whole came =
+    passed before next (kept_of records replies) own later bytes behind none same whole came
 
-pub came_to : (before : Progress) (commands : List Command) (replies : List Reply) (bytes : List ℕ) (behind : Progress) → AnswersAll before commands replies bytes behind
-    → CameTo before (kept_of commands replies) bytes behind
+pub came_to : (before : Progress) (records : List Record) (replies : List Reply) (bytes : List ℕ) (behind : Progress) → AnswersAll before records replies bytes behind
+    → CameTo before (kept_of records replies) bytes behind
 came_to before [] [] bytes behind (none, same) = nothing before bytes behind none same
 came_to before [] (reply ∷ replies) bytes behind all = absurd all
-came_to before (command ∷ commands) [] bytes behind all = absurd all
-came_to before (command ∷ commands) (reply ∷ replies) bytes behind (next, own, later, answer, rest, whole) =
-    one_kept (decision (chain_state_of before.links) command) before next command commands reply replies own later bytes behind refl answer whole
-    (came_to next commands replies later behind rest)
+came_to before (given ∷ records) [] bytes behind all = absurd all
+came_to before (CommandOf command ∷ records) (reply ∷ replies) bytes behind (next, own, later, answer, rest, whole) =
+    one_kept (decision (chain_state_of before.links) command) before next command records reply replies own later bytes behind refl answer whole
+    (came_to next records replies later behind rest)
+came_to before (Flush ∷ records) (reply ∷ replies) bytes behind (next, own, later, (told, none, same), rest, whole) =
+    passed before next (kept_of records replies) own later bytes behind none same whole (came_to next records replies later behind rest)
 
-pub each_kept : (P : Command → Type 0) (commands : List Command) (replies : List Reply) → AllByRecursion P commands → AllByRecursion P (kept_of commands replies)
+pub each_kept : (P : Command → Type 0) (records : List Record) (replies : List Reply) → AllByRecursion P (commands_in records) → AllByRecursion P (kept_of records replies)
 each_kept P [] replies all = tt
-each_kept P (command ∷ commands) [] all = tt
-each_kept P (command ∷ commands) (KeptOf kept ∷ replies) (first, rest) = (first, each_kept P commands replies rest)
-each_kept P (command ∷ commands) (Refused refusal ∷ replies) (first, rest) = each_kept P commands replies rest
+each_kept P (CommandOf command ∷ records) [] all = tt
+each_kept P (Flush ∷ records) [] all = tt
+each_kept P (CommandOf command ∷ records) (KeptOf kept ∷ replies) (first, rest) = (first, each_kept P records replies rest)
+each_kept P (CommandOf command ∷ records) (Held count ∷ replies) (first, rest) = each_kept P records replies rest
+each_kept P (CommandOf command ∷ records) (Refused refusal ∷ replies) (first, rest) = each_kept P records replies rest
+each_kept P (Flush ∷ records) (reply ∷ replies) all = each_kept P records replies all

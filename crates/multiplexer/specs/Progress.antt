@@ -8,7 +8,9 @@ use Rattle.ogg_command.specs.declared.command.Command.{Command}
 use Rattle.ogg_command.specs.declared.refusal.Refusal.{Refusal}
 use Rattle.ogg_command.specs.declared.refusal.Refusal.TheVariants.{Memory}
 use Rattle.feed_codec.specs.declared.reply.Reply.{Reply}
-use Rattle.feed_codec.specs.declared.reply.Reply.TheVariants.{Kept as KeptOf, Refused}
+use Rattle.feed_codec.specs.declared.reply.Reply.TheVariants.{Held, Kept as KeptOf, Refused}
+use Rattle.feed_codec.specs.declared.item.Record.{Record}
+use Rattle.feed_codec.specs.declared.item.Record.TheVariants.{Command as CommandOf, Flush}
 
 -- the links so far, and how many commands were kept
 pub record Progress : Type 0 where
@@ -40,18 +42,36 @@ AnsweredBy (Ok size) before command reply bytes behind =
 abbrev pub Answers : Progress → Command → Reply → List ℕ → Progress → Type 0
 Answers before command reply bytes behind = AnsweredBy (decision (chain_state_of before.links) command) before command reply bytes behind
 
--- commands in turn, each answered where the commands before it have brought the run; all their pages
-abbrev pub AnswersAll : Progress → List Command → List Reply → List ℕ → Progress → Type 0
+-- A flush is answered by how far the run has come: nothing waits here. It writes no page and changes nothing.
+abbrev pub AnswersFlush : Progress → Reply → List ℕ → Progress → Type 0
+AnswersFlush before reply bytes behind =
+    (reply ≡ KeptOf (record { count = before.kept; end = end_of before })) × (bytes ≡ []) × (behind ≡ before)
+
+-- the record is answered
+abbrev pub AnswersRecord : Progress → Record → Reply → List ℕ → Progress → Type 0
+AnswersRecord before (CommandOf command) reply bytes behind = Answers before command reply bytes behind
+AnswersRecord before Flush reply bytes behind = AnswersFlush before reply bytes behind
+
+-- records in turn, each answered where the records before it have brought the run; all their pages
+abbrev pub AnswersAll : Progress → List Record → List Reply → List ℕ → Progress → Type 0
 AnswersAll before [] [] bytes behind = (bytes ≡ []) × (behind ≡ before)
-AnswersAll before (command ∷ commands) (reply ∷ replies) bytes behind =
+AnswersAll before (given ∷ records) (reply ∷ replies) bytes behind =
     (next : Progress) × (own : List ℕ) × (later : List ℕ)
-    × Answers before command reply own next × AnswersAll next commands replies later behind × (bytes ≡ own ++ later)
+    × AnswersRecord before given reply own next × AnswersAll next records replies later behind × (bytes ≡ own ++ later)
 AnswersAll before [] (reply ∷ replies) bytes behind = ⊥
-AnswersAll before (command ∷ commands) [] bytes behind = ⊥
+AnswersAll before (given ∷ records) [] bytes behind = ⊥
+
+-- the commands among records, in order
+abbrev pub commands_in : List Record → List Command
+commands_in [] = []
+commands_in (CommandOf command ∷ records) = command ∷ commands_in records
+commands_in (Flush ∷ records) = commands_in records
 
 -- the commands that were kept, in order
-abbrev pub kept_of : List Command → List Reply → List Command
+abbrev pub kept_of : List Record → List Reply → List Command
 kept_of [] replies = []
-kept_of (command ∷ commands) [] = []
-kept_of (command ∷ commands) (KeptOf kept ∷ replies) = command ∷ kept_of commands replies
-kept_of (command ∷ commands) (Refused refusal ∷ replies) = kept_of commands replies
+kept_of (given ∷ records) [] = []
+kept_of (CommandOf command ∷ records) (KeptOf kept ∷ replies) = command ∷ kept_of records replies
+kept_of (CommandOf command ∷ records) (Held count ∷ replies) = kept_of records replies
+kept_of (CommandOf command ∷ records) (Refused refusal ∷ replies) = kept_of records replies
+kept_of (Flush ∷ records) (reply ∷ replies) = kept_of records replies

@@ -59,6 +59,6 @@ pub fn counts_behind(reply: Reply, so_far: Kept) -> Kept
 {
     match reply {
         Reply::Kept(kept) => kept,
-        Reply::Refused(_) => so_far,
+        Reply::Held(_) | Reply::Refused(_) => so_far,
     }
 }

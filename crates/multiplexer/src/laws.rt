@@ -4,9 +4,9 @@ ghost use Rattle.std.specs.List.{AllByRecursion};
 ghost use Rattle.ogg_command.specs.Command.{IsCommand};
 ghost use Rattle.chain_rules.specs.Commands.{AreKept, bytes_of_commands, links_behind};
 ghost use Rattle.chain_rules.specs.Recording.{Holds, after};
-ghost use Rattle.ogg_command.specs.declared.command.Command.{Command};
+ghost use Rattle.feed_codec.specs.declared.item.Record.{Record};
 ghost use Rattle.feed_codec.specs.declared.reply.Reply.{Reply};
-ghost use Rattle.multiplexer.specs.Progress.{Progress, at_start, AnswersAll, kept_of};
+ghost use Rattle.multiplexer.specs.Progress.{Progress, at_start, AnswersAll, commands_in, kept_of};
 
 use chain_rules::commands_add_their_packets;
 
@@ -14,13 +14,13 @@ use chain_rules::commands_add_their_packets;
 /// refused behind those before it; and they are a chain of links that holds just their packets
 /// (RFC 3533, sections 4 to 6).
 pub fn run_writes_what_was_kept()
-    ensures pages { (commands : List Command) (replies : List Reply) (bytes : List ℕ) (behind : Progress) →
-        AnswersAll at_start commands replies bytes behind →
-        AreKept [] (kept_of commands replies) × (bytes ≡ bytes_of_commands [] (kept_of commands replies))
-        × (behind.links ≡ links_behind [] (kept_of commands replies)) × (behind.kept ≡ length (kept_of commands replies)) }
-    ensures holds { (commands : List Command) (replies : List Reply) (bytes : List ℕ) (behind : Progress) →
-        AllByRecursion IsCommand commands → AnswersAll at_start commands replies bytes behind →
-        Holds bytes (after [] (kept_of commands replies)) }
+    ensures pages { (records : List Record) (replies : List Reply) (bytes : List ℕ) (behind : Progress) →
+        AnswersAll at_start records replies bytes behind →
+        AreKept [] (kept_of records replies) × (bytes ≡ bytes_of_commands [] (kept_of records replies))
+        × (behind.links ≡ links_behind [] (kept_of records replies)) × (behind.kept ≡ length (kept_of records replies)) }
+    ensures holds { (records : List Record) (replies : List Reply) (bytes : List ℕ) (behind : Progress) →
+        AllByRecursion IsCommand (commands_in records) → AnswersAll at_start records replies bytes behind →
+        Holds bytes (after [] (kept_of records replies)) }
 {
     commands_add_their_packets();
 }

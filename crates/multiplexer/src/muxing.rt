@@ -7,11 +7,12 @@ use feed_codec::{Kept, RunFault, Tally};
 use std::alloc::Global;
 use std::io::{Read, Write};
 
-/// How many records a run takes.
+/// How many records a run takes, an announcement not counted.
 const MOST_RECORDS: u64 = 4_294_967_295;
 
-/// Runs the commands of a feed, from no links on. The pages of each command that isn't refused are
-/// written to `pages`, and then the line of its reply to `replies`, before the next record is read.
+/// Runs the records of a feed, from no links on. The pages of each command that isn't refused are
+/// written to `pages`, and then the line of its reply to `replies`, before the next record is read. A
+/// flush is answered by the last count and length, since nothing waits here; it isn't counted.
 ///
 /// At the end of the feed it gives the counts. It stops at the first fault: `Feed` where the feed
 /// has one, and everything before that is written; `Write` where one of the writers has failed, and
@@ -31,15 +32,15 @@ pub fn mux<R: Read + Drop, P: Write, W: Write>(
         (record { feed = R.remaining reader.new; pages = P.contents pages.new; lines = W.contents replies.new })) }
 {
     let mut run = Run::new(alloc);
-    for commands in 0..MOST_RECORDS {
+    for _ in 0..MOST_RECORDS {
         match run.next(reader, pages, replies) {
             Ok(Some(_)) => {}
-            Ok(None) => return Ok(tally(commands, run.so_far)),
+            Ok(None) => return Ok(tally(run.commands, run.so_far)),
             Err(fault) => return Err(fault),
         }
     }
     match run.feed.next(reader) {
-        Ok(None) => Ok(tally(MOST_RECORDS, run.so_far)),
+        Ok(None) => Ok(tally(run.commands, run.so_far)),
         Ok(Some(_)) => Err(RunFault::TooMany),
         Err(fault) => Err(RunFault::Feed(fault)),
     }
