@@ -2,9 +2,10 @@
 use crate::pages::{FIRST, SECOND, THIRD};
 use crate::records::Packet::{Text, Zeros};
 use crate::records::Record::{
-    Begin, BeginMany, BeginManyWithSkeleton, BeginWithSkeleton, Bytes, End, Put, PutMany,
+    Begin, BeginMany, BeginManyWithSkeleton, BeginWithFields, BeginWithSkeleton, Bytes, End, Flush,
+    Put, PutMany, Version,
 };
-use crate::records::{Described, Packet, Record, append};
+use crate::records::{Described, Field, Packet, Record, append};
 use crate::taking::take_pages;
 use feed_codec::{FeedFault, RunFault};
 use multiplexer::mux;
@@ -25,12 +26,15 @@ const VORBIS: Described = Described {
     rate: (44_100, 1),
 };
 
-/// The longest packet of a put.
-const LONG: (u32, u64, Packet) = (1, 0, Zeros(1_048_576));
+/// A message field that is written.
+const TITLE: Field = (b"Title", b"One");
+
+/// The longest packet of a put, 8,388,608 bytes.
+const LONGEST: (u32, u64, Packet) = (1, 0, Zeros(8_388_608));
 
 /// A feed, and what it comes to.
 struct Example {
-    /// Each record, and the line that answers it.
+    /// Each record, and the line that answers it; an announcement has none.
     turns: &'static [(Record, &'static str)],
     /// How long the pages are.
     end: u64,
@@ -39,7 +43,7 @@ struct Example {
 }
 
 /// Feeds without a fault.
-const EXAMPLES: [Example; 18] = [
+const EXAMPLES: [Example; 22] = [
     // No command.
     Example {
         turns: &[],
@@ -215,21 +219,97 @@ const EXAMPLES: [Example; 18] = [
             (122, b"OggS\0\0\0\0\0\0\0\0\0\0\x01\0\0\0\x02\0\0\0"),
         ],
     },
-    // The longest packet, and what is longer; the longest batch; the most entries.
+    // A packet of 1 MiB and a byte; the longest packet of all, and what is longer; the longest batch;
+    // the most entries.
+    Example {
+        turns: &[
+            (ONE, "kept 1 31\n"),
+            (Put(&[(1, 0, Zeros(1_048_577))]), "kept 2 1053180\n"),
+        ],
+        end: 1_053_180,
+        found: &[(0, FIRST)],
+    },
     Example {
         turns: &[
             (ONE, "kept 1 31\n"),
             (
-                Put(&[(1, 0, Zeros(1_048_577))]),
+                Put(&[(1, 0, Zeros(8_388_609))]),
                 "refused 9 PacketTooLong\n",
             ),
             (PutMany(17, Zeros(1_048_576)), "refused 16 BatchTooLong\n"),
             (PutMany(0, Zeros(0)), "refused 4 Empty\n"),
             (PutMany(4097, Zeros(0)), "refused 5 TooMany\n"),
-            (Put(&[LONG]), "kept 2 1053179\n"),
+            (Put(&[LONGEST]), "kept 2 8425046\n"),
         ],
-        end: 1_053_179,
+        end: 8_425_046,
         found: &[(0, FIRST)],
+    },
+    // A flush has the last reply's numbers, and no pages.
+    Example {
+        turns: &[
+            (Flush, "kept 0 0\n"),
+            (ONE, "kept 1 31\n"),
+            (HELLO, "kept 2 64\n"),
+            (Flush, "kept 2 64\n"),
+            (Put(&[(1, 4, Text(b"x"))]), "refused 15 PositionBack\n"),
+            (Flush, "kept 2 64\n"),
+            (End(1), "kept 3 91\n"),
+        ],
+        end: 91,
+        found: &[(0, FIRST), (31, SECOND), (64, THIRD)],
+    },
+    // A feed of version 2: a message field stands in the stream's fisbone, behind the media type.
+    Example {
+        turns: &[
+            (Version, ""),
+            (
+                BeginWithFields(9, (1000, 1000), &[(VORBIS, &[TITLE])]),
+                "kept 1 271\n",
+            ),
+            (Flush, "kept 1 271\n"),
+        ],
+        end: 271,
+        found: &[
+            (123, b"OggS\0\0\0\0\0\0\0\0\0\0\x09\0\0\0\x01\0\0\0"),
+            (149, &[1, 92]),
+            (203, b"Content-Type: audio/vorbis\r\nTitle: One\r\n"),
+            (243, b"OggS\0\x04\0\0\0\0\0\0\0\0\x09\0\0\0\x02\0\0\0"),
+        ],
+    },
+    // The media type under another name, an empty name, a value with a space at its end, too many fields.
+    Example {
+        turns: &[
+            (Version, ""),
+            (
+                BeginWithFields(
+                    9,
+                    (1000, 1000),
+                    &[(VORBIS, &[TITLE, (b"content-type", b"a/b")])],
+                ),
+                "refused 10 BadType\n",
+            ),
+            (
+                BeginWithFields(9, (1000, 1000), &[(VORBIS, &[(b"", b"One")])]),
+                "refused 10 BadType\n",
+            ),
+            (
+                BeginWithFields(9, (1000, 1000), &[(VORBIS, &[(b"Title", b"One ")])]),
+                "refused 10 BadType\n",
+            ),
+            (
+                BeginWithFields(9, (1000, 1000), &[(VORBIS, &[TITLE; 17])]),
+                "refused 5 TooMany\n",
+            ),
+            (
+                BeginWithFields(9, (1000, 1000), &[(VORBIS, &[TITLE; 16])]),
+                "kept 1 452\n",
+            ),
+        ],
+        end: 452,
+        found: &[(
+            204,
+            b"Content-Type: audio/vorbis\r\nTitle: One\r\nTitle: One\r\n",
+        )],
     },
     // No stream, no header, a first header that doesn't lie whole in a page.
     Example {
@@ -333,15 +413,19 @@ fn each_command_is_answered_and_its_pages_are_written(rt: HostRuntime) -> Result
     for example in &EXAMPLES {
         let mut feed = Vec::new(rt.alloc());
         let mut lines = Vec::new(rt.alloc());
+        let mut commands = 0u64;
         for (record, line) in example.turns {
             append(*record, &mut feed)?;
             lines.extend_from_slice(line.as_bytes())?;
+            if !matches!(record, Version | Flush) {
+                commands = commands.saturating_add(1);
+            }
         }
         let mut pages = Vec::new(rt.alloc());
         let mut replies = Vec::new(rt.alloc());
         let tally = mux(rt.alloc(), &mut feed.as_slice(), &mut pages, &mut replies)?;
         assert_eq!(rt; replies.as_slice(), lines.as_slice());
-        assert_eq!(rt; tally.commands, example.turns.len() as u64);
+        assert_eq!(rt; tally.commands, commands);
         assert_eq!(rt; (tally.end, pages.len() as u64), (example.end, example.end));
         let taken = take_pages(rt.alloc(), pages.as_slice())?;
         assert_eq!(rt; (taken.end, taken.fault), (example.end, None));
@@ -362,13 +446,16 @@ const LONGER: Record = Bytes(
 );
 
 /// What follows a feed's begin, and the fault that it is.
-const FAULTS: [(Record, FeedFault); 6] = [
+const FAULTS: [(Record, FeedFault); 8] = [
     (Bytes(b"\x02\x17\0\0\0\x01\0\x01"), FeedFault::Truncated),
     (Bytes(b"\x02\x17\0"), FeedFault::Truncated),
     (Bytes(b"\x09\x04\0\0\0\x01\0\0\0"), FeedFault::Kind),
     (Bytes(b"\x02\x01\0\0\x02"), FeedFault::Length),
     (Bytes(b"\x03\x03\0\0\0\x01\0\0"), FeedFault::Form),
     (LONGER, FeedFault::Form),
+    // The announcement stands in front of all records alone, and a flush has no payload.
+    (Version, FeedFault::Kind),
+    (Bytes(b"\x04\x01\0\0\0\0"), FeedFault::Form),
 ];
 
 #[test]
@@ -383,6 +470,31 @@ fn what_stands_before_a_fault_of_the_feed_is_run(rt: HostRuntime) -> Result<(), 
         assert_eq!(rt; run, Err(RunFault::Feed(fault)));
         assert_eq!(rt; pages.as_slice(), FIRST);
         assert_eq!(rt; replies.as_slice(), b"kept 1 31\n".as_slice());
+    }
+    Ok(())
+}
+
+/// Feeds that end in a fault before anything is run.
+const FAULTS_AT_ONCE: [(&[Record], FeedFault); 3] = [
+    // There is no version 3.
+    (&[Bytes(b"\0\x01\0\0\0\x03"), ONE], FeedFault::Form),
+    (&[Bytes(b"\0\0\0\0\0"), ONE], FeedFault::Form),
+    // In version 2 a stream has a number of fields, even where it has none.
+    (&[Version, ONE, HELLO], FeedFault::Form),
+];
+
+#[test]
+fn a_fault_in_front_leaves_no_page(rt: HostRuntime) -> Result<(), Fail> {
+    for (records, fault) in FAULTS_AT_ONCE {
+        let mut feed = Vec::new(rt.alloc());
+        for record in records {
+            append(*record, &mut feed)?;
+        }
+        let mut pages = Vec::new(rt.alloc());
+        let mut replies = Vec::new(rt.alloc());
+        let run = mux(rt.alloc(), &mut feed.as_slice(), &mut pages, &mut replies);
+        assert_eq!(rt; run, Err(RunFault::Feed(fault)));
+        assert!(rt; pages.is_empty() && replies.is_empty(), "something was run");
     }
     Ok(())
 }

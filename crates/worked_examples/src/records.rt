@@ -20,14 +20,21 @@ pub struct Described {
     pub rate: (i64, i64),
 }
 
-/// A record of a feed.
+/// The name and the value of a message field.
+pub type Field = (&'static [u8], &'static [u8]);
+
+/// What stands in a feed.
 #[derive(Clone, Copy)]
 pub enum Record {
+    /// The announcement of version 2.
+    Version,
     /// A begin of streams with these serials, each with these headers.
     Begin(&'static [(u32, &'static [Packet])]),
     /// A begin with a Skeleton: its serial, the denominators of its presentation and base times, whose
     /// numerators are 0, and the streams that it describes.
     BeginWithSkeleton(u32, (i64, i64), &'static [Described]),
+    /// The same in a feed of version 2, where each stream has message fields.
+    BeginWithFields(u32, (i64, i64), &'static [(Described, &'static [Field])]),
     /// A begin with a Skeleton of serial 1000 and of so many streams, with the serials from 1 on and the
     /// header `abc`.
     BeginManyWithSkeleton(u16),
@@ -41,6 +48,8 @@ pub enum Record {
     PutMany(u16, Packet),
     /// The end of the stream with this serial.
     End(u32),
+    /// A flush.
+    Flush,
     /// These bytes, whatever they are.
     Bytes(&'static [u8]),
 }
@@ -49,6 +58,7 @@ pub enum Record {
 pub fn append(record: Record, feed: &mut Vec<u8>) -> Result<(), Fail> {
     let alloc = *feed.allocator();
     match record {
+        Record::Version => append_payload(0, &[2], feed),
         Record::Begin(streams) => {
             let mut payload = begin_of(alloc, u16::try_from(streams.len())?)?;
             for (serial, headers) in streams {
@@ -60,6 +70,14 @@ pub fn append(record: Record, feed: &mut Vec<u8>) -> Result<(), Fail> {
             let mut payload = skeleton_of(alloc, serial, times, u16::try_from(streams.len())?)?;
             for stream in streams {
                 append_described(stream, &mut payload)?;
+            }
+            append_payload(1, payload.as_slice(), feed)
+        }
+        Record::BeginWithFields(serial, times, streams) => {
+            let mut payload = skeleton_of(alloc, serial, times, u16::try_from(streams.len())?)?;
+            for (stream, fields) in streams {
+                append_described(stream, &mut payload)?;
+                append_fields(fields, &mut payload)?;
             }
             append_payload(1, payload.as_slice(), feed)
         }
@@ -103,6 +121,7 @@ pub fn append(record: Record, feed: &mut Vec<u8>) -> Result<(), Fail> {
             append_payload(2, payload.as_slice(), feed)
         }
         Record::End(serial) => append_payload(3, &serial.to_le_bytes(), feed),
+        Record::Flush => append_payload(4, &[], feed),
         Record::Bytes(bytes) => {
             feed.extend_from_slice(bytes)?;
             Ok(())
@@ -144,6 +163,18 @@ fn append_described(stream: &Described, payload: &mut Vec<u8>) -> Result<(), Fai
     payload.extend_from_slice(&stream.rate.1.to_le_bytes())?;
     // The base granule, the preroll and the shift.
     payload.extend_from_slice(&[0; 13])?;
+    Ok(())
+}
+
+/// Appends a stream's message fields, behind their number.
+fn append_fields(fields: &[Field], payload: &mut Vec<u8>) -> Result<(), Fail> {
+    payload.extend_from_slice(&u16::try_from(fields.len())?.to_le_bytes())?;
+    for (name, value) in fields {
+        for text in [name, value] {
+            payload.extend_from_slice(&u16::try_from(text.len())?.to_le_bytes())?;
+            payload.extend_from_slice(text)?;
+        }
+    }
     Ok(())
 }
 

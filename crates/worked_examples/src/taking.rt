@@ -288,9 +288,12 @@ fn answer(alloc: Global, pages: &[u8], record: Record) -> Result<Option<Refusal>
     }
     let mut record_bytes = Vec::new(alloc);
     append(record, &mut record_bytes)?;
-    let command = Feed::new(alloc)
-        .next(&mut record_bytes.as_slice())?
-        .ok_or("no command")?;
+    let Some(feed_codec::Record::Command(command)) = Feed::new(alloc).next(
+        &mut record_bytes.as_slice(),
+    )?
+    else {
+        return Err("no command".into());
+    };
     Ok(taken.shape.check(&command).err())
 }
 
