@@ -22,12 +22,14 @@ bytes 01 >"$work/feed"
 faults "a head cut short" "fault feed 1 Truncated"
 bytes 09 05000000 00 >"$work/feed"
 faults "kind 9, and a payload cut short" "fault feed 2 Kind"
-bytes 00 00000000 >"$work/feed"
-faults "kind 0" "fault feed 2 Kind"
-bytes 04 00000000 >"$work/feed"
-faults "kind 4" "fault feed 2 Kind"
+bytes 05 00000000 >"$work/feed"
+faults "kind 5" "fault feed 2 Kind"
+bytes 05 ffffffff >"$work/feed"
+faults "kind 5 with a length too large" "fault feed 2 Kind"
 bytes 04 ffffffff >"$work/feed"
-faults "kind 4 with a length too large" "fault feed 2 Kind"
+faults "a flush with a length too large" "fault feed 3 Length"
+bytes 04 01000000 00 >"$work/feed"
+faults "a flush with a payload" "fault feed 4 Form"
 bytes 02 01000002 >"$work/feed"
 faults "a length of 33,554,433" "fault feed 3 Length"
 bytes 02 00000002 >"$work/feed"
@@ -42,6 +44,23 @@ faults "a begin with a byte too many" "fault feed 4 Form"
 faults "a begin with 2 for the Skeleton" "fault feed 4 Form"
 bytes 02 02000000 ffff >"$work/feed"
 faults "a put of 65,535 entries and none there" "fault feed 4 Form"
+
+# A version is announced in front of all records, or it is a fault; there is 2 and no other.
+{ cat "$hello"; bytes 00 01000000 02; } >"$work/whole"
+run mux <"$work/whole"
+check "a version behind a record: pages" cmp "$work/out" "$work/hello.pages"
+check "a version behind a record: line" is_text "$work/err" 'kept 1 31\nkept 2 64\nfault feed 2 Kind\n'
+for version in "01000000 03" "01000000 01" "00000000" "02000000 0202"; do
+    { bytes 00 "$version"; cat "$hello"; } >"$work/whole"
+    run mux <"$work/whole"
+    came "version $version" 1 "" 'fault feed 4 Form\n'
+done
+{ bytes 00 01000000 02; bytes 00 01000000 02; cat "$hello"; } >"$work/whole"
+run mux <"$work/whole"
+came "a version announced twice" 1 "" 'fault feed 2 Kind\n'
+{ bytes 00 01000000 02; cat "$hello"; } >"$work/whole"
+run mux <"$work/whole"
+came "a begin of version 1 in a feed of version 2" 1 "" 'fault feed 4 Form\n'
 
 # The feed can't be read.
 run mux <&-

@@ -6,6 +6,7 @@
 """
 import os
 import random
+import re
 import struct
 import subprocess
 import sys
@@ -14,6 +15,8 @@ sys.path.insert(0, os.path.dirname(os.path.abspath(__file__)))
 from pages import page
 
 MOST_PAYLOAD = 33554432
+MOST_PACKET = 8388608
+ANNOUNCEMENT, BEGIN, PUT, END, FLUSH = range(5)
 
 
 class Fault(Exception):
@@ -36,8 +39,12 @@ class Reader:
         return int.from_bytes(self.take(size), "little")
 
 
-def begin_of(reader):
-    """The Skeleton's head, if there is one, and the streams."""
+def text_of(reader):
+    return reader.take(reader.number(2))
+
+
+def begin_of(reader, version):
+    """The Skeleton's head, if there is one, and the streams. Message fields stand in a feed of version 2 alone."""
     has_skeleton = reader.number(1)
     if has_skeleton > 1:
         raise Fault
@@ -46,8 +53,10 @@ def begin_of(reader):
     for _ in range(reader.number(2)):
         serial = reader.number(4)
         headers = [reader.take(reader.number(4)) for _ in range(reader.number(2))]
-        media = reader.take(reader.number(2))
-        streams.append((serial, headers, media, struct.unpack("<qqqIB", reader.take(29))))
+        media = text_of(reader)
+        numbers = struct.unpack("<qqqIB", reader.take(29))
+        fields = [(text_of(reader), text_of(reader)) for _ in range(reader.number(2))] if version == 2 else []
+        streams.append((serial, headers, media, numbers, fields))
     return skeleton, streams
 
 
@@ -55,16 +64,35 @@ def put_of(reader):
     return [(reader.number(4), reader.number(8), reader.take(reader.number(4))) for _ in range(reader.number(2))]
 
 
-def commands(data):
-    """The feed's commands, and at its end a fault or nothing."""
-    at = 0
+def payload_of(kind, reader, version):
+    """What a payload says; `Fault` where it isn't exactly one spelling."""
+    if kind == ANNOUNCEMENT:
+        if reader.data != b"\2":
+            raise Fault
+        value = reader.number(1)
+    elif kind == BEGIN:
+        value = begin_of(reader, version)
+    elif kind == PUT:
+        value = put_of(reader)
+    elif kind == END:
+        value = reader.number(4)
+    else:
+        value = ()
+    if reader.at != len(reader.data):
+        raise Fault
+    return value
+
+
+def records(data):
+    """The feed's commands and flushes, and at its end a fault or nothing."""
+    at, version = 0, 1
     while at < len(data):
         if at + 5 > len(data):
             yield "fault feed 1 Truncated", None
             return
         kind, size = struct.unpack_from("<BI", data, at)
         payload = Reader(data[at + 5 : at + 5 + size])
-        if kind not in (1, 2, 3):
+        if not (ANNOUNCEMENT if at == 0 else BEGIN) <= kind <= FLUSH:
             yield "fault feed 2 Kind", None
             return
         if size > MOST_PAYLOAD:
@@ -74,13 +102,14 @@ def commands(data):
             yield "fault feed 1 Truncated", None
             return
         try:
-            value = (begin_of, put_of, lambda reader: reader.number(4))[kind - 1](payload)
-            if payload.at != size:
-                raise Fault
+            value = payload_of(kind, payload, version)
         except Fault:
             yield "fault feed 4 Form", None
             return
-        yield kind, value
+        if kind == ANNOUNCEMENT:
+            version = 2
+        else:
+            yield kind, value
         at += 5 + size
 
 
@@ -105,10 +134,14 @@ def is_media(media):
     return 1 <= len(media) <= 255 and all(0x20 <= byte <= 0x7E for byte in media) and media == media.strip(b" ")
 
 
-def fisbone(serial, headers, media, numbers):
+def is_field(name, value):
+    return re.fullmatch(rb"[A-Za-z0-9-]{1,64}", name) and name.lower() != b"content-type" and is_media(value)
+
+
+def fisbone(serial, headers, media, numbers, fields):
     numerator, denominator, base, preroll, shift = numbers
     front = struct.pack("<8sIIIqqqIB3x", b"fisbone", 44, serial, len(headers), numerator, denominator, base, preroll, shift)
-    return front + b"Content-Type: " + media + b"\r\n"
+    return front + b"".join(name + b": " + value + b"\r\n" for name, value in [(b"Content-Type", media)] + fields)
 
 
 class Model:
@@ -128,7 +161,9 @@ class Model:
             return "2 LinkOpen"
         if not streams:
             return "4 Empty"
-        if len(streams) + (skeleton is not None) > 64 or any(len(headers) > 256 for _, headers, _, _ in streams):
+        if len(streams) + (skeleton is not None) > 64 or any(
+            len(headers) > 256 or len(fields) > 16 for _, headers, _, _, fields in streams
+        ):
             return "5 TooMany"
         seen = set(self.serials)
         if skeleton:
@@ -138,32 +173,32 @@ class Model:
             if presentation <= 0 or base <= 0:
                 return "11 BadRate"
             seen.add(serial)
-        for serial, headers, media, (numerator, denominator, _, _, _) in streams:
+        for serial, headers, media, (numerator, denominator, *_), fields in streams:
             if serial in seen:
                 return "6 SerialTaken"
             if not headers:
                 return "7 NoHeader"
             if len(headers[0]) > 65024:
                 return "8 HeadTooLong"
-            if any(len(header) > 1048576 for header in headers[1:]):
+            if any(len(header) > MOST_PACKET for header in headers[1:]):
                 return "9 PacketTooLong"
-            if skeleton and not is_media(media):
+            if skeleton and not (is_media(media) and all(is_field(*field) for field in fields)):
                 return "10 BadType"
             if skeleton and (numerator <= 0 or denominator <= 0):
                 return "11 BadRate"
             seen.add(serial)
-        if sum(len(header) for _, headers, _, _ in streams for header in headers) > 16777216:
+        if sum(len(header) for _, headers, *_ in streams for header in headers) > 16777216:
             return "16 BatchTooLong"
         self.serials = seen
-        self.streams = {serial: [1, 0, False] for serial, _, _, _ in streams}
-        pages = [run_pages(serial, 0, 2, [(0, headers[0])])[0] for serial, headers, _, _ in streams]
+        self.streams = {serial: [1, 0, False] for serial, *_ in streams}
+        pages = [run_pages(serial, 0, 2, [(0, headers[0])])[0] for serial, headers, *_ in streams]
         if skeleton:
             own, times, utc = skeleton[0], skeleton[1:5], skeleton[5]
             self.streams[own] = [len(streams) + 2, 0, True]
             pages = run_pages(own, 0, 2, [(0, struct.pack("<8sHHqqqq20s", b"fishead", 3, 0, *times, utc))]) + pages
             for number, stream in enumerate(streams):
                 pages += run_pages(own, 1 + number, 0, [(0, fisbone(*stream))])
-        for serial, headers, _, _ in streams:
+        for serial, headers, *_ in streams:
             more = run_pages(serial, 1, 0, [(0, header) for header in headers[1:]])
             self.streams[serial][0] += len(more)
             pages += more
@@ -180,7 +215,7 @@ class Model:
             return "5 TooMany"
         last = {serial: stream[1] for serial, stream in self.streams.items()}
         for serial, position, packet in entries:
-            if len(packet) > 1048576:
+            if len(packet) > MOST_PACKET:
                 return "9 PacketTooLong"
             if serial not in last:
                 return "12 UnknownSerial"
@@ -222,9 +257,12 @@ class Model:
 def mux(data):
     """The pages, the lines and the status."""
     model, pages, lines, kept = Model(), b"", "", 0
-    for kind, value in commands(data):
+    for kind, value in records(data):
         if value is None:
             return pages, lines, kind + "\n", 1
+        if kind == FLUSH:
+            lines += f"kept {kept} {len(pages)}\n"
+            continue
         answer = model.answer(kind, value)
         if isinstance(answer, bytes):
             pages += answer
@@ -236,17 +274,27 @@ def mux(data):
 
 
 def random_feed(chance):
-    """Commands near the rules' edges, and now and then a broken byte or a cut."""
+    """Commands near the rules' edges, of either version, and now and then a broken byte or a cut."""
 
     def listed(data):
         return struct.pack("<I", len(data)) + data
+
+    def text(data):
+        return struct.pack("<H", len(data)) + data
+
+    def field():
+        name = chance.choice((b"", b"content-TYPE", b"a:b", b"n" * 65)) if chance.random() < 0.05 else chance.choice((b"Title", b"Role", b"n" * 64))
+        value = chance.choice((b"", b" One", b"One\r", b"v" * 256)) if chance.random() < 0.05 else chance.choice((b"One", b"a: b", b"v" * 255))
+        return text(name) + text(value)
 
     def packet(sizes):
         return chance.randbytes(chance.choice(sizes)) if chance.random() < 0.9 else b""
 
     small = (0, 1, 2, 10, 100, 253, 254, 255, 256, 509, 510, 511, 765)
     sizes = small * 6 + (64769, 64770, 65024, 65025, 65026)
-    feed, serials, begun, position = b"", chance.sample(range(1, 2**32), 30), [], 0
+    serials, begun, position = chance.sample(range(1, 2**32), 30), [], 0
+    version = chance.choice((1, 2))
+    feed = struct.pack("<BIB", 0, 1, 2 if chance.random() < 0.95 else chance.randrange(4)) if version == 2 else b""
     for _ in range(chance.randrange(1, 14)):
         draw = chance.random()
         if draw < 0.2 or not begun and draw < 0.9:
@@ -260,8 +308,13 @@ def random_feed(chance):
                 payload += struct.pack("<IH", serial, len(headers)) + b"".join(map(listed, headers))
                 media = chance.choice((b"", b" a/b", b"a/b ", b"a\nb", b"m" * 255, b"m" * 256)) if chance.random() < 0.1 else b"audio/vorbis"
                 rate = [chance.randrange(-1, 2) if chance.random() < 0.1 else chance.randrange(1, 2**63) for _ in range(2)]
-                payload += struct.pack("<H", len(media)) + media + struct.pack("<qq", *rate) + chance.randbytes(13)
-            kind = 1
+                payload += text(media) + struct.pack("<qq", *rate) + chance.randbytes(13)
+                if version == 2:
+                    fields = [field() for _ in range(chance.choice((0, 0, 1, 1, 2, 3, 16, 17 if chance.random() < 0.3 else 0)))]
+                    payload += struct.pack("<H", len(fields)) + b"".join(fields)
+            kind = BEGIN
+        elif draw < 0.27:
+            payload, kind = b"", FLUSH
         elif draw < 0.8:
             count = chance.choice((0, 1, 1, 2, 3, 5, 10, 254, 255, 256, 300))
             # One put in ten has one odd entry.
@@ -273,11 +326,11 @@ def random_feed(chance):
                 at = chance.choice((0, 2**63 - 1, 2**63, 2**64 - 1)) if k == odd else position
                 entries += struct.pack("<IQ", chance.choice(serials) if k == odd and at > 0 else serial, at)
                 entries += listed(packet(sizes if count < 20 else small))
-            payload, kind = struct.pack("<H", count) + entries, 2
+            payload, kind = struct.pack("<H", count) + entries, PUT
         else:
             serial = chance.choice(begun or serials)
             begun = [other for other in begun if other != serial] if chance.random() < 0.8 else begun
-            payload, kind = struct.pack("<I", serial), 3
+            payload, kind = struct.pack("<I", serial), END
         feed += struct.pack("<BI", kind, len(payload)) + payload
     if chance.random() < 0.1:
         return feed[: chance.randrange(len(feed) + 1)]

@@ -75,6 +75,51 @@ END
 muxes "groups" 'kept 1 94\nkept 2 183\n' "02 0 1 0 3 abc" "02 0 2 0 3 abc" "00 0 1 1 2,1 def" \
     "00 0 1 2 1,1 ab" "00 0 2 1 1 c" "00 0 1 3 1 d"
 
+# A flush has the last reply's numbers, and no pages.
+feed <<'END' >"$work/feed"
+flush
+begin 1 abc
+put 1 5 hello
+flush
+put 1 4 x
+flush
+end 1
+END
+check "flushes: length of the feed" [ "$(wc -c <"$work/feed")" -eq $((89 + 24 + 3 * 5)) ]
+muxes "flushes" 'kept 0 0\nkept 1 31\nkept 2 64\nkept 2 64\nrefused 15 PositionBack\nkept 2 64\nkept 3 91\n' \
+    "02 0 1 0 3 abc" "00 5 1 1 5 hello" "04 5 1 2 - -"
+
+# A feed of version 2: message fields stand in a stream's fisbone, behind the media type, in a fisbone of 92 bytes.
+feed <<'END' >"$work/feed"
+version 2
+skeleton 9 ; 1 audio/vorbis 44100/1 abc -- Title One
+skeleton 8 ; 2 audio/vorbis 44100/1 abc -- content-type a/b
+end 1
+skeleton 9 ; 3 audio/vorbis 44100/1 abc -- Title One
+skeleton 8 ; 2 audio/vorbis 44100/1 abc -- content-type a/b
+END
+run mux <"$work/feed"
+check "message fields: replies" is_text "$work/err" \
+    'kept 1 271\nrefused 2 LinkOpen\nkept 2 298\nrefused 6 SerialTaken\nrefused 10 BadType\n'
+tail -c +204 "$work/out" | head -c 40 >"$work/fields"
+check "message fields: text" is_text "$work/fields" 'Content-Type: audio/vorbis\r\nTitle: One\r\n'
+
+# A begin without fields adds the same pages in either version.
+feed <"$top/examples/hello.txt" >"$work/one"
+{ echo "version 2"; cat "$top/examples/hello.txt"; } | feed >"$work/feed"
+check "hello in version 2: 6 bytes and 2 more" [ "$(wc -c <"$work/feed")" -eq $(($(wc -c <"$work/one") + 8)) ]
+muxes "hello in version 2" 'kept 1 31\nkept 2 64\n' "02 0 1 0 3 abc" "00 5 1 1 5 hello"
+
+# The longest packet has 8,388,608 bytes, in 130 pages.
+feed <<'END' >"$work/feed"
+begin 1 abc
+put 1 0 x*8388609
+put 1 0 x*8388608
+put 1 0 x*1048577
+END
+run mux --check <"$work/feed"
+came "the longest packet" 0 'kept 1 31\nrefused 9 PacketTooLong\nkept 2 8425046\nkept 3 9478195\n' ""
+
 # Links one after the other.
 feed <<'END' >"$work/feed"
 begin 1 abc ; 2 abc
