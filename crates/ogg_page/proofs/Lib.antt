@@ -5,3 +5,4 @@ pub mod Tables
 pub mod Room
 pub mod Step
 pub mod InRoom
+pub mod Flags

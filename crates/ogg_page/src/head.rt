@@ -3,10 +3,19 @@
 /// How many bytes come before the lacing values.
 pub(crate) const FIXED: usize = 27;
 
+/// The flag of a page that begins with a continued packet (RFC 3533, section 6, field 3).
+pub const CONTINUED: u8 = 1;
+
+/// The flag of a stream's first page.
+pub const FIRST: u8 = 2;
+
+/// The flag of a stream's last page.
+pub const LAST: u8 = 4;
+
 /// The numbers of a page that its writer chooses (RFC 3533, section 6, fields 3 to 6).
 #[derive(Clone, Copy, Debug, PartialEq, Eq)]
 pub struct PageHead {
-    /// 1 where the page begins with a continued packet, 2 on a stream's first page, 4 on its last.
+    /// [`CONTINUED`], [`FIRST`] and [`LAST`], added up.
     pub flags: u8,
     /// The granule position of the last packet that ends in the page; all ones where none ends.
     pub position: u64,

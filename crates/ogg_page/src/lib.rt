@@ -38,7 +38,7 @@ mod writing;
 pub use buffer::PageBuffer;
 pub use crc::checksum;
 pub use fault::{PageFault, SourceFault, WindowFault, WriteFault};
-pub use head::PageHead;
+pub use head::{CONTINUED, FIRST, LAST, PageHead};
 pub use laws::{
     lent_pages_are_those_found, longest_prefix_of_pages_is_unique, page_bytes_are_prefix_free,
     page_shows_in_its_front, pages_are_found_in_turn, pages_are_the_longest_prefix,

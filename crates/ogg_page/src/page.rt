@@ -1,8 +1,9 @@
 //! A page in bytes that somebody else owns.
 ghost use Rattle.std.specs.Prelude.{◌≡◌};
+ghost use Rattle.ogg_page.specs.LogicalStream.{is_continued, is_first, is_last};
 ghost use Rattle.ogg_page.specs.Page.{IsPage, page_bytes, page_of};
 
-use crate::head::PageHead;
+use crate::head::{CONTINUED, FIRST, LAST, PageHead};
 use std::marker::Model;
 
 /// A page in borrowed bytes (RFC 3533, section 6). Its checksum is right. Nothing is copied.
@@ -40,12 +41,32 @@ impl<'a> Page<'a> {
         }
     }
 
-    /// 1 where the page begins with a continued packet, 2 on its stream's first page, 4 on its
-    /// last, added up; other bits as they stand in the bytes.
+    /// [`CONTINUED`], [`FIRST`] and [`LAST`], added up; other bits as they stand in the bytes.
     pub fn flags(&self) -> u8
         ensures { result ≡ self.now.flags }
     {
         self.head.flags
+    }
+
+    /// Whether the page begins with a continued packet.
+    pub fn is_continued(&self) -> bool
+        ensures { result ≡ is_continued self.now }
+    {
+        self.flags() & CONTINUED != 0
+    }
+
+    /// Whether the page is marked as its stream's first.
+    pub fn is_first(&self) -> bool
+        ensures { result ≡ is_first self.now }
+    {
+        self.flags() & FIRST != 0
+    }
+
+    /// Whether the page is marked as its stream's last.
+    pub fn is_last(&self) -> bool
+        ensures { result ≡ is_last self.now }
+    {
+        self.flags() & LAST != 0
     }
 
     /// The granule position of the last packet that ends in the page; all ones where none ends.
