@@ -1,3 +1,3 @@
 pub mod Progress
 pub mod Lent
-pub mod Flags
+pub mod LacingValues

@@ -1,5 +1,5 @@
 -- What the rules for a next command or page look at, of all pages so far.
-use Rattle.std.specs.Prelude.{ℕ, ◌^◌, Bool, not, nat_eq, nat_lt, if◌then◌else◌, List, [], ◌∷◌, length, map, sum_by}
+use Rattle.std.specs.Prelude.{ℕ, ◌^◌, Bool, not, nat_lt, if◌then◌else◌, List, [], ◌∷◌, length, map, sum_by}
 use Rattle.std.specs.List.{flat_map, list_any, fold}
 use Rattle.ogg_page.specs.Page.{Page, page_size}
 use Rattle.ogg_page.specs.Lacing.{ends_open}

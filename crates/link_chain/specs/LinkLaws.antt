@@ -1,13 +1,11 @@
 -- What holds of links and of what they hold. These are laws, to be cited.
-use Rattle.std.specs.Prelude.{◌≡◌, ◌↔◌, ℕ, None, List, []}
+use Rattle.std.specs.Prelude.{◌≡◌, ◌↔◌, ℕ, List, []}
 use Rattle.std.specs.List.{AllByRecursion}
 use Rattle.ogg_page.specs.Page.{Page, IsPage, IsByte, bytes_of_pages}
 use Rattle.link_chain.specs.Links.{AreLinks, flattened}
 use Rattle.link_chain.specs.Recording.{Recording, HoldsLinks, Holds}
-use Rattle.link_chain.specs.ChainState.{chain_state_of}
-use Rattle.link_chain.specs.Taking.{AreTaken, unfinished_stream}
+use Rattle.link_chain.specs.Taking.{AreTaken}
 use Rattle.link_chain.specs.Laws.InTurn
-use Rattle.link_chain.specs.Laws.LeftWhole
 use Rattle.link_chain.specs.Laws.OneChain
 
 -- the same bytes are one chain of links at most

@@ -1,5 +1,5 @@
 -- What comes of taking the pages of bytes into a chain.
-use Rattle.std.specs.Prelude.{◌≡◌, ◌≢◌, ◌⊎◌, ◌+◌, ℕ, Option, Some, None, Err, List, [], ◌∷◌, ◌++◌, length}
+use Rattle.std.specs.Prelude.{◌≡◌, ◌≢◌, ◌⊎◌, ◌+◌, ℕ, Option, Some, None, Err, List, [], ◌++◌, length}
 use Rattle.std.specs.List.{AllByRecursion}
 use Rattle.ogg_page.specs.Page.{Page, IsPage, page_bytes, bytes_of_pages}
 use Rattle.ogg_page.specs.Reading.{page_at}

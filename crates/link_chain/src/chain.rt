@@ -7,7 +7,7 @@ use crate::chain_fault::ChainFault;
 use crate::serials::Serials;
 use crate::stream_state::StreamState;
 use crate::streams::{end_stream, first_unfinished, is_open};
-use crate::taking::{add_serials, broken_by_page, follow, is_first, join_link, open_link};
+use crate::taking::{add_serials, broken_by_page, follow, join_link, open_link};
 use ogg_page::Page;
 use std::alloc::Global;
 use std::marker::Model;
@@ -97,6 +97,13 @@ impl Chain {
         self.bytes
     }
 
+    /// Why a page may not follow: the fault that `take_page` reports, `Memory` aside. The chain stays as it is.
+    pub fn fault_of(&self, page: &Page<'_>) -> Option<ChainFault>
+        ensures { result ≡ fault_of_page self.now.chain page.now }
+    {
+        broken_by_page(self.streams.as_slice(), self.has_data, self.links, page)
+    }
+
     /// Takes a page that was read into the chain, or says why it may not follow: the first fault in
     /// this order. A page that isn't its stream's first: `BosPlace`, `NoStream`, `AfterEos`,
     /// `Sequence`, `Continued`, `EosUnfinished`. A first page where all streams have ended, so that
@@ -112,11 +119,11 @@ impl Chain {
         ensures grows { OnOk result (self.new.chain.length_of ≡ self.old.chain.length_of + page_size page.now) }
         ensures same { OnErr result (self.new.chain ≡ self.old.chain) }
     {
-        let streams = self.streams.as_slice();
-        if let Some(fault) = broken_by_page(streams, self.has_data, self.links, page) {
+        if let Some(fault) = self.fault_of(page) {
             return Err(fault);
         }
-        if !is_first(page) {
+        let streams = self.streams.as_slice();
+        if !page.is_first() {
             self.continue_link(page);
         } else if is_open(streams) {
             self.join_link(page)?;

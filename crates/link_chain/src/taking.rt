@@ -8,7 +8,6 @@ ghost use Rattle.link_chain.specs.Taking.{is_one_packet, is_whole_packet, openin
 ghost use Rattle.link_chain.specs.declared.stream_state.StreamState.{StreamState as State};
 ghost use Rattle.link_chain.specs.Followed.{followed, entered};
 ghost use Rattle.ogg_page.specs.Lacing.{ends_open};
-ghost use Rattle.ogg_page.specs.LogicalStream.{is_first, is_last, is_continued};
 
 use crate::Memory;
 use crate::chain_fault::ChainFault;
@@ -17,34 +16,6 @@ use crate::serials::Serials;
 use crate::stream_state::StreamState;
 use crate::streams::{is_open, stream_in};
 use ogg_page::Page;
-
-// the flags of a page (RFC 3533, section 6, field 3)
-const CONTINUED: u8 = 1;
-
-const FIRST: u8 = 2;
-
-const LAST: u8 = 4;
-
-/// Whether the page begins with a continued packet.
-fn is_continued(page: &Page<'_>) -> bool
-    ensures { result ≡ is_continued page.now }
-{
-    page.flags() & CONTINUED != 0
-}
-
-/// Whether the page is marked as its stream's first.
-pub fn is_first(page: &Page<'_>) -> bool
-    ensures { result ≡ is_first page.now }
-{
-    page.flags() & FIRST != 0
-}
-
-/// Whether the page is marked as its stream's last.
-fn is_last(page: &Page<'_>) -> bool
-    ensures { result ≡ is_last page.now }
-{
-    page.flags() & LAST != 0
-}
 
 /// Whether the lacing values are those of exactly one whole packet.
 fn is_one_packet(lacing: &[u8]) -> bool
@@ -66,7 +37,7 @@ fn are_full(values: &[u8]) -> bool
 fn is_whole_packet(page: &Page<'_>) -> bool
     ensures { result ≡ is_whole_packet page.now }
 {
-    !is_continued(page) && is_one_packet(page.lacing())
+    !page.is_continued() && is_one_packet(page.lacing())
 }
 
 /// Whether the lacing values say that their last packet goes on.
@@ -137,10 +108,10 @@ fn broken_by_later(streams: &[StreamState], links: u64, page: &Page<'_>) -> Opti
     if u64::from(page.sequence()) != stream.next_sequence {
         return Some(ChainFault::Sequence);
     }
-    if is_continued(page) == stream.finished {
+    if page.is_continued() == stream.finished {
         return Some(ChainFault::Continued);
     }
-    if is_last(page) && leaves_open(stream, page) {
+    if page.is_last() && leaves_open(stream, page) {
         return Some(ChainFault::EosUnfinished);
     }
     None
@@ -157,7 +128,7 @@ pub fn broken_by_page(
     ensures { (chain : ChainState) → chain.streams ≡ streams.now → chain.has_data ≡ has_data → chain.links ≡ links
         → result ≡ fault_of_page chain page.now }
 {
-    if !is_first(page) {
+    if !page.is_first() {
         return broken_by_later(streams, links, page);
     }
     if is_open(streams) {
@@ -179,7 +150,7 @@ fn behind_page(stream: StreamState, page: &Page<'_>) -> StreamState
         } else {
             stream.last_position
         },
-        ended: stream.ended || is_last(page),
+        ended: stream.ended || page.is_last(),
         finished: !leaves_open(stream, page),
     }
 }

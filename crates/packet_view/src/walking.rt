@@ -1,7 +1,6 @@
 //! From page to page of one stream.
 ghost use Rattle.std.specs.Prelude.{◌≡◌, ◌≤◌, ◌+◌, ◌^◌, ◌<◌, IfOk, IfSome, List, length};
 ghost use Rattle.ogg_page.specs.Page.{IsPage, page_size};
-ghost use Rattle.ogg_page.specs.LogicalStream.{is_continued, is_last};
 ghost use Rattle.packet_view.specs.Packets.{Part, is_some_part, is_other_number, misplaced, position_in};
 ghost use Rattle.packet_view.specs.Walking.{IsBefore, Leads, Reaches};
 
@@ -52,7 +51,7 @@ fn misplaced(behind: Behind, unfinished: bool, offset: u64, page: &Page<'_>) -> 
     if is_other_number(behind.number, page.sequence()) {
         return Some(ViewFault::Sequence(offset));
     }
-    if is_continued(page) != unfinished {
+    if page.is_continued() != unfinished {
         return Some(ViewFault::Continued(offset));
     }
     None
@@ -69,7 +68,7 @@ fn enter<'a>(page: &Page<'a>, offset: u64, rest: &'a [u8], end: u64) -> Place<'a
     Place {
         behind: Behind {
             number: Some(u64::from(page.sequence()) + 1),
-            ended: is_last(page),
+            ended: page.is_last(),
         },
         unread: Unread {
             lacing,
@@ -80,20 +79,6 @@ fn enter<'a>(page: &Page<'a>, offset: u64, rest: &'a [u8], end: u64) -> Place<'a
         rest,
         offset: end,
     }
-}
-
-/// Whether the page begins with a continued packet.
-fn is_continued(page: &Page<'_>) -> bool
-    ensures { result ≡ is_continued page.now }
-{
-    page.flags() % 2 == 1
-}
-
-/// Whether the page is marked as its stream's last.
-fn is_last(page: &Page<'_>) -> bool
-    ensures { result ≡ is_last page.now }
-{
-    page.flags() / 4 % 2 == 1
 }
 
 /// Whether a page must have this number and has another.

@@ -61,7 +61,8 @@ impl<T: TimedPacket + Drop> RunPages<T> {
 
     /// How many pages are still to come.
     pub fn left(&self) -> u64
-        ensures { result ≡ length self.now }
+        ensures value { result ≡ length self.now }
+        ensures few { result ≤ 2 ^ 32 }
     {
         self.count - self.next
     }

@@ -214,7 +214,7 @@ stream_finished link streams serial h there =
 nil_or_cons : (page : Page) (pages : List Page) → page ∷ pages ≡ [] → ⊥
 nil_or_cons page pages e = cc
 
-no_stream : (link : List Page) (serial : ℕ) → pages_with serial link ≡ [] → has_stream link serial ≡ false
+pub no_stream : (link : List Page) (serial : ℕ) → pages_with serial link ≡ [] → has_stream link serial ≡ false
 no_stream [] serial e = refl
 no_stream (page ∷ link) serial e =
     let rest : (nat_eq page.serial serial ≡ false) × (pages_with serial link ≡ []) =

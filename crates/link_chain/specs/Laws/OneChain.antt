@@ -1,7 +1,7 @@
 -- The same bytes are one chain of links, and hold one recording.
-use Rattle.std.proofs.Common.{◌≡◌, ℕ, List, [], ◌∷◌, ◌++◌, refl, sym, ◌∙◌, ap, subst, Bool}
-use Rattle.std.specs.List.{AllByRecursion, AllZip, flat_map}
-use Rattle.ogg_page.specs.Page.{Page, IsPage, IsByte, bytes_of_pages}
+use Rattle.std.proofs.Common.{◌≡◌, ℕ, List, [], ◌∷◌, refl, sym, ◌∙◌, ap, subst, Bool}
+use Rattle.std.specs.List.{AllByRecursion, AllZip}
+use Rattle.ogg_page.specs.Page.{Page, IsByte}
 use Rattle.ogg_page.specs.PageLaws.{all_bytes_of_pages}
 use Rattle.ogg_page.specs.StreamLaws.{held_once}
 use Rattle.link_chain.specs.Links.{AreLinks, flattened, serials_of}

@@ -98,7 +98,7 @@ later_state links page later e =
     ∙ ap (moved_by chain page.serial (followed page)) (one_size page)
 
 -- ---- the first page of a link
-one_serial : (page : Page) → is_first page ≡ true → serials_of (page ∷ []) ≡ page.serial ∷ []
+pub one_serial : (page : Page) → is_first page ≡ true → serials_of (page ∷ []) ≡ page.serial ∷ []
 one_serial page first = ap (map (λ (p : Page). p.serial)) (cond-true (is_first page) (page ∷ []) [] first)
 
 pub opened_state : (links : List (List Page)) (page : Page) → is_first page ≡ true → is_open (chain_state_of links) ≡ false →
@@ -156,7 +156,7 @@ unmatched serial (page ∷ pages) e =
     (ne_eqb page.serial serial (λ f. eqb-false serial page.serial parts.0 (sym f)), unmatched serial pages parts.1)
 
 -- where all pages are first ones, there is no page of it either
-no_pages : (link : List Page) (serial : ℕ) → list_any (λ p. not (is_first p)) link ≡ false → has_stream link serial ≡ false → pages_with serial link ≡ []
+pub no_pages : (link : List Page) (serial : ℕ) → list_any (λ p. not (is_first p)) link ≡ false → has_stream link serial ≡ false → pages_with serial link ≡ []
 no_pages link serial bare none =
     let firsts : filter is_first link ≡ link = filter_all is_first link (all_first link bare) in
     filter_none (λ (p : Page). nat_eq p.serial serial) link

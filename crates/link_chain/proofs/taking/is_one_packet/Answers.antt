@@ -1,6 +1,6 @@
 use Rattle.std.proofs.Common.{◌-◌, List, ℕ, length, slice_index_or, sym, ◌∙◌, ap}
 use Rattle.std.specs.Prelude.{nat_lt, ◌&&◌}
-use Rattle.link_chain.proofs.Flags.{one_packet_at}
+use Rattle.link_chain.proofs.LacingValues.{one_packet_at}
 use Rattle.link_chain.proofs.taking.is_one_packet.Goals as goal
 
 pub returns-then-are_full : goal.returns-then-are_full

@@ -18,7 +18,7 @@ join_link-requires-clause-few c =
     let lent : chain.streams ≡ c.as_slice-streams.result.now =
     sym (c.as_slice-streams.ensures.value ∙ ap (λ (s : ChainWithRoom). s.chain.streams) c.self.view_is) in
     let none : fault_of_page chain page ≡ None =
-    sym (c.broken_by_page.ensures chain lent (sym (ap (λ (s : ChainWithRoom). s.chain.has_data) c.self.view_is)) (sym (ap (λ (s : ChainWithRoom). s.chain.links) c.self.view_is))) ∙ c.in_default.is in
+    sym c.fault_of.ensures ∙ c.in_default.is in
     let first : is_first page ≡ true = sym c.is_first.ensures ∙ c.if-not-is_first.false in
     let is : is_open chain ≡ true = ap (list_any (λ (s : StreamState). not s.ended)) lent ∙ sym c.is_open.ensures ∙ c.if-is_open.true in
     joins_few chain page first is none
@@ -30,7 +30,7 @@ join_link-requires-clause-fresh c =
     let lent : chain.streams ≡ c.as_slice-streams.result.now =
     sym (c.as_slice-streams.ensures.value ∙ ap (λ (s : ChainWithRoom). s.chain.streams) c.self.view_is) in
     let none : fault_of_page chain page ≡ None =
-    sym (c.broken_by_page.ensures chain lent (sym (ap (λ (s : ChainWithRoom). s.chain.has_data) c.self.view_is)) (sym (ap (λ (s : ChainWithRoom). s.chain.links) c.self.view_is))) ∙ c.in_default.is in
+    sym c.fault_of.ensures ∙ c.in_default.is in
     let first : is_first page ≡ true = sym c.is_first.ensures ∙ c.if-not-is_first.false in
     let is : is_open chain ≡ true = ap (list_any (λ (s : StreamState). not s.ended)) lent ∙ sym c.is_open.ensures ∙ c.if-is_open.true in
     joins_fresh chain page first is none
@@ -42,7 +42,7 @@ open_link-requires-clause-few c =
     let lent : chain.streams ≡ c.as_slice-streams.result.now =
     sym (c.as_slice-streams.ensures.value ∙ ap (λ (s : ChainWithRoom). s.chain.streams) c.self.view_is) in
     let none : fault_of_page chain page ≡ None =
-    sym (c.broken_by_page.ensures chain lent (sym (ap (λ (s : ChainWithRoom). s.chain.has_data) c.self.view_is)) (sym (ap (λ (s : ChainWithRoom). s.chain.links) c.self.view_is))) ∙ c.in_default.is in
+    sym c.fault_of.ensures ∙ c.in_default.is in
     let first : is_first page ≡ true = sym c.is_first.ensures ∙ c.if-not-is_first.false in
     let is : is_open chain ≡ false = ap (list_any (λ (s : StreamState). not s.ended)) lent ∙ sym c.is_open.ensures ∙ c.if-is_open.false in
     opens_few chain page first is none
@@ -54,7 +54,7 @@ returns-then-not-is_first-clause-links c = λ links e.
     let lent : chain.streams ≡ c.as_slice-streams.result.now =
     sym (c.as_slice-streams.ensures.value ∙ ap (λ (s : ChainWithRoom). s.chain.streams) c.self.view_is) in
     let none : fault_of_page chain page ≡ None =
-    sym (c.broken_by_page.ensures chain lent (sym (ap (λ (s : ChainWithRoom). s.chain.has_data) c.self.view_is)) (sym (ap (λ (s : ChainWithRoom). s.chain.links) c.self.view_is))) ∙ c.in_default.is in
+    sym c.fault_of.ensures ∙ c.in_default.is in
     let later : is_first page ≡ false = sym c.is_first.ensures ∙ c.if-not-is_first.true in
     c.continue_link.ensures ∙ ap (λ (ch : ChainState). continued ch page) e ∙ sym (later_state links page later (ap (λ (ch : ChainState). fault_of_page ch page) (sym e) ∙ none))
 
@@ -65,7 +65,7 @@ returns-in_ok-join_link-clause-links c = λ links e.
     let lent : chain.streams ≡ c.as_slice-streams.result.now =
     sym (c.as_slice-streams.ensures.value ∙ ap (λ (s : ChainWithRoom). s.chain.streams) c.self.view_is) in
     let none : fault_of_page chain page ≡ None =
-    sym (c.broken_by_page.ensures chain lent (sym (ap (λ (s : ChainWithRoom). s.chain.has_data) c.self.view_is)) (sym (ap (λ (s : ChainWithRoom). s.chain.links) c.self.view_is))) ∙ c.in_default.is in
+    sym c.fault_of.ensures ∙ c.in_default.is in
     let first : is_first page ≡ true = sym c.is_first.ensures ∙ c.if-not-is_first.false in
     let is : is_open chain ≡ true = ap (list_any (λ (s : StreamState). not s.ended)) lent ∙ sym c.is_open.ensures ∙ c.if-is_open.true in
     c.in_ok-join_link.ensures.ok ∙ ap (λ (ch : ChainState). joined ch page) e ∙ sym (joined_state links page first (ap is_open (sym e) ∙ is) (ap (λ (ch : ChainState). fault_of_page ch page) (sym e) ∙ none))

@@ -4,8 +4,8 @@ use Rattle.packetiser.specs.Run.{Timed, pages_of_run, flagged}
 use Rattle.packetiser.proofs.PageByPage.{count_of_pages}
 use Rattle.packetiser.proofs.paging.RunPages.left.Goals as goal
 
-pub returns : goal.returns
-returns g c =
+pub returns-clause-value : goal.returns-clause-value
+returns-clause-value g c =
     let in_it = c.self.inside in
     let run : List Timed = map g.T.TimedPacket.timed in_it.run.items in
     let pages : List Page = flagged in_it.flags (pages_of_run in_it.serial in_it.first_sequence run) in

@@ -1,7 +1,0 @@
-use Rattle.std.proofs.Common.{bit_and, ◌∙◌, ap}
-use Rattle.std.specs.Prelude.{nat_eq, not}
-use Rattle.link_chain.proofs.Flags.{last_tested}
-use Rattle.link_chain.proofs.taking.is_last.Goals as goal
-
-pub returns : goal.returns
-returns c = ap (λ n. not (nat_eq (bit_and n 4) 0)) c.flags.ensures ∙ last_tested c.args.page.now.flags
