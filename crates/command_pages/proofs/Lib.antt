@@ -1,0 +1,10 @@
+pub mod RunLength
+pub mod RunPages
+pub mod BeginPages
+pub mod FisbonePages
+pub mod DescribedPages
+pub mod SizesWithin
+pub mod LaidHeaders
+pub mod LaidRuns
+pub mod Commands
+pub mod AddedRuns

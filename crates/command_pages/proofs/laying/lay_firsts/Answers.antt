@@ -1,0 +1,19 @@
+use Rattle.std.proofs.Common.{List, ap, arith}
+use Rattle.ogg_command.specs.declared.command.NewStream.{NewStream}
+use Rattle.command_pages.specs.Encoding.{first_pages}
+use Rattle.link_chain.specs.Size.{size_of_pages}
+use Rattle.command_pages.proofs.SizesWithin.{size_within}
+use Rattle.command_pages.proofs.laying.lay_firsts.Goals as goal
+
+pub lay_first-requires-clause-room : goal.lay_first-requires-clause-room
+lay_first-requires-clause-room c =
+    let streams : List NewStream = c.args.streams.now in
+    let stream : NewStream = c.stream-item.result in
+    omega (
+      arith,
+      c.loop-stream.invariant.count,
+      c.loop-stream.invariant.capacity,
+      c.requires.room,
+      size_within first_pages streams c.loop-stream.stream-index stream c.loop-stream-test.true,
+      ap (λ (s : NewStream). size_of_pages (first_pages s)) c.stream-item.is,
+    )

@@ -1,0 +1,5 @@
+pub mod Limits
+pub mod Encoding
+pub mod Fits
+pub mod CommandPages
+pub mod Laws

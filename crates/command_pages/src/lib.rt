@@ -1,0 +1,26 @@
+//! The pages of a command (RFC 3533, sections 4 to 6).
+//!
+//! A command begins a link of logical streams, puts packets, or ends a stream: each adds pages, and
+//! which they are depends on the command and on where the streams of the last link stand. `lay_command`
+//! appends their bytes. `CommandPages` makes them one at a time, in the caller's buffer. The sizes can
+//! be had before.
+//!
+//! Start at `specs/Encoding.antt`, which says what the pages of a command are, and at `specs/Fits.antt`,
+//! which says what is asked of a command.
+#![tactic(auto)]
+
+mod laying;
+mod limits;
+mod paging;
+mod part;
+mod parts;
+mod runs;
+mod sizes;
+mod skeleton;
+
+pub use laying::lay_command;
+pub use limits::{FEW_STREAMS, SEQUENCES, SIZE_OF_END};
+pub use ogg_page::Memory;
+pub use paging::CommandPages;
+pub use runs::size_of_runs;
+pub use sizes::{size_of_begin, split_headers};

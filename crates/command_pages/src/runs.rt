@@ -1,0 +1,111 @@
+//! The runs of a put: neighbouring packets of one stream, which go into pages together.
+ghost use Rattle.std.specs.Prelude.{◌≡◌, ◌≤◌, ◌<◌, ◌+◌, ◌^◌, ℕ, ◌∷◌, IfSome, length, sum_by, nat_eq, take, drop, take_while, map};
+ghost use Rattle.std.specs.List.{fold};
+ghost use Rattle.std.specs.Option.{SomeIff};
+ghost use Rattle.packetiser.specs.Run.{pages_for, run_lacing, run_bytes};
+ghost use Rattle.command_pages.specs.Encoding.{runs_of, run_serial, run_position, pages_of_runs, with_run, timed};
+ghost use Rattle.command_pages.specs.Limits.{longest_batch, longest_put, most_entries};
+ghost use Rattle.link_chain.specs.Places.{HaveOwnSerials, IsPlace};
+ghost use Rattle.link_chain.specs.Progress.{next_in, brought_to};
+ghost use Rattle.link_chain.specs.Size.{numbered_size};
+ghost use Rattle.ogg_command.specs.declared.command.Entry.{Entry as EntryOf};
+
+use crate::limits::SEQUENCES;
+use link_chain::{StreamState, place_of, stream_at};
+use ogg_command::Entry;
+use packetiser::{pages_of, size_of, values_and_bytes};
+
+/// The number after that many pages, if each of them can have a number.
+fn number_behind(next: u64, pages: u64) -> Option<u64>
+    ensures { SomeIff result (next + pages ≤ 2 ^ 32) (next + pages) }
+{
+    next.checked_add(pages)
+        .filter(|number| *number <= SEQUENCES)
+}
+
+/// The stream of a run.
+pub fn run_serial(run: &[Entry]) -> u32
+    requires { 0 < length run.now }
+    ensures { result ≡ run_serial run.now }
+{
+    let first = &run[0];
+    first.serial
+}
+
+/// The position that a run brings its stream to.
+pub fn run_position(run: &[Entry]) -> u64
+    requires { 0 < length run.now }
+    ensures { result ≡ run_position run.now }
+{
+    let last = &run[run.len() - 1];
+    last.position
+}
+
+/// The number of the next page of the stream at this place.
+pub fn next_at(streams: &[StreamState], place: usize) -> u64
+    ensures { (serial : ℕ) → IsPlace streams.now serial place → result ≡ next_in streams.now serial }
+{
+    stream_at(streams, place).map_or(0, |stream| stream.next_sequence)
+}
+
+/// Brings the stream at this place to a position by whole packets; its next page has this number.
+pub fn bring_stream(streams: &mut [StreamState], place: usize, sequence: u64, position: u64)
+    ensures { (serial : ℕ) → HaveOwnSerials streams.old → IsPlace streams.old serial place → streams.new ≡ brought_to serial sequence position streams.old }
+{
+    if place >= streams.len() {
+        return;
+    }
+    let stream = &mut streams[place];
+    stream.next_sequence = sequence;
+    stream.last_position = position;
+    stream.finished = true;
+}
+
+/// How many bytes the pages of a put have, or `None` if one of them can't have a number. The streams, a
+/// copy of a chain's, are brought to where the pages leave them; after `None`, to where some of them do.
+pub fn size_of_runs(streams: &mut [StreamState], entries: &[Entry]) -> Option<u64>
+    requires distinct { HaveOwnSerials streams.old }
+    requires few { length entries.now ≤ most_entries }
+    requires short { sum_by (λ (entry : EntryOf). length entry.packet) entries.now ≤ longest_batch }
+    ensures value { result ≡ numbered_size (pages_of_runs streams.old (runs_of entries.now)) }
+    ensures small { IfSome result (λ size. size ≤ longest_put) }
+    ensures after { IfSome result (λ _. streams.new ≡ fold with_run streams.old (runs_of entries.now)) }
+{
+    let mut rest = entries;
+    let mut size = 0;
+    let mut place = 0;
+    while !rest.is_empty() {
+        let (run, others) = rest.split_at(run_length(rest));
+        place = place_of(streams, place, run_serial(run));
+        let (values, bytes) = values_and_bytes(run);
+        let next = next_at(streams, place);
+        let Some(sequence) = number_behind(next, pages_of(values)) else {
+            return None;
+        };
+        bring_stream(streams, place, sequence, run_position(run));
+        size += size_of(values, bytes);
+        rest = others;
+    }
+    Some(size)
+}
+
+/// How many of the entries, from the first on, have its serial.
+pub fn run_length(entries: &[Entry]) -> usize
+    requires { 0 < length entries.now }
+    ensures some { 0 < result }
+    ensures within { result ≤ length entries.now }
+    ensures run { runs_of entries.now ≡ take result entries.now ∷ runs_of (drop result entries.now) }
+{
+    like(&entries[0], entries)
+}
+
+/// How many of the entries, from the first on, are of the same stream as this one.
+fn like(first: &Entry, entries: &[Entry]) -> usize
+    ensures { result ≡ length (take_while (λ (entry : EntryOf). nat_eq entry.serial first.now.serial) entries.now) }
+{
+    let serial = first.serial;
+    entries
+        .iter()
+        .take_while(|entry| entry.serial == serial)
+        .count()
+}
