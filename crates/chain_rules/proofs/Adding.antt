@@ -1,5 +1,5 @@
 -- What a command adds that isn't refused: pages, at least one. And which refusals a decision has.
-use Rattle.std.proofs.Common.{◌≡◌, ◌≢◌, Bool, true, false, cond, ℕ, ◌+◌, ◌<◌, ◌≤◌, List, [], ◌∷◌, ◌++◌, length, map, refl, subst, sym, ap, arith, length-append, Option, Some, None, Ok, Err}
+use Rattle.std.proofs.Common.{◌≡◌, ◌≢◌, Bool, true, false, cond, ℕ, ◌<◌, ◌≤◌, List, [], ◌∷◌, ◌++◌, length, map, refl, subst, sym, ap, arith, length-append, Option, Some, None, Ok, Err}
 use Rattle.std.specs.Prelude.{nat_eq, ⊤, if◌then◌else◌}
 use Rattle.std.specs.List.{AllByRecursion}
 use Rattle.ogg_page.specs.Page.{Page, IsPage}
@@ -25,7 +25,7 @@ use Rattle.chain_rules.specs.Decision.{decision, answer, rules_for, begin_rules,
 use Rattle.chain_rules.specs.Encoding.{pages_of_command, pages_behind, pages_of_runs, runs_of, with_front, with_run, timed}
 use Rattle.chain_rules.proofs.Unbroken.{no_rule_broken, Unbroken}
 use Rattle.chain_rules.proofs.Held.{is_held}
-use Rattle.chain_rules.proofs.RunPages.{some_values}
+use Rattle.command_pages.specs.Laws.Runs.{some_values}
 
 -- ---- which refusals a decision has
 -- those of the table

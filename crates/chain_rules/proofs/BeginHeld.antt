@@ -21,7 +21,7 @@ use Rattle.link_chain.specs.Laws.LastLink.{closed_link, ended_links, last_is_lin
 use Rattle.link_chain.specs.Laws.Grow.{all_weaker, all_both}
 use Rattle.chain_rules.proofs.Unbroken.{Unbroken, numbers_fit}
 use Rattle.chain_rules.proofs.Beginning.{IsGood, fresh, are_distinct, are_good, all_to_map, firsts_pages, laters_pages}
-use Rattle.chain_rules.proofs.Kept.{BeginFits, begin_fits}
+use Rattle.chain_rules.proofs.Kept.{IsKeptBegin, begin_fits}
 use Rattle.chain_rules.proofs.NewLink.{IsNewLink, CanBegin, plain_link, described_link}
 use Rattle.chain_rules.proofs.SkeletonPart.{fishead_page, fisbones_pages, end_is_page}
 
@@ -59,14 +59,14 @@ parts_can chain (Some head) streams h some few =
 
 pub can_begin : (chain : ChainState) (begin : Begin) → IsOk (decision chain (BeginOf begin)) → CanBegin begin.skeleton begin.streams
 can_begin chain begin ok =
-    let fits : BeginFits chain begin = begin_fits chain begin ok in
+    let fits : IsKeptBegin chain begin = begin_fits chain begin ok in
     parts_can chain begin.skeleton begin.streams fits.parts fits.some fits.streams
 
 -- the pages of a Begin that is kept are a new link
 pub begin_link : (chain : ChainState) (begin : Begin) → IsOk (decision chain (BeginOf begin)) → HasText begin.skeleton →
     IsNewLink (pages_of_begin begin.skeleton begin.streams) (begun_link begin.skeleton begin.streams) (states_of begin.skeleton begin.streams)
     (has_more_pages begin.skeleton begin.streams) (serials_in begin.skeleton begin.streams)
-begin_link chain begin ok text = by begin.skeleton begin.streams (can_begin chain begin ok) (begin_fits chain begin ok).media text
+begin_link chain begin ok text = by begin.skeleton begin.streams (can_begin chain begin ok) (begin_fits chain begin ok).fits.media text
   where
     by : (skeleton : Option SkeletonHead) (streams : List NewStream) → CanBegin skeleton streams → IfSome skeleton (λ _. list_any has_long_message streams ≡ false) → HasText skeleton →
         IsNewLink (pages_of_begin skeleton streams) (begun_link skeleton streams) (states_of skeleton streams) (has_more_pages skeleton streams) (serials_in skeleton streams)
@@ -109,7 +109,7 @@ begin_is_held bytes links recording begin size described new l h e =
     let chain : ChainState = chain_state_of links in
     let link : List Page = pages_of_begin begin.skeleton begin.streams in
     let ok : IsOk (decision chain (BeginOf begin)) = subst (λ r. IsOk r) (sym e) refl in
-    let fits : BeginFits chain begin = begin_fits chain begin ok in
+    let fits : IsKeptBegin chain begin = begin_fits chain begin ok in
     let is = begin_link chain begin ok (text_of begin.skeleton described) in
     let room : length links < 65536 = fits.links in
     let is_pages : AllByRecursion IsPage link =

@@ -12,7 +12,7 @@ use Rattle.ogg_command.specs.declared.command.NewStream.{NewStream}
 use Rattle.chain_rules.specs.Begun.{stream_count}
 use Rattle.ogg_command.specs.declared.refusal.Refusal.{Refusal}
 use Rattle.link_chain.specs.ChainState.{ChainState, is_open}
-use Rattle.chain_rules.specs.Limits.{longest_file, longest_message, most_fields, most_streams}
+use Rattle.chain_rules.specs.Limits.{longest_file, longest_batch, longest_message, most_entries, most_fields, most_streams}
 use Rattle.link_chain.specs.Progress.{next_in}
 use Rattle.link_chain.specs.Rules.{first_broken}
 use Rattle.skeleton3.specs.Fields.{is_field, is_media_type, message_of}
@@ -20,6 +20,7 @@ use Rattle.skeleton3.specs.FisboneLaws.{message_size}
 use Rattle.chain_rules.specs.Decision.{decision, answer, rules_for, begin_rules, item_rules, parts_rules, streams_rules, entries_rules, room_rules, size_of, header_bytes, has_many_headers, has_many_fields, has_many_parts, has_long_message}
 use Rattle.chain_rules.specs.Encoding.{pages_of_begin, pages_of_command, pages_of_runs, runs_of}
 use Rattle.link_chain.specs.Size.{has_no_number, size_of_pages}
+use Rattle.command_pages.specs.Fits.{BeginFits, PutFits, CommandFits}
 use Rattle.chain_rules.proofs.Unbroken.{no_rule_broken, Unbroken}
 use Rattle.link_chain.specs.Laws.LastLink.{all_split}
 use Rattle.link_chain.specs.Laws.Rules.{none_broken}
@@ -53,13 +54,11 @@ end_fits chain serial ok =
     record { number = leb-false (2 ^ 32) (next_in chain.streams serial) number; room = omega (arith, room) }
 
 -- ---- a put
-pub record PutFits (chain : ChainState) (put : Put) : Type 0 where
-  pub few : length put.entries ≤ 4096
-  pub short : sum_by (λ entry. length entry.packet) put.entries ≤ 16777216
-  pub numbered : list_any has_no_number (pages_of_runs chain.streams (runs_of put.entries)) ≡ false
+pub record IsKeptPut (chain : ChainState) (put : Put) : Type 0 where
+  pub fits : PutFits chain.streams put.entries
   pub room : chain.length_of + size_of_pages (pages_of_runs chain.streams (runs_of put.entries)) + 1 ≤ 2 ^ 40
 
-pub put_fits : (chain : ChainState) (put : Put) → IsOk (decision chain (PutOf put)) → PutFits chain put
+pub put_fits : (chain : ChainState) (put : Put) → IsOk (decision chain (PutOf put)) → IsKeptPut chain put
 unfolding pages_of_command
 put_fits chain put ok =
     let size = kept_size (decision chain (PutOf put)) ok in
@@ -67,21 +66,21 @@ put_fits chain put ok =
     let room : Unbroken (room_rules chain (PutOf put)) =
     (all_split (λ rule. rule.0 ≡ false) (entries_rules chain.streams put.entries) (room_rules chain (PutOf put)) kept.1.1.1).1 in
     record {
-      few = ltb-false 4096 (length put.entries) kept.1.1.0;
-      short = ltb-false 16777216 (sum_by (λ entry. length entry.packet) put.entries) room.0;
-      numbered = room.1.0;
+      fits = record {
+        few = ltb-false most_entries (length put.entries) kept.1.1.0;
+        short = ltb-false longest_batch (sum_by (λ entry. length entry.packet) put.entries) room.0;
+        numbered = room.1.0;
+      };
       room = ltb-false (2 ^ 40) (chain.length_of + size_of_pages (pages_of_runs chain.streams (runs_of put.entries)) + 1) room.1.1.1.0;
     }
 
 -- ---- a begin
-pub record BeginFits (chain : ChainState) (begin : Begin) : Type 0 where
+pub record IsKeptBegin (chain : ChainState) (begin : Begin) : Type 0 where
   pub closed : is_open chain ≡ false
   pub streams : stream_count begin ≤ 64
   pub some : 0 < length begin.streams
-  pub few : list_any has_many_headers begin.streams ≡ false
   pub parts : Unbroken (item_rules chain begin)
-  pub media : IfSome begin.skeleton (λ _. list_any has_long_message begin.streams ≡ false)
-  pub short : sum_by header_bytes begin.streams ≤ 16777216
+  pub fits : BeginFits begin.skeleton begin.streams
   pub numbered : list_any has_no_number (pages_of_begin begin.skeleton begin.streams) ≡ false
   pub links : chain.links < 65536
   pub room : chain.length_of + size_of_pages (pages_of_begin begin.skeleton begin.streams) + 1 ≤ 2 ^ 40
@@ -117,7 +116,10 @@ parts_short chain (Some head) streams h few = messages_short chain (head.serial 
 pub items_short : (chain : ChainState) (begin : Begin) → has_many_parts begin ≡ false → first_broken (item_rules chain begin) ≡ None → IfSome begin.skeleton (λ _. list_any has_long_message begin.streams ≡ false)
 items_short chain begin few e = parts_short chain begin.skeleton begin.streams (none_broken (item_rules chain begin) e) (or_parts (nat_lt most_streams (stream_count begin) || list_any has_many_headers begin.streams) (list_any has_many_fields begin.streams) few).1
 
-pub begin_fits : (chain : ChainState) (begin : Begin) → IsOk (decision chain (BeginOf begin)) → BeginFits chain begin
+few_streams : (begin : Begin) → stream_count begin ≤ 64 → length begin.streams ≤ 64
+few_streams begin few = omega (arith, few)
+
+pub begin_fits : (chain : ChainState) (begin : Begin) → IsOk (decision chain (BeginOf begin)) → IsKeptBegin chain begin
 unfolding pages_of_command
 begin_fits chain begin ok =
     let size = kept_size (decision chain (BeginOf begin)) ok in
@@ -134,16 +136,24 @@ begin_fits chain begin ok =
       closed = whole.0.0;
       streams = ltb-false 64 (stream_count begin) parts.0;
       some = not_none (length begin.streams) whole.0.1.0;
-      few = parts.1;
       parts = items;
-      media = parts_short chain begin.skeleton begin.streams items counts.1;
-      short = ltb-false 16777216 (sum_by header_bytes begin.streams) room.0;
+      fits = record {
+        short = ltb-false longest_batch (sum_by header_bytes begin.streams) room.0;
+        few = parts.1;
+        links = few_streams begin (ltb-false 64 (stream_count begin) parts.0);
+        media = parts_short chain begin.skeleton begin.streams items counts.1;
+      };
       numbered = room.1.0;
       links = leb-false 65536 chain.links room.1.1.0;
       room = ltb-false (2 ^ 40) (chain.length_of + size_of_pages (pages_of_begin begin.skeleton begin.streams) + 1) room.1.1.1.0;
     }
 
 -- ---- any command
+pub command_fits : (chain : ChainState) (command : Command) → IsOk (decision chain command) → CommandFits chain command
+command_fits chain (BeginOf begin) ok = (begin_fits chain begin ok).fits
+command_fits chain (PutOf put) ok = (put_fits chain put ok).fits
+command_fits chain (EndOf serial) ok = (end_fits chain serial ok).number
+
 -- the last rule leaves room for the pages and one byte more
 room_left : (chain : ChainState) (command : Command) → Unbroken (room_rules chain command) → chain.length_of + size_of chain command < 2 ^ 40
 room_left chain command room =
@@ -166,6 +176,3 @@ size_fits chain command = if_ok (decision chain command) (λ size e.
     let own : size ≡ size_of chain command = size_is_own chain command size e in
     let room : chain.length_of + size_of chain command < 2 ^ 40 = room_left chain command (room_is_kept chain command (no_rule_broken chain command size e)) in
     omega (arith, own, room))
-
-pub few_streams : (begin : Begin) → stream_count begin ≤ 64 → length begin.streams ≤ 64
-few_streams begin few = omega (arith, few)

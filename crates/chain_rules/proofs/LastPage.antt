@@ -9,7 +9,7 @@ use Rattle.ogg_page.specs.Page.{Page}
 use Rattle.ogg_page.specs.Lacing.{lace, lacing_of}
 use Rattle.packetiser.specs.Run.{Timed, counted, values_at, values_before, run_lacing, page_of_run, pages_of_run, pages_for, page_position, position_of, packets_ended, no_position}
 use Rattle.link_chain.specs.ChainState.{last_position}
-use Rattle.chain_rules.proofs.RunPages.{some_values}
+use Rattle.command_pages.specs.Laws.Runs.{some_values}
 
 -- ---- values that end packets
 ended_both : (xs ys : List ℕ) → packets_ended (xs ++ ys) ≡ packets_ended xs + packets_ended ys

@@ -1,10 +1,7 @@
 pub mod Rows
-pub mod RunLength
 pub mod Progress
-pub mod RunPages
 pub mod Turns
 pub mod Streams
-pub mod BeginPages
 pub mod Unbroken
 pub mod LastPage
 pub mod RunState
@@ -13,16 +10,12 @@ pub mod Parts
 pub mod Still
 pub mod SkeletonPart
 pub mod NewLink
-pub mod FisbonePages
-pub mod DescribedPages
 pub mod BeginHeld
 pub mod PutState
 pub mod EndState
 pub mod BeginState
 pub mod Kept
 pub mod ByteSizes
-pub mod LaidHeaders
-pub mod LaidRuns
 pub mod Ending
 pub mod Putting
 pub mod Held

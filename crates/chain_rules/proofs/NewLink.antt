@@ -25,7 +25,8 @@ use Rattle.chain_rules.specs.Recording.{Stream, HoldsLink, begun, begun_link, en
 use Rattle.link_chain.specs.Laws.Grow.{GoOn, Unmarked, all_both, all_weaker, not_ended, serials_same, with_own, ended_both, grow_link, grow_holds, grown, stream_some}
 use Rattle.chain_rules.proofs.Beginning.{IsGood, serials, first_page, is_first_page, number_of_first, marked_first, not_last, first_held, headers_held, headers_own, all_of_map, all_to_map}
 use Rattle.chain_rules.proofs.Parts.{Part, IsPart, IsStill, plain_part, page_of, first_of, later_of, begun_of, firsts, laters, part_serials, new_link, new_holds, its_pages, serials_are, stream_held, all_first, firsts_are, laters_unmarked, all_go_on, none_ends}
-use Rattle.chain_rules.proofs.RunPages.{some_values, length-map}
+use Rattle.std.proofs.lemmas.List.{length-map}
+use Rattle.command_pages.specs.Laws.Runs.{some_values}
 use Rattle.chain_rules.proofs.SkeletonPart.{skeleton_part, is_skeleton_part, last_page, end_is, fisbones_count}
 use Rattle.link_chain.specs.Laws.StateBehind.{state, state_other, data_with}
 use Rattle.chain_rules.proofs.RunState.{run_unmarked, run_goes_on}
@@ -170,7 +171,7 @@ plain_link streams can =
     let body : List Page = firsts parts ++ laters parts in
     let good : AllByRecursion IsPart parts = plain_are_parts streams can.good in
     let d : IsDistinct nat_eq (part_serials parts) = subst (IsDistinct nat_eq) (sym (plain_serials streams)) can.distinct in
-    let count : length parts ≡ length streams = length-map plain_part streams in
+    let count : length parts ≡ length streams = length-map streams plain_part in
     let same : body ≡ pages_of_begin None streams =
     ap (λ (l : List Page). l ++ laters parts) (plain_firsts streams) ∙ ap (λ (l : List Page). flat_map first_pages streams ++ l) (plain_laters streams) in
     let own : serials_of body ≡ serials streams = serials_are parts good ∙ plain_serials streams in
@@ -268,7 +269,7 @@ described_link head streams can size short =
     let is : IsPart skeleton = is_skeleton_part head streams size short in
     let good : AllByRecursion IsPart parts = (is, plain_are_parts streams can.good) in
     let d : IsDistinct nat_eq (part_serials parts) = subst (λ l. IsDistinct nat_eq (serial ∷ l)) (sym (plain_serials streams)) can.distinct in
-    let count : length parts ≡ length streams + 1 = ap suc (length-map plain_part streams) ∙ omega arith in
+    let count : length parts ≡ length streams + 1 = ap suc (length-map streams plain_part) ∙ omega arith in
     let few = can.few in
     let go_on : GoOn body = all_go_on parts good in
     let its : AllByRecursion (λ (s : Part). pages_with s.stream.serial body ≡ first_of s ++ later_of s) parts = its_pages parts good d in
@@ -288,7 +289,7 @@ described_link head streams can size short =
       last = not_ended serial body go_on;
       last_packet = λ _. ap ends_open (flat_map-append (λ (p : Page). p.lacing) own (page ∷ [])) ∙ ends_open-append (joined_lacing own) (0 ∷ []) closed;
     } in
-    let firsts_some : 0 < length (firsts parts) = omega (arith, ap length (firsts_are parts good), length-map page_of parts) in
+    let firsts_some : 0 < length (firsts parts) = omega (arith, ap length (firsts_are parts good), length-map parts page_of) in
     let same : link ≡ pages_of_begin (Some head) streams =
     ap (λ (l : List Page). ((first_of skeleton ++ l) ++ laters parts) ++ page ∷ []) (plain_firsts streams)
     ∙ ap (λ (l : List Page). ((first_of skeleton ++ flat_map first_pages streams) ++ (later_of skeleton ++ l)) ++ page ∷ []) (plain_laters streams)

@@ -3,7 +3,7 @@ use Rattle.std.proofs.Common.{◌≡◌, ◌≢◌, ℕ, ◌+◌, ◌<◌, ◌^�
 use Rattle.std.specs.Prelude.{nat_eq, is_none}
 use Rattle.std.specs.List.{AllByRecursion, fold}
 use Rattle.std.proofs.lemmas.Bool.{leb-false}
-use Rattle.std.proofs.lemmas.List.{append-nil}
+use Rattle.std.proofs.lemmas.List.{append-nil, length-map}
 use Rattle.std.proofs.lemmas.List.Sums.{sum_by-append}
 use Rattle.ogg_page.specs.Page.{Page, page_size}
 use Rattle.ogg_page.specs.LogicalStream.{number_behind}
@@ -22,7 +22,7 @@ use Rattle.link_chain.specs.Size.{size_of_pages}
 use Rattle.link_chain.specs.Laws.LastLink.{known_stream, next_is, open_some, all_split, not_false}
 use Rattle.chain_rules.proofs.Unbroken.{no_rule_broken, Unbroken}
 use Rattle.chain_rules.proofs.LastPage.{end_position}
-use Rattle.chain_rules.proofs.RunPages.{some_values, length-map}
+use Rattle.command_pages.specs.Laws.Runs.{some_values}
 use Rattle.link_chain.specs.Laws.StateBehind.{state_behind}
 use Rattle.chain_rules.proofs.RunState.{run_own, run_unmarked, run_state}
 use Rattle.link_chain.specs.Followed.{moved_by}
@@ -100,7 +100,7 @@ behind_run links run some ready =
     let next : ℕ = next_in chain.streams serial in
     let items : List Timed = map timed run in
     let known = known_stream links serial ready.known in
-    let many : 0 < length items = omega (arith, length-map timed run, ready.some) in
+    let many : 0 < length items = omega (arith, length-map run timed, ready.some) in
     let last : end_position items ≡ run_position run = end_of_run run ready.some in
     let number : number_behind (pages_with serial (last_link links)) ≡ next = sym (next_is links serial known.0) in
     state_behind links (pages_of_run serial next items) serial (advanced (next + length (pages_of_run serial next items)) (run_position run)) some

@@ -116,7 +116,7 @@ row_22_sequence : map (λ (p : Page). p.sequence) (pages_of_command (chain_state
 unfolding pages_of_command pages_of_run page_of_run page_position run_lacing run_bytes values_at values_before lacing_of
 row_22_sequence = refl
 
--- byte by byte: the page of row 1, without its checksum
+-- byte by byte: the page of a begin of one stream, without its checksum
 row_1_bytes : length (command_bytes (chain_state_of []) (begin (1 ∷ []))) ≡ 31
 unfolding pages_of_command pages_of_run page_of_run page_position run_lacing run_bytes values_at values_before lacing_of page_bytes page_head checksum_of message_bits number_of remainder bits_of divisor crc.add
 row_1_bytes = refl

@@ -1,53 +1,35 @@
 -- A Skeleton is a part of its link, and its last page ends it.
-use Rattle.std.proofs.Common.{◌≡◌, ◌≢◌, ℕ, ℤ, rules, ◌+◌, ◌<◌, ◌≤◌, ◌^◌, false, List, [], ◌∷◌, ◌++◌, length, map, refl, sym, ◌∙◌, ap, subst, arith, append_assoc, length-append, codes}
+use Rattle.std.proofs.Common.{◌≡◌, ◌≢◌, ℕ, ℤ, rules, ◌+◌, ◌<◌, ◌^◌, false, List, [], ◌∷◌, ◌++◌, length, map, refl, sym, ◌∙◌, ap, subst, arith, append_assoc, length-append, codes}
 use Rattle.std.specs.Prelude.{nat_lt, ◌||◌}
 use Rattle.std.specs.List.{AllByRecursion, flat_map, list_any}
 use Rattle.std.proofs.lemmas.List.{append-nil}
 use Rattle.std.proofs.lemmas.List.Concat.{flat_map-append}
 use Rattle.std.proofs.lemmas.List.Folds.{list_any-append}
-use Rattle.std.proofs.lemmas.List.Sums.{sum_by-cons}
-use Rattle.std.proofs.lemmas.Bool.{ne_eqb, or_from, or_parts, le-ltb, ltb-false}
+use Rattle.std.proofs.lemmas.Bool.{ne_eqb, or_from, or_parts, le-ltb}
 use Rattle.ogg_page.specs.Page.{Page, IsPage, IsByte}
 use Rattle.ogg_page.specs.Lacing.{ends_open, lacing_of}
 use Rattle.ogg_page.specs.LogicalStream.{HoldsPackets, FitsBehind, EachBehind, joined_lacing, number_behind, is_first, is_last}
-use Rattle.packetiser.specs.Run.{Timed, pages_of_run, page_of_run, page_position, pages_for, run_lacing, run_bytes, values_at, values_before}
+use Rattle.packetiser.specs.Run.{Timed, pages_of_run, page_of_run, page_position, run_lacing, run_bytes, values_at, values_before}
 use Rattle.packetiser.specs.Laws.Pieces.{run_is_held, run_pages}
 use Rattle.ogg_page.specs.StreamLaws.{behind_both, held_both, finished, ends_open-append}
 use Rattle.packetiser.specs.Laws.Behind.{run_fits, number_behind_run}
 use Rattle.packetiser.specs.Laws.Ranges.{run_is_pages}
-use Rattle.packetiser.specs.Laws.Sizes.{length-run_lacing, values_in}
 use Rattle.ogg_page.specs.Numbers.{u16_bytes, u32_bytes, i64_bytes}
 use Rattle.skeleton3.specs.Fishead.{fishead_bytes, fishead_with}
 use Rattle.skeleton3.specs.Fisbone.{fisbone_name, fixed_part}
 use Rattle.skeleton3.specs.Fields.{NamedValue, content_type, field_line, message_of}
-use Rattle.skeleton3.specs.FisboneLaws.{length-fisbone_bytes_with}
 use Rattle.ogg_command.specs.declared.command.NewStream.{NewStream}
 use Rattle.ogg_command.specs.declared.command.SkeletonHead.{SkeletonHead}
 use Rattle.ogg_command.specs.Command.{AreFieldBytes, IsNewStream, IsSkeletonHead}
 use Rattle.chain_rules.specs.Decision.{has_long_message}
-use Rattle.chain_rules.specs.Limits.{longest_message}
-use Rattle.chain_rules.specs.Encoding.{header, fishead_of, fisbone_of, fisbone_packet, fisbone_pages, skeleton_stream, skeleton_end, first_pages}
+use Rattle.chain_rules.specs.Encoding.{header, fishead_of, fisbone_packet, fisbone_pages, skeleton_stream, skeleton_end, first_pages}
 use Rattle.link_chain.specs.Laws.Grow.{all_both, any_none, Own, Unmarked, GoOn}
 use Rattle.chain_rules.proofs.Beginning.{IsGood, is_first_page, first_page, first_held, first_is_page, not_last, number_of_first, headers_timed}
 use Rattle.chain_rules.proofs.Parts.{Part, IsPart, IsStill}
+use Rattle.command_pages.specs.Laws.Short.{short_fishead, short_fisbone, one_each}
 use Rattle.link_chain.specs.Laws.LastLink.{all_split}
 use Rattle.chain_rules.proofs.RunState.{run_own, run_unmarked, run_goes_on}
 use Rattle.chain_rules.proofs.Still.{run_still}
-
--- ---- lengths
-pub length-fishead : (head : SkeletonHead) → length head.utc ≡ 20 → length (fishead_bytes (fishead_of head)) ≡ 64
-unfolding fishead_with u16_bytes i64_bytes
-length-fishead head size = omega (arith, size)
-
-pub short_fishead : (head : SkeletonHead) → length head.utc ≡ 20 → length (fishead_bytes (fishead_of head)) ≤ 65024
-short_fishead head size = omega (arith, length-fishead head size)
-
-pub short_fisbone : (stream : NewStream) → has_long_message stream ≡ false → length (fisbone_packet stream) ≤ 65024
-short_fisbone stream h = omega (arith, length-fisbone_bytes_with stream.fields (fisbone_of stream), ltb-false longest_message (length (message_of stream.media stream.fields)) h)
-
--- a short packet fills one page at most
-pub one_each : (packet : List ℕ) → length packet ≤ 65024 → pages_for (length (run_lacing (header packet ∷ []))) ≡ 1
-one_each packet short = omega (arith, length-run_lacing (header packet ∷ []), sum_by-cons values_in (header packet) [])
 
 -- ---- the fisbones' pages
 pub fisbones_own : (serial first : ℕ) (streams : List NewStream) → Own serial (fisbone_pages serial first streams)

@@ -2,14 +2,15 @@
 use Rattle.std.specs.Prelude.{ℕ, ◌+◌, ◌^◌, ℤ, pos, int_lt, Bool, true, false, not, ◌&&◌, ◌||◌, nat_eq, nat_lt, nat_le, is_none, Option, Some, None, Result, Ok, Err, List, [], ◌∷◌, ◌++◌, length, take, drop, sum_by}
 use Rattle.std.specs.List.{list_all, list_any}
 use Rattle.std.specs.Option.{option_map_or}
-use Rattle.skeleton3.specs.Fields.{is_field, is_media_type, message_of}
+use Rattle.skeleton3.specs.Fields.{is_field, is_media_type}
 use Rattle.link_chain.specs.Size.{has_no_number, size_of_pages}
 use Rattle.link_chain.specs.ChainState.{ChainState, is_open}
 use Rattle.link_chain.specs.Rules.{Rule, first_broken}
-use Rattle.chain_rules.specs.Limits.{longest_first, longest_packet, longest_batch, most_streams, most_headers, most_fields, longest_message, most_entries, most_links, longest_file}
+use Rattle.chain_rules.specs.Limits.{longest_first, longest_packet, longest_batch, most_streams, most_fields, most_entries, most_links, longest_file}
 use Rattle.link_chain.specs.Progress.{stream_in, position_in, with_position}
 use Rattle.link_chain.specs.declared.stream_state.StreamState.{StreamState}
 use Rattle.chain_rules.specs.Encoding.{pages_of_command}
+pub use Rattle.command_pages.specs.Fits.{header_bytes, has_many_headers, has_long_message}
 use Rattle.chain_rules.specs.Begun.{stream_count}
 use Rattle.ogg_command.specs.declared.command.Command.{Command}
 use Rattle.ogg_command.specs.declared.command.Command.TheVariants.{Begin as BeginOf, Put as PutOf, End as EndOf}
@@ -24,15 +25,8 @@ use Rattle.ogg_command.specs.declared.refusal.Refusal.TheVariants.{LinkOpen, NoL
 abbrev pub is_long : ℕ → List ℕ → Bool
 is_long most packet = nat_lt most (length packet)
 
-abbrev pub has_many_headers : NewStream → Bool
-has_many_headers stream = nat_lt most_headers (length stream.headers)
-
 abbrev pub has_many_fields : NewStream → Bool
 has_many_fields stream = nat_lt most_fields (length stream.fields)
-
--- longer than a media type and fields that are allowed make it
-abbrev pub has_long_message : NewStream → Bool
-has_long_message stream = nat_lt longest_message (length (message_of stream.media stream.fields))
 
 -- a Skeleton is a stream too
 abbrev pub has_many_parts : Begin → Bool
@@ -107,9 +101,6 @@ end_rules chain serial =
     ∷ []
 
 -- ---- by the whole
-abbrev pub header_bytes : NewStream → ℕ
-header_bytes stream = sum_by length stream.headers
-
 abbrev pub packet_bytes : Command → ℕ
 packet_bytes (BeginOf begin) = sum_by header_bytes begin.streams
 packet_bytes (PutOf put) = sum_by (λ entry. length entry.packet) put.entries

@@ -6,15 +6,13 @@ ghost use Rattle.chain_rules.specs.Encoding.{runs_of, pages_of_runs, with_run};
 ghost use Rattle.link_chain.specs.Places.{HaveOwnSerials};
 ghost use Rattle.link_chain.specs.Followed.{moved_on};
 ghost use Rattle.arrayvec.specs.ArrayVec.{array_vec_len};
-ghost use Rattle.link_chain.specs.Size.{has_no_number, size_of_pages};
-ghost use Rattle.chain_rules.specs.Decision.{header_bytes, has_many_headers};
-ghost use Rattle.ogg_command.specs.declared.command.Entry.{Entry as EntryOf};
+ghost use Rattle.link_chain.specs.Size.{size_of_pages};
+ghost use Rattle.command_pages.specs.Fits.{header_bytes, has_many_headers, PutFits};
+ghost use Rattle.command_pages.specs.Limits.{longest_batch, longest_put, most_headers, most_streams};
 ghost use Rattle.ogg_command.specs.declared.command.NewStream.{NewStream as StreamOf};
 
-use crate::begin::split_headers;
-use crate::limits::FEW_STREAMS;
-use crate::runs::size_of_runs;
 use arrayvec::ArrayVec;
+use command_pages::{FEW_STREAMS, size_of_runs, split_headers};
 use link_chain::{Chain, MOST_STREAMS, StreamState};
 use ogg_command::{NewStream, Put, SkeletonHead};
 use packetiser::pages_of_run;
@@ -22,21 +20,17 @@ use packetiser::pages_of_run;
 /// Counts the packets of a put in, and gives the size of its pages in bytes.
 pub fn add_runs(streams: &mut [StreamState], put: &Put) -> u64
     requires distinct { HaveOwnSerials streams.old }
-    requires few { length put.now.entries ≤ 4096 }
-    requires short { sum_by (λ (entry : EntryOf). length entry.packet) put.now.entries ≤ 16777216 }
-    requires numbered { list_any has_no_number (pages_of_runs streams.old (runs_of put.now.entries)) ≡ false }
+    requires fits { PutFits streams.old put.now.entries }
     ensures after { streams.new ≡ fold with_run streams.old (runs_of put.now.entries) }
     ensures size { result ≡ size_of_pages (pages_of_runs streams.old (runs_of put.now.entries)) }
-    ensures small { result ≤ 486658048 }
+    ensures small { result ≤ longest_put }
 {
     size_of_runs(streams, put.entries.as_slice()).unwrap()
 }
 
 /// Moves a chain behind a put.
 pub fn add_put(chain: &mut Chain, put: &Put)
-    requires few { length put.now.entries ≤ 4096 }
-    requires short { sum_by (λ (entry : EntryOf). length entry.packet) put.now.entries ≤ 16777216 }
-    requires numbered { list_any has_no_number (pages_of_runs chain.old.chain.streams (runs_of put.now.entries)) ≡ false }
+    requires fits { PutFits chain.old.chain.streams put.now.entries }
     requires long { chain.old.chain.length_of + size_of_pages (pages_of_runs chain.old.chain.streams (runs_of put.now.entries)) < 2 ^ 63 }
     ensures { chain.new.chain ≡ moved_on chain.old.chain (fold with_run chain.old.chain.streams (runs_of put.now.entries))
         (size_of_pages (pages_of_runs chain.old.chain.streams (runs_of put.now.entries))) }
@@ -54,9 +48,7 @@ pub fn add_put(chain: &mut Chain, put: &Put)
 /// Moves a chain behind a put, by way of room for a copy of its streams.
 fn add_by(copy: &mut [StreamState], chain: &mut Chain, put: &Put)
     requires streams { length chain.old.chain.streams ≤ length copy.old }
-    requires few { length put.now.entries ≤ 4096 }
-    requires short { sum_by (λ (entry : EntryOf). length entry.packet) put.now.entries ≤ 16777216 }
-    requires numbered { list_any has_no_number (pages_of_runs chain.old.chain.streams (runs_of put.now.entries)) ≡ false }
+    requires fits { PutFits chain.old.chain.streams put.now.entries }
     requires long { chain.old.chain.length_of + size_of_pages (pages_of_runs chain.old.chain.streams (runs_of put.now.entries)) < 2 ^ 63 }
     ensures { chain.new.chain ≡ moved_on chain.old.chain (fold with_run chain.old.chain.streams (runs_of put.now.entries))
         (size_of_pages (pages_of_runs chain.old.chain.streams (runs_of put.now.entries))) }
@@ -73,8 +65,8 @@ pub fn streams_of(
     skeleton: Option<SkeletonHead>,
     new: &[NewStream],
 ) -> ArrayVec<StreamState, MOST_STREAMS>
-    requires streams { length new.now + length (skeleton_serial skeleton) ≤ 64 }
-    requires short { sum_by header_bytes new.now ≤ 16777216 }
+    requires streams { length new.now + length (skeleton_serial skeleton) ≤ most_streams }
+    requires short { sum_by header_bytes new.now ≤ longest_batch }
     requires few { list_any has_many_headers new.now ≡ false }
     ensures { result.items ≡ states_of skeleton new.now }
 {
@@ -91,8 +83,8 @@ pub fn streams_of(
 
 /// Adds the streams of a new link behind its Skeleton.
 fn push_streams(streams: &mut ArrayVec<StreamState, MOST_STREAMS>, new: &[NewStream])
-    requires streams { array_vec_len streams.old + length new.now ≤ 64 }
-    requires short { sum_by header_bytes new.now ≤ 16777216 }
+    requires streams { array_vec_len streams.old + length new.now ≤ most_streams }
+    requires short { sum_by header_bytes new.now ≤ longest_batch }
     requires few { list_any has_many_headers new.now ≡ false }
     ensures streams { streams.new.items ≡ streams.old.items ++ map new_state new.now }
     ensures count { array_vec_len streams.new ≡ array_vec_len streams.old + length new.now }
@@ -117,8 +109,8 @@ fn described(serial: u32, streams: &[NewStream]) -> StreamState
 
 /// A new stream behind its headers.
 fn begun(stream: &NewStream) -> StreamState
-    requires short { header_bytes stream.now ≤ 16777216 }
-    requires few { length stream.now.headers ≤ 256 }
+    requires short { header_bytes stream.now ≤ longest_batch }
+    requires few { length stream.now.headers ≤ most_headers }
     ensures { result ≡ new_state stream.now }
 {
     let (_, others) = split_headers(stream.headers.as_slice());

@@ -3,19 +3,17 @@ ghost use Rattle.std.specs.Prelude.{◌≡◌, ◌≤◌, ◌<◌, ◌+◌, ◌-
 ghost use Rattle.std.specs.List.{list_any, list_all, flat_map};
 ghost use Rattle.std.specs.Option.{SomeIff};
 ghost use Rattle.link_chain.specs.Rules.{first_broken};
+ghost use Rattle.chain_rules.specs.Limits.{longest_batch};
 ghost use Rattle.link_chain.specs.ChainState.{ChainState};
 ghost use Rattle.chain_rules.specs.Begun.{stream_count, skeleton_serial};
 ghost use Rattle.chain_rules.specs.Decision.{stream_rules, streams_rules, skeleton_rules, parts_rules, has_many_parts, has_many_headers, has_many_fields, has_long_message, header_bytes, is_positive};
 ghost use Rattle.skeleton3.specs.Fields.{is_field, is_media_type};
-ghost use Rattle.chain_rules.specs.Encoding.{first_pages, header_pages, pages_of_begin};
-ghost use Rattle.link_chain.specs.Size.{has_no_number, size_of_pages};
 ghost use Rattle.ogg_command.specs.declared.command.NewStream.{NewStream as StreamOf};
 
 use crate::limits::{LONGEST_BATCH, LONGEST_FIRST, LONGEST_PACKET, MOST_FIELDS, MOST_HEADERS};
-use crate::skeleton::size_of_skeleton;
+use command_pages::split_headers;
 use link_chain::{MOST_STREAMS, Serials};
 use ogg_command::{Begin, Listed, NewStream, Refusal, SkeletonHead};
-use packetiser::size_of_run;
 use skeleton3::{Field, is_field, is_media_type};
 
 /// How many streams a link has, its Skeleton counted.
@@ -183,14 +181,6 @@ fn has_stream(streams: &[NewStream], serial: u32) -> bool
     streams.iter().any(|stream| serial == stream.serial)
 }
 
-/// A stream's first header, where it has one, and its other headers.
-pub fn split_headers(headers: &[Listed<u8>]) -> (&[Listed<u8>], &[Listed<u8>])
-    ensures first { result.0.now ≡ take 1 headers.now }
-    ensures others { result.1.now ≡ drop 1 headers.now }
-{
-    headers.split_at(headers.len().min(1))
-}
-
 /// Whether one of the packets has more bytes than this.
 fn has_longer(packets: &[Listed<u8>], most: usize) -> bool
     ensures { result ≡ list_any (λ (packet : List ℕ). nat_lt most (length packet)) packets.now }
@@ -211,7 +201,7 @@ fn left_behind(left: u64, packets: &[Listed<u8>]) -> Option<u64>
 
 /// Whether the headers are too long together.
 pub fn is_long_begin(streams: &[NewStream]) -> bool
-    ensures { result ≡ nat_lt 16777216 (sum_by header_bytes streams.now) }
+    ensures { result ≡ nat_lt longest_batch (sum_by header_bytes streams.now) }
 {
     let mut left = LONGEST_BATCH;
     for stream in streams {
@@ -221,48 +211,4 @@ pub fn is_long_begin(streams: &[NewStream]) -> bool
         }
     }
     false
-}
-
-/// How many bytes the first page and the other header pages of a stream have.
-fn size_of_stream(stream: &NewStream) -> u64
-    requires short { header_bytes stream.now ≤ 16777216 }
-    requires few { length stream.now.headers ≤ 256 }
-    ensures value { result ≡ size_of_pages (first_pages stream.now) + size_of_pages (header_pages stream.now) }
-    ensures small { result ≤ 29 * (header_bytes stream.now + length stream.now.headers) }
-{
-    let (first, others) = split_headers(stream.headers.as_slice());
-    size_of_run(first) + size_of_run(others)
-}
-
-/// How many bytes the pages of a new link's streams have.
-pub fn size_of_streams(streams: &[NewStream]) -> u64
-    requires short { sum_by header_bytes streams.now ≤ 16777216 }
-    requires few { list_any has_many_headers streams.now ≡ false }
-    requires links { length streams.now ≤ 64 }
-    ensures value { result ≡ size_of_pages (flat_map first_pages streams.now ++ flat_map header_pages streams.now) }
-    ensures numbered { list_any has_no_number (flat_map first_pages streams.now ++ flat_map header_pages streams.now) ≡ false }
-    ensures small { result ≤ 486658048 + 29 * 256 * 64 }
-{
-    let mut size = 0;
-    for stream in streams {
-        size += size_of_stream(stream);
-    }
-    size
-}
-
-/// How many bytes the pages of a new link have.
-pub fn size_of_begin(skeleton: Option<SkeletonHead>, streams: &[NewStream]) -> u64
-    requires short { sum_by header_bytes streams.now ≤ 16777216 }
-    requires few { list_any has_many_headers streams.now ≡ false }
-    requires links { length streams.now ≤ 64 }
-    requires media { IfSome skeleton (λ _. list_any has_long_message streams.now ≡ false) }
-    ensures value { result ≡ size_of_pages (pages_of_begin skeleton streams.now) }
-    ensures numbered { list_any has_no_number (pages_of_begin skeleton streams.now) ≡ false }
-    ensures small { result ≤ 486658048 + 29 * 256 * 64 + 720000 }
-    ensures time { IfSome skeleton (λ head. length head.utc ≡ 20) }
-{
-    match skeleton {
-        None => size_of_streams(streams),
-        Some(head) => size_of_streams(streams) + size_of_skeleton(&head, streams),
-    }
 }

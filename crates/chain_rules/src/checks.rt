@@ -1,22 +1,24 @@
 //! Whether a command is refused, and why, or else its size.
-ghost use Rattle.std.specs.Prelude.{◌≡◌, ◌≤◌, ◌<◌, ◌+◌, ◌++◌, ◌^◌, Option, Some, None, Ok, Err, IfSome, false, length, nat_lt, not};
+ghost use Rattle.std.specs.Prelude.{◌≡◌, ◌≤◌, ◌<◌, ◌+◌, ◌++◌, ◌^◌, sum_by, Option, Some, None, Ok, Err, IfSome, false, length, nat_lt, not};
 ghost use Rattle.std.specs.List.{list_any};
 ghost use Rattle.std.specs.Option.{option_map_or};
 ghost use Rattle.link_chain.specs.Places.{HaveOwnSerials};
 ghost use Rattle.link_chain.specs.Rules.{first_broken};
 ghost use Rattle.link_chain.specs.ChainState.{ChainState};
+ghost use Rattle.ogg_command.specs.declared.command.Entry.{Entry as EntryOf};
 ghost use Rattle.chain_rules.specs.Decision.{decision, put_rules, begin_rules, room_rules, entries_rules, size_of};
 ghost use Rattle.chain_rules.specs.Decision.{answer, has_many_parts, has_long_message};
+ghost use Rattle.chain_rules.specs.Limits.{longest_batch, most_entries, most_streams};
 
-use crate::begin::{broken_by_parts, has_many_parts, is_long_begin, size_of_begin};
+use crate::begin::{broken_by_parts, has_many_parts, is_long_begin};
 use crate::entries::broken_by_entries;
-use crate::limits::{FEW_STREAMS, LONGEST_FILE, MOST_ENTRIES, SEQUENCES};
-use crate::runs::{is_long_batch, size_of_runs};
+use crate::limits::{LONGEST_BATCH, LONGEST_FILE, MOST_ENTRIES};
+use command_pages::{FEW_STREAMS, SEQUENCES, SIZE_OF_END, size_of_begin, size_of_runs};
 use link_chain::{MOST_LINKS, MOST_STREAMS, Serials, StreamState, is_open, stream_in};
 use ogg_command::{Begin, Command, Entry, Put, Refusal};
 
 /// The end of a stream.
-#[tactic(auto, unfolding(crate::specs::Decision::decision, crate::specs::Encoding::pages_of_command))]
+#[tactic(auto, unfolding(crate::specs::Decision::decision, command_pages::specs::Encoding::pages_of_command))]
 pub fn check_end(streams: &[StreamState], bytes: u64, serial: u32) -> Result<u64, Refusal>
     requires { bytes < 2 ^ 63 }
     ensures { (chain : ChainState) → chain.streams ≡ streams.now → chain.length_of ≡ bytes → result ≡ decision chain (Command.End serial) }
@@ -33,16 +35,31 @@ pub fn check_end(streams: &[StreamState], bytes: u64, serial: u32) -> Result<u64
     if stream.next_sequence >= SEQUENCES {
         return Err(Refusal::SequenceEnd);
     }
-    if bytes + 28 > LONGEST_FILE {
+    if bytes + SIZE_OF_END + 1 > LONGEST_FILE {
         return Err(Refusal::FileFull);
     }
-    Ok(27)
+    Ok(SIZE_OF_END)
+}
+
+/// Whether the packets are too long together.
+pub fn is_long_batch(entries: &[Entry]) -> bool
+    ensures { result ≡ nat_lt longest_batch (sum_by (λ (entry : EntryOf). length entry.packet) entries.now) }
+{
+    let mut left = LONGEST_BATCH;
+    for entry in entries {
+        let len = entry.packet.len() as u64;
+        if len > left {
+            return true;
+        }
+        left -= len;
+    }
+    false
 }
 
 /// The first rule that a put breaks as a whole.
 fn broken_by_put(streams: &[StreamState], entries: &[Entry]) -> Option<Refusal>
     ensures rules { (chain : ChainState) → chain.streams ≡ streams.now → result ≡ first_broken (put_rules chain entries.now) }
-    ensures few { result ≡ None → length entries.now ≤ 4096 }
+    ensures few { result ≡ None → length entries.now ≤ most_entries }
 {
     if !is_open(streams) {
         return Some(Refusal::NoLink);
@@ -58,10 +75,10 @@ fn broken_by_put(streams: &[StreamState], entries: &[Entry]) -> Option<Refusal>
 
 /// Whether there is room for a put whose entries break no rule, and its size. The streams are brought
 /// on.
-#[tactic(auto, unfolding(crate::specs::Encoding::pages_of_command))]
+#[tactic(auto, unfolding(command_pages::specs::Encoding::pages_of_command))]
 fn room_for_put(streams: &mut [StreamState], bytes: u64, put: &Put) -> Result<u64, Refusal>
     requires distinct { HaveOwnSerials streams.old }
-    requires few { length put.now.entries ≤ 4096 }
+    requires few { length put.now.entries ≤ most_entries }
     requires counted { bytes < 2 ^ 63 }
     ensures { (chain : ChainState) → chain.streams ≡ streams.old → chain.length_of ≡ bytes
         → result ≡ answer (size_of chain (Command.Put put.now)) (first_broken (room_rules chain (Command.Put put.now))) }
@@ -88,7 +105,7 @@ fn check_by(
 ) -> Result<u64, Refusal>
     requires streams { length streams.now ≤ length copy.old }
     requires distinct { HaveOwnSerials streams.now }
-    requires few { length put.now.entries ≤ 4096 }
+    requires few { length put.now.entries ≤ most_entries }
     requires counted { bytes < 2 ^ 63 }
     ensures { (chain : ChainState) → chain.streams ≡ streams.now → chain.length_of ≡ bytes
         → result ≡ answer (size_of chain (Command.Put put.now))
@@ -105,7 +122,7 @@ fn check_by(
 
 /// A put.
 pub fn check_put(streams: &[StreamState], bytes: u64, put: &Put) -> Result<u64, Refusal>
-    requires streams { length streams.now ≤ 64 }
+    requires streams { length streams.now ≤ most_streams }
     requires distinct { HaveOwnSerials streams.now }
     requires counted { bytes < 2 ^ 63 }
     ensures { (chain : ChainState) → chain.streams ≡ streams.now → chain.length_of ≡ bytes → result ≡ decision chain (Command.Put put.now) }
@@ -141,7 +158,7 @@ fn broken_by_begin(streams: &[StreamState], begin: &Begin) -> Option<Refusal>
 }
 
 /// Whether there is room for a new link whose streams break no rule, and its size.
-#[tactic(auto, unfolding(crate::specs::Encoding::pages_of_command))]
+#[tactic(auto, unfolding(command_pages::specs::Encoding::pages_of_command))]
 fn room_for_begin(links: u64, bytes: u64, begin: &Begin) -> Result<u64, Refusal>
     requires few { has_many_parts begin.now ≡ false }
     requires media { IfSome begin.now.skeleton (λ _. list_any has_long_message begin.now.streams ≡ false) }

@@ -5,7 +5,7 @@ ghost use Rattle.std.specs.List.{list_any};
 ghost use Rattle.link_chain.specs.Rules.{first_broken};
 ghost use Rattle.chain_rules.specs.Decision.{entry_rules, entries_rules};
 ghost use Rattle.link_chain.specs.Places.{HaveOwnSerials, IsPlace};
-ghost use Rattle.link_chain.specs.Progress.{stream_in, with_position, brought_to};
+ghost use Rattle.link_chain.specs.Progress.{stream_in, with_position};
 
 use crate::limits::LONGEST_PACKET;
 use link_chain::{POSITIONS, StreamState, place_of, stream_at};
@@ -19,19 +19,6 @@ pub fn move_stream(streams: &mut [StreamState], place: usize, position: u64)
         return;
     }
     streams[place].last_position = position;
-}
-
-/// Brings the stream at this place to a position by whole packets; its next page has this number.
-pub fn bring_stream(streams: &mut [StreamState], place: usize, sequence: u64, position: u64)
-    ensures { (serial : ℕ) → HaveOwnSerials streams.old → IsPlace streams.old serial place → streams.new ≡ brought_to serial sequence position streams.old }
-{
-    if place >= streams.len() {
-        return;
-    }
-    let stream = &mut streams[place];
-    stream.next_sequence = sequence;
-    stream.last_position = position;
-    stream.finished = true;
 }
 
 /// The first rule that an entry of the stream at this place breaks.

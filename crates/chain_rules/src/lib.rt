@@ -15,12 +15,10 @@ mod begin;
 mod checks;
 mod entries;
 mod laws;
-mod laying;
 mod limits;
-mod runs;
 mod shape;
-mod skeleton;
 
+pub use command_pages::CommandPages;
 pub use laws::{
     command_adds_its_packets, command_adds_pages, commands_add_their_packets,
     refusals_are_of_the_table,

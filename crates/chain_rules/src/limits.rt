@@ -9,9 +9,6 @@ pub const LONGEST_PACKET: usize = 8_388_608;
 /// Bytes of a command's packets together.
 pub const LONGEST_BATCH: u64 = 16_777_216;
 
-/// A link with at most so many streams has few.
-pub const FEW_STREAMS: usize = 4;
-
 /// Headers of a stream.
 pub const MOST_HEADERS: usize = 256;
 
@@ -23,6 +20,3 @@ pub const MOST_ENTRIES: usize = 4_096;
 
 /// Bytes of a file, with the byte that follows its pages while it is written.
 pub const LONGEST_FILE: u64 = 1 << 40;
-
-/// How many sequence numbers there are (RFC 3533, section 6, field 6).
-pub const SEQUENCES: u64 = 1 << 32;

@@ -4,9 +4,9 @@ ghost use Rattle.ogg_page.specs.Page.{Page as PageValue, page_size};
 
 use crate::Memory;
 use crate::accepting::{add_put, has_more_pages, streams_of};
-use crate::begin::{size_of_begin, stream_count};
+use crate::begin::stream_count;
 use crate::checks::{check_begin, check_end, check_put};
-use crate::laying::{lay_begin, lay_end, lay_put};
+use command_pages::{CommandPages, lay_command, size_of_begin};
 use link_chain::{Chain, ChainFault};
 use ogg_command::{Begin, Command, Put, Refusal};
 use ogg_page::Page;
@@ -32,7 +32,7 @@ impl Shape {
     ghost use Rattle.chain_rules.specs.Decision.{decision};
     ghost use Rattle.chain_rules.specs.Limits.{longest_file};
     ghost use Rattle.chain_rules.specs.Shape.{HasRoom};
-    ghost use Rattle.chain_rules.specs.Encoding.{command_bytes, links_after};
+    ghost use Rattle.chain_rules.specs.Encoding.{command_bytes, links_after, pages_of_command};
     ghost use Rattle.link_chain.specs.Taking.{fault_of_page, links_with, unfinished_stream, HasRoomFor};
     ghost use Rattle.link_chain.specs.declared.chain_fault.ChainFault.{ChainFault as ChainFaultOf};
     ghost use Rattle.ogg_page.specs.LogicalStream.{is_first};
@@ -92,38 +92,16 @@ impl Shape {
         ensures err { OnErr result (out.new.items ≡ out.old.items) }
         ensures full { OnErr result (vec_capacity out.old < vec_len out.old + length (command_bytes self.now.chain command.now)) }
     {
-        match command {
-            Command::Begin(begin) => self.lay_begin(begin, out),
-            Command::Put(put) => self.lay_put(put, out),
-            Command::End(serial) => self.lay_end(*serial, out),
-        }
+        lay_command(&self.chain, command, out)
     }
 
-    fn lay_begin(&self, begin: &Begin, out: &mut Vec<u8>) -> Result<(), Memory>
-        requires { IsOk (decision self.now.chain (Command.Begin begin.now)) }
-        ensures ok { OnOk result (out.new.items ≡ out.old.items ++ command_bytes self.now.chain (Command.Begin begin.now)) }
-        ensures err { OnErr result (out.new.items ≡ out.old.items) }
-        ensures full { OnErr result (vec_capacity out.old < vec_len out.old + length (command_bytes self.now.chain (Command.Begin begin.now))) }
+    /// The pages of a command that `check` takes, as `lay` appends them, to be made one at a time. It
+    /// takes all the memory that they need.
+    pub fn pages<'a>(&self, alloc: Global, command: &'a Command) -> Result<CommandPages<'a>, Memory>
+        requires { IsOk (decision self.now.chain command.now) }
+        ensures { IfOk result (λ pages. pages ≡ pages_of_command self.now.chain command.now) }
     {
-        lay_begin(begin.skeleton, begin.streams.as_slice(), out)
-    }
-
-    fn lay_put(&self, put: &Put, out: &mut Vec<u8>) -> Result<(), Memory>
-        requires { IsOk (decision self.now.chain (Command.Put put.now)) }
-        ensures ok { OnOk result (out.new.items ≡ out.old.items ++ command_bytes self.now.chain (Command.Put put.now)) }
-        ensures err { OnErr result (out.new.items ≡ out.old.items) }
-        ensures full { OnErr result (vec_capacity out.old < vec_len out.old + length (command_bytes self.now.chain (Command.Put put.now))) }
-    {
-        lay_put(self.chain.streams(), put.entries.as_slice(), out)
-    }
-
-    fn lay_end(&self, serial: u32, out: &mut Vec<u8>) -> Result<(), Memory>
-        requires { IsOk (decision self.now.chain (Command.End serial)) }
-        ensures ok { OnOk result (out.new.items ≡ out.old.items ++ command_bytes self.now.chain (Command.End serial)) }
-        ensures err { OnErr result (out.new.items ≡ out.old.items) }
-        ensures full { OnErr result (vec_capacity out.old < vec_len out.old + length (command_bytes self.now.chain (Command.End serial))) }
-    {
-        lay_end(self.chain.streams(), serial, out)
+        CommandPages::of(alloc, &self.chain, command)
     }
 
     /// Makes the room that `accept` needs for a command. The chain stays as it is. After `Memory` a

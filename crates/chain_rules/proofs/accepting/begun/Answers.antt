@@ -4,7 +4,7 @@ use Rattle.packetiser.specs.Laws.Pieces.{run_pages}
 use Rattle.ogg_command.specs.declared.command.NewStream.{NewStream}
 use Rattle.chain_rules.specs.Begun.{new_state}
 use Rattle.chain_rules.specs.Encoding.{header, header_pages}
-use Rattle.chain_rules.proofs.BeginPages.{few_pages, split_lengths}
+use Rattle.command_pages.specs.Laws.Headers.{few_pages, split_lengths}
 use Rattle.chain_rules.proofs.accepting.begun.Goals as goal
 
 -- as many pages as the other headers have

@@ -1,5 +1,4 @@
 use Rattle.std.proofs.Common.{◌≡◌, ◌≤◌, ◌+◌, ◌++◌, false, List, length, sum_by, sym, ap, ◌∙◌, subst, arith, ℕ, ◌<◌, ◌^◌, map, Option}
-use Rattle.std.specs.Prelude.{IfSome}
 use Rattle.std.specs.List.{list_any}
 use Rattle.ogg_command.specs.declared.command.Command.TheVariants.{Begin as BeginOf}
 use Rattle.ogg_command.specs.declared.command.Begin.{Begin}
@@ -10,34 +9,22 @@ use Rattle.chain_rules.specs.Begun.{skeleton_serial, states_of, serials_in, has_
 use Rattle.link_chain.specs.ChainState.{ChainState}
 use Rattle.chain_rules.specs.Shape.{ShapeState}
 use Rattle.link_chain.specs.Size.{size_of_pages}
-use Rattle.chain_rules.specs.Decision.{decision, header_bytes, has_many_headers, has_long_message}
+use Rattle.chain_rules.specs.Decision.{decision, header_bytes, has_many_headers}
+use Rattle.command_pages.specs.Fits.{BeginFits}
+use Rattle.chain_rules.specs.Limits.{longest_batch}
 use Rattle.chain_rules.specs.Encoding.{pages_of_begin}
 use Rattle.link_chain.specs.Places.{HaveOwnSerials}
 use Rattle.chain_rules.proofs.BeginHeld.{can_begin}
 use Rattle.chain_rules.proofs.OwnSerials.{own_begun, states_serials}
 use Rattle.chain_rules.proofs.BeginState.{begin_state, behind_begin}
-use Rattle.chain_rules.proofs.Kept.{BeginFits, begin_fits, few_streams, kept_size}
+use Rattle.chain_rules.proofs.Kept.{IsKeptBegin, begin_fits, kept_size}
 use Rattle.link_chain.specs.Laws.StateBehind.{chain_of}
 use Rattle.link_chain.specs.Laws.OwnSerials.{serial_in}
 use Rattle.chain_rules.proofs.shape.Shape.accept_begin.Goals as goal
 
-pub size_of_begin-size-requires-clause-short : goal.size_of_begin-size-requires-clause-short
-size_of_begin-size-requires-clause-short c =
-    subst (λ (l : List NewStream). sum_by header_bytes l ≤ 16777216) (sym c.as_slice-new.ensures) (begin_fits c.args.self.now.chain c.args.begin.now c.requires.kept).short
-
-pub size_of_begin-size-requires-clause-few : goal.size_of_begin-size-requires-clause-few
-size_of_begin-size-requires-clause-few c =
-    subst (λ (l : List NewStream). list_any has_many_headers l ≡ false) (sym c.as_slice-new.ensures) (begin_fits c.args.self.now.chain c.args.begin.now c.requires.kept).few
-
-pub size_of_begin-size-requires-clause-links : goal.size_of_begin-size-requires-clause-links
-size_of_begin-size-requires-clause-links c =
-    subst (λ (l : List NewStream). length l ≤ 64) (sym c.as_slice-new.ensures)
-    (few_streams c.args.begin.now (begin_fits c.args.self.now.chain c.args.begin.now c.requires.kept).streams)
-
-pub size_of_begin-size-requires-clause-media : goal.size_of_begin-size-requires-clause-media
-size_of_begin-size-requires-clause-media c =
-    subst (λ (l : List NewStream). IfSome c.args.begin.now.skeleton (λ _. list_any has_long_message l ≡ false)) (sym c.as_slice-new.ensures)
-    (begin_fits c.args.self.now.chain c.args.begin.now c.requires.kept).media
+pub size_of_begin-size-requires : goal.size_of_begin-size-requires
+size_of_begin-size-requires c =
+    record { fits = subst (λ (l : List NewStream). BeginFits c.args.begin.now.skeleton l) (sym c.as_slice-new.ensures) (begin_fits c.args.self.now.chain c.args.begin.now c.requires.kept).fits }
 
 pub streams_of-streams-requires-clause-streams : goal.streams_of-streams-requires-clause-streams
 streams_of-streams-requires-clause-streams c =
@@ -46,11 +33,11 @@ streams_of-streams-requires-clause-streams c =
 
 pub streams_of-streams-requires-clause-short : goal.streams_of-streams-requires-clause-short
 streams_of-streams-requires-clause-short c =
-    subst (λ (l : List NewStream). sum_by header_bytes l ≤ 16777216) (sym c.as_slice-new.ensures) (begin_fits c.args.self.now.chain c.args.begin.now c.requires.kept).short
+    subst (λ (l : List NewStream). sum_by header_bytes l ≤ longest_batch) (sym c.as_slice-new.ensures) (begin_fits c.args.self.now.chain c.args.begin.now c.requires.kept).fits.short
 
 pub streams_of-streams-requires-clause-few : goal.streams_of-streams-requires-clause-few
 streams_of-streams-requires-clause-few c =
-    subst (λ (l : List NewStream). list_any has_many_headers l ≡ false) (sym c.as_slice-new.ensures) (begin_fits c.args.self.now.chain c.args.begin.now c.requires.kept).few
+    subst (λ (l : List NewStream). list_any has_many_headers l ≡ false) (sym c.as_slice-new.ensures) (begin_fits c.args.self.now.chain c.args.begin.now c.requires.kept).fits.few
 
 -- the streams that are added are those of the new link
 states_are : (skeleton : Option SkeletonHead) (made lent : List StreamState) (new streams : List NewStream) → lent ≡ made → made ≡ states_of skeleton new → new ≡ streams →
@@ -70,7 +57,7 @@ add_link-requires-clause-links c =
 
 pub add_link-requires-clause-long : goal.add_link-requires-clause-long
 add_link-requires-clause-long c =
-    let fits : BeginFits c.args.self.now.chain c.args.begin.now = begin_fits c.args.self.now.chain c.args.begin.now c.requires.kept in
+    let fits : IsKeptBegin c.args.self.now.chain c.args.begin.now = begin_fits c.args.self.now.chain c.args.begin.now c.requires.kept in
     subst (λ (s : ShapeState). s.chain.length_of + c.size_of_begin-size.result < 2 ^ 63) (sym c.self.view_is)
     (omega (arith, fits.room, c.size_of_begin-size.ensures.small))
 

@@ -1,26 +1,20 @@
-use Rattle.std.proofs.Common.{◌≡◌, ◌<◌, ◌+◌, ◌^◌, false, sym, ap, ◌∙◌, subst, arith}
-use Rattle.std.specs.List.{fold, list_any}
+use Rattle.std.proofs.Common.{◌<◌, ◌+◌, ◌^◌, sym, ap, ◌∙◌, subst, arith}
+use Rattle.std.specs.List.{fold}
 use Rattle.ogg_command.specs.declared.command.Command.TheVariants.{Put as PutOf}
 use Rattle.link_chain.specs.ChainState.{ChainState}
 use Rattle.link_chain.specs.Followed.{moved_on}
-use Rattle.link_chain.specs.Size.{has_no_number, size_of_pages}
+use Rattle.link_chain.specs.Size.{size_of_pages}
 use Rattle.chain_rules.specs.Shape.{ShapeState}
 use Rattle.chain_rules.specs.Encoding.{runs_of, pages_of_runs, with_run}
 use Rattle.chain_rules.specs.Decision.{decision}
+use Rattle.command_pages.specs.Fits.{PutFits}
 use Rattle.chain_rules.proofs.PutState.{put_state}
 use Rattle.chain_rules.proofs.Kept.{put_fits, kept_size}
 use Rattle.chain_rules.proofs.shape.Shape.accept_put.Goals as goal
 
-pub add_put-requires-clause-few : goal.add_put-requires-clause-few
-add_put-requires-clause-few c = (put_fits c.args.self.now.chain c.args.put.now c.requires).few
-
-pub add_put-requires-clause-short : goal.add_put-requires-clause-short
-add_put-requires-clause-short c = (put_fits c.args.self.now.chain c.args.put.now c.requires).short
-
-pub add_put-requires-clause-numbered : goal.add_put-requires-clause-numbered
-add_put-requires-clause-numbered c =
-    subst (λ (s : ShapeState). list_any has_no_number (pages_of_runs s.chain.streams (runs_of c.args.put.now.entries)) ≡ false) (sym c.self.view_is)
-    (put_fits c.args.self.now.chain c.args.put.now c.requires).numbered
+pub add_put-requires-clause-fits : goal.add_put-requires-clause-fits
+add_put-requires-clause-fits c =
+    subst (λ (s : ShapeState). PutFits s.chain.streams c.args.put.now.entries) (sym c.self.view_is) (put_fits c.args.self.now.chain c.args.put.now c.requires).fits
 
 pub add_put-requires-clause-long : goal.add_put-requires-clause-long
 add_put-requires-clause-long c =

@@ -1,6 +1,6 @@
 use Rattle.std.proofs.Common.{◌≡◌, ◌+◌, length, sum_by, take}
 use Rattle.ogg_command.specs.declared.command.Entry.{Entry}
-use Rattle.chain_rules.proofs.runs.is_long_batch.Given as goal
+use Rattle.chain_rules.proofs.checks.is_long_batch.Given as goal
 
 -- what is left of the limit behind the entries so far
 abbrev pub invariant-loop-entry : goal.invariant-loop-entry

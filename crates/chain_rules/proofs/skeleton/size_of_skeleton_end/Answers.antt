@@ -1,9 +1,0 @@
-use Rattle.std.proofs.Common.{[], ◌∷◌, refl, sym, ◌∙◌}
-use Rattle.packetiser.specs.Run.{pages_of_run}
-use Rattle.chain_rules.specs.Encoding.{header, last_flag}
-use Rattle.chain_rules.proofs.BeginPages.{flagged_size}
-use Rattle.chain_rules.proofs.skeleton.size_of_skeleton_end.Goals as goal
-
-pub returns-clause-value : goal.returns-clause-value
-returns-clause-value c = λ serial first.
-    c.size_of_packet.ensures.value serial first [] refl ∙ sym (flagged_size last_flag (pages_of_run serial first (header [] ∷ [])))
