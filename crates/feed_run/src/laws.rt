@@ -1,0 +1,18 @@
+//! What always holds of runs.
+ghost use Rattle.std.specs.Prelude.{◌≡◌, ◌∷◌, ◌++◌, [], List, None};
+ghost use Rattle.feed_codec.specs.declared.item.Record.{Record};
+ghost use Rattle.feed_codec.specs.declared.reply.Reply.{Reply};
+ghost use Rattle.feed_run.specs.Run.{HasRun, RunState, RunsOne, Streams};
+
+use crate::runner::Runner;
+
+/// A run that hasn't begun has run nothing; and a run that takes one more step has run that record after the
+/// others. So steps are a run if each begins in the state to which the one before it has led, whatever happens
+/// between them.
+pub fn runs_go_on<T: Runner>()
+    ensures begins { (start : Streams) (before : T.State) → HasRun T.answers start start None [] [] before before }
+    ensures goes_on { (start old new : Streams) (was now : RunState) (records : List Record) (replies : List Reply)
+        (before mid after : T.State) (reply : Reply) → HasRun T.answers start old was.version records replies before mid
+        → (one : RunsOne T.answers old new was now mid after reply)
+        → HasRun T.answers start new now.version (records ++ one.given ∷ []) (replies ++ reply ∷ []) before after }
+{}

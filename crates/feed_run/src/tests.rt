@@ -1,0 +1,286 @@
+//! Runs over feeds by a runner that holds commands in groups.
+ghost use Rattle.std.specs.Prelude.{◌≡◌, length};
+
+use super::*;
+use feed_codec::{FeedFault, Kept, Reply, RunFault};
+use ogg_command::{Command, Memory, Refusal};
+use ogg_page::WriteFault;
+use std::alloc::Global;
+use std::io;
+use std::io::{ErrorKind, Write};
+use std::test::Fail;
+
+/// A begin of a stream with serial 1 and the header `abc`.
+const BEGIN: [u8; 52] = *b"\x01\x2f\0\0\0\0\x01\0\x01\0\0\0\x01\0\x03\0\0\0abc\0\0\
+    \0\0\0\0\0\0\0\0\0\0\0\0\0\0\0\0\0\0\0\0\0\0\0\0\0\0\0\0\0";
+
+/// The packet `hello` at position 5.
+const PUT: [u8; 28] = *b"\x02\x17\0\0\0\x01\0\x01\0\0\0\x05\0\0\0\0\0\0\0\x05\0\0\0hello";
+
+/// The stream's end.
+const END: [u8; 9] = *b"\x03\x04\0\0\0\x01\0\0\0";
+
+/// A flush.
+const FLUSH: [u8; 5] = *b"\x04\0\0\0\0";
+
+/// Holds commands and keeps them in groups of `most`. After `good` commits its disk fails.
+#[derive(Drop)]
+struct Grouping {
+    most: u64,
+    good: u64,
+    failed: bool,
+    count: u64,
+    held: u64,
+    staged: u64,
+    end: u64,
+}
+
+impl Grouping {
+    fn new(most: u64, good: u64) -> Grouping {
+        Grouping {
+            most,
+            good,
+            failed: false,
+            count: 0,
+            held: 0,
+            staged: 0,
+            end: 0,
+        }
+    }
+
+    fn commit(&mut self) -> Reply {
+        let staged = self.staged;
+        self.held = 0;
+        self.staged = 0;
+        if self.good == 0 {
+            self.failed = true;
+            return Reply::Refused(Refusal::Disk);
+        }
+        self.good -= 1;
+        self.end = self.end.saturating_add(staged);
+        Reply::Kept(Kept {
+            count: self.count,
+            end: self.end,
+        })
+    }
+
+    fn take(&mut self, command: &Command) -> Reply {
+        if self.failed {
+            return Reply::Refused(Refusal::Failed);
+        }
+        let size = match command {
+            Command::Begin(_) => 31,
+            Command::Put(_) => 33,
+            Command::End(_) => 27,
+        };
+        self.staged = self.staged.saturating_add(size);
+        self.count = self.count.saturating_add(1);
+        self.held = self.held.saturating_add(1);
+        if self.held < self.most {
+            Reply::Held(self.count)
+        } else {
+            self.commit()
+        }
+    }
+}
+
+impl Runner for Grouping {
+    ghost use Rattle.std.specs.Prelude.{◌≡◌, [], ⊤};
+    ghost use Rattle.feed_run.specs.declared.tests.Grouping.{Grouping as GroupingOf};
+
+    ghost State = { GroupingOf };
+
+    ghost is_in = { λ state runner. runner ≡ state };
+
+    ghost answers = { λ before given reply own after. own ≡ [] };
+
+    ghost held_in = { λ state. state.held };
+
+    ghost end_in = { λ state. state.end };
+
+    ghost counted = { λ runner. 0 };
+
+    fn run_command<P: Write>(
+        &mut self,
+        command: &Command,
+        _pages: &mut P,
+    ) -> Result<Reply, WriteFault> {
+        Ok(self.take(command))
+    }
+
+    fn run_flush(&mut self) -> Reply {
+        if self.failed {
+            Reply::Refused(Refusal::Failed)
+        } else {
+            self.commit()
+        }
+    }
+
+    fn waiting(&self) -> u64 {
+        self.held
+    }
+
+    fn kept_length(&self) -> u64 {
+        self.end
+    }
+}
+
+/// Keeps lines, and fails from the call with the number `bad` on.
+#[derive(Drop)]
+struct Lines {
+    written: Vec<u8>,
+    bad: u64,
+    calls: u64,
+}
+
+impl Write for Lines {
+    ghost use Rattle.std.specs.Prelude.{Some};
+
+    ghost contents = { λ w. Some w.written.items };
+
+    fn write(&mut self, buf: &[u8]) -> io::Result<usize> {
+        self.calls = self.calls.saturating_add(1);
+        if self.calls >= self.bad {
+            return Err(io::Error::from(ErrorKind::Other));
+        }
+        self.written.extend_from_slice(buf)?;
+        Ok(buf.len())
+    }
+
+    fn flush(&mut self) -> io::Result<()> {
+        Ok(())
+    }
+}
+
+/// What a run came to: commands, kept, refused, and the length.
+type Came = (u64, u64, u64, u64);
+
+/// A feed in pieces, how many commands a group takes, how many commits go well, the reply lines, and what it came to.
+const RUNS: [(&[&[u8]], u64, u64, &str, Result<Came, RunFault>); 8] = [
+    (&[], 8, 9, "", Ok((0, 0, 0, 0))),
+    (&[&FLUSH], 8, 9, "kept 0 0\n", Ok((0, 0, 0, 0))),
+    (
+        &[&BEGIN, &PUT, &END],
+        1,
+        9,
+        "kept 1 31\nkept 2 64\nkept 3 91\n",
+        Ok((3, 3, 0, 91)),
+    ),
+    (
+        &[&BEGIN, &PUT, &END],
+        3,
+        9,
+        "held 1\nheld 2\nkept 3 91\n",
+        Ok((3, 3, 0, 91)),
+    ),
+    // A flush keeps what waits, and so does the end.
+    (
+        &[&BEGIN, &PUT, &FLUSH, &END],
+        8,
+        9,
+        "held 1\nheld 2\nkept 2 64\nheld 3\nkept 3 91\n",
+        Ok((3, 3, 0, 91)),
+    ),
+    // So does a fault of the feed.
+    (
+        &[&BEGIN, b"\x02\x17\0\0\0\x01\0\x01"],
+        8,
+        9,
+        "held 1\nkept 1 31\n",
+        Err(RunFault::Feed(FeedFault::Truncated)),
+    ),
+    // If the disk fails, what waits is lost, and isn't flushed again.
+    (
+        &[&BEGIN, &PUT, &END],
+        2,
+        0,
+        "held 1\nrefused 21 Disk\nrefused 1 Failed\n",
+        Ok((3, 0, 3, 0)),
+    ),
+    (
+        &[&BEGIN, &PUT, &END],
+        8,
+        0,
+        "held 1\nheld 2\nheld 3\nrefused 21 Disk\n",
+        Ok((3, 0, 3, 0)),
+    ),
+];
+
+fn joined(alloc: Global, pieces: &[&[u8]]) -> Result<Vec<u8>, Memory> {
+    let mut bytes = Vec::new(alloc);
+    for piece in pieces {
+        bytes.extend_from_slice(piece)?;
+    }
+    Ok(bytes)
+}
+
+#[test]
+fn what_waits_is_kept_by_its_group_or_a_flush_or_at_the_end(rt: HostRuntime) -> Result<(), Fail> {
+    for (pieces, most, good, lines, came) in RUNS {
+        let feed = joined(rt.alloc(), pieces)?;
+        let mut runner = Grouping::new(most, good);
+        let mut replies = Vec::new(rt.alloc());
+        let run = run_feed(
+            rt.alloc(),
+            &mut runner,
+            &mut feed.as_slice(),
+            &mut io::sink(),
+            &mut replies,
+        );
+        let found = match run {
+            Ok(tally) => Ok((tally.commands, tally.kept, tally.refused, tally.end)),
+            Err(fault) => Err(fault),
+        };
+        assert_eq!(rt; found, came, "{lines}");
+        assert_eq!(rt; replies.as_slice(), lines.as_bytes());
+    }
+    Ok(())
+}
+
+#[test]
+fn a_writer_that_fails_ends_the_run_and_nothing_is_flushed(rt: HostRuntime) -> Result<(), Fail> {
+    let feed = joined(rt.alloc(), &[&BEGIN, &PUT, &END])?;
+    let mut runner = Grouping::new(8, 9);
+    let mut replies = Lines {
+        written: Vec::new(rt.alloc()),
+        bad: 2,
+        calls: 0,
+    };
+    let run = run_feed(
+        rt.alloc(),
+        &mut runner,
+        &mut feed.as_slice(),
+        &mut io::sink(),
+        &mut replies,
+    );
+    assert!(rt; run == Err(RunFault::Write), "the second line is written");
+    assert_eq!(rt; replies.written.as_slice(), b"held 1\n".as_slice());
+    assert_eq!(rt; (runner.held, runner.end), (2, 0));
+    Ok(())
+}
+
+#[test]
+fn the_step_after_the_flush_is_the_end_and_it_stays(rt: HostRuntime) -> Result<(), Fail> {
+    let feed = joined(rt.alloc(), &[&BEGIN, &PUT, &END])?;
+    let mut runner = Grouping::new(8, 9);
+    let mut run = FeedRun::new(rt.alloc());
+    let mut reader = feed.as_slice();
+    let mut replies = Vec::new(rt.alloc());
+    let wanted = [
+        Some(Reply::Held(1)),
+        Some(Reply::Held(2)),
+        Some(Reply::Held(3)),
+        Some(Reply::Kept(Kept { count: 3, end: 91 })),
+        None,
+        None,
+    ];
+    for reply in wanted {
+        let found = run.step(&mut runner, &mut reader, &mut io::sink(), &mut replies);
+        assert!(rt; found == Ok(reply), "a step gives another reply");
+    }
+    assert_eq!(rt;
+        replies.as_slice(),
+        b"held 1\nheld 2\nheld 3\nkept 3 91\n".as_slice()
+    );
+    Ok(())
+}
