@@ -1,3 +1,2 @@
 pub mod Progress
-pub mod Run
 pub mod Reached

@@ -1,5 +1,5 @@
 -- How far a run over a feed has come, and how a command is answered there. Ours.
-use Rattle.std.specs.Prelude.{◌≡◌, ◌⊎◌, ℕ, ◌+◌, Result, Ok, Err, List, [], ◌∷◌, ◌++◌}
+use Rattle.std.specs.Prelude.{◌≡◌, ◌⊎◌, ℕ, ◌+◌, Result, Ok, Err, List, []}
 use Rattle.ogg_page.specs.Page.{Page}
 use Rattle.link_chain.specs.ChainState.{chain_state_of}
 use Rattle.chain_rules.specs.Encoding.{command_bytes, links_after}
@@ -8,7 +8,7 @@ use Rattle.ogg_command.specs.declared.command.Command.{Command}
 use Rattle.ogg_command.specs.declared.refusal.Refusal.{Refusal}
 use Rattle.ogg_command.specs.declared.refusal.Refusal.TheVariants.{Memory}
 use Rattle.feed_codec.specs.declared.reply.Reply.{Reply}
-use Rattle.feed_codec.specs.declared.reply.Reply.TheVariants.{Held, Kept as KeptOf, Refused}
+use Rattle.feed_codec.specs.declared.reply.Reply.TheVariants.{Kept as KeptOf, Refused}
 use Rattle.feed_codec.specs.declared.item.Record.{Record}
 use Rattle.feed_codec.specs.declared.item.Record.TheVariants.{Command as CommandOf, Flush}
 
@@ -25,11 +25,11 @@ at_start = record { links = []; kept = 0 }
 abbrev pub end_of : Progress → ℕ
 end_of progress = (chain_state_of progress.links).length_of
 
--- the progress behind a command that was kept
+-- the progress after a command that was kept
 abbrev pub with_command : Progress → Command → Progress
 with_command progress command = record { links = links_after progress.links command; kept = progress.kept + 1 }
 
--- A command of this decision gets this reply, these bytes are its pages, and so far the run has come behind it. A command
+-- A command of this decision gets this reply, these bytes are its pages, and this is the progress after it. A command
 -- that isn't refused by a rule is kept, or refused for want of memory; a refusal writes no page and changes nothing.
 abbrev pub AnsweredBy : Result ℕ Refusal → Progress → Command → Reply → List ℕ → Progress → Type 0
 AnsweredBy (Err refusal) before command reply bytes behind = (reply ≡ Refused refusal) × (bytes ≡ []) × (behind ≡ before)
@@ -52,26 +52,6 @@ abbrev pub AnswersRecord : Progress → Record → Reply → List ℕ → Progre
 AnswersRecord before (CommandOf command) reply bytes behind = Answers before command reply bytes behind
 AnswersRecord before Flush reply bytes behind = AnswersFlush before reply bytes behind
 
--- records in turn, each answered where the records before it have brought the run; all their pages
-abbrev pub AnswersAll : Progress → List Record → List Reply → List ℕ → Progress → Type 0
-AnswersAll before [] [] bytes behind = (bytes ≡ []) × (behind ≡ before)
-AnswersAll before (given ∷ records) (reply ∷ replies) bytes behind =
-    (next : Progress) × (own : List ℕ) × (later : List ℕ)
-    × AnswersRecord before given reply own next × AnswersAll next records replies later behind × (bytes ≡ own ++ later)
-AnswersAll before [] (reply ∷ replies) bytes behind = ⊥
-AnswersAll before (given ∷ records) [] bytes behind = ⊥
-
--- the commands among records, in order
-abbrev pub commands_in : List Record → List Command
-commands_in [] = []
-commands_in (CommandOf command ∷ records) = command ∷ commands_in records
-commands_in (Flush ∷ records) = commands_in records
-
--- the commands that were kept, in order
-abbrev pub kept_of : List Record → List Reply → List Command
-kept_of [] replies = []
-kept_of (given ∷ records) [] = []
-kept_of (CommandOf command ∷ records) (KeptOf kept ∷ replies) = command ∷ kept_of records replies
-kept_of (CommandOf command ∷ records) (Held count ∷ replies) = kept_of records replies
-kept_of (CommandOf command ∷ records) (Refused refusal ∷ replies) = kept_of records replies
-kept_of (Flush ∷ records) (reply ∷ replies) = kept_of records replies
+-- nothing waits here
+abbrev pub nothing_held : Progress → ℕ
+nothing_held progress = 0

@@ -6,21 +6,27 @@ ghost use Rattle.chain_rules.specs.Commands.{AreKept, bytes_of_commands, links_b
 ghost use Rattle.chain_rules.specs.Recording.{Holds, after};
 ghost use Rattle.feed_codec.specs.declared.item.Record.{Record};
 ghost use Rattle.feed_codec.specs.declared.reply.Reply.{Reply};
-ghost use Rattle.multiplexer.specs.Progress.{Progress, at_start, AnswersAll, commands_in, kept_of};
+ghost use Rattle.feed_run.specs.Answering.{AnswersAll};
+ghost use Rattle.feed_run.specs.Counting.{commands_in, kept_of};
+ghost use Rattle.feed_run.specs.Run.{IsClosed, Streams};
+ghost use Rattle.multiplexer.specs.Progress.{Progress, AnswersRecord, at_start, nothing_held};
 
 use chain_rules::commands_add_their_packets;
 
-/// The pages that a run has written are just those of the commands that were kept, none of which is
-/// refused behind those before it; and they are a chain of links that holds just their packets
-/// (RFC 3533, sections 4 to 6).
+/// The pages that a run has written are exactly those of the commands that were kept, none of which is
+/// refused after those before it; and they are a chain of links that holds exactly their packets
+/// (RFC 3533, sections 4 to 6). No flush comes after the last record.
 pub fn run_writes_what_was_kept()
     ensures pages { (records : List Record) (replies : List Reply) (bytes : List ℕ) (behind : Progress) →
-        AnswersAll at_start records replies bytes behind →
+        AnswersAll AnswersRecord at_start records replies bytes behind →
         AreKept [] (kept_of records replies) × (bytes ≡ bytes_of_commands [] (kept_of records replies))
         × (behind.links ≡ links_behind [] (kept_of records replies)) × (behind.kept ≡ length (kept_of records replies)) }
     ensures holds { (records : List Record) (replies : List Reply) (bytes : List ℕ) (behind : Progress) →
-        AllByRecursion IsCommand (commands_in records) → AnswersAll at_start records replies bytes behind →
+        AllByRecursion IsCommand (commands_in records) → AnswersAll AnswersRecord at_start records replies bytes behind →
         Holds bytes (after [] (kept_of records replies)) }
+    ensures closing { (at now : Streams) (before behind : Progress) (closing : List Record) (last : List Reply) →
+        IsClosed AnswersRecord nothing_held at now before behind closing last →
+        (closing ≡ []) × (last ≡ []) × (behind ≡ before) × (now.lines ≡ at.lines) }
 {
     commands_add_their_packets();
 }

@@ -1,18 +1,17 @@
 //! The multiplexer: a feed of commands in, an Ogg bitstream (RFC 3533) and reply lines out.
 //!
-//! `mux` reads one command after the other. A command that isn't refused adds its pages; each
-//! command is answered by a line, which is written behind its pages and before the next record is
-//! read. Memory is bounded by one command. A refusal ends nothing; a fault of the feed or of a writer
-//! ends the run, and everything before it stands.
+//! `mux` reads one command after the other. A command that isn't refused adds its pages; each command is
+//! answered by a line, which is written after its pages and before the next record is read. Memory is
+//! bounded by one command. A refusal ends nothing; a fault of the feed or of a writer ends the run, and
+//! everything before it stands.
 //!
-//! Start at `specs/Progress.antt`, which says how a command is answered, and at `specs/Run.antt`,
-//! which says what a run has read and written.
+//! Start at `specs/Progress.antt`, which says how a command is answered here; `specs/Run.antt` of feed_run
+//! says what a run has read and written.
 #![tactic(auto)]
 
 mod answering;
 mod laws;
 mod muxing;
-mod run;
 
 pub use laws::run_writes_what_was_kept;
 pub use muxing::mux;

@@ -1,22 +1,90 @@
 //! The run over a whole feed.
-ghost use Rattle.std.specs.Prelude.{◌≡◌, ◌≤◌, IfOk, IfErr};
-ghost use Rattle.multiplexer.specs.Run.{RunsWhole, EndsBy};
+ghost use Rattle.std.specs.Prelude.{◌≡◌, IfOk, IfErr};
+ghost use Rattle.feed_run.specs.Run.{RunsWhole, EndsBy, streams};
+ghost use Rattle.multiplexer.specs.Progress.{Progress, AnswersRecord, at_start, end_of, nothing_held};
+ghost use Rattle.multiplexer.specs.Reached.{HasReached};
 
-use crate::run::Run;
-use feed_codec::{Kept, RunFault, Tally};
+use crate::answering::answer;
+use chain_rules::{Command, Shape};
+use feed_codec::{Kept, Reply, RunFault, Tally};
+use feed_run::{Runner, run_feed};
+use ogg_page::WriteFault;
 use std::alloc::Global;
 use std::io::{Read, Write};
 
-/// How many records a run takes, an announcement not counted.
-const MOST_RECORDS: u64 = 4_294_967_295;
+/// The chain of the links that the commands have made, and how many commands that were.
+#[derive(Debug, Drop)]
+pub struct Multiplexer {
+    shape: Shape,
+    count: u64,
+    // the pages of one command
+    bytes: Vec<u8>,
+}
+
+impl Multiplexer {
+    /// No command has come yet. It takes no memory.
+    fn new(alloc: Global) -> Self
+        ensures reached { HasReached result.shape.chain result.count at_start }
+        ensures count { result.count ≡ 0 }
+    {
+        Multiplexer {
+            shape: Shape::new(alloc),
+            count: 0,
+            bytes: Vec::new(alloc),
+        }
+    }
+}
+
+impl Runner for Multiplexer {
+    ghost State = { Progress };
+
+    ghost is_in = { λ progress multiplexer. HasReached multiplexer.shape.chain multiplexer.count progress };
+
+    ghost answers = { AnswersRecord };
+
+    ghost held_in = { nothing_held };
+
+    ghost end_in = { end_of };
+
+    ghost counted = { λ multiplexer. multiplexer.count };
+
+    fn run_command<P: Write>(
+        &mut self,
+        command: &Command,
+        pages: &mut P,
+    ) -> Result<Reply, WriteFault> {
+        answer(
+            &mut self.shape,
+            &mut self.count,
+            command,
+            &mut self.bytes,
+            pages,
+        )
+    }
+
+    fn run_flush(&mut self) -> Reply {
+        Reply::Kept(Kept {
+            count: self.count,
+            end: self.shape.len(),
+        })
+    }
+
+    fn waiting(&self) -> u64 {
+        0
+    }
+
+    fn kept_length(&self) -> u64 {
+        self.shape.len()
+    }
+}
 
 /// Runs the records of a feed, from no links on. The pages of each command that isn't refused are
 /// written to `pages`, and then the line of its reply to `replies`, before the next record is read. A
 /// flush is answered by the last count and length, since nothing waits here; it isn't counted.
 ///
-/// At the end of the feed it gives the counts. It stops at the first fault: `Feed` where the feed
-/// has one, and everything before that is written; `Write` where one of the writers has failed, and
-/// then a prefix of what belongs to the last command that was read is written; `TooMany` where a record follows
+/// At the end of the feed it gives the counts. It stops at the first fault. `Feed` is a fault of the feed,
+/// and everything before it is written. `Write` says that one of the writers has failed, and then a prefix of
+/// what belongs to the last command that was read is written. `TooMany` says that a record follows
 /// 4,294,967,295 others, which isn't run.
 pub fn mux<R: Read + Drop, P: Write, W: Write>(
     alloc: Global,
@@ -24,39 +92,16 @@ pub fn mux<R: Read + Drop, P: Write, W: Write>(
     pages: &mut P,
     replies: &mut W,
 ) -> Result<Tally, RunFault>
-    ensures ok { IfOk result (λ tally.
-        RunsWhole (record { feed = R.remaining reader.old; pages = P.contents pages.old; lines = W.contents replies.old })
-        (record { feed = R.remaining reader.new; pages = P.contents pages.new; lines = W.contents replies.new }) tally) }
-    ensures err { IfErr result (λ fault.
-        EndsBy fault (record { feed = R.remaining reader.old; pages = P.contents pages.old; lines = W.contents replies.old })
-        (record { feed = R.remaining reader.new; pages = P.contents pages.new; lines = W.contents replies.new })) }
+    ensures ok { IfOk result (λ tally. (behind : Progress)
+        × RunsWhole AnswersRecord nothing_held (streams (R.remaining reader.old) (P.contents pages.old) (W.contents replies.old))
+        (streams (R.remaining reader.new) (P.contents pages.new) (W.contents replies.new)) at_start behind (end_of behind) tally) }
+    ensures err { IfErr result (λ fault. (behind : Progress)
+        × EndsBy AnswersRecord nothing_held fault (streams (R.remaining reader.old) (P.contents pages.old) (W.contents replies.old))
+        (streams (R.remaining reader.new) (P.contents pages.new) (W.contents replies.new)) at_start behind) }
 {
-    let mut run = Run::new(alloc);
-    for _ in 0..MOST_RECORDS {
-        match run.next(reader, pages, replies) {
-            Ok(Some(_)) => {}
-            Ok(None) => return Ok(tally(run.commands, run.so_far)),
-            Err(fault) => return Err(fault),
-        }
-    }
-    match run.feed.next(reader) {
-        Ok(None) => Ok(tally(run.commands, run.so_far)),
-        Ok(Some(_)) => Err(RunFault::TooMany),
-        Err(fault) => Err(RunFault::Feed(fault)),
-    }
-}
-
-/// What a run of so many commands came to.
-fn tally(commands: u64, so_far: Kept) -> Tally
-    requires { so_far.count ≤ commands }
-    ensures commands { result.commands ≡ commands }
-    ensures kept { result.kept ≡ so_far.count }
-    ensures end { result.end ≡ so_far.end }
-{
-    Tally {
-        commands,
-        kept: so_far.count,
-        refused: commands - so_far.count,
-        end: so_far.end,
+    let mut multiplexer = Multiplexer::new(alloc);
+    match run_feed(alloc, &mut multiplexer, reader, pages, replies) {
+        Ok(tally) => Ok(tally),
+        Err(fault) => Err(fault),
     }
 }
