@@ -1,0 +1,5 @@
+mod CommandLists
+mod Examples
+mod Running
+mod DiskWorlds
+mod Worlds
