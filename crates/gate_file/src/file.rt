@@ -55,7 +55,8 @@ impl<D: Disk> GateFile<D> {
 
     /// The length of the committed bytes.
     pub fn end(&self) -> u64
-        ensures { result ≡ self.now.end }
+        ensures end { result ≡ self.now.end }
+        ensures inside { D.is_honest self.now.disk → self.now.end ≤ length (D.state self.now.disk).contents }
     {
         self.end
     }
@@ -245,6 +246,7 @@ impl<D: Disk> GateFile<D> {
         ensures honest { IfOk result (λ disk. D.is_honest self.disk ↔ D.is_honest disk) }
         ensures honest_err { IfErr result (λ e. D.is_honest self.disk ↔ D.is_honest e.1) }
         ensures later { IfOk result (λ disk. D.failures self.disk ≤ D.failures disk) }
+        ensures later_err { IfErr result (λ e. D.failures self.disk ≤ D.failures e.1) }
         ensures cause { IfErr result (λ e. (D.failures self.disk < D.failures e.1) ⊎ (D.failures e.1 ≡ 2 ^ 64 - 1)) }
     {
         let GateFile { mut disk, end, .. } = self;

@@ -52,7 +52,9 @@ impl<D: Disk> Found<D> {
 
     /// The length of the committed bytes.
     pub fn end(&self) -> u64
-        ensures { result ≡ self.now.end }
+        ensures end { result ≡ self.now.end }
+        ensures ends { D.is_honest self.now.disk
+            → HasEnd self.now.end self.now.tail self.now.closed (D.state self.now.disk) }
     {
         self.end
     }
@@ -100,6 +102,7 @@ impl<D: Disk> Found<D> {
         ensures honest { IfOk result (λ file. D.is_honest self.disk ↔ D.is_honest file.disk) }
         ensures honest_err { IfErr result (λ e. D.is_honest self.disk ↔ D.is_honest e.1) }
         ensures later { IfOk result (λ file. D.failures self.disk ≤ D.failures file.disk) }
+        ensures later_err { IfErr result (λ e. D.failures self.disk ≤ D.failures e.1) }
         ensures cause { IfErr result (λ e. (e.0 ≡ OpenFault.Disk)
             × ((D.failures self.disk < D.failures e.1) ⊎ (D.failures e.1 ≡ 2 ^ 64 - 1))) }
     {
