@@ -1,0 +1,94 @@
+-- What a recorder always holds, after a command.
+use Rattle.std.proofs.Common.{◌≡◌, inl, ℕ, ◌+◌, ◌<◌, ◌≤◌, ◌^◌, Bool, true, false, nat_lt, List, ◌++◌, length, take, refl, sym, ◌∙◌, ap, subst, arith, append_assoc, Ok, Err, Result}
+use Rattle.std.proofs.lemmas.Bool.Decides.{nat_tests}
+use Rattle.disk_model.specs.Image.{DiskState}
+use Rattle.disk_model.specs.Clock.{HasImages, LeavesOnly, and_then, started}
+use Rattle.gate_file.specs.Commit.{CommitsTo, CommitsToEither}
+use Rattle.gate_file.specs.Gate.{EachImage}
+use Rattle.gate_file.specs.GateFile as G
+use Rattle.gate_file.specs.GateFile.{GateState}
+use Rattle.link_chain.specs.ChainState.{ChainState, chain_state_of}
+use Rattle.chain_rules.specs.Decision.{decision}
+use Rattle.chain_rules.specs.Encoding.{command_bytes, links_after}
+use Rattle.ogg_command.specs.Command.{IsCommand}
+use Rattle.ogg_command.specs.declared.command.Command.{Command}
+use Rattle.ogg_command.specs.declared.refusal.Refusal.{Refusal}
+use Rattle.ogg_recorder.specs.Recovery.{Links}
+use Rattle.ogg_recorder.specs.Taking.{HoldsChain, IsWholeChain}
+use Rattle.ogg_recorder.specs.Recorder.{RecorderState, IsRecorder, recorder_state, committed, staged}
+use Rattle.ogg_recorder.proofs.Growing.{AddsPackets, AddsSome, chain_grows, command_long}
+use Rattle.ogg_recorder.proofs.Opened.{none_staged}
+
+pub not_failed : (failed : Bool) → (failed ≡ true → ⊥) → failed ≡ false
+not_failed false refuted = refl
+not_failed true refuted = absurd (refuted refl)
+
+pub never : false ≡ true → ⊥
+never e = cc
+
+pub lt_false : (a b : ℕ) → b ≤ a → nat_lt a b ≡ false
+lt_false a b le = grind (arith, nat_tests)
+
+pub same_refusal : {T : Type 0} (a b : Refusal) → ◌≡◌ {A = Result T Refusal} (Err a) (Err b) → a ≡ b
+same_refusal a b e = cc
+
+-- a staging, and then a commit of what is staged
+pub staged_then : {D : Type 0} (moment : D → ℕ) (images_since : D → ℕ → List ℕ → Type 0) (old mid new : D) (b more c others : List ℕ) → c ≡ b → others ≡ more → LeavesOnly moment images_since old mid (CommitsTo b)
+    → LeavesOnly moment images_since mid new (CommitsToEither c others) → LeavesOnly moment images_since old new (CommitsToEither b more)
+staged_then moment images_since old mid new b more c others same alike first second =
+    and_then moment images_since old mid new (CommitsTo b) (CommitsToEither c others) (CommitsToEither b more) first second (λ image commits. inl commits)
+    (λ image either. subst (λ (l : List ℕ). CommitsToEither l more image) same (subst (λ (l : List ℕ). CommitsToEither c l image) alike either))
+
+-- no call was made: each image commits to what is committed
+pub nothing_staged : {D : Type 0} (state : D → DiskState) (moment : D → ℕ) (images_since : D → ℕ → List ℕ → Type 0) (disk : D) (b more : List ℕ) → HasImages (state disk) (moment disk) (images_since disk)
+    → EachImage (state disk) (CommitsTo b) → LeavesOnly moment images_since disk disk (CommitsToEither b more)
+nothing_staged state moment images_since disk b more has each = started moment images_since disk (CommitsToEither b more) (λ image since. inl (each image (has.only_now image since)))
+
+-- the same bytes in front, up to the same place
+pub same_front : (end now : ℕ) (contents b : List ℕ) → now ≡ end → take end contents ≡ b → take now contents ≡ b
+same_front end now contents b same front = ap (λ (n : ℕ). take n contents) same ∙ front
+
+module _ {D : Type 0} (is_honest : D → Type 0) (state : D → DiskState) (old : RecorderState D) (file : GateState D) (chain : ChainState) (command : Command) (size : ℕ) (was : IsRecorder is_honest state old)
+    (good : old.file.failed ≡ false) (packets : AddsPackets) (some : AddsSome) (sized : length (command_bytes old.chain command) ≡ size) (is : IsCommand command) (kept : decision old.chain command ≡ Ok size)
+    (room : old.chain.length_of + size < 2 ^ 40) (accept : (links : Links) → old.chain ≡ chain_state_of links → chain ≡ chain_state_of (links_after links command)) (grows : chain.length_of ≡ old.chain.length_of + size)
+    (still : file.failed ≡ false) (before : is_honest file.disk → is_honest old.file.disk) (images : is_honest file.disk → EachImage (state file.disk) (CommitsTo (G.committed state file))) where
+  size_some : 0 < size
+  size_some = omega (arith, sized, command_long some old.chain command size was.chain is kept)
+
+  whole_chain : IsWholeChain chain
+  whole_chain = (was.chain.0 ++ command_bytes old.chain command, chain_grows packets was.chain.0 old.chain chain command size was.chain.1 is kept accept)
+
+  all_now : is_honest old.file.disk → HoldsChain ((committed state old ++ staged state old) ++ command_bytes old.chain command) chain
+  all_now honest = chain_grows packets (committed state old ++ staged state old) old.chain chain command size (was.all good honest) is kept accept
+
+  -- it waits
+  pub is_waiting : old.held + 1 < old.most → file.whole ≡ true → (is_honest old.file.disk → G.committed state file ≡ committed state old)
+      → (is_honest old.file.disk → G.staged_bytes state file ≡ staged state old ++ command_bytes old.chain command) → IsRecorder is_honest state (recorder_state file chain old.tail old.kept (old.held + 1) old.most)
+  is_waiting few whole same more = record {
+    few = few;
+    count = omega (arith, grows, size_some, was.count);
+    fits = omega (arith, room, size_some, was.count);
+    chain = whole_chain;
+    none = λ bad. absurd (never (sym still ∙ bad));
+    empty = λ _ none. absurd (omega (arith, none));
+    whole = λ _ _. whole;
+    all = λ _ now. subst (λ (l : List ℕ). HoldsChain l chain)
+        (append_assoc (committed state old) (staged state old) (command_bytes old.chain command) ∙ (λ i. sym (same (before now)) i ++ sym (more (before now)) i)) (all_now (before now));
+    images = λ _ now. images now;
+  }
+
+  -- it is kept
+  pub is_kept : file.staged ≡ 0 → (is_honest old.file.disk → G.committed state file ≡ committed state old ++ (staged state old ++ command_bytes old.chain command))
+      → 0 < old.most → IsRecorder is_honest state (recorder_state file chain old.tail (old.kept + (old.held + 1)) 0 old.most)
+  is_kept none grown few = record {
+    few = few;
+    count = omega (arith, grows, size_some, was.count);
+    fits = omega (arith, room, size_some, was.count);
+    chain = whole_chain;
+    none = λ bad. refl;
+    empty = λ _ _. none;
+    whole = λ _ some. absurd (omega (arith, some));
+    all = λ _ now. subst (λ (l : List ℕ). HoldsChain l chain)
+        (append_assoc (committed state old) (staged state old) (command_bytes old.chain command) ∙ sym (grown (before now)) ∙ sym (none_staged state file none)) (all_now (before now));
+    images = λ _ now. images now;
+  }

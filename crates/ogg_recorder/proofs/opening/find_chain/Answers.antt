@@ -1,0 +1,69 @@
+use Rattle.std.proofs.Common.{⊎_elim, ℕ, Some, List, take, sym, ◌∙◌, ap, subst}
+use Rattle.gate_file.specs.Found.{found_bytes}
+use Rattle.gate_file.specs.Gate.{EndsAt}
+use Rattle.link_chain.specs.Taking.{unfinished_stream}
+use Rattle.ogg_recorder.specs.Taking.{IsBrokenAt, IsUnfinished}
+use Rattle.ogg_recorder.proofs.Passed.{have_passed, front_short, told_chain, told_not_unfinished, told_not_chain, same_serial}
+use Rattle.ogg_recorder.proofs.opening.find_chain.Goals as goal
+
+pub returns-in-Err-find_with-clause-untouched : goal.returns-in-Err-find_with-clause-untouched
+returns-in-Err-find_with-clause-untouched g c = λ not_disk honest.
+    ⊎_elim (λ disk. absurd (not_disk disk)) (λ (offset, fault, is). (c.in-Err-find_with.ensures.damaged offset fault is honest).2) c.in-Err-find_with.ensures.faults
+
+pub returns-in-Ok-into_shape-clause-chain : goal.returns-in-Ok-into_shape-clause-chain
+returns-in-Ok-into_shape-clause-chain g c = λ honest.
+    let d = g.D.Disk in
+    let found = c.in-Ok-find_with.found.0 in
+    let here = c.in-Ok-find_with.ensures.honest.0 honest in
+    let laws = g.met.D.Disk.laws found.disk here in
+    let passed = have_passed c.new-taker.result c.find_with.new.visitor (found_bytes d.state found) c.new-taker.ensures.chain c.new-taker.ensures.broken
+    (front_short (d.state found.disk) found.end laws.contents_is_image laws.fits) (c.in-Ok-find_with.ensures.seen honest) in
+    let taken = passed.taken c.in-Ok-into_shape.ensures.whole.0 in
+    c.in-Ok-into_shape.ensures.each (found_bytes d.state found) taken.0 taken.1 taken.2
+
+pub returns-in-Err-into_shape-clause-broken : goal.returns-in-Err-into_shape-clause-broken
+returns-in-Err-into_shape-clause-broken g c = λ offset fault told honest.
+    let d = g.D.Disk in
+    let found = c.in-Ok-find_with.found.0 in
+    let here = c.in-Ok-find_with.ensures.honest.0 honest in
+    let laws = g.met.D.Disk.laws found.disk here in
+    let same = c.in-Ok-find_with.ensures.same honest in
+    let passed = have_passed c.new-taker.result c.find_with.new.visitor (found_bytes d.state found) c.new-taker.ensures.chain c.new-taker.ensures.broken
+    (front_short (d.state found.disk) found.end laws.contents_is_image laws.fits) (c.in-Ok-find_with.ensures.seen honest) in
+    ⊎_elim
+    (λ (place, at, is).
+    let here_is = told_chain place offset fault (sym is ∙ told) in
+    ⊎_elim
+    (λ broken. (
+      found.end,
+      subst (λ (l : List ℕ). EndsAt l found.end) same (c.end-end.ensures.ends here).ends,
+      subst (λ (l : List ℕ). IsBrokenAt (take found.end l) offset fault) same broken,
+    ))
+    (λ memory. absurd (here_is.1 memory))
+    (passed.broken offset fault (at ∙ ap Some here_is.0)))
+    (λ (serial, none, unfinished, is). absurd (told_not_chain serial offset fault (sym is ∙ told)))
+    c.in-Err-into_shape.ensures.faults
+
+pub returns-in-Err-into_shape-clause-unfinished : goal.returns-in-Err-into_shape-clause-unfinished
+returns-in-Err-into_shape-clause-unfinished g c = λ serial told honest.
+    let d = g.D.Disk in
+    let found = c.in-Ok-find_with.found.0 in
+    let here = c.in-Ok-find_with.ensures.honest.0 honest in
+    let laws = g.met.D.Disk.laws found.disk here in
+    let same = c.in-Ok-find_with.ensures.same honest in
+    let passed = have_passed c.new-taker.result c.find_with.new.visitor (found_bytes d.state found) c.new-taker.ensures.chain c.new-taker.ensures.broken
+    (front_short (d.state found.disk) found.end laws.contents_is_image laws.fits) (c.in-Ok-find_with.ensures.seen honest) in
+    ⊎_elim
+    (λ (place, at, is). absurd (told_not_unfinished place serial (sym is ∙ told)))
+    (λ (other, none, unfinished, is).
+    let taken = passed.taken none in (
+      found.end,
+      subst (λ (l : List ℕ). EndsAt l found.end) same (c.end-end.ensures.ends here).ends,
+      subst (λ (l : List ℕ). IsUnfinished (take found.end l) serial) same
+          (record {
+            links = taken.0;
+            are_links = taken.1;
+            told = ap unfinished_stream (sym taken.2) ∙ unfinished ∙ ap Some (same_serial other serial (sym is ∙ told));
+          }),
+    ))
+    c.in-Err-into_shape.ensures.faults

@@ -1,0 +1,5 @@
+pub mod Recovery
+pub mod RecoveryLaws
+pub mod Taking
+pub mod Recorder
+pub mod Answer

@@ -1,0 +1,28 @@
+//! A recorder: commands go into a file of links, and at whichever moment the machine stops, the file holds whole
+//! commands.
+//!
+//! `Recorder::open` finds the committed bytes of a file that a stop may have left, and takes their pages into a
+//! chain, in one pass. `command` answers by the rules. The pages of a command that isn't refused are staged one at a
+//! time, and one byte then decides whether they count, with those of the other commands of its group. Each call says
+//! what every image shows at each moment since it began, and that it is a step of the file's history.
+//!
+//! Start at `specs/Recovery.antt`, which says what is recovered from an image, and go on to `specs/Recorder.antt`,
+//! which says where a recorder stands in a history; `acknowledged_commands_survive` is what follows for every list of
+//! calls.
+#![tactic(auto)]
+
+mod commanding;
+mod laws;
+mod opening;
+mod recorder;
+mod staging;
+mod taking;
+
+pub use commanding::Outcome;
+pub use feed_codec::Kept;
+pub use gate_file::OpenFault;
+pub use laws::{Recorded, acknowledged_commands_survive, images_show_one_recording};
+pub use recorder::Recorder;
+
+#[cfg(test)]
+mod tests;
