@@ -1,0 +1,118 @@
+-- What is kept of an index while pages are added.
+use Rattle.std.proofs.Common.{◌≡◌, ◌≢◌, ℕ, suc, ◌+◌, ◌<◌, ◌≤◌, ◌^◌, Bool, true, false, List, [], ◌∷◌, ◌++◌, length, map, take, drop, refl, sym, ◌∙◌, ap, subst, arith, length-append, None}
+use Rattle.std.specs.Prelude.{nat_eq, not}
+use Rattle.std.specs.List.{list_any}
+use Rattle.std.proofs.Math.Seq.{take-append_seam}
+use Rattle.std.proofs.lemmas.List.{length-map}
+use Rattle.std.proofs.lemmas.Bool.{eqb-false}
+use Rattle.ogg_page.specs.Page.{Page, page_bytes, page_size}
+use Rattle.ogg_page.specs.PageLaws.{length-page_bytes}
+use Rattle.ogg_page.specs.LogicalStream.{is_first}
+use Rattle.link_chain.specs.declared.stream_state.StreamState.{StreamState}
+use Rattle.link_chain.specs.ChainState.{ChainState, chain_state_of, is_open}
+use Rattle.link_chain.specs.Progress.{change_at}
+use Rattle.link_chain.specs.Followed.{opened, joined, continued, entered, followed}
+use Rattle.link_chain.specs.Taking.{fault_of_page, links_with, later_rules}
+use Rattle.link_chain.specs.Laws.Rules.{NoneBroken}
+use Rattle.link_chain.specs.Laws.PageRules.{later_kept}
+use Rattle.link_chain.specs.Laws.PageState.{opened_state, joined_state, later_state, opens_few}
+use Rattle.link_index.specs.declared.info.StreamInfo.{StreamInfo}
+use Rattle.link_index.specs.declared.rows.Row.{Row}
+use Rattle.link_index.specs.Rows.{ArePacked, AreWithin, IsKept, last_count}
+
+-- all items were lent, so what they are now is given back
+pub given_back : {X : Type 0} (now was : List X) (n : ℕ) → length now ≡ n → take n (now ++ drop (length now) was) ≡ now
+given_back now was n e = ap (λ k. take k (now ++ drop (length now) was)) (sym e) ∙ take-append_seam now (drop (length now) was)
+
+-- what a chain that takes the page comes to
+abbrev pub Moves : ChainState → Page → ChainState → Type 0
+Moves chain page next = (links : List (List Page)) → chain ≡ chain_state_of links → next ≡ chain_state_of (links_with links page)
+
+module _ (chain next : ChainState) (page : Page) (links : List (List Page)) (is : chain ≡ chain_state_of links) (moves : Moves chain page next) where
+  pub next_opened : is_first page ≡ true → is_open chain ≡ false → next ≡ opened chain page
+  next_opened first closed = moves links is ∙ opened_state links page first (ap is_open (sym is) ∙ closed) ∙ ap (λ (c : ChainState). opened c page) (sym is)
+
+  pub next_joined : is_first page ≡ true → is_open chain ≡ true → fault_of_page chain page ≡ None → next ≡ joined chain page
+  next_joined first open' none =
+      moves links is ∙ joined_state links page first (ap is_open (sym is) ∙ open') (ap (λ (c : ChainState). fault_of_page c page) (sym is) ∙ none)
+      ∙ ap (λ (c : ChainState). joined c page) (sym is)
+
+  pub next_later : is_first page ≡ false → fault_of_page chain page ≡ None → next ≡ continued chain page
+  next_later later none =
+      moves links is ∙ later_state links page later (ap (λ (c : ChainState). fault_of_page c page) (sym is) ∙ none)
+      ∙ ap (λ (c : ChainState). continued c page) (sym is)
+
+-- the links and the size, whatever the page
+abbrev Within : ChainState → Page → ChainState → List Row → List StreamInfo → Type 0
+Within chain page next rows streams = AreWithin (chain.length_of + length (page_bytes page)) rows streams
+
+size_moved : (chain next : ChainState) (page : Page) → next.length_of ≡ chain.length_of + page_size page → chain.length_of + length (page_bytes page) ≡ next.length_of
+size_moved chain next page grows = omega (arith, grows, length-page_bytes page)
+
+pub kept_opened : (chain next : ChainState) (page : Page) (rows new_rows : List Row) (streams new_streams : List StreamInfo) → IsKept chain rows streams
+    → Moves chain page next → is_first page ≡ true → is_open chain ≡ false → fault_of_page chain page ≡ None
+    → ArePacked 0 new_rows (length new_streams) → length new_rows ≡ length rows + 1 → last_count new_rows ≡ 1
+    → ((total : ℕ) → AreWithin total rows streams → AreWithin (total + length (page_bytes page)) new_rows new_streams) → IsKept next new_rows new_streams
+kept_opened chain next page rows new_rows streams new_streams k moves first closed none packed count last within =
+    let is : next ≡ opened chain page = next_opened chain next page k.links k.chain_is moves first closed in
+    record {
+      links = links_with k.links page;
+      chain_is = moves k.links k.chain_is;
+      packed = packed;
+      count = count ∙ ap (λ n. n + 1) k.count ∙ sym (ap (λ (c : ChainState). c.links) is);
+      few = omega (arith, count, k.count, opens_few chain page first closed none);
+      last = last ∙ sym (ap (λ (c : ChainState). length c.streams) is);
+      within = subst (λ n. AreWithin n new_rows new_streams) (size_moved chain next page (ap (λ (c : ChainState). c.length_of) is)) (within chain.length_of k.within);
+    }
+
+pub kept_joined : (chain next : ChainState) (page : Page) (rows new_rows : List Row) (streams new_streams : List StreamInfo) → IsKept chain rows streams
+    → Moves chain page next → is_first page ≡ true → is_open chain ≡ true → fault_of_page chain page ≡ None
+    → ArePacked 0 new_rows (length new_streams) → length new_rows ≡ length rows → last_count new_rows ≡ last_count rows + 1
+    → ((total : ℕ) → AreWithin total rows streams → AreWithin (total + length (page_bytes page)) new_rows new_streams) → IsKept next new_rows new_streams
+kept_joined chain next page rows new_rows streams new_streams k moves first open' none packed count last within =
+    let is : next ≡ joined chain page = next_joined chain next page k.links k.chain_is moves first open' none in
+    record {
+      links = links_with k.links page;
+      chain_is = moves k.links k.chain_is;
+      packed = packed;
+      count = count ∙ k.count ∙ sym (ap (λ (c : ChainState). c.links) is);
+      few = omega (arith, count, k.few);
+      last = last ∙ ap (λ n. n + 1) k.last ∙ sym (length-append chain.streams (entered page ∷ [])) ∙ sym (ap (λ (c : ChainState). length c.streams) is);
+      within = subst (λ n. AreWithin n new_rows new_streams) (size_moved chain next page (ap (λ (c : ChainState). c.length_of) is)) (within chain.length_of k.within);
+    }
+
+pub kept_later : (chain next : ChainState) (page : Page) (rows new_rows : List Row) (streams new_streams : List StreamInfo) → IsKept chain rows streams
+    → Moves chain page next → is_first page ≡ false → fault_of_page chain page ≡ None
+    → ArePacked 0 new_rows (length new_streams) → length new_rows ≡ length rows → last_count new_rows ≡ last_count rows
+    → ((total : ℕ) → AreWithin total rows streams → AreWithin (total + length (page_bytes page)) new_rows new_streams) → IsKept next new_rows new_streams
+kept_later chain next page rows new_rows streams new_streams k moves later none packed count last within =
+    let is : next ≡ continued chain page = next_later chain next page k.links k.chain_is moves later none in
+    record {
+      links = links_with k.links page;
+      chain_is = moves k.links k.chain_is;
+      packed = packed;
+      count = count ∙ k.count ∙ sym (ap (λ (c : ChainState). c.links) is);
+      few = omega (arith, count, k.few);
+      last = last ∙ k.last ∙ sym (length-map chain.streams (change_at page.serial (followed page))) ∙ sym (ap (λ (c : ChainState). length c.streams) is);
+      within = subst (λ n. AreWithin n new_rows new_streams) (size_moved chain next page (ap (λ (c : ChainState). c.length_of) is)) (within chain.length_of k.within);
+    }
+
+-- ---- there is a last link
+open_streams : (streams : List StreamState) → list_any (λ (s : StreamState). not s.ended) streams ≡ true → 0 < length streams
+open_streams [] e = cc
+open_streams (s ∷ streams) e = omega arith
+
+counted_rows : (rows : List Row) → 0 < last_count rows → 0 < length rows
+counted_rows [] some = some
+counted_rows (row ∷ rows) some = omega arith
+
+pub some_joined : (chain : ChainState) (rows : List Row) (streams : List StreamInfo) → IsKept chain rows streams → is_open chain ≡ true → 0 < length rows
+some_joined chain rows streams k open' = counted_rows rows (omega (arith, k.last, open_streams chain.streams open'))
+
+pub some_later : (chain : ChainState) (page : Page) (rows : List Row) (streams : List StreamInfo) → IsKept chain rows streams → is_first page ≡ false → fault_of_page chain page ≡ None → 0 < length rows
+some_later chain page rows streams k later none =
+    let kept : NoneBroken (later_rules chain page) = later_kept chain page later none in
+    omega (arith, k.count, some chain.links (eqb-false chain.links 0 kept.0))
+  where
+    some : (n : ℕ) → n ≢ 0 → 0 < n
+    some n ne = omega (arith, ne)

@@ -1,0 +1,6 @@
+mod Growing
+mod Packing
+mod Keeping
+mod Walking
+mod Places
+mod Complete
