@@ -2,7 +2,9 @@
 # Each fault's line on standard error and its status 1. What stands before it is written and answered.
 . "$(dirname "$0")/common.bash"
 
-hello=$top/examples/hello.feed
+# the example without its end
+hello=$work/hello.feed
+head -c 80 "$top/examples/hello.feed" >"$hello"
 pages "02 0 1 0 3 abc" "00 5 1 1 5 hello" >"$work/hello.pages"
 
 # faults NAME LINE: the feed in $work/feed, put behind the two commands of the example, ends the run with this line.

@@ -20,11 +20,11 @@ sleep 0.3
 check "half a command: nothing is written" [ ! -s "$work/out" ]
 head -c 52 "$top/examples/hello.feed" | tail -c 22 >&3
 replies "begin" "kept 1 31" 31
-tail -c 28 "$top/examples/hello.feed" >&3
+head -c 80 "$top/examples/hello.feed" | tail -c 28 >&3
 replies "put" "kept 2 64" 64
 echo 'put 1 4 x' | feed >&3
 replies "put back" "refused 15 PositionBack" 64
-echo 'end 1' | feed >&3
+tail -c 9 "$top/examples/hello.feed" >&3
 replies "end" "kept 3 91" 91
 exec 3>&-
 wait "$running"

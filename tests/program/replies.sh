@@ -18,19 +18,18 @@ muxes() {
 : >"$work/feed"
 muxes "no feed" ""
 
-# The example is these bytes, and the script makes them.
+# The example is the bytes of the first two commands and of the end, and the script makes them.
 bytes 01 2f000000 00 0100 01000000 0100 03000000 616263 0000 0000000000000000 0000000000000000 0000000000000000 \
     00000000 00 02 17000000 0100 01000000 0500000000000000 05000000 68656c6c6f >"$work/feed"
-check "hello.feed" cmp "$work/feed" "$top/examples/hello.feed"
-feed <"$top/examples/hello.txt" >"$work/made"
-check "hello.txt" cmp "$work/feed" "$work/made"
 bytes 4f676753 00 02 0000000000000000 01000000 00000000 >"$work/first"
 muxes "begin and put" 'kept 1 31\nkept 2 64\n' "02 0 1 0 3 abc" "00 5 1 1 5 hello"
 run mux <"$work/feed"
 check "the first page's first 22 bytes" cmp -n 22 "$work/out" "$work/first"
 
 bytes 03 04000000 01000000 >>"$work/feed"
-check "89 bytes" [ "$(wc -c <"$work/feed")" -eq 89 ]
+check "hello.feed" cmp "$work/feed" "$top/examples/hello.feed"
+feed <"$top/examples/hello.txt" >"$work/made"
+check "hello.txt" cmp "$work/feed" "$work/made"
 muxes "begin, put, end" 'kept 1 31\nkept 2 64\nkept 3 91\n' "02 0 1 0 3 abc" "00 5 1 1 5 hello" "04 5 1 2 - -"
 
 # Positions go up to 2^63 - 1 and never back.
@@ -108,7 +107,7 @@ check "message fields: text" is_text "$work/fields" 'Content-Type: audio/vorbis\
 feed <"$top/examples/hello.txt" >"$work/one"
 { echo "version 2"; cat "$top/examples/hello.txt"; } | feed >"$work/feed"
 check "hello in version 2: 6 bytes and 2 more" [ "$(wc -c <"$work/feed")" -eq $(($(wc -c <"$work/one") + 8)) ]
-muxes "hello in version 2" 'kept 1 31\nkept 2 64\n' "02 0 1 0 3 abc" "00 5 1 1 5 hello"
+muxes "hello in version 2" 'kept 1 31\nkept 2 64\nkept 3 91\n' "02 0 1 0 3 abc" "00 5 1 1 5 hello" "04 5 1 2 - -"
 
 # The longest packet has 8,388,608 bytes, in 130 pages.
 feed <<'END' >"$work/feed"

@@ -7,9 +7,13 @@ use crate::records::Record::{
 };
 use crate::records::{Described, Field, Packet, Record, append};
 use crate::taking::take_pages;
-use feed_codec::{FeedFault, RunFault};
+use chain_rules::{Command, Shape};
+use feed_codec::{Feed, FeedFault, RunFault};
 use multiplexer::mux;
+use ogg_page::PageBuffer;
 use packet_view::Packets;
+use std::alloc::Global;
+use std::process::Abort;
 use std::test::Fail;
 
 /// A begin of the stream with serial 1 and the header `abc`.
@@ -408,6 +412,11 @@ const EXAMPLES: [Example; 22] = [
     },
 ];
 
+/// Whether these bytes stand in the pages there.
+fn stands(pages: &[u8], at: usize, bytes: &[u8]) -> bool {
+    pages.get(at..).is_some_and(|rest| rest.starts_with(bytes))
+}
+
 #[test]
 fn each_command_is_answered_and_its_pages_are_written(rt: HostRuntime) -> Result<(), Fail> {
     for example in &EXAMPLES {
@@ -431,8 +440,61 @@ fn each_command_is_answered_and_its_pages_are_written(rt: HostRuntime) -> Result
         assert_eq!(rt; (taken.end, taken.fault), (example.end, None));
         assert_eq!(rt; taken.shape.unfinished(), None);
         for (at, bytes) in example.found {
-            let stands = pages.get(*at..).is_some_and(|rest| rest.starts_with(bytes));
-            assert!(rt; stands, "{bytes:?} at {at}");
+            assert!(rt; stands(pages.as_slice(), *at, bytes), "{bytes:?} at {at}");
+        }
+    }
+    Ok(())
+}
+
+/// Appends the pages of a command, made one at a time, if it isn't refused, and adds it to the chain.
+fn add_command(
+    alloc: Global,
+    shape: &mut Shape,
+    command: &Command,
+    buffer: &mut PageBuffer,
+    made: &mut Vec<u8>,
+) -> Result<(), Fail> {
+    if shape.check(command).is_err() {
+        return Ok(());
+    }
+    shape.prepare(command)?;
+    let mut whole = Vec::new(alloc);
+    whole.extend_from_slice(made.as_slice())?;
+    shape.lay(command, &mut whole)?;
+    let mut pages = shape.pages(alloc, command)?;
+    for left in (0..pages.left()).rev() {
+        if !pages.next(buffer) || pages.left() != left {
+            return Err("a page isn't made, or isn't counted".into());
+        }
+        made.extend_from_slice(buffer.bytes())?;
+    }
+    if pages.next(buffer) || made.as_slice() != whole.as_slice() {
+        return Err("the pages made aren't those appended".into());
+    }
+    shape.accept(command);
+    Ok(())
+}
+
+#[test]
+fn the_pages_made_one_at_a_time_are_those_appended(rt: HostRuntime) -> Result<(), Fail> {
+    let mut buffer = PageBuffer::new(rt.alloc())?;
+    for example in &EXAMPLES {
+        let mut feed = Vec::new(rt.alloc());
+        for (record, _) in example.turns {
+            append(*record, &mut feed)?;
+        }
+        let mut records = Feed::new(rt.alloc());
+        let mut rest = feed.as_slice();
+        let mut shape = Shape::new(rt.alloc());
+        let mut made = Vec::new(rt.alloc());
+        for _ in example.turns {
+            if let Some(feed_codec::Record::Command(command)) = records.next(&mut rest)? {
+                add_command(rt.alloc(), &mut shape, &command, &mut buffer, &mut made)?;
+            }
+        }
+        assert_eq!(rt; made.len() as u64, example.end);
+        for (at, bytes) in example.found {
+            assert!(rt; stands(made.as_slice(), *at, bytes), "{bytes:?} at {at}");
         }
     }
     Ok(())
@@ -524,6 +586,30 @@ const READ_BACK: [(Record, &[(usize, usize, Option<u64>)]); 4] = [
     ),
 ];
 
+/// The packets of stream 1 after `abc`: each one's length, how many parts it has, and its position.
+fn are_read_back(
+    rt: &impl Abort,
+    pages: &[u8],
+    wanted: &[(usize, usize, Option<u64>)],
+) -> Result<(), Fail> {
+    let mut packets = Packets::of(pages, 1);
+    let header = packets.next()?.ok_or("no header")?;
+    assert_eq!(rt; header.as_slice(), Some(b"abc".as_slice()));
+    for (length, parts, position) in wanted {
+        let packet = packets.next()?.ok_or("a packet is missing")?;
+        let mut found = 0usize;
+        for _ in packet.parts() {
+            found = found.saturating_add(1);
+        }
+        assert_eq!(rt;
+            (packet.len(), found, packet.position()),
+            (*length, *parts, *position)
+        );
+    }
+    assert!(rt; packets.next()?.is_none(), "one packet too many");
+    Ok(())
+}
+
 #[test]
 fn what_was_put_is_read_back(rt: HostRuntime) -> Result<(), Fail> {
     for (record, wanted) in READ_BACK {
@@ -533,21 +619,7 @@ fn what_was_put_is_read_back(rt: HostRuntime) -> Result<(), Fail> {
         let mut pages = Vec::new(rt.alloc());
         let mut replies = Vec::new(rt.alloc());
         mux(rt.alloc(), &mut feed.as_slice(), &mut pages, &mut replies)?;
-        let mut packets = Packets::of(pages.as_slice(), 1);
-        let header = packets.next()?.ok_or("no header")?;
-        assert_eq!(rt; header.as_slice(), Some(b"abc".as_slice()));
-        for (length, parts, position) in wanted {
-            let packet = packets.next()?.ok_or("a packet is missing")?;
-            let mut found = 0usize;
-            for _ in packet.parts() {
-                found = found.saturating_add(1);
-            }
-            assert_eq!(rt;
-                (packet.len(), found, packet.position()),
-                (*length, *parts, *position)
-            );
-        }
-        assert!(rt; packets.next()?.is_none(), "one packet too many");
+        are_read_back(&rt, pages.as_slice(), wanted)?;
         let mut others = Packets::of(pages.as_slice(), 2);
         assert!(rt; others.next()?.is_none(), "a packet of another stream");
     }
