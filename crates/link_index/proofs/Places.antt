@@ -105,11 +105,10 @@ pub tells_place : (bytes : List ℕ) (links : List (List Page)) (number : ℕ) (
     → (entry : LinkEntry) × (slice_get (index_of links) number ≡ Some entry) × (take entry.info.length (drop entry.info.start bytes) ≡ bytes_of_pages link)
 tells_place bytes links number link l e =
     let there : At links number link = at links number link e in
-    let start : ℕ = 0 + length (flat_map bytes_of_pages there.front) in
-    (
+    let start : ℕ = 0 + length (flat_map bytes_of_pages there.front) in (
       link_entry start link,
       there.entry 0,
       ap (λ (b : List ℕ). take (length (bytes_of_pages link)) (drop start b)) (l.spelled ∙ ap (flat_map bytes_of_pages) there.is)
-      ∙ ap (λ n. take (length (bytes_of_pages link)) (drop n (flat_map bytes_of_pages (there.front ++ link ∷ there.rest)))) (omega arith)
-      ∙ behind_links there.front link there.rest,
+          ∙ ap (λ n. take (length (bytes_of_pages link)) (drop n (flat_map bytes_of_pages (there.front ++ link ∷ there.rest)))) (omega arith)
+          ∙ behind_links there.front link there.rest,
     )

@@ -178,7 +178,12 @@ impl Index {
         ensures err { OnErr result (out.new.items ≡ out.old.items) }
         ensures full { OnErr result (vec_capacity out.old < vec_len out.old + length (listing self.now.chain.chain.length_of self.now.entries)) }
     {
-        append_listing(self.chain.len(), self.rows.as_slice(), self.streams.as_slice(), out)
+        append_listing(
+            self.chain.len(),
+            self.rows.as_slice(),
+            self.streams.as_slice(),
+            out,
+        )
     }
 }
 

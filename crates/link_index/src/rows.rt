@@ -44,12 +44,7 @@ pub fn streams_of<'a>(row: &Row, streams: &'a [StreamInfo]) -> &'a [StreamInfo]
 }
 
 /// Adds a link that begins with this page, at this offset.
-pub fn open_link(
-    rows: &mut Vec<Row>,
-    streams: &mut Vec<StreamInfo>,
-    start: u64,
-    page: &Page<'_>,
-)
+pub fn open_link(rows: &mut Vec<Row>, streams: &mut Vec<StreamInfo>, start: u64, page: &Page<'_>)
     requires packed { ArePacked 0 rows.old.items (length streams.old.items) }
     requires room { vec_len rows.old < vec_capacity rows.old }
     requires stream_room { vec_len streams.old < vec_capacity streams.old }

@@ -36,7 +36,10 @@ const CHAINED: [PageSpec; 6] = [
 /// Pages, and the listing of the file that they are.
 const LISTINGS: [(&[PageSpec], &str); 4] = [
     (&[], "committed 0\n"),
-    (&ONE_STREAM, "committed 91\nlink 0 0 91 1\nstream 1 91 3 ended\n"),
+    (
+        &ONE_STREAM,
+        "committed 91\nlink 0 0 91 1\nstream 1 91 3 ended\n",
+    ),
     (
         &TOLD,
         "committed 259\nlink 0 0 259 2\nstream 9 228 3 ended\nstream 1 31 1 open\n",
@@ -108,7 +111,10 @@ fn pieces_give_the_listing_of_the_whole(rt: HostRuntime) -> Result<(), Fail> {
         add_small(&mut index, piece)?;
     }
     let text = listing_of(rt.alloc(), &index)?;
-    assert_eq!(rt; text.as_slice(), b"committed 91\nlink 0 0 91 1\nstream 1 91 3 ended\n".as_slice());
+    assert_eq!(rt;
+        text.as_slice(),
+        b"committed 91\nlink 0 0 91 1\nstream 1 91 3 ended\n".as_slice()
+    );
     Ok(())
 }
 
@@ -149,6 +155,9 @@ fn a_fault_leaves_the_pages_before_it(rt: HostRuntime) -> Result<(), Fail> {
     let fault = add_small(&mut index, skipped.as_slice());
     assert_eq!(rt; fault, Err(IndexFault::Chain(31, ChainFault::Sequence)));
     let text = listing_of(rt.alloc(), &index)?;
-    assert_eq!(rt; text.as_slice(), b"committed 31\nlink 0 0 31 1\nstream 1 31 1 open\n".as_slice());
+    assert_eq!(rt;
+        text.as_slice(),
+        b"committed 31\nlink 0 0 31 1\nstream 1 31 1 open\n".as_slice()
+    );
     Ok(())
 }

@@ -17,8 +17,7 @@ split_at_mut-own-requires c =
 
 pub count_page-requires : goal.count_page-requires
 count_page-requires c =
-    let total : ℕ = c.requires.within.0 in
-    (
+    let total : ℕ = c.requires.within.0 in (
       total,
       record {
         lengths = tt;

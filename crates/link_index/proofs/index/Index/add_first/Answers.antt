@@ -31,7 +31,7 @@ pub join_link-requires-clause-within : goal.join_link-requires-clause-within
 join_link-requires-clause-within c = (
   c.self.inside.chain.chain.length_of,
   subst (λ (s : List StreamInfo). AreWithin c.self.inside.chain.chain.length_of c.reserve.new.self.items s) (sym c.reserve-2.ensures.items)
-  (subst (λ (r : List Row). AreWithin c.self.inside.chain.chain.length_of r c.self.inside.streams.items) (sym c.reserve.ensures.items) c.self.invariant.within),
+      (subst (λ (r : List Row). AreWithin c.self.inside.chain.chain.length_of r c.self.inside.streams.items) (sym c.reserve.ensures.items) c.self.invariant.within),
   omega (arith, c.requires.fits, ap (λ (s : IndexState). s.chain.chain.length_of) c.self.view_is, length-page_bytes c.args.page.now),
 )
 

@@ -22,16 +22,18 @@ streams_of-requires c =
     let row : Row = c.in_ok-row.row.now in
     let rows : List Row = c.self.inside.rows.items in
     let there : slice_get rows c.args.number ≡ Some row = row_there rows c.as_slice.result.now c.args.number row c.as_slice.ensures.value c.in_ok-row.ensures.lookup.0 c.in_ok-row.ensures.lookup.1 in
-    omega (arith, at_place (λ (r : Row). r.first + r.count ≤ length c.self.inside.streams.items) rows c.args.number row there (packed_inside rows 0 (length c.self.inside.streams.items) c.self.invariant.packed),
-    ap length c.as_slice-2.ensures.value)
+    omega (
+      arith,
+      at_place (λ (r : Row). r.first + r.count ≤ length c.self.inside.streams.items) rows c.args.number row there (packed_inside rows 0 (length c.self.inside.streams.items) c.self.invariant.packed),
+      ap length c.as_slice-2.ensures.value,
+    )
 
 pub returns-clause-streams : goal.returns-clause-streams
 returns-clause-streams c =
     let row : Row = c.in_ok-row.row.now in
     let rows : List Row = c.self.inside.rows.items in
     let streams : List StreamInfo = c.self.inside.streams.items in
-    let there : slice_get rows c.args.number ≡ Some row = row_there rows c.as_slice.result.now c.args.number row c.as_slice.ensures.value c.in_ok-row.ensures.lookup.0 c.in_ok-row.ensures.lookup.1 in
-    (
+    let there : slice_get rows c.args.number ≡ Some row = row_there rows c.as_slice.result.now c.args.number row c.as_slice.ensures.value c.in_ok-row.ensures.lookup.0 c.in_ok-row.ensures.lookup.1 in (
       entry_of streams row,
       ap (λ (s : IndexState). slice_get s.entries c.args.number) (sym c.self.view_is) ∙ slice_get-map (entry_of streams) rows c.args.number ∙ ap (option_map (entry_of streams)) there,
       c.streams_of.ensures ∙ ap (λ (s : List StreamInfo). (entry_of s row).streams) c.as_slice-2.ensures.value,
