@@ -5,4 +5,3 @@ pub mod IndexFault
 pub mod Listing
 pub mod Pieces
 pub mod Rows
-pub mod Line

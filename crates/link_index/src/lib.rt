@@ -13,7 +13,6 @@ mod fault;
 mod index;
 mod info;
 mod laws;
-mod line;
 mod listing;
 mod rows;
 

@@ -6,8 +6,8 @@ ghost use Rattle.link_index.specs.Rows.{ArePacked, entry_of, entries_of};
 
 use crate::Memory;
 use crate::info::{LinkInfo, StreamInfo};
-use crate::line::Line;
 use crate::rows::{Row, streams_of};
+use text_line::Line;
 
 /// Appends the listing of a file whose committed bytes end here. After `Memory` the vector is unchanged.
 pub fn append_listing(

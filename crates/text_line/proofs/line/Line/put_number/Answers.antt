@@ -1,8 +1,8 @@
 use Rattle.std.proofs.Common.{◌≡◌, ◌≤◌, ℕ, length, ap, arith}
 use Rattle.std.specs.Fmt.{decimal}
 use Rattle.std.proofs.lemmas.Fmt.{length-decimal-le}
-use Rattle.link_index.specs.Line.{LineState}
-use Rattle.link_index.proofs.line.Line.put_number.Goals as goal
+use Rattle.text_line.specs.Line.{LineState}
+use Rattle.text_line.proofs.line.Line.put_number.Goals as goal
 
 pub write_digits-self-inside-requires : goal.write_digits-self-inside-requires
 write_digits-self-inside-requires c =

@@ -1,11 +1,11 @@
-//! A line of text, put together from its end.
+//! A line of text and the room in front of it.
 ghost use Rattle.std.specs.Prelude.{◌≡◌, ◌≤◌, ◌+◌, ◌++◌, ◌∷◌, [], length, drop, decimal};
 
 use itoa::write_digits;
 use std::marker::Model;
 
-/// How long a line is at most: a word, four numbers of 20 digits, and what stands between them.
-const LONGEST: usize = 96;
+/// How long a line is at most, in bytes: a word, four numbers of 20 digits, and what stands between them.
+const LONGEST: usize = 128;
 
 /// A line of text, put together from its end. It takes no memory.
 #[derive(Drop)]
@@ -16,20 +16,20 @@ pub struct Line {
 
 impl Model for Line {
     ghost use Rattle.std.specs.Prelude.{◌≤◌, drop};
-    ghost use Rattle.link_index.specs.Line.{LineState};
+    ghost use Rattle.text_line.specs.Line.{LineState};
 
     ghost Value = { LineState };
 
     ghost view = { λ l. record { text = drop l.start l.bytes; room = l.start } };
 
-    ghost invariant = { λ l. l.start ≤ 96 };
+    ghost invariant = { λ l. l.start ≤ 128 };
 }
 
 impl Line {
     /// A line feed alone.
     pub fn new() -> Line
         ensures text { result.text ≡ 10 ∷ [] }
-        ensures room { result.room ≡ 95 }
+        ensures room { result.room ≡ 127 }
     {
         let mut bytes = [0; LONGEST];
         bytes[LONGEST - 1] = b'\n';
