@@ -52,6 +52,7 @@ came() {
 
 feed() { python3 "$top/examples/feed.py"; }
 pages() { python3 "$here/pages.py" "$@"; }
+records() { python3 "$here/records.py" "$1"; }
 bytes() { printf '%b' "$(printf '%s' "$*" | tr -d ' \n' | sed 's/../\\x&/g')"; }
 
 finish() {

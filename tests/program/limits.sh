@@ -2,21 +2,8 @@
 # The most streams of a link, and the most links of a file.
 . "$(dirname "$0")/common.bash"
 
-# records: commands from lines of Python, so that a feed of many records takes no time to write.
-records() {
-    python3 -c '
-import struct, sys
-def record(kind, payload): return struct.pack("<BI", kind, len(payload)) + payload
-def begin(serials): return record(1, b"\0" + struct.pack("<H", len(serials)) + b"".join(
-    struct.pack("<IHI", serial, 1, 3) + b"abc" + bytes(31) for serial in serials))
-def put(entries): return record(2, struct.pack("<H", len(entries)) + b"".join(
-    struct.pack("<IQI", serial, position, len(packet)) + packet for serial, position, packet in entries))
-def end(serial): return record(3, struct.pack("<I", serial))
-sys.stdout.buffer.write(b"".join('"$1"'))'
-}
-
 # 64 streams, a packet for each, and their ends: 64 pages of 31, 64 of 28 + 5 and 64 of 27 bytes.
-records '[begin(range(1, 65)), put([(s, s, b"hello") for s in range(1, 65)])] + [end(s) for s in range(1, 65)] + [begin(range(65, 130))]' \
+records 'begin(range(1, 65)), put([(s, s, b"hello") for s in range(1, 65)]), *map(end, range(1, 65)), begin(range(65, 130))' \
     >"$work/feed"
 run mux <"$work/feed"
 check "64 streams: status" [ "$status" -eq 0 ]
@@ -26,7 +13,7 @@ check "65 streams" [ "$(tail -n 1 "$work/err")" = "refused 5 TooMany" ]
 check "64 streams: the last kept" [ "$(grep '^kept ' "$work/err" | tail -n 1)" = "kept 66 $((64 * 31 + 64 * 33 + 64 * 27))" ]
 
 # 65,536 links of a stream each, of 31 + 27 bytes, and one more; each serial stays taken.
-records '[begin([n]) + end(n) for n in range(1, 65537)] + [begin([65537]), begin([7])]' >"$work/feed"
+records '*(begin([n]) + end(n) for n in range(1, 65537)), begin([65537]), begin([7])' >"$work/feed"
 run mux --check <"$work/feed"
 check "65,536 links: status" [ "$status" -eq 0 ]
 check "65,536 links: each is kept" [ "$(grep -c '^kept ' "$work/out")" -eq 131072 ]
