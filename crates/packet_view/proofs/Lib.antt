@@ -6,3 +6,6 @@ pub mod PageHolds
 pub mod AllHeld
 pub mod Placed
 pub mod Examples
+pub mod Cuts
+pub mod Reaches
+pub mod Steps

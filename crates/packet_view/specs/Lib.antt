@@ -8,3 +8,7 @@ pub mod Giving
 pub mod Reading
 pub mod Whole
 pub mod Held
+pub mod StreamFault
+pub mod StreamParts
+pub mod Stream
+pub mod Cut

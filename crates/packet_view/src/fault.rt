@@ -1,6 +1,7 @@
-//! What can be wrong with the pages of a stream.
+//! What can be wrong with the pages of a stream, and with their source.
 ghost use Rattle.std.specs.Prelude.{◌≡◌};
 ghost use Rattle.packet_view.specs.ViewFault.{code_of, name_of};
+ghost use Rattle.packet_view.specs.StreamFault.{code_of as stream_code_of, name_of as stream_name_of};
 
 use ogg_page::PageFault;
 use thiserror::Error;
@@ -51,6 +52,39 @@ impl ViewFault {
             ViewFault::Continued(_) => "Continued",
             ViewFault::AfterEos(_) => "AfterEos",
             ViewFault::Unfinished => "Unfinished",
+        }
+    }
+}
+
+/// Why a stream over a window gives no further part.
+#[derive(Clone, Copy, Debug, PartialEq, Eq, Error)]
+pub enum StreamFault {
+    /// The source couldn't be read.
+    #[error("the source can't be read")]
+    Source,
+    /// The stream gives no further packet, for this reason. An offset is one in the source.
+    #[error("{0}")]
+    View(ViewFault),
+}
+
+impl StreamFault {
+    /// The fault's number.
+    pub fn code(self) -> u8
+        ensures { result ≡ stream_code_of self }
+    {
+        match self {
+            StreamFault::Source => 1,
+            StreamFault::View(_) => 2,
+        }
+    }
+
+    /// The fault's name.
+    pub fn name(self) -> &'static str
+        ensures { result.now ≡ stream_name_of self }
+    {
+        match self {
+            StreamFault::Source => "Source",
+            StreamFault::View(_) => "View",
         }
     }
 }

@@ -14,7 +14,7 @@ pub(crate) fn ends_packet(lacing: &[u8]) -> bool
 }
 
 /// The number of lacing values before the first that ends a packet.
-fn full_values(lacing: &[u8]) -> usize
+pub(crate) fn full_values(lacing: &[u8]) -> usize
     ensures value { result ≡ prefix_len (λ value. nat_eq value 255) lacing.now }
     ensures bound { result ≤ length lacing.now }
 {

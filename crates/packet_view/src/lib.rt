@@ -7,6 +7,7 @@
 //! Start at `specs/Packets.antt`, which says which packets bytes hold.
 #![tactic(auto)]
 
+mod cut;
 mod fault;
 mod finding;
 mod front;
@@ -14,16 +15,21 @@ mod joining;
 mod laws;
 mod packet;
 mod packets;
+mod part;
 mod parts;
 mod place;
+mod reaching;
+mod stream;
 mod unread;
 mod walking;
 
-pub use fault::ViewFault;
+pub use fault::{StreamFault, ViewFault};
 pub use laws::{packets_are_held, parts_are_in_order};
 pub use packet::Packet;
 pub use packets::Packets;
+pub use part::Part;
 pub use parts::Parts;
+pub use stream::Stream;
 
 #[cfg(test)]
 mod tests;

@@ -42,7 +42,7 @@ pub(crate) fn next_page<'a>(
 }
 
 /// The first thing that is wrong with a page of the stream at this offset.
-fn misplaced(behind: Behind, unfinished: bool, offset: u64, page: &Page<'_>) -> Option<ViewFault>
+pub(crate) fn misplaced(behind: Behind, unfinished: bool, offset: u64, page: &Page<'_>) -> Option<ViewFault>
     ensures { result ≡ misplaced behind unfinished offset page.now }
 {
     if behind.ended {
@@ -92,7 +92,7 @@ fn is_other_number(number: Option<u64>, sequence: u32) -> bool
 }
 
 /// The page's position, where a packet ends in the page.
-fn position_in(page: &Page<'_>) -> Option<u64>
+pub(crate) fn position_in(page: &Page<'_>) -> Option<u64>
     ensures { result ≡ position_in page.now }
 {
     let position = page.position();
