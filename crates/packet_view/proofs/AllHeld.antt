@@ -135,7 +135,7 @@ behind_pushed before page last =
 -- ---- all that is found
 
 -- what is found is pages
-abbrev AllFound : List FoundPage → Type 0
+abbrev pub AllFound : List FoundPage → Type 0
 AllFound [] = Unit {0}
 AllFound (Ok at ∷ found) = IsPage at.1 × AllFound found
 AllFound (Err fault ∷ found) = Unit {0}
@@ -269,12 +269,14 @@ held_from (Ok at ∷ found) serial behind parts earlier before segments all hold
     (λ left h p s. held_from found serial (behind_page at.1) (behind_it parts at) (earlier ++ at.1 ∷ []) (before ++ texts (ended_in parts at)) left all.1 h p s)
     (misplaced behind (is_some_part parts) at.0 at.1) refl)
 
+pub all_are_pages : (offset : ℕ) (bytes : List ℕ) → AreBytes bytes → AllFound (found_in offset bytes)
+all_are_pages offset bytes are =
+    let found : FoundFrom (record { offset = offset; bytes = bytes }) (found_in offset bytes) = all_found (length bytes) offset bytes are (omega arith) in
+    subst (λ (l : List FoundPage). AllFound l) (sym found.all)
+    (located_found offset found.pages (fault_at (offset + length (bytes_of_pages found.pages)) found.rest) found.begins.are_pages (fault_found (offset + length (bytes_of_pages found.pages)) found.rest))
+
 pub all_held : (serial : ℕ) (bytes : List ℕ) → AreBytes bytes → AreHeld serial (found_in 0 bytes) (packets_of serial bytes)
 all_held serial bytes are =
-    let found : FoundFrom (record { offset = 0; bytes = bytes }) (found_in 0 bytes) = all_found (length bytes) 0 bytes are (omega arith) in
-    let all : AllFound (found_in 0 bytes) =
-    subst (λ (l : List FoundPage). AllFound l) (sym found.all)
-    (located_found 0 found.pages (fault_at (0 + length (bytes_of_pages found.pages)) found.rest) found.begins.are_pages (fault_found (0 + length (bytes_of_pages found.pages)) found.rest)) in
     let h : HeldFrom serial [] [] (found_in 0 bytes) (packets_of serial bytes) =
-    held_from (found_in 0 bytes) serial (record { number = None; ended = false }) [] [] [] 0 all (record { lacing = refl; bodies = refl; rest_size = refl }) refl refl in
+    held_from (found_in 0 bytes) serial (record { number = None; ended = false }) [] [] [] 0 (all_are_pages 0 bytes are) (record { lacing = refl; bodies = refl; rest_size = refl }) refl refl in
     record { good = h.good; rest = h.rest; split = h.split; segments = h.segments; unfinished = h.unfinished; holds = h.holds; fit = h.fit; fault = h.fault }

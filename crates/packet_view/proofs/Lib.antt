@@ -9,3 +9,4 @@ pub mod Examples
 pub mod Cuts
 pub mod Reaches
 pub mod Steps
+pub mod JoinedParts

@@ -26,7 +26,7 @@ pub record Cuts (segments : ℕ) (before lacing body : List ℕ) (packets : List
 no_segment : (n : ℕ) → n ≢ 0 → not (nat_eq n 0) ≡ true
 no_segment n ne = ap not (other n 0 ne)
 
-some_pushed : (parts : List Part) (part : Part) → is_some_part (parts ++ part ∷ []) ≡ true
+pub some_pushed : (parts : List Part) (part : Part) → is_some_part (parts ++ part ∷ []) ≡ true
 some_pushed [] part = refl
 some_pushed (p ∷ parts) part = refl
 

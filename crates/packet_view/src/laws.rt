@@ -1,8 +1,9 @@
 //! What always holds of the packets in bytes.
-ghost use Rattle.std.specs.Prelude.{◌<◌, List, ℕ, slice_index};
+ghost use Rattle.std.specs.Prelude.{◌<◌, List, ℕ, [], false, slice_index};
 ghost use Rattle.ogg_page.specs.Pages.{found_in};
-ghost use Rattle.packet_view.specs.Packets.{packets_of};
+ghost use Rattle.packet_view.specs.Packets.{packets_from, packets_of};
 ghost use Rattle.packet_view.specs.Held.{AreHeld};
+ghost use Rattle.packet_view.specs.StreamParts.{AreTheirParts, at_start, parts_from};
 ghost use Rattle.packet_view.specs.Placed.{AreInOrder, parts_of_all};
 
 /// The packets that [`Packets`](crate::Packets) gives are those that the stream's pages before the
@@ -16,4 +17,12 @@ pub fn packets_are_held()
 /// before the end of the one before it, in the same packet or in an earlier one.
 pub fn parts_are_in_order()
     ensures { (serial : ℕ) (bytes : List ℕ) → ((i : ℕ) → slice_index bytes i < 256) → AreInOrder bytes 0 (parts_of_all (packets_of serial bytes).packets) }
+{}
+
+/// The parts that [`Stream`](crate::Stream) gives are those of the packets that [`Packets`](crate::Packets) gives over the same
+/// bytes: joined from a first part to the next last one they are the packets, in order and with their positions, and the same
+/// fault follows. The first byte is at this offset of the source.
+pub fn parts_are_of_the_packets()
+    ensures { (serial offset : ℕ) (bytes : List ℕ) → ((i : ℕ) → slice_index bytes i < 256)
+        → AreTheirParts (packets_from serial at_start [] (found_in offset bytes)) (parts_from serial at_start false (found_in offset bytes)) }
 {}

@@ -24,7 +24,7 @@ mod unread;
 mod walking;
 
 pub use fault::{StreamFault, ViewFault};
-pub use laws::{packets_are_held, parts_are_in_order};
+pub use laws::{packets_are_held, parts_are_in_order, parts_are_of_the_packets};
 pub use packet::Packet;
 pub use packets::Packets;
 pub use part::Part;
