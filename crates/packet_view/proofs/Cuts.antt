@@ -1,14 +1,13 @@
 -- The front part of a page, and what stands after it.
 use Rattle.std.proofs.Common.{◌≡◌, ◌≢◌, ℕ, zero, suc, ◌+◌, ◌-◌, ◌*◌, ◌<◌, ◌≤◌, Bool, true, false, not, List, [], ◌∷◌, ◌++◌, length, take, drop, refl, sym, ◌∙◌, ap, subst, arith, Option, Some, None, sum}
 use Rattle.std.specs.Prelude.{nat_eq, if◌then◌else◌, replicate}
-use Rattle.std.proofs.lemmas.Bool.{ne_eqb}
-use Rattle.std.proofs.lemmas.List.{length-drop, length-take-le, length-replicate, drop-drop}
+use Rattle.std.proofs.lemmas.List.{length-drop, length-replicate, drop-drop}
 use Rattle.ogg_page.specs.Page.{Page}
 use Rattle.ogg_page.specs.Window.{LentAt}
 use Rattle.ogg_page.specs.declared.fault.WindowFault.{WindowFault}
 use Rattle.packet_view.specs.Packets.{ends_packet, position_in}
 use Rattle.packet_view.specs.StreamParts.{PagePart, page_parts, goes_on}
-use Rattle.packet_view.specs.Cut.{CutFits, CutsFront, HasCut, IsCut, left_in, goes_on_in, part_given, parts_behind_cut, rest_cut}
+use Rattle.packet_view.specs.Cut.{CutFits, CutsFront, HasCut, IsCut, left_in, goes_on_in, part_given, rest_cut}
 use Rattle.packet_view.specs.declared.cut.Cut.{Cut}
 use Rattle.packet_view.specs.declared.cut.Given.{Given}
 use Rattle.packet_view.specs.declared.cut.Progress.{Progress}
@@ -99,12 +98,15 @@ is_rest : (page : Page) (cut : Cut) (rest : List ℕ) (values bytes : ℕ) → C
 unfolding page_parts goes_on
 is_rest page cut [] values bytes fits is inside whole = record { fits = tt; parts = refl; unfinished = refl }
 is_rest page cut (value ∷ rest) values bytes fits is inside whole = record {
-  fits = (refl, record {
-    is_page = fits.is_page;
-    values = omega (arith, ap length is, length-drop values page.lacing);
-    bytes = inside;
-    whole = ap sum (sym is) ∙ whole;
-  });
+  fits = (
+    refl,
+    record {
+      is_page = fits.is_page;
+      values = omega (arith, ap length is, length-drop values page.lacing);
+      bytes = inside;
+      whole = ap sum (sym is) ∙ whole;
+    },
+  );
   parts = ap (λ l. page_parts (position_in page) true 0 l (drop bytes page.body)) (sym is);
   unfinished = ap (goes_on false) (sym is);
 }
@@ -159,9 +161,11 @@ cut_there fault lent at old cut given new is here free has =
     same_cut : (fault : Option WindowFault) (offset : ℕ) (page : Page) (cut : Option Cut) → fault ≡ None → IsCut None (Some (0, page)) cut → IsCut fault (Some (offset, page)) cut
     same_cut fault offset page None free fits = tt
     same_cut fault offset page (Some cut) free fits = (free, fits.1)
+
     same_left : (offset : ℕ) (page : Page) (unfinished : Bool) (cut : Option Cut) → left_in (Some (0, page)) unfinished cut ≡ left_in (Some (offset, page)) unfinished cut
     same_left offset page unfinished None = refl
     same_left offset page unfinished (Some cut) = refl
+
     same_end : (offset : ℕ) (page : Page) (unfinished : Bool) (cut : Option Cut) → goes_on_in (Some (0, page)) unfinished cut ≡ goes_on_in (Some (offset, page)) unfinished cut
     same_end offset page unfinished None = refl
     same_end offset page unfinished (Some cut) = refl

@@ -1,17 +1,16 @@
 -- The parts of a stream, joined from first to last, are its packets.
-use Rattle.std.proofs.Common.{◌≡◌, ◌≢◌, ℕ, zero, suc, ◌+◌, ◌<◌, ◌≤◌, Bool, true, false, not, List, [], ◌∷◌, ◌++◌, length, take, drop, sum, map, refl, sym, ◌∙◌, ap, subst, arith, Option, Some, None, Ok, Err}
+use Rattle.std.proofs.Common.{◌≡◌, ℕ, zero, suc, ◌+◌, ◌<◌, Bool, true, false, not, List, [], ◌∷◌, ◌++◌, length, take, drop, sum, map, refl, sym, ◌∙◌, ap, subst, arith, Option, Some, None, Ok, Err}
 use Rattle.std.specs.Prelude.{nat_eq, if◌then◌else◌}
 use Rattle.std.proofs.lemmas.Bool.{eqb-true, false≢true}
 use Rattle.std.proofs.lemmas.List.{map-append, length-drop}
 use Rattle.std.proofs.lemmas.List.Sums.{sum_by-cons}
-use Rattle.ogg_page.specs.Page.{Page, IsPage, AreBytes}
+use Rattle.ogg_page.specs.Page.{Page, AreBytes}
 use Rattle.ogg_page.specs.Pages.{FoundPage, found_in}
 use Rattle.ogg_page.specs.Window.{LentAt}
-use Rattle.packet_view.specs.Packets.{Part, PacketParts, PacketsLeft, joined_parts, with_part, ends_packet, is_some_part, misplaced, body_place, behind_page, position_in, no_packet, after_packets, packets_in, parts_behind, packets_from}
-use Rattle.packet_view.specs.StreamParts.{PagePart, PartsLeft, page_parts, goes_on, no_part, after_parts, parts_from, at_start, packets_joined, joined_packet, AreMarked, AreTheirParts}
+use Rattle.packet_view.specs.Packets.{Part, PacketParts, PacketsLeft, joined_parts, with_part, ends_packet, is_some_part, misplaced, body_place, behind_page, position_in, no_packet, packets_in, parts_behind, packets_from}
+use Rattle.packet_view.specs.StreamParts.{PagePart, PartsLeft, page_parts, goes_on, no_part, parts_from, at_start, packets_joined, joined_packet, AreMarked, AreTheirParts}
 use Rattle.packet_view.specs.declared.place.Behind.{Behind}
 use Rattle.packet_view.specs.declared.fault.ViewFault.{ViewFault}
-use Rattle.packet_view.specs.declared.fault.ViewFault.TheVariants.{Page as PageIsAtFault, Unfinished}
 use Rattle.packet_view.proofs.Fronts.{pick_false}
 use Rattle.packet_view.proofs.Walks.{by_place as packets_by_place, from-page}
 use Rattle.packet_view.proofs.Opened.{joined-with_part}
@@ -85,8 +84,8 @@ goes_same (value ∷ lacing) body size place parts unfinished whole e =
     let added : sum (value ∷ lacing) ≡ value + sum lacing = sum_by-cons (λ x. x) value lacing in
     either (nat_eq value 255) unfinished lacing _ _
     (λ full.
-        let is : value ≡ 255 = eqb-true value 255 full in
-        goes_same lacing body (size + 255) place parts true (omega (arith, whole, added, is)) (some_taken (size + 255) body parts place (omega arith) (omega (arith, whole, added, is))))
+    let is : value ≡ 255 = eqb-true value 255 full in
+    goes_same lacing body (size + 255) place parts true (omega (arith, whole, added, is)) (some_taken (size + 255) body parts place (omega arith) (omega (arith, whole, added, is))))
     (λ ends. goes_same lacing (drop (size + value) body) 0 (place + (size + value)) [] false (omega (arith, whole, added, length-drop (size + value) body)) refl)
 
 -- ---- which parts begin a packet

@@ -1,14 +1,12 @@
 -- What the parts are from the next page on.
-use Rattle.std.proofs.Common.{◌≡◌, ◌≢◌, ℕ, ◌+◌, ◌-◌, ◌<◌, ◌≤◌, Bool, true, false, not, List, [], ◌∷◌, ◌++◌, length, drop, refl, sym, ◌∙◌, ap, subst, arith, Option, Some, None, Result, Ok, Err}
+use Rattle.std.proofs.Common.{◌≡◌, ◌≢◌, ℕ, ◌+◌, Bool, true, false, not, List, [], ◌∷◌, refl, sym, ◌∙◌, ap, Option, Some, None, Ok, Err}
 use Rattle.std.specs.Prelude.{nat_eq, if◌then◌else◌}
-use Rattle.ogg_page.specs.Page.{Page, IsPage, page_bytes, page_size}
+use Rattle.ogg_page.specs.Page.{Page, page_size}
 use Rattle.ogg_page.specs.Reading.{page_at}
 use Rattle.ogg_page.specs.Pages.{FoundPage, PagesLeft, found_in}
 use Rattle.ogg_page.specs.PagesLaws.{found-nothing, found-fault, found-page}
-use Rattle.ogg_page.specs.Window.{LentAt, NextLent, WindowState, HasMoved, KeepsSource, answer, left_of}
+use Rattle.ogg_page.specs.Window.{LentAt, NextLent}
 use Rattle.ogg_page.specs.declared.fault.PageFault.{PageFault}
-use Rattle.ogg_page.specs.declared.fault.WindowFault.{WindowFault}
-use Rattle.ogg_page.specs.declared.fault.WindowFault.TheVariants.{Source as ReadFailed, Page as NoPage}
 use Rattle.packet_view.specs.Packets.{misplaced, behind_page, position_in}
 use Rattle.packet_view.specs.StreamParts.{PartsLeft, page_parts, goes_on, no_part, after_parts, parts_from}
 use Rattle.packet_view.specs.declared.place.Behind.{Behind}

@@ -1,16 +1,15 @@
 -- From page to page through a window.
-use Rattle.std.proofs.Common.{◌≡◌, ℕ, zero, suc, ◌+◌, ◌-◌, ◌^◌, ◌<◌, ◌≤◌, ◌⊎◌, inl, inr, Bool, true, false, not, List, [], ◌∷◌, length, drop, refl, sym, ◌∙◌, ap, subst, arith, Option, Some, None, Result, Ok, Err}
+use Rattle.std.proofs.Common.{◌≡◌, ℕ, ◌+◌, ◌≤◌, inl, inr, Bool, true, false, not, List, [], ◌∷◌, length, drop, refl, sym, ◌∙◌, ap, subst, arith, Option, Some, None, Result, Ok, Err}
 use Rattle.std.specs.Prelude.{nat_eq, if◌then◌else◌}
 use Rattle.std.specs.Option.{is_some}
-use Rattle.ogg_page.specs.Page.{Page, page_size}
-use Rattle.ogg_page.specs.Pages.{FoundPage, PagesLeft, found_in}
+use Rattle.ogg_page.specs.Pages.{PagesLeft, found_in}
 use Rattle.ogg_page.specs.Window.{LentAt, WindowState, NextLent, HasMoved, HasSourceCause, KeepsSource, left_of}
 use Rattle.ogg_page.specs.declared.fault.WindowFault.{WindowFault}
 use Rattle.ogg_page.specs.declared.fault.WindowFault.TheVariants.{Source as ReadFailed, Page as NoPage}
 use Rattle.packet_view.specs.Packets.{position_in}
-use Rattle.packet_view.specs.StreamParts.{PagePart, PartsLeft, page_parts, goes_on, no_part, after_parts, parts_from}
+use Rattle.packet_view.specs.StreamParts.{PagePart, PartsLeft, page_parts, no_part, after_parts, parts_from}
 use Rattle.packet_view.specs.Stream.{fault_of_window, HasReadCause}
-use Rattle.packet_view.specs.Cut.{CutFits, IsCut, HasReached, LeadsOn, Passes, at_front, parts_at, calls_at, left_in, goes_on_in}
+use Rattle.packet_view.specs.Cut.{CutFits, IsCut, HasReached, LeadsOn, Passes, at_front, parts_at, left_in, goes_on_in}
 use Rattle.packet_view.specs.declared.cut.Cut.{Cut}
 use Rattle.packet_view.specs.declared.cut.Progress.{Progress}
 use Rattle.packet_view.specs.declared.place.Behind.{Behind}
@@ -149,7 +148,7 @@ at_a_page bytes honest size failures only serial from old behind next now new at
           ∙ ap (parts_from serial behind from.unfinished) (lent_first (left_of bytes now) (left_of bytes new) at (moved.lent (so.source.honest_same.0 sure) step.free))
           ∙ passes.1 (found_in (left_of bytes new).offset (left_of bytes new).bytes)
           ∙ ap (λ (l : Option LentAt). after_parts (left_in l from.unfinished front.cut)
-              (parts_from serial next (goes_on_in l from.unfinished front.cut) (found_in (left_of bytes new).offset (left_of bytes new).bytes))) (sym lent);
+          (parts_from serial next (goes_on_in l from.unfinished front.cut) (found_in (left_of bytes new).offset (left_of bytes new).bytes))) (sym lent);
       ready = (subst (λ (l : Option LentAt). IsCut new.fault l front.cut) (sym lent) (step.fresh, fits), refl, step.fresh, omega (arith, count, so.at, page.behind, page.inside, step.to));
       stays = λ fault e. absurd (step.never fault e);
       cause = λ free. (step.later free, λ e. absurd (ok_source (Some front) e));

@@ -1,5 +1,5 @@
 -- What a stream over a window gives: one part of a packet after the other. Ours.
-use Rattle.std.specs.Prelude.{◌≡◌, ◌⊎◌, ℕ, ◌+◌, ◌-◌, ◌^◌, ◌<◌, ◌≤◌, Bool, true, false, Option, Some, None, Result, Ok, Err, List, [], ◌∷◌, length, ⊤}
+use Rattle.std.specs.Prelude.{◌≡◌, ◌⊎◌, ℕ, ◌+◌, ◌-◌, ◌^◌, ◌<◌, ◌≤◌, Bool, false, Option, Some, None, Result, Ok, Err, List, [], ◌∷◌, length, ⊤}
 use Rattle.ogg_page.specs.Pages.{found_in}
 use Rattle.ogg_page.specs.Window.{WindowState, KeepsSource, left_of}
 use Rattle.ogg_page.specs.declared.fault.WindowFault.{WindowFault}

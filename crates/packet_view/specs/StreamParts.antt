@@ -1,7 +1,6 @@
 -- The parts of one stream's packets, page by page (RFC 3533, sections 5 and 6).
 use Rattle.std.specs.Prelude.{◌≡◌, ℕ, ◌+◌, Bool, true, false, not, nat_eq, if◌then◌else◌, Option, Some, None, Ok, Err, List, [], ◌∷◌, ◌++◌, map, take, drop, ⊤}
-use Rattle.ogg_page.specs.Page.{Page}
-use Rattle.ogg_page.specs.Pages.{FoundPage, found_in}
+use Rattle.ogg_page.specs.Pages.{FoundPage}
 use Rattle.packet_view.specs.Packets.{PacketParts, PacketsLeft, joined_parts, ends_packet, misplaced, position_in, behind_page}
 use Rattle.packet_view.specs.declared.place.Behind.{Behind}
 use Rattle.packet_view.specs.declared.fault.ViewFault.{ViewFault}

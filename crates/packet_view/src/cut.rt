@@ -70,11 +70,14 @@ fn cut_front(page: &Page<'_>, progress: Progress, cut: Cut) -> (Given, Progress)
             last: false,
             position: None,
         };
-        return (given, Progress {
-            behind: progress.behind,
-            unfinished: true,
-            cut: None,
-        });
+        return (
+            given,
+            Progress {
+                behind: progress.behind,
+                unfinished: true,
+                cut: None,
+            },
+        );
     }
     let left = lacing.split_at(full + 1).1;
     let end = cut.bytes + (255 * full + usize::from(lacing[full]));
@@ -85,11 +88,14 @@ fn cut_front(page: &Page<'_>, progress: Progress, cut: Cut) -> (Given, Progress)
         last: true,
         position: position_before(left, page),
     };
-    (given, Progress {
-        behind: progress.behind,
-        unfinished: false,
-        cut: rest_of(left, cut.values + full + 1, end),
-    })
+    (
+        given,
+        Progress {
+            behind: progress.behind,
+            unfinished: false,
+            cut: rest_of(left, cut.values + full + 1, end),
+        },
+    )
 }
 
 /// How far a page is read, of which these lacing values are left.

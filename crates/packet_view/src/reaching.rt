@@ -1,5 +1,5 @@
 //! From page to page of one stream, through a window.
-ghost use Rattle.std.specs.Prelude.{◌≡◌, None};
+ghost use Rattle.std.specs.Prelude.{◌≡◌, ◌<◌, ◌↔◌, IsTrue, None, length};
 ghost use Rattle.packet_view.specs.Cut.{IsCut, HasReached, Passes, at_front};
 ghost use Rattle.packet_view.specs.Packets.{behind_page};
 ghost use Rattle.packet_view.specs.Stream.{fault_of_window};
@@ -84,10 +84,17 @@ fn pass(
         return Err(fault);
     }
     let next = behind_page(page);
-    if page.lacing().is_empty() {
-        return Ok((next, false));
+    if has_values(page) {
+        return Ok((next, true));
     }
-    Ok((next, true))
+    Ok((next, false))
+}
+
+/// Whether a page has lacing values.
+fn has_values(page: &Page<'_>) -> bool
+    ensures { IsTrue result ↔ (0 < length page.now.lacing) }
+{
+    !page.lacing().is_empty()
 }
 
 /// A page of which nothing is read.

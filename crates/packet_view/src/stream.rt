@@ -119,6 +119,7 @@ impl<S: PageSource> Stream<S> {
     pub fn into_window(self) -> Window<S>
         ensures { result ≡ self.window }
     {
-        self.window
+        let Stream { window, .. } = self;
+        window
     }
 }

@@ -1,4 +1,6 @@
 //! Packets of pages that are written out byte by byte, with checksums by another program.
+mod streams;
+
 use super::*;
 use ogg_page::{Memory, PageFault, PageHead, write_page};
 use std::alloc::Global;
@@ -149,6 +151,14 @@ fn faults_have_their_numbers_and_names(rt: HostRuntime) {
         (ViewFault::Continued(0), 3, "Continued"),
         (ViewFault::AfterEos(0), 4, "AfterEos"),
         (ViewFault::Unfinished, 5, "Unfinished"),
+    ];
+    for (fault, code, name) in faults {
+        assert_eq!(rt; fault.code(), code);
+        assert_eq!(rt; fault.name(), name);
+    }
+    let faults = [
+        (StreamFault::Source, 1, "Source"),
+        (StreamFault::View(ViewFault::Unfinished), 2, "View"),
     ];
     for (fault, code, name) in faults {
         assert_eq!(rt; fault.code(), code);

@@ -42,7 +42,12 @@ pub(crate) fn next_page<'a>(
 }
 
 /// The first thing that is wrong with a page of the stream at this offset.
-pub(crate) fn misplaced(behind: Behind, unfinished: bool, offset: u64, page: &Page<'_>) -> Option<ViewFault>
+pub(crate) fn misplaced(
+    behind: Behind,
+    unfinished: bool,
+    offset: u64,
+    page: &Page<'_>,
+) -> Option<ViewFault>
     ensures { result ≡ misplaced behind unfinished offset page.now }
 {
     if behind.ended {

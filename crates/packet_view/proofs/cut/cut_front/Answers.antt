@@ -1,4 +1,4 @@
-use Rattle.std.proofs.Common.{◌≡◌, ◌+◌, ◌*◌, ◌∙◌, List, ℕ, length, drop, get_or, sum, arith, ap, sym}
+use Rattle.std.proofs.Common.{◌≡◌, ◌+◌, ◌*◌, ◌∙◌, List, ℕ, length, drop, get_or, sum, arith, ap}
 use Rattle.std.proofs.lemmas.List.{length-drop}
 use Rattle.ogg_page.specs.PageLaws.{page_fits}
 use Rattle.packet_view.proofs.Fronts.{splits_at, all_full}

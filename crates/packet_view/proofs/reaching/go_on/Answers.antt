@@ -1,4 +1,4 @@
-use Rattle.std.proofs.Common.{◌≡◌, ◌∙◌, sym, subst, Some, None, Ok, Err, true, false}
+use Rattle.std.proofs.Common.{◌≡◌, ◌∙◌, sym, subst, Some, None, Ok, Err}
 use Rattle.ogg_page.specs.Window.{LentAt, answer, HasMoved}
 use Rattle.packet_view.specs.Cut.{HasReached, Passes}
 use Rattle.packet_view.proofs.Steps.{nothing_passed, passed_on, at_a_page, at_a_fault, at_the_end, unfinished_there, window_fault}

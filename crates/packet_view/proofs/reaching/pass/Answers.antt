@@ -1,9 +1,7 @@
-use Rattle.std.proofs.Common.{◌≡◌, ◌≢◌, ◌∙◌, ◌∷◌, not, sym, ap, Some, None, true, false, length, [], Ok, arith, rules, tests, List}
-use Rattle.std.specs.Prelude.{nat_eq}
-use Rattle.std.proofs.lemmas.Bool.{eq-eqb}
+use Rattle.std.proofs.Common.{◌≡◌, ◌<◌, ◌∙◌, not, sym, ap, Some, None, length, arith}
+use Rattle.std.proofs.lemmas.Bool.{eq-eqb, false≢true}
 use Rattle.ogg_page.specs.Page.{Page}
-use Rattle.ogg_page.specs.Pages.{FoundPage}
-use Rattle.packet_view.specs.Packets.{misplaced, position_in, behind_page}
+use Rattle.packet_view.specs.Packets.{position_in}
 use Rattle.packet_view.specs.StreamParts.{after_parts, page_parts, goes_on, parts_from}
 use Rattle.packet_view.proofs.Fronts.{other}
 use Rattle.packet_view.proofs.Walks.{none_left}
@@ -21,23 +19,23 @@ returns-in-Some c = λ found.
     parts-page c.args.serial c.args.behind c.args.unfinished (c.args.offset, page) found (Some c.in-Some.fault)
     (eq-eqb page.serial c.args.serial (sym c.serial.ensures ∙ c.if-serial.false)) (sym c.misplaced.ensures ∙ c.in-Some.is)
 
-pub returns-then-is_empty : goal.returns-then-is_empty
-returns-then-is_empty c = λ found.
-    let page : Page = c.args.page.now in
-    let none : length c.lacing.result.now ≡ 0 = search (rules, tests) in
-    parts-page c.args.serial c.args.behind c.args.unfinished (c.args.offset, page) found None
-    (eq-eqb page.serial c.args.serial (sym c.serial.ensures ∙ c.if-serial.false)) (sym c.misplaced.ensures ∙ no_fault c.misplaced.result c.in_default.not-Some)
-    ∙ parts-no_values c.args.serial c.args.unfinished page found (sym c.lacing.ensures ∙ none_left c.lacing.result.now none)
-    ∙ ap (λ b. parts_from c.args.serial b c.args.unfinished found) (sym c.behind_page-next.ensures)
-
-pub returns : goal.returns
-returns c =
-    let page : Page = c.args.page.now in
-    let some : length c.lacing.result.now ≢ 0 = search (rules, tests) in (
-      omega (arith, some, ap length c.lacing.ensures),
+pub returns-then-has_values : goal.returns-then-has_values
+returns-then-has_values c =
+    let page : Page = c.args.page.now in (
+      c.has_values.ensures.0 c.if-has_values.true,
       λ found.
           parts-page c.args.serial c.args.behind c.args.unfinished (c.args.offset, page) found None
           (eq-eqb page.serial c.args.serial (sym c.serial.ensures ∙ c.if-serial.false)) (sym c.misplaced.ensures ∙ no_fault c.misplaced.result c.in_default.not-Some)
           ∙ ap (λ b. after_parts (page_parts (position_in page) (not c.args.unfinished) 0 page.lacing page.body) (parts_from c.args.serial b (goes_on c.args.unfinished page.lacing) found))
               (sym c.behind_page-next.ensures),
     )
+
+pub returns : goal.returns
+returns c = λ found.
+    let page : Page = c.args.page.now in
+    let never : 0 < length page.lacing → ⊥ = λ some. false≢true (sym c.if-has_values.false ∙ c.has_values.ensures.1 some) in
+    let none : length page.lacing ≡ 0 = omega (arith, never) in
+    parts-page c.args.serial c.args.behind c.args.unfinished (c.args.offset, page) found None
+    (eq-eqb page.serial c.args.serial (sym c.serial.ensures ∙ c.if-serial.false)) (sym c.misplaced.ensures ∙ no_fault c.misplaced.result c.in_default.not-Some)
+    ∙ parts-no_values c.args.serial c.args.unfinished page found (none_left page.lacing none)
+    ∙ ap (λ b. parts_from c.args.serial b c.args.unfinished found) (sym c.behind_page-next.ensures)

@@ -1,0 +1,222 @@
+//! The parts of a stream, through a window.
+use super::*;
+use ogg_page::{CONTINUED, LAST, PageBuffer, PageSource, SourceFault, Whole, Window, WindowFault};
+
+/// A window over all bytes of a source.
+fn over<S: PageSource>(source: S, buffer: PageBuffer) -> Window<S> {
+    let end = source.end();
+    Window::new(source, buffer, 0, end)
+}
+
+/// What is wanted of a part: how many bytes, first, last, and the position.
+type Want = (usize, bool, bool, Option<u64>);
+
+/// Checks that the stream gives these parts, and then the end.
+fn assert_parts<S: PageSource>(
+    rt: &impl Abort,
+    stream: &mut Stream<S>,
+    parts: &[Want],
+) -> Result<(), StreamFault> {
+    for want in parts {
+        let part = stream.next_part()?.map(|part| (
+            part.bytes.len(),
+            part.first,
+            part.last,
+            part.position,
+        ));
+        assert_eq!(rt; part, Some(*want));
+    }
+    assert!(rt; stream.next_part()?.is_none());
+    assert!(rt; stream.next_part()?.is_none());
+    Ok(())
+}
+
+/// A page of stream 1 that has 255 values of 255, so that its packet goes on.
+fn write_full_page(bytes: &mut Vec<u8>, alloc: Global) -> Result<(), Memory> {
+    let head = PageHead {
+        flags: 0,
+        position: u64::MAX,
+        serial: 1,
+        sequence: 1,
+    };
+    let body = vec![in alloc; 7u8; 65_025]?;
+    write_page(&head, &[255; 255], body.as_slice(), bytes)
+}
+
+/// Streams 1 and 2: `abc` each; the first 65,025 bytes of a packet of 1; `x` in 2; the other 4,975 bytes; the end of 2.
+fn two_streams(alloc: Global) -> Result<Vec<u8>, Memory> {
+    let mut bytes = joined(alloc, &[&FIRST, &OTHER])?;
+    write_full_page(&mut bytes, alloc)?;
+    let mut head = PageHead {
+        flags: 0,
+        position: 1,
+        serial: 2,
+        sequence: 1,
+    };
+    write_page(&head, &[1], b"x", &mut bytes)?;
+    let body = vec![in alloc; 7u8; 4_975]?;
+    let mut lacing = vec![in alloc; 255u8; 19]?;
+    lacing.push(130)?;
+    head.flags = CONTINUED | LAST;
+    head.position = 9;
+    head.serial = 1;
+    head.sequence = 2;
+    write_page(&head, lacing.as_slice(), body.as_slice(), &mut bytes)?;
+    head.flags = LAST;
+    head.serial = 2;
+    write_page(&head, &[], b"", &mut bytes)?;
+    Ok(bytes)
+}
+
+#[test]
+fn a_packet_comes_in_a_part_for_each_page(rt: HostRuntime) -> Result<(), Fail> {
+    let bytes = two_streams(rt.alloc())?;
+    let window = over(Whole::of(&bytes), PageBuffer::new(rt.alloc())?);
+    let mut stream = Stream::of(window, 1);
+    assert_parts(
+        &rt,
+        &mut stream,
+        &[
+            (3, true, true, Some(0)),
+            (65_025, true, false, None),
+            (4_975, false, true, Some(9)),
+        ],
+    )?;
+    let mut window = stream.into_window();
+    assert!(rt; window.next()?.is_none());
+    Ok(())
+}
+
+#[test]
+fn a_part_may_have_no_byte(rt: HostRuntime) -> Result<(), Fail> {
+    let mut bytes = joined(rt.alloc(), &[&FIRST])?;
+    write_full_page(&mut bytes, rt.alloc())?;
+    let head = PageHead {
+        flags: CONTINUED,
+        position: 5,
+        serial: 1,
+        sequence: 2,
+    };
+    write_page(&head, &[0], b"", &mut bytes)?;
+    let window = over(Whole::of(&bytes), PageBuffer::new(rt.alloc())?);
+    assert_parts(
+        &rt,
+        &mut Stream::of(window, 1),
+        &[
+            (3, true, true, Some(0)),
+            (65_025, true, false, None),
+            (0, false, true, Some(5)),
+        ],
+    )?;
+    Ok(())
+}
+
+#[test]
+fn parts_are_those_of_the_packets(rt: HostRuntime) -> Result<(), Fail> {
+    let mut buffer = PageBuffer::new(rt.alloc())?;
+    for row in &ROWS {
+        let bytes = joined(rt.alloc(), row.pages)?;
+        let mut stream = Stream::of(over(Whole::of(&bytes), buffer), 1);
+        for (text, position) in row.packets {
+            match stream.next_part()? {
+                Some(part) => {
+                    assert_eq!(rt; part.bytes, *text);
+                    assert!(rt; part.first && part.last);
+                    assert_eq!(rt; part.position, *position);
+                }
+                None => assert!(rt; false, "{text:?} is missing"),
+            }
+        }
+        for _ in 0..2 {
+            match stream.next_part() {
+                Ok(part) => assert!(rt; part.is_none() && row.fault.is_none()),
+                Err(fault) => assert!(rt; Some(fault) == row.fault.map(StreamFault::View)),
+            }
+        }
+        let (_, room) = stream.into_window().into_parts();
+        buffer = room;
+    }
+    Ok(())
+}
+
+#[test]
+fn an_unfinished_packet_has_its_parts_before_the_fault(rt: HostRuntime) -> Result<(), Fail> {
+    let bytes = open_page(rt.alloc())?;
+    let mut stream = Stream::of(over(Whole::of(&bytes), PageBuffer::new(rt.alloc())?), 1);
+    let part = stream
+        .next_part()?
+        .map(|part| (part.bytes.len(), part.first, part.last));
+    assert_eq!(rt; part, Some((255, true, false)));
+    for _ in 0..2 {
+        let fault = stream.next_part().err();
+        assert_eq!(rt; fault, Some(StreamFault::View(ViewFault::Unfinished)));
+    }
+    Ok(())
+}
+
+/// Bytes that can be read `reads` times.
+#[derive(Drop)]
+struct Failing<'a> {
+    bytes: &'a [u8],
+    reads: u64,
+    failures: u64,
+}
+
+impl<'a> PageSource for Failing<'a> {
+    ghost use Rattle.std.specs.Prelude.{◌≡◌, length, refl};
+    ghost use Rattle.std.proofs.Common.{◌∙◌};
+
+    ghost bytes = { λ s. s.bytes.now };
+
+    ghost size = { λ s. length s.bytes.now };
+
+    ghost is_honest = { λ s. Unit {0} };
+
+    ghost failures = { λ s. s.failures };
+
+    ghost only_reads = { λ s t. s.bytes.now ≡ t.bytes.now };
+
+    fn end(&self) -> u64 {
+        self.bytes.len() as u64
+    }
+
+    fn read_at(&mut self, at: u64, buffer: &mut [u8]) -> Result<(), SourceFault> {
+        if self.reads == 0 {
+            self.failures = self.failures.saturating_add(1);
+            return Err(SourceFault);
+        }
+        self.reads -= 1;
+        let (_, rest) = self.bytes.split_at(at as usize);
+        buffer.copy_from_slice(rest.split_at(buffer.len()).0);
+        Ok(())
+    }
+
+    ghost fits = { λ s h. refl };
+
+    ghost reads_nothing = { λ s. refl };
+
+    ghost reads_on = { λ s t u first second. first ∙ second };
+}
+
+#[test]
+fn a_read_that_fails_ends_the_stream(rt: HostRuntime) -> Result<(), Fail> {
+    let bytes = two_streams(rt.alloc())?;
+    let source = Failing {
+        bytes: &bytes,
+        reads: 1,
+        failures: 0,
+    };
+    let mut stream = Stream::of(over(source, PageBuffer::new(rt.alloc())?), 1);
+    assert!(rt; stream.next_part()?.is_some());
+    for _ in 0..2 {
+        let fault = stream.next_part().err();
+        assert_eq!(rt; fault, Some(StreamFault::Source));
+    }
+    // The window keeps its fault, so that a stream made of it has that fault from the beginning.
+    let mut again = Stream::of(stream.into_window(), 1);
+    let fault = again.next_part().err();
+    assert_eq!(rt; fault, Some(StreamFault::Source));
+    let (source, _) = again.into_window().into_parts();
+    assert_eq!(rt; source.failures, 1);
+    Ok(())
+}
