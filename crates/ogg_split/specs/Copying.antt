@@ -1,0 +1,22 @@
+-- What comes of copying. Ours.
+use Rattle.std.specs.Prelude.{◌≡◌, ◌≢◌, ℕ, if◌then◌else◌, Option, Result, Ok, Err, List, [], length}
+use Rattle.std.specs.Io.KnownBytes.{Appends}
+use Rattle.ogg_page.specs.Output.{WritesPrefix}
+use Rattle.ogg_page.specs.Page.{Page, page_bytes}
+use Rattle.ogg_split.specs.Asked.{is_asked}
+use Rattle.ogg_split.specs.declared.fault.SplitFault.{SplitFault}
+use Rattle.ogg_split.specs.declared.fault.SplitFault.TheVariants.{NoLink, NoStream}
+
+-- All of the text was written, and the count is its length; or a prefix of the text was written.
+abbrev pub IsCopy : Option (List ℕ) → Option (List ℕ) → List ℕ → Result ℕ SplitFault → Type 0
+IsCopy old new text (Ok count) = (count ≡ length text) × Appends old new text
+IsCopy old new text (Err fault) = WritesPrefix old new text
+
+-- the page's bytes, if it is asked for
+abbrev pub asked_bytes : Option ℕ → Page → List ℕ
+asked_bytes only page = if is_asked only page then page_bytes page else []
+
+-- what is asked for is there
+pub record IsThere {T : Type 0} (result : Result T SplitFault) : Type 0 where
+  pub link : result ≢ Err NoLink
+  pub stream : result ≢ Err NoStream

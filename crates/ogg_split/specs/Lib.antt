@@ -1,0 +1,4 @@
+pub mod SplitFault
+pub mod Asked
+pub mod Copying
+pub mod Salvage

@@ -1,0 +1,93 @@
+//! Pages written one after the other, all of them or those of one stream.
+ghost use Rattle.std.specs.Prelude.{◌≡◌, ◌≢◌, ◌⊎◌, ◌≤◌, ◌<◌, ◌^◌, ◌-◌, List, None, Err, IfOk, OnErr, length};
+ghost use Rattle.std.specs.List.{AllByRecursion};
+ghost use Rattle.ogg_page.specs.Page.{Page as PageValue, IsPage, bytes_of_pages, page_size};
+ghost use Rattle.ogg_page.specs.Window.{KeepsSource, left_of};
+ghost use Rattle.ogg_split.specs.Asked.{is_asked, pages_asked};
+ghost use Rattle.ogg_split.specs.Copying.{IsCopy, IsThere, asked_bytes};
+
+use crate::fault::SplitFault;
+use ogg_page::{Page, PageSource, Window, split_page, write_whole};
+use std::io::Write;
+
+/// Writes those of the pages that are asked for. The bytes are joined pages.
+pub fn copy_pages<W: Write>(bytes: &[u8], only: Option<u32>, out: &mut W) -> Result<u64, SplitFault>
+    ensures copied { (pages : List PageValue) → AllByRecursion IsPage pages → bytes.now ≡ bytes_of_pages pages
+        → IsCopy (W.contents out.old) (W.contents out.new) (bytes_of_pages (pages_asked only pages)) result }
+    ensures sound { (pages : List PageValue) → AllByRecursion IsPage pages → bytes.now ≡ bytes_of_pages pages → result ≢ Err SplitFault.Source }
+    ensures there { IsThere result }
+{
+    let mut rest = bytes;
+    let mut count = 0;
+    while !rest.is_empty() {
+        let (page, others) = match split_page(rest) {
+            Ok(split) => split,
+            Err(_) => return Err(SplitFault::Source),
+        };
+        match copy_page(&page, only, out) {
+            Ok(size) => count += size,
+            Err(fault) => return Err(fault),
+        }
+        rest = others;
+    }
+    Ok(count)
+}
+
+/// Writes those of the window's pages that are asked for.
+pub fn copy_lent<S: PageSource, W: Write>(
+    window: &mut Window<S>,
+    only: Option<u32>,
+    out: &mut W,
+) -> Result<u64, SplitFault>
+    requires fresh { window.old.fault ≡ None }
+    requires order { window.old.at ≤ window.old.to }
+    requires short { window.old.to < 2 ^ 64 }
+    ensures copied { (pages : List PageValue) → S.is_honest window.old.source → AllByRecursion IsPage pages
+        → (left_of S.bytes window.old).bytes ≡ bytes_of_pages pages
+        → IsCopy (W.contents out.old) (W.contents out.new) (bytes_of_pages (pages_asked only pages)) result }
+    ensures cause { (pages : List PageValue) → S.is_honest window.old.source → AllByRecursion IsPage pages
+        → (left_of S.bytes window.old).bytes ≡ bytes_of_pages pages → result ≡ Err SplitFault.Source
+        → (S.failures window.old.source < S.failures window.new.source) ⊎ (S.failures window.new.source ≡ 2 ^ 64 - 1) }
+    ensures later { S.failures window.old.source ≤ S.failures window.new.source }
+    ensures source { KeepsSource S.bytes S.is_honest S.size S.only_reads window.old.source window.new.source }
+    ensures there { IsThere result }
+{
+    let mut count = 0;
+    'pages: loop {
+        match window.advance() {
+            Ok(()) => match window.lent() {
+                Some((_, page)) => match copy_page(&page, only, out) {
+                    Ok(size) => count += size,
+                    Err(fault) => return Err(fault),
+                },
+                None => return Ok(count),
+            },
+            Err(_) => return Err(SplitFault::Source),
+        }
+    }
+}
+
+/// Writes the page, if it is asked for.
+fn copy_page<W: Write>(page: &Page<'_>, only: Option<u32>, out: &mut W) -> Result<u64, SplitFault>
+    ensures copied { IsCopy (W.contents out.old) (W.contents out.new) (asked_bytes only page.now) result }
+    ensures bound { IfOk result (λ size. size ≤ page_size page.now) }
+    ensures err { OnErr result (result ≡ Err SplitFault.Write) }
+{
+    if !is_asked(only, page) {
+        return Ok(0);
+    }
+    match write_whole(out, page.whole()) {
+        Ok(()) => Ok(page.whole().len() as u64),
+        Err(_) => Err(SplitFault::Write),
+    }
+}
+
+/// Whether the page is asked for: each is, or those of the stream with this serial.
+fn is_asked(only: Option<u32>, page: &Page<'_>) -> bool
+    ensures { result ≡ is_asked only page.now }
+{
+    match only {
+        Some(serial) => page.serial() == serial,
+        None => true,
+    }
+}
