@@ -1,3 +1,4 @@
 mod Copied
 mod Placed
 mod Salvaged
+mod Unfinished

@@ -5,7 +5,7 @@ use Rattle.std.specs.List.{AllByRecursion, flat_map, list_any}
 use Rattle.std.proofs.Math.Seq.{take-append_seam, drop-append_seam}
 use Rattle.std.proofs.lemmas.Option.{slice_get_within}
 use Rattle.ogg_page.specs.Page.{Page, IsPage, bytes_of_pages}
-use Rattle.link_chain.specs.Links.{AreLinks, has_stream, serials_of}
+use Rattle.link_chain.specs.Links.{AreLinks, IsLink, has_stream, serials_of}
 use Rattle.link_index.specs.Adding.{IndexState}
 use Rattle.link_index.specs.Index.{LinkEntry, link_entry, index_from, index_of, stream_info}
 use Rattle.link_index.specs.declared.info.LinkInfo.{LinkInfo}
@@ -76,6 +76,18 @@ pub some_link : (links : List (List Page)) (index : IndexState) (bytes : List �
 some_link links index bytes number entry are there =
     let (pages, e) = link_of links number 0 entry (ap (λ (l : List LinkEntry). slice_get l number) (sym are.is_index.entries_are) ∙ there) in
     (pages, stands_in links index bytes number pages entry are e there)
+
+-- and it is a link
+link_at : (links : List (List Page)) (number : ℕ) (pages : List Page) → AllByRecursion IsLink links → slice_get links number ≡ Some pages → IsLink pages
+link_at [] number pages each e = cc
+link_at (first ∷ links) zero pages each e = subst IsLink (inside first pages e) each.0
+link_at (first ∷ links) (suc number) pages each e = link_at links number pages each.1 e
+
+pub whole_link : (links : List (List Page)) (index : IndexState) (bytes : List ℕ) (number : ℕ) (entry : LinkEntry) → AreIndexed links index bytes
+    → slice_get index.entries number ≡ Some entry → (pages : List Page) × IsLink pages × StandsIn bytes entry.info pages
+whole_link links index bytes number entry are there =
+    let (pages, e) = link_of links number 0 entry (ap (λ (l : List LinkEntry). slice_get l number) (sym are.is_index.entries_are) ∙ there) in
+    (pages, link_at links number pages are.are_links.each e, stands_in links index bytes number pages entry are e there)
 
 -- ---- what is there isn't missing
 pub link_is_there : {T : Type 0} (result : Result T SplitFault) (entries : List LinkEntry) (number : ℕ) (entry : LinkEntry) → IsThere result

@@ -2,3 +2,4 @@ pub mod SplitFault
 pub mod Asked
 pub mod Copying
 pub mod Salvage
+pub mod Unfinished

@@ -6,13 +6,14 @@ ghost use Rattle.link_chain.specs.Links.{pages_with};
 ghost use Rattle.packet_view.specs.Packets.{packets_of};
 ghost use Rattle.ogg_split.specs.Asked.{AreIndexed, LacksStream};
 ghost use Rattle.ogg_split.specs.Copying.{IsCopy, IsThere};
+ghost use Rattle.ogg_split.specs.Unfinished.{IsUnfinishedAtMost};
 
 use crate::fault::SplitFault;
 use crate::finding::{bytes_of_link, find_link, find_stream};
 use crate::walking::copy_pages;
 use link_index::Index;
 use ogg_page::write_whole;
-use packet_view::Packets;
+use packet_view::{Packets, packets_are_held};
 use std::io::Write;
 
 /// Writes the pages of the link with this number, counted from 0, as they stand in the file's bytes, and gives how many
@@ -77,6 +78,8 @@ pub fn copy_stream<W: Write>(
 /// The packets of the stream with this serial in the link with this number. They are lent out of the file's bytes, which
 /// begin with those that the index is of. No memory is taken.
 ///
+/// The packets are followed by a fault only if the last one is unfinished.
+///
 /// The faults are `NoLink` and `NoStream`; `Source` comes only of bytes that don't go as far as the index does.
 pub fn packets_of<'a>(
     bytes: &'a [u8],
@@ -86,6 +89,8 @@ pub fn packets_of<'a>(
 ) -> Result<Packets<'a>, SplitFault>
     ensures packets { (links : List (List PageValue)) (pages : List PageValue) → AreIndexed links index.now bytes.now
         → slice_get links link ≡ Some pages → IfOk result (λ packets. packets ≡ packets_of serial (bytes_of_pages pages)) }
+    ensures unfinished { (links : List (List PageValue)) → AreIndexed links index.now bytes.now
+        → IfOk result (λ packets. IsUnfinishedAtMost packets.fault) }
 
     // Which fault, and when.
     ensures no_link { (result ≡ Err SplitFault.NoLink) ↔ (length index.now.entries ≤ link) }
@@ -95,7 +100,10 @@ pub fn packets_of<'a>(
 {
     match find_stream(index, link, serial) {
         Ok(found) => match bytes_of_link(bytes, found) {
-            Ok(own) => Ok(Packets::of(own, serial)),
+            Ok(own) => {
+                packets_are_held();
+                Ok(Packets::of(own, serial))
+            }
             Err(fault) => Err(fault),
         },
         Err(fault) => Err(fault),

@@ -1,7 +1,11 @@
-use Rattle.std.proofs.Common.{◌∙◌, ap, refl, Err, Ok}
-use Rattle.packet_view.specs.Packets.{packets_of}
+use Rattle.std.proofs.Common.{◌≡◌, ◌∙◌, ap, sym, subst, refl, Err, Ok}
+use Rattle.ogg_page.specs.Page.{bytes_of_pages}
+use Rattle.ogg_page.specs.PageLaws.{are_bytes_of_pages}
+use Rattle.packet_view.specs.Packets.{PacketsLeft, packets_of}
+use Rattle.ogg_split.specs.Unfinished.{IsUnfinishedAtMost}
+use Rattle.ogg_split.proofs.Unfinished.{unfinished_at_most}
 use Rattle.std.proofs.lemmas.Bool.{false≢true}
-use Rattle.ogg_split.proofs.Placed.{stands_in, some_link, link_is_there, stream_is_there, link_is_missing, stream_is_missing, read_in_vain, answered}
+use Rattle.ogg_split.proofs.Placed.{stands_in, some_link, whole_link, link_is_there, stream_is_there, link_is_missing, stream_is_missing, read_in_vain, answered}
 use Rattle.ogg_split.proofs.copying.packets_of.Goals as goal
 
 pub returns-in-Ok-bytes_of_link-clause-packets : goal.returns-in-Ok-bytes_of_link-clause-packets
@@ -9,6 +13,16 @@ returns-in-Ok-bytes_of_link-clause-packets c links pages are e =
     let (entry, there, is, has) = c.in-Ok.ensures.ok in
     let stands = stands_in links c.args.index.now _ c.args.link pages entry are e there in
     c.of.ensures ∙ ap (packets_of c.args.serial) (c.in-Ok-bytes_of_link.ensures.own pages (rw is stands))
+
+pub returns-in-Ok-bytes_of_link-clause-unfinished : goal.returns-in-Ok-bytes_of_link-clause-unfinished
+returns-in-Ok-bytes_of_link-clause-unfinished c links are =
+    let (entry, there, is, has) = c.in-Ok.ensures.ok in
+    let (pages, link, stands) = whole_link links c.args.index.now _ c.args.link entry are there in
+    let given : c.of.result ≡ packets_of c.args.serial (bytes_of_pages pages) =
+    c.of.ensures ∙ ap (packets_of c.args.serial) (c.in-Ok-bytes_of_link.ensures.own pages (rw is stands)) in
+    subst (λ (left : PacketsLeft). IsUnfinishedAtMost left.fault) (sym given)
+    (unfinished_at_most c.args.serial pages (packets_of c.args.serial (bytes_of_pages pages)) stands.are_pages (link.streams c.args.serial)
+    (c.packets_are_held.ensures c.args.serial (bytes_of_pages pages) (are_bytes_of_pages pages stands.are_pages)))
 
 pub returns-in-Ok-bytes_of_link-clause-no_link : goal.returns-in-Ok-bytes_of_link-clause-no_link
 returns-in-Ok-bytes_of_link-clause-no_link c =
