@@ -1,3 +1,4 @@
+pub mod Answered
 pub mod Growing
 pub mod Lasting
 pub mod Opened

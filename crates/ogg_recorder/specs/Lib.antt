@@ -3,3 +3,4 @@ pub mod RecoveryLaws
 pub mod Taking
 pub mod Recorder
 pub mod Answer
+pub mod Running

@@ -15,6 +15,7 @@ mod commanding;
 mod laws;
 mod opening;
 mod recorder;
+mod running;
 mod staging;
 mod taking;
 

@@ -1,0 +1,97 @@
+-- What a run over a feed has recorded, at each moment and at its end. Ours.
+use Rattle.std.specs.Prelude.{◌≡◌, ◌⊎◌, ℕ, false, Option, List, [], ◌∷◌, ◌++◌}
+use Rattle.std.proofs.Common.{inl, inr}
+use Rattle.disk_model.specs.Image.{DiskState}
+use Rattle.disk_model.specs.Clock.{LeavesOnly}
+use Rattle.feed_codec.specs.declared.item.Record.{Record}
+use Rattle.feed_codec.specs.declared.item.Record.TheVariants.{Command as CommandOf}
+use Rattle.feed_codec.specs.declared.fault.RunFault.{RunFault}
+use Rattle.feed_codec.specs.declared.fault.RunFault.TheVariants.{Feed, Write, TooMany}
+use Rattle.feed_codec.specs.declared.reply.Reply.{Reply}
+use Rattle.feed_codec.specs.declared.reply.Reply.TheVariants.{Held as HeldReply, Kept as KeptReply, Refused as RefusedReply}
+use Rattle.feed_run.specs.Counting.{kept_after}
+use Rattle.feed_run.specs.Run.{Streams, Outcome, RunsTo, StopsWriting, StopsAt, EndsBy}
+use Rattle.chain_rules.specs.Recording.{add}
+use Rattle.ogg_command.specs.declared.command.Command.{Command}
+use Rattle.ogg_command.specs.declared.refusal.Refusal.TheVariants.{Disk}
+use Rattle.history.specs.World.{Step, run, disk_after, acknowledged}
+use Rattle.history.specs.History.{AreSteps, StandsIn}
+use Rattle.history.specs.Runs.{ShowsSome, AreCommands, accepted}
+use Rattle.ogg_recorder.specs.Recovery.{Shows, Accepts}
+use Rattle.ogg_recorder.specs.Recorder.{IsIn}
+use Rattle.ogg_recorder.specs.Running.{Progress}
+
+-- ---- which records were answered
+-- records, and the reply to each
+pub record Answered : Type 0 where
+  pub records : List Record
+  pub replies : List Reply
+
+abbrev pub answered : List Record → List Reply → Answered
+answered records replies = record { records = records; replies = replies }
+
+-- A writer failed over this record: it counts as answered if it has been run.
+abbrev pub answered_with : {S : Type 0} → List Record → List Reply → Record → (pages new_pages lines new_lines : Option (List ℕ)) (own : List ℕ) (reply : Reply) (before reached after : S)
+    → StopsAt pages new_pages lines new_lines own reply before reached after → Answered
+answered_with records replies given pages new_pages lines new_lines own reply before reached after (inl none) = answered records replies
+answered_with records replies given pages new_pages lines new_lines own reply before reached after (inr whole) = answered (records ++ given ∷ []) (replies ++ reply ∷ [])
+
+module _ {S : Type 0} (answers : S → Record → Reply → List ℕ → S → Type 0) (held : S → ℕ) where
+  -- the records of a run that was ended by the feed, and the flush after them
+  abbrev pub answered_to : (outcome : Outcome) (start now : Streams) (before after : S) → RunsTo answers held outcome start now before after → Answered
+  answered_to outcome start now before after whole = answered (whole.records ++ whole.closing) (whole.replies ++ whole.last)
+
+  -- the records of a run that a writer stopped
+  abbrev pub answered_until : (start now : Streams) (before after : S) → StopsWriting answers held start now before after → Answered
+  answered_until start now before after stopped =
+      answered_with stopped.records stopped.replies stopped.stop.given stopped.at.pages now.pages stopped.at.lines now.lines stopped.stop.own stopped.stop.reply stopped.mid stopped.stop.reached after
+      stopped.stop.written
+
+  -- the records of a run that a fault has ended
+  abbrev pub answered_by : (fault : RunFault) (start now : Streams) (before after : S) → EndsBy answers held fault start now before after → Answered
+  answered_by (Feed fault) start now before after ended = answered (ended.records ++ ended.closing) (ended.replies ++ ended.last)
+  answered_by TooMany start now before after ended = answered (ended.records ++ ended.closing) (ended.replies ++ ended.last)
+  answered_by Write start now before after ended = answered_until start now before after ended
+
+-- ---- what they have recorded
+-- the command that a reply says was accepted; one that met a disk fault was
+abbrev pub accepted_by : Record → Reply → List Command
+accepted_by (CommandOf command) (HeldReply count) = command ∷ []
+accepted_by (CommandOf command) (KeptReply kept) = command ∷ []
+accepted_by (CommandOf command) (RefusedReply Disk) = command ∷ []
+accepted_by given reply = []
+
+abbrev pub accepted_of : List Record → List Reply → List Command
+accepted_of [] replies = []
+accepted_of (given ∷ records) [] = []
+accepted_of (given ∷ records) (reply ∷ replies) = accepted_by given reply ++ accepted_of records replies
+
+module _ {D : Type 0} (is_honest : D → Type 0) (state : D → DiskState) (moment : D → ℕ) (images_since : D → ℕ → List ℕ → Type 0) where
+  -- The disk is honest, and the recorder stands there in the history of its file.
+  abbrev pub Stands : Progress D → Type 0
+  Stands before = is_honest before.now.file.disk × IsIn is_honest state before.first before.world before.now
+
+  -- Answered in turn, records are steps of the history: commands and flushes, which lead from the one world and disk to
+  -- the other. What they accept and what they acknowledge are the commands that the replies say.
+  pub record HasSteps (before after : Progress D) (records : List Record) (replies : List Reply) : Type 0 where
+    pub steps : List (Step Command × D)
+    pub are_commands : AreCommands steps
+    pub same : after.first ≡ before.first
+    pub leads : run before.world steps ≡ after.world
+    pub ends : disk_after before.now.file.disk steps ≡ after.now.file.disk
+    pub accepts : accepted steps ≡ accepted_of records replies
+    pub keeps : acknowledged before.world steps ≡ kept_after before.world.held records replies
+    pub are : Stands before → AreSteps is_honest state moment images_since Shows Accepts add before.first before.world before.now.file.disk steps
+    pub stands : Stands before → Stands after
+
+  -- What a run has recorded.
+  pub record HasRecorded (before after : Progress D) (all : Answered) : Type 0 where
+    pub same : after.first ≡ before.first
+    -- the kept commands are acknowledged, after those that were
+    pub keeps : after.world.acknowledged ≡ before.world.acknowledged ++ kept_after before.world.held all.records all.replies
+    pub stands : Stands before → Stands after
+    -- at each moment each image shows some first ones of the accepted commands
+    pub any_moment : Stands before → before.now.file.failed ≡ false → LeavesOnly moment images_since before.now.file.disk after.now.file.disk
+        (ShowsSome Shows add before.first (before.world.acknowledged ++ before.world.held ++ accepted_of all.records all.replies))
+    -- at the end each image shows every acknowledged command, without the group in doubt or with it
+    pub at_end : Stands before → before.now.file.failed ≡ false → StandsIn Shows add after.first after.world (state after.now.file.disk)

@@ -1,0 +1,65 @@
+//! The run over a whole feed.
+ghost use Rattle.std.specs.Prelude.{◌≡◌, ◌↔◌, ◌≤◌, true, IfOk, IfErr, None};
+ghost use Rattle.link_chain.specs.Recording.{Recording};
+ghost use Rattle.ogg_command.specs.declared.command.Command.{Command as CommandOf};
+ghost use Rattle.history.specs.World.{World};
+ghost use Rattle.feed_run.specs.Run.{RunsWhole, EndsBy, streams};
+ghost use Rattle.ogg_recorder.specs.Running.{Progress, Answers, progress, waiting_in};
+ghost use Rattle.feed_recorder.specs.Recorded.{HasRecorded, answered_to, answered_by};
+
+use crate::laws::records_are_steps;
+use disk_model::Disk;
+use feed_codec::{RunFault, Tally};
+use feed_run::run_feed;
+use history::{disks_stand_in_their_world, runs_show_first_commands};
+use ogg_recorder::{Recorded, Recorder};
+use std::alloc::Global;
+use std::io::{Read, Write, sink};
+
+/// Runs the records of a feed. The pages of a command go to the recorder's disk, and then the line of its reply to
+/// `replies`, before the next record is read. A flush keeps what waits; it isn't counted.
+///
+/// At the end of the feed it flushes what waits, and gives the counts, with the length of the committed bytes. It
+/// stops at the first fault. `Feed` is a fault of the feed, and `TooMany` says that a record follows 4,294,967,295
+/// others, which isn't run: in both cases what waits is flushed. `Write` says that `replies` has failed: nothing is
+/// flushed then, and what waits still waits. A disk fault ends nothing: it is the reply of the command that met
+/// it, and each command after it is refused as `Failed`. So is what waited lost, and no reply says that it is kept.
+pub fn record_feed<D: Disk, R: Read + Drop, W: Write>(
+    alloc: Global,
+    reader: &mut R,
+    replies: &mut W,
+    recorder: &mut Recorder<D>,
+) -> Result<Tally, RunFault>
+    // In each history in which the recorder stands, if its disk is honest: what was read, run and written, and what
+    // every image showed meanwhile.
+    ensures ok { (first : Recording) (w : World CommandOf)
+        → IfOk result (λ tally. (after : Progress D) × (after.now ≡ recorder.new)
+        × (run : RunsWhole (Answers D.is_honest D.state D.moment D.images_since D.failures) waiting_in
+        (streams (R.remaining reader.old) None (W.contents replies.old)) (streams (R.remaining reader.new) None (W.contents replies.new))
+        (progress first w recorder.old) after after.now.file.end tally)
+        × HasRecorded D.is_honest D.state D.moment D.images_since (progress first w recorder.old) after
+        (answered_to (Answers D.is_honest D.state D.moment D.images_since D.failures) waiting_in (Ok tt)
+        (streams (R.remaining reader.old) None (W.contents replies.old)) (streams (R.remaining reader.new) None (W.contents replies.new))
+        (progress first w recorder.old) after run.run)) }
+    ensures err { (first : Recording) (w : World CommandOf)
+        → IfErr result (λ fault. (after : Progress D) × (after.now ≡ recorder.new)
+        × (run : EndsBy (Answers D.is_honest D.state D.moment D.images_since D.failures) waiting_in fault
+        (streams (R.remaining reader.old) None (W.contents replies.old)) (streams (R.remaining reader.new) None (W.contents replies.new))
+        (progress first w recorder.old) after)
+        × HasRecorded D.is_honest D.state D.moment D.images_since (progress first w recorder.old) after
+        (answered_by (Answers D.is_honest D.state D.moment D.images_since D.failures) waiting_in fault
+        (streams (R.remaining reader.old) None (W.contents replies.old)) (streams (R.remaining reader.new) None (W.contents replies.new))
+        (progress first w recorder.old) after run)) }
+
+    ensures honest { D.is_honest recorder.old.file.disk ↔ D.is_honest recorder.new.file.disk }
+    ensures later { D.failures recorder.old.file.disk ≤ D.failures recorder.new.file.disk }
+{
+    records_are_steps::<D>();
+    runs_show_first_commands::<D, Recorded>();
+    disks_stand_in_their_world::<D, Recorded>();
+    let _end = recorder.end();
+    match run_feed(alloc, recorder, reader, &mut sink(), replies) {
+        Ok(tally) => Ok(tally),
+        Err(fault) => Err(fault),
+    }
+}
