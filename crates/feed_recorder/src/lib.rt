@@ -14,3 +14,6 @@ mod recording;
 
 pub use laws::records_are_steps;
 pub use recording::record_feed;
+
+#[cfg(test)]
+mod tests;
