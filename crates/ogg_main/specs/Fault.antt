@@ -1,25 +1,57 @@
--- The lines of faults. They are ours.
+-- The lines of faults, each with its line feed. They are ours.
 use Rattle.std.specs.Prelude.{◌≡◌, ℕ, List, ◌++◌, codes}
 use Rattle.std.specs.Fmt.{decimal}
+use Rattle.ogg_page.specs.PageFault as P
+use Rattle.link_chain.specs.ChainFault as C
+use Rattle.gate_file.specs.OpenFault as O
+use Rattle.gate_file.specs.declared.fault.OpenFault.{OpenFault}
+use Rattle.gate_file.specs.declared.fault.OpenFault.TheVariants.{Disk, Page as OpenPage, Memory as OpenMemory, Chain as OpenChain, Unfinished}
+use Rattle.link_index.specs.IndexFault as I
+use Rattle.link_index.specs.declared.fault.IndexFault.{IndexFault}
+use Rattle.link_index.specs.declared.fault.IndexFault.TheVariants.{Page as IndexPage, Chain as IndexChain, Memory as IndexMemory}
 use Rattle.feed_codec.specs.Reply.{line_end}
-use Rattle.feed_codec.specs.FeedFault.{code_of, name_of}
-use Rattle.feed_codec.specs.declared.fault.FeedFault.{FeedFault}
+use Rattle.feed_codec.specs.FeedFault as F
 use Rattle.feed_codec.specs.declared.fault.RunFault.{RunFault}
 use Rattle.feed_codec.specs.declared.fault.RunFault.TheVariants.{Feed as RunFeed, Write as RunWrite, TooMany as RunTooMany}
+use Rattle.ogg_split.specs.SplitFault as S
 use Rattle.ogg_main.specs.declared.fault.Fault.{Fault}
-use Rattle.ogg_main.specs.declared.fault.Fault.TheVariants.{Feed, Write, TooMany}
+use Rattle.ogg_main.specs.declared.fault.Fault.TheVariants.{File, Memory, Open, Feed, Write, TooMany, Index, Split, Failed, Seal}
 
--- the line of a fault of the feed, with its line feed
-abbrev pub feed_line : FeedFault → List ℕ
-feed_line fault = codes "fault feed " ++ (decimal (code_of fault) ++ (codes " " ++ (name_of fault ++ line_end)))
+-- a number and a name, and then this
+abbrev pub coded : ℕ → List ℕ → List ℕ → List ℕ
+coded code name rest = decimal code ++ (codes " " ++ (name ++ rest))
 
--- the line of a fault, with its line feed
+-- the offset of a page, and the number and the name of what is wrong with it
+abbrev pub place : ℕ → ℕ → List ℕ → List ℕ
+place offset code name = codes " " ++ (decimal offset ++ (codes " " ++ coded code name line_end))
+
+-- what follows the name of a fault of opening
+abbrev pub open_rest : OpenFault → List ℕ
+open_rest Disk = line_end
+open_rest (OpenPage offset fault) = place offset (P.code_of fault) (P.name_of fault)
+open_rest OpenMemory = line_end
+open_rest (OpenChain offset fault) = place offset (C.code_of fault) (C.name_of fault)
+open_rest (Unfinished serial) = codes " " ++ (decimal serial ++ line_end)
+
+-- what follows the name of a fault of indexing
+abbrev pub index_rest : IndexFault → List ℕ
+index_rest (IndexPage offset fault) = place offset (P.code_of fault) (P.name_of fault)
+index_rest (IndexChain offset fault) = place offset (C.code_of fault) (C.name_of fault)
+index_rest IndexMemory = line_end
+
 abbrev pub fault_line : Fault → List ℕ
-fault_line (Feed fault) = feed_line fault
+fault_line File = codes "fault file" ++ line_end
+fault_line Memory = codes "fault memory" ++ line_end
+fault_line (Open fault) = codes "fault open " ++ coded (O.code_of fault) (O.name_of fault) (open_rest fault)
+fault_line (Feed fault) = codes "fault feed " ++ coded (F.code_of fault) (F.name_of fault) line_end
 fault_line Write = codes "fault write" ++ line_end
 fault_line TooMany = codes "fault run 3 TooMany" ++ line_end
+fault_line (Index fault) = codes "fault index " ++ coded (I.code_of fault) (I.name_of fault) (index_rest fault)
+fault_line (Split fault) = codes "fault split " ++ coded (S.code_of fault) (S.name_of fault) line_end
+fault_line Failed = codes "fault failed" ++ line_end
+fault_line Seal = codes "fault seal" ++ line_end
 
--- the fault that the program reports where a run over a feed ended with one
+-- the fault that the program reports if a run over a feed ended with one
 abbrev pub fault_of_run : RunFault → Fault
 fault_of_run (RunFeed fault) = Feed fault
 fault_of_run RunWrite = Write

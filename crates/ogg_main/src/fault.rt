@@ -1,17 +1,31 @@
 //! What ends the program with status 1, and its line on standard error.
-ghost use Rattle.std.specs.Prelude.{◌≡◌, OnOk, OnErr};
+ghost use Rattle.std.specs.Prelude.{◌≡◌, ◌≤◌, ◌+◌, ◌++◌, OnOk, OnErr, codes, decimal, length};
 ghost use Rattle.std.specs.Io.KnownBytes.{Appends};
 ghost use Rattle.ogg_page.specs.Output.{WritesPrefix};
-ghost use Rattle.ogg_main.specs.Fault.{fault_line, feed_line, IsOfRun};
+ghost use Rattle.feed_codec.specs.Reply.{line_end};
+ghost use Rattle.ogg_main.specs.Fault.{IsOfRun, coded, fault_line, index_rest, open_rest, place};
 
 use feed_codec::{FeedFault, RunFault};
+use gate_file::OpenFault;
+use link_index::IndexFault;
 use ogg_page::{WriteFault, write_whole};
+use ogg_split::SplitFault;
 use std::io::Write;
+use text_line::Line;
 use thiserror::Error;
 
 /// What ends the program with status 1: the first fault that it met.
 #[derive(Clone, Copy, Debug, PartialEq, Eq, Error)]
 pub enum Fault {
+    /// A file can't be opened.
+    #[error("the file can't be opened")]
+    File,
+    /// Memory was refused.
+    #[error("memory was refused")]
+    Memory,
+    /// A file isn't one that the program can go on with.
+    #[error("{0}")]
+    Open(OpenFault),
     /// The feed has a fault.
     #[error("{0}")]
     Feed(FeedFault),
@@ -21,6 +35,18 @@ pub enum Fault {
     /// The feed has more records than a run takes.
     #[error("the feed has too many records")]
     TooMany,
+    /// The pages of a file aren't links.
+    #[error("{0}")]
+    Index(IndexFault),
+    /// A link or a stream wasn't copied as a whole.
+    #[error("{0}")]
+    Split(SplitFault),
+    /// The disk has failed while it recorded.
+    #[error("the disk has failed")]
+    Failed,
+    /// A file wasn't cut to its committed bytes.
+    #[error("the file wasn't sealed")]
+    Seal,
 }
 
 impl From<RunFault> for Fault {
@@ -40,30 +66,109 @@ pub fn write_fault<W: Write>(fault: &Fault, writer: &mut W) -> Result<(), WriteF
     ensures ok { OnOk result (Appends (W.contents writer.old) (W.contents writer.new) (fault_line fault.now)) }
     ensures err { OnErr result (WritesPrefix (W.contents writer.old) (W.contents writer.new) (fault_line fault.now)) }
 {
-    write_whole(writer, line_of(*fault))
+    write_whole(writer, line_of(*fault).as_slice())
 }
 
 /// The fault's line, with its line feed.
-fn line_of(fault: Fault) -> &'static [u8]
-    ensures { result.now ≡ fault_line fault }
+fn line_of(fault: Fault) -> Line
+    ensures { result.text ≡ fault_line fault }
 {
     match fault {
-        Fault::Feed(fault) => feed_line_of(fault),
-        Fault::Write => b"fault write\n",
-        Fault::TooMany => b"fault run 3 TooMany\n",
+        Fault::File => words(b"fault file"),
+        Fault::Memory => words(b"fault memory"),
+        Fault::Open(fault) => {
+            let mut line = open_rest(fault);
+            put_coded(&mut line, fault.code(), fault.name());
+            line.put_text(b"fault open ");
+            line
+        }
+        Fault::Feed(fault) => {
+            let mut line = Line::new();
+            put_coded(&mut line, fault.code(), fault.name());
+            line.put_text(b"fault feed ");
+            line
+        }
+        Fault::Write => words(b"fault write"),
+        Fault::TooMany => words(b"fault run 3 TooMany"),
+        Fault::Index(fault) => {
+            let mut line = index_rest(fault);
+            put_coded(&mut line, fault.code(), fault.name());
+            line.put_text(b"fault index ");
+            line
+        }
+        Fault::Split(fault) => {
+            let mut line = Line::new();
+            put_coded(&mut line, fault.code(), fault.name());
+            line.put_text(b"fault split ");
+            line
+        }
+        Fault::Failed => words(b"fault failed"),
+        Fault::Seal => words(b"fault seal"),
     }
 }
 
-/// The line of a fault of the feed, with its line feed.
-fn feed_line_of(fault: FeedFault) -> &'static [u8]
-    ensures { result.now ≡ feed_line fault }
+/// A line of words alone.
+fn words(text: &[u8]) -> Line
+    requires { length text.now ≤ 60 }
+    ensures { result.text ≡ text.now ++ line_end }
+{
+    let mut line = Line::new();
+    line.put_text(text);
+    line
+}
+
+/// What follows the name of a fault of opening.
+fn open_rest(fault: OpenFault) -> Line
+    ensures text { result.text ≡ open_rest fault }
+    ensures room { 60 ≤ result.room }
 {
     match fault {
-        FeedFault::Truncated => b"fault feed 1 Truncated\n",
-        FeedFault::Kind => b"fault feed 2 Kind\n",
-        FeedFault::Length => b"fault feed 3 Length\n",
-        FeedFault::Form => b"fault feed 4 Form\n",
-        FeedFault::Read => b"fault feed 5 Read\n",
-        FeedFault::Memory => b"fault feed 6 Memory\n",
+        OpenFault::Page(offset, fault) => place(offset, fault.code(), fault.name()),
+        OpenFault::Chain(offset, fault) => place(offset, fault.code(), fault.name()),
+        OpenFault::Unfinished(serial) => {
+            let mut line = Line::new();
+            line.put_number(u64::from(serial));
+            line.put_text(b" ");
+            line
+        }
+        OpenFault::Disk | OpenFault::Memory => Line::new(),
     }
+}
+
+/// What follows the name of a fault of indexing.
+fn index_rest(fault: IndexFault) -> Line
+    ensures text { result.text ≡ index_rest fault }
+    ensures room { 60 ≤ result.room }
+{
+    match fault {
+        IndexFault::Page(offset, fault) => place(offset, fault.code(), fault.name()),
+        IndexFault::Chain(offset, fault) => place(offset, fault.code(), fault.name()),
+        IndexFault::Memory => Line::new(),
+    }
+}
+
+/// A page's offset, and the number and the name of what is wrong with it.
+fn place(offset: u64, code: u8, name: &str) -> Line
+    requires { length name.now ≤ 13 }
+    ensures text { result.text ≡ place offset code name.now }
+    ensures room { 60 ≤ result.room }
+{
+    let mut line = Line::new();
+    put_coded(&mut line, code, name);
+    line.put_text(b" ");
+    line.put_number(offset);
+    line.put_text(b" ");
+    line
+}
+
+/// Puts a number and a name in front of a line.
+fn put_coded(line: &mut Line, code: u8, name: &str)
+    requires short { length name.now ≤ 13 }
+    requires room { 34 ≤ line.old.room }
+    ensures text { line.new.text ≡ coded code name.now line.old.text }
+    ensures room { line.old.room ≤ line.new.room + 34 }
+{
+    line.put_text(name.as_bytes());
+    line.put_text(b" ");
+    line.put_number(u64::from(code));
 }

@@ -1,25 +1,29 @@
-//! The program: what a command line asks for, done over the standard streams.
+//! The program: what a command line asks for, done over files and the standard streams.
 //!
-//! The status is 0 where the work was done, 1 after a fault, whose line is on standard error, and 2
-//! where the command line asks for nothing that can be done; then a text on standard error says
-//! what it could ask for.
+//! The status is 0 if the work was done, 1 after a fault, whose line is on standard error, and 2 if the command line
+//! asks for nothing that can be done; then a text on standard error says what it could ask for.
 #![tactic(auto)]
 
 mod fault;
+mod files;
+mod indexing;
+mod salvaging;
 mod streams;
 mod words;
 
 use crate::fault::{Fault, write_fault};
-use crate::words::Action;
+use crate::words::{Action, action_of, words};
+use clap::Error;
 use std::process::ExitCode;
 
 fn main(rt: HostRuntime) -> ExitCode {
-    let action = match words::read(&rt) {
+    let words = match words(&rt) {
+        Ok(words) => words,
+        Err(error) => return show(&rt, &error),
+    };
+    let action = match action_of(rt.alloc(), words.as_slice()) {
         Ok(action) => action,
-        Err(error) => {
-            let _ = rt.eprint(&error);
-            return ExitCode::from(2);
-        }
+        Err(error) => return show(&rt, &error),
     };
     match run(&rt, action) {
         Ok(()) => ExitCode::SUCCESS,
@@ -30,9 +34,19 @@ fn main(rt: HostRuntime) -> ExitCode {
     }
 }
 
+/// Shows a text in place of the work.
+fn show(rt: &HostRuntime, error: &Error) -> ExitCode {
+    let _ = rt.eprint(error);
+    ExitCode::from(2)
+}
+
 /// Does what the command line asks for.
-fn run(rt: &HostRuntime, action: Action) -> Result<(), Fault> {
+fn run(rt: &HostRuntime, action: Action<'_>) -> Result<(), Fault> {
     match action {
         Action::Mux { check } => streams::mux(rt, check),
+        Action::Record { file, seal, most } => streams::record(rt, file, seal, most),
+        Action::Links { file } => files::links(rt, file),
+        Action::Split { file, link, serial } => files::split(rt, file, link, serial),
+        Action::Salvage { file } => salvaging::salvage(rt, file),
     }
 }

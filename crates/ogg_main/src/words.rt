@@ -1,38 +1,64 @@
 //! The command line, read by `clap`. Each subcommand has a function that builds it.
 
 use clap::error::ErrorKind;
-use clap::{Arg, ArgAction, ArgMatches, Command, Error};
+use clap::{Arg, ArgAction, ArgMatches, Command, Error, value_parser};
 use std::alloc::{AllocError, Global};
 use std::{env, io};
 
 /// What the command line asks for.
 #[derive(Clone, Copy, Debug, PartialEq, Eq)]
-pub enum Action {
+pub enum Action<'a> {
     /// The pages of the feed on standard input, or with `check` its replies alone.
-    Mux { check: bool },
+    Mux {
+        check: bool,
+    },
+    /// The feed on standard input into the file, `most` commands to a commit, which is sealed at the end if `seal` says so.
+    Record {
+        file: &'a str,
+        seal: bool,
+        most: u32,
+    },
+    /// The listing of the file.
+    Links {
+        file: &'a str,
+    },
+    /// A link's pages out of the file, or those of one of its streams.
+    Split {
+        file: &'a str,
+        link: u32,
+        serial: Option<u32>,
+    },
+    /// Where the file has good pages.
+    Salvage {
+        file: &'a str,
+    },
 }
 
-/// Reads the command line. An error is the text to show in its place: help, the version, or what
-/// is wrong with the words.
-pub fn read(rt: &HostRuntime) -> Result<Action, Error> {
-    let words = match env::args(rt) {
-        Ok(words) => words,
-        Err(error) if error.kind() == io::ErrorKind::OutOfMemory => {
-            return Err(Error::from(AllocError));
-        }
+/// The words of the command line. An error is the text to show in their place.
+pub fn words(rt: &HostRuntime) -> Result<Vec<String>, Error> {
+    match env::args(rt) {
+        Ok(words) => Ok(words.collect(rt.alloc())?),
+        Err(error) if error.kind() == io::ErrorKind::OutOfMemory => Err(Error::from(AllocError)),
         // `clap` never sees these words.
-        Err(_) => return Err(refusal(rt.alloc(), "an argument isn't text in UTF-8")?),
-    };
-    let words: Vec<String> = words.collect(rt.alloc())?;
-    action_of(rt.alloc(), words.as_slice())
+        Err(_) => Err(refusal(rt.alloc(), "an argument isn't text in UTF-8")?),
+    }
 }
 
-fn action_of(alloc: Global, words: &[String]) -> Result<Action, Error> {
+/// What the words ask for. An error is the text to show in its place: help, the version, or what is wrong with the words.
+pub fn action_of<'a>(alloc: Global, words: &'a [String]) -> Result<Action<'a>, Error> {
     let matches = program(alloc)?.try_get_matches_from(words)?;
-    match matches.subcommand() {
-        Some(("mux", words)) => Ok(mux_of(words)),
-        // `clap` has seen to it that there is a subcommand, and that it is one of these.
-        _ => Err(refusal(alloc, "there is no such subcommand")?),
+    let action = match matches.subcommand() {
+        Some(("mux", words)) => Some(mux_of(words)),
+        Some(("record", words)) => record_of(words),
+        Some(("links", words)) => links_of(words),
+        Some(("split", words)) => split_of(words),
+        Some(("salvage", words)) => salvage_of(words),
+        _ => None,
+    };
+    match action {
+        Some(action) => Ok(action),
+        // `clap` has seen to it that there is a subcommand, that it is one of these, and that it has its words.
+        None => Err(refusal(alloc, "the words ask for nothing")?),
     }
 }
 
@@ -44,12 +70,16 @@ fn refusal(alloc: Global, message: &str) -> Result<Error, AllocError> {
 fn program<'a>(alloc: Global) -> Result<Command<'a>, AllocError> {
     Command::new(alloc, "kudzuturret")
         .bin_name("kudzuturret")?
-        .about("Writes packets into Ogg files as they come (RFC 3533)")
+        .about("Records packets into Ogg files as they come (RFC 3533)")
         .version("0.1.0")
         .after_help(PROGRAM_HELP)
         .subcommand_required(true)
         .arg_required_else_help(true)
-        .subcommand(mux(alloc)?)
+        .subcommand(mux(alloc)?)?
+        .subcommand(record(alloc)?)?
+        .subcommand(links(alloc)?)?
+        .subcommand(split(alloc)?)?
+        .subcommand(salvage(alloc)?)
 }
 
 const PROGRAM_HELP: &str = "\
@@ -57,10 +87,17 @@ Packets come as a feed: records that begin streams, put packets into them and en
 docs/FORMATS.md describes it, and examples/ has some. A first try:
 
   kudzuturret mux < examples/hello.feed > hello.ogg
+  kudzuturret record hello.ogg --seal < examples/hello.feed
+  kudzuturret links hello.ogg
 
 Status: 0 done; 1 a fault, whose line `fault ..` is the last on standard error; 2 help, the version,
 or a command line that can't be read.
 ";
+
+/// The argument of a file's path.
+fn file<'a>(alloc: Global, help: &'a str) -> Arg<'a> {
+    Arg::new(alloc, "FILE").required(true).help(help)
+}
 
 fn mux<'a>(alloc: Global) -> Result<Command<'a>, AllocError> {
     let check = Arg::new(alloc, "check")
@@ -76,16 +113,154 @@ fn mux<'a>(alloc: Global) -> Result<Command<'a>, AllocError> {
 const MUX_HELP: &str = "\
 The pages go to standard output, and for each command a line of reply to standard error:
 
-  kept COUNT END       its pages are written; so many commands were kept so far, and the pages
+  kept COUNT END       its pages are written; COUNT commands were kept so far, and the pages
                        of all have END bytes together
   refused CODE NAME    it breaks a rule, and nothing of it is written; the feed goes on
 
 Each command's pages and then its reply are out before the next record is read. Refusals are no
-fault: the status is 0 where the feed came to its end.
+fault: the status is 0 if the feed came to its end.
 ";
 
-fn mux_of(words: &ArgMatches<'_>) -> Action {
+fn mux_of<'a>(words: &ArgMatches<'a>) -> Action<'a> {
     Action::Mux {
         check: words.get_flag("check"),
     }
+}
+
+fn record<'a>(alloc: Global) -> Result<Command<'a>, AllocError> {
+    let seal = Arg::new(alloc, "seal")
+        .long("seal")
+        .help("At the end, if no fault came, cuts the file to its pages")
+        .action(ArgAction::SetTrue);
+    let group = Arg::new(alloc, "group")
+        .long("group")
+        .value_name("MOST")
+        .help("How many commands share one commit, 1 to 1024")
+        .value_parser(value_parser!(u32).range(1..=1024))
+        .default_value("1");
+    Command::new(alloc, "record")
+        .about("Records the feed on standard input into a file that survives a stop at any moment")
+        .after_help(RECORD_HELP)
+        .arg(file(
+            alloc,
+            "The file; it is made if there is none, and continued if there is one",
+        ))?
+        .arg(seal)?
+        .arg(group)
+}
+
+const RECORD_HELP: &str = "\
+For each command a line of reply goes to standard output:
+
+  kept COUNT END       it is on the disk, and with it all that waited: COUNT commands since the
+                       file was opened, and its pages have END bytes together
+  held COUNT           it waits for the others of its group; a flush, or the feed's end, keeps it too
+  refused CODE NAME    it breaks a rule, and nothing of it is recorded; the feed goes on
+  refused 21 Disk      the disk failed; every command after it is refused as `1 Failed`, and the next
+                       `record` finds what was kept, without the last group or with all of it
+
+Whatever stops the program or the machine, the next `record` of the same file finds all that was
+kept, and goes on from there:
+
+  kudzuturret record radio.ogg < first.feed
+  kudzuturret record radio.ogg --seal < second.feed
+
+A file that isn't sealed has one byte 00 after its pages, and after a stop maybe a longer tail.
+Players pass over both; `--seal` cuts them off.
+";
+
+fn record_of<'a>(words: &ArgMatches<'a>) -> Option<Action<'a>> {
+    Some(Action::Record {
+        file: words.get_str("FILE")?,
+        seal: words.get_flag("seal"),
+        most: words.get_one::<u32>("group")?,
+    })
+}
+
+fn links<'a>(alloc: Global) -> Result<Command<'a>, AllocError> {
+    Command::new(alloc, "links")
+        .about("Lists the links of a file and their streams")
+        .after_help(LINKS_HELP)
+        .arg(file(alloc, "The file, which is only read"))
+}
+
+const LINKS_HELP: &str = "\
+The listing goes to standard output. Lengths and offsets are in bytes:
+
+  committed END                       how far the file's pages go; a tail after them isn't counted
+  link NUMBER START LENGTH STREAMS    a link, counted from 0, and how many streams it has
+  stream SERIAL BYTES PAGES ended     one of its streams; `open` if it has no last page yet
+
+A file that is being recorded, or that a stop left with a tail, is listed up to its last command
+that was kept:
+
+  kudzuturret links radio.ogg
+";
+
+fn links_of<'a>(words: &ArgMatches<'a>) -> Option<Action<'a>> {
+    Some(Action::Links {
+        file: words.get_str("FILE")?,
+    })
+}
+
+fn split<'a>(alloc: Global) -> Result<Command<'a>, AllocError> {
+    let link = Arg::new(alloc, "LINK")
+        .required(true)
+        .help("The link's number, counted from 0, as `links` lists it")
+        .value_parser(value_parser!(u32));
+    let serial = Arg::new(alloc, "SERIAL")
+        .help("The serial of one of its streams; without it the whole link is written")
+        .value_parser(value_parser!(u32));
+    Command::new(alloc, "split")
+        .about("Writes the pages of a link, or of one of its streams")
+        .after_help(SPLIT_HELP)
+        .arg(file(alloc, "The file, which is only read"))?
+        .arg(link)?
+        .arg(serial)
+}
+
+const SPLIT_HELP: &str = "\
+The pages go to standard output, byte for byte as they stand in the file, so what is written is an
+Ogg file of one link, or of one stream:
+
+  kudzuturret links radio.ogg
+  kudzuturret split radio.ogg 0 > first.ogg
+  kudzuturret split radio.ogg 0 1 > first-stream-1.ogg
+
+A file that is being recorded, or that a stop left with a tail, is split up to its last command that
+was kept.
+";
+
+fn split_of<'a>(words: &ArgMatches<'a>) -> Option<Action<'a>> {
+    Some(Action::Split {
+        file: words.get_str("FILE")?,
+        link: words.get_one::<u32>("LINK")?,
+        serial: words.get_one::<u32>("SERIAL"),
+    })
+}
+
+fn salvage<'a>(alloc: Global) -> Result<Command<'a>, AllocError> {
+    Command::new(alloc, "salvage")
+        .about("Lists the good pages of a damaged file")
+        .after_help(SALVAGE_HELP)
+        .arg(file(alloc, "The file, which is only read"))
+}
+
+const SALVAGE_HELP: &str = "\
+For each page whose checksum is right a line goes to standard output, its offset and its length in
+bytes; pages of a tail are listed too:
+
+  OFFSET LENGTH
+
+From the front on, the first place at which a good page begins is listed, and the search goes on
+after that page. So a page that is copied out by its line is whole:
+
+  kudzuturret salvage broken.ogg
+  tail -c +$((OFFSET + 1)) broken.ogg | head -c LENGTH
+";
+
+fn salvage_of<'a>(words: &ArgMatches<'a>) -> Option<Action<'a>> {
+    Some(Action::Salvage {
+        file: words.get_str("FILE")?,
+    })
 }

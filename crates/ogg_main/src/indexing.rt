@@ -1,0 +1,73 @@
+//! The index of a file's committed bytes, made in the pass that finds where they end.
+ghost use Rattle.std.specs.Prelude.{⊤};
+
+use crate::fault::Fault;
+use disk_model::Disk;
+use gate_file::{Found, GateFile, PageVisitor};
+use link_chain::ChainFault;
+use link_index::{Index, IndexFault};
+use ogg_page::{Page, PageBuffer};
+use std::alloc::Global;
+
+/// A file has fewer bytes than this.
+const LENGTHS: u64 = 1 << 63;
+
+/// Adds pages to an index, up to the first that may not follow those before it.
+#[derive(Drop)]
+struct Indexer {
+    index: Index,
+    fault: Option<IndexFault>,
+}
+
+impl PageVisitor for Indexer {
+    ghost sees = { λ _ _ _. ⊤ };
+
+    fn see(&mut self, offset: u64, page: &Page<'_>) {
+        if self.fault.is_some() {
+            return;
+        }
+        // No honest disk is so long, and of another nothing is known.
+        let size = page.whole().len() as u64;
+        let left = LENGTHS.saturating_sub(self.index.end());
+        if size >= left {
+            return;
+        }
+        match self.index.add_page(page) {
+            Ok(()) => {}
+            Err(ChainFault::Memory) => self.fault = Some(IndexFault::Memory),
+            Err(fault) => self.fault = Some(IndexFault::Chain(offset, fault)),
+        }
+    }
+}
+
+/// A file that was found, its index, and the room for a page that was used.
+#[derive(Drop)]
+pub struct Indexed<D: Disk> {
+    pub found: Found<D>,
+    pub index: Index,
+    pub buffer: PageBuffer,
+}
+
+/// Finds the committed bytes of a file and indexes them, in one pass. It writes nothing. A fault of finding comes before
+/// one of indexing.
+pub fn find_index<D: Disk + Drop>(alloc: Global, disk: D) -> Result<Indexed<D>, Fault> {
+    let Ok(buffer) = PageBuffer::new(alloc) else {
+        return Err(Fault::Memory);
+    };
+    let mut indexer = Indexer {
+        index: Index::new(alloc),
+        fault: None,
+    };
+    let (found, buffer) = match GateFile::find_with(disk, buffer, &mut indexer) {
+        Ok(found) => found,
+        Err((fault, _)) => return Err(Fault::Open(fault)),
+    };
+    match indexer.fault {
+        None => Ok(Indexed {
+            found,
+            index: indexer.index,
+            buffer,
+        }),
+        Some(fault) => Err(Fault::Index(fault)),
+    }
+}
