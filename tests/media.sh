@@ -95,6 +95,36 @@ for name in vorbis opus flac theora chain; do
     read_whole "$name" "$work/$name.again.ogg"
 done
 
+# Each stream of each link of an encoder's chain, cut out: oggz and ffprobe read its packets as they do of the file that the
+# encoder made.
+cut_out() {
+    local name=$1 file=$2 number=0 serial part
+    shift 2
+    for part in "$@"; do
+        "$program" split "$file" "$number" >"$work/link.ogg"
+        check "$name: link $number is the encoder's file" cmp "$work/link.ogg" "$part"
+        for serial in $(serials "$part"); do
+            "$program" split "$file" "$number" "$serial" >"$work/stream.ogg"
+            check "$name: stream $serial of link $number" "$reader" chain <"$work/stream.ogg" >"$work/chain"
+            "$reader" "$serial" <"$part" >"$work/want"
+            "$reader" "$serial" <"$work/stream.ogg" >"$work/found"
+            check "$name: the packets of $serial" cmp "$work/want" "$work/found"
+            check "$name: ffprobe reads some of $serial" [ -n "$(packets "$work/stream.ogg")" ]
+        done
+        number=$((number + 1))
+    done
+}
+cut_out vorbis "$work/vorbis.ogg" "$work/vorbis.ogg"
+cut_out theora "$work/theora.ogg" "$work/theora.ogg"
+cut_out chain "$work/chain.ogg" "$work/vorbis.ogg" "$work/second.ogg" "$work/third.ogg"
+
+# A recording of the same packets, sealed by a later run, is what mux makes of them.
+"$program" mux <"$work/theora.feed" >"$work/want" 2>"$work/replies"
+"$program" record "$work/recorded.ogg" --group 16 <"$work/theora.feed" >"$work/replies"
+check "a recording: status" [ $? -eq 0 ]
+"$program" record "$work/recorded.ogg" --seal </dev/null
+check "a recording: its pages" cmp "$work/want" "$work/recorded.ogg"
+
 # With a Skeleton the packets are the same, and other programs know what it is. (ffprobe doesn't read on where a chain's next
 # link begins with a Skeleton, so the chain isn't asked for its packets.)
 for name in vorbis opus flac theora chain; do

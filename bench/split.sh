@@ -1,0 +1,62 @@
+#!/usr/bin/env bash
+# `links` and `split` over a file of 1 GB, in large and in small pages, and a program over libogg's sync layer that does the
+# same; the same link out of a file of many links; `salvage` over sound and over random bytes, beside a plain search for the
+# capture pattern. CPU seconds (user and system), each the best of three runs that take turns, and the most memory that each
+# had. Not part of the tests.
+#
+#     apt-get install libogg-dev && bench/split.sh [BYTES]      none: 1000000000
+set -u
+here=$(cd "$(dirname "$0")" && pwd)
+program=${PROGRAM:-$here/../crates/ogg_main/out/ogg_main}
+work=$(mktemp -d "${TMPDIR:-/tmp}/split-bench.XXXXXX")
+trap 'rm -rf "$work"' EXIT
+bytes=${1:-1000000000}
+
+[ -x "$program" ] || { echo "no program at $program: ./kudzuturret builds it" >&2; exit 1; }
+cc -O2 -o "$work/measured" "$here/measured.c" || exit 1
+for name in pages_made split_libogg; do
+    cc -O2 -o "$work/$name" "$here/$name.c" -logg || exit 1
+done
+cc -O2 -D_GNU_SOURCE -o "$work/captures" "$here/captures.c" || exit 1
+
+# least FILE: the run that took the fewest seconds: its seconds, and its memory.
+least() { sort -n "$1" | head -n 1; }
+
+# both NAME FILE OUR_WORDS .. -- THEIR_WORDS ..: runs both in turn, and prints what they took.
+both() {
+    local name=$1 file=$2 ours=() theirs=()
+    shift 2
+    while [ "$1" != -- ]; do ours+=("$1"); shift; done
+    shift
+    theirs=("$@")
+    : >"$work/ours.s"
+    : >"$work/theirs.s"
+    for _ in 1 2 3; do
+        "$work/measured" "$work/ours" /dev/null "$program" "${ours[@]}" >>"$work/ours.s"
+        "$work/measured" "$work/theirs" "$file" "${theirs[@]}" >>"$work/theirs.s"
+    done
+    echo "$name $(stat -c %s "$file") $(least "$work/ours.s") $(least "$work/theirs.s")" |
+        awk '{ printf "%-26s %8.1f %10.2f %10.2f %7.2f %10d %10d\n", $1, $2 / 1e6, $3, $5, $3 / $5, $4, $6 }'
+}
+
+status=0
+same() { cmp "$work/ours" "$work/theirs" || status=1; }
+
+printf '%-26s %8s %10s %10s %7s %10s %10s\n' work MB 'ours, s' 'theirs, s' ratio 'ours, kB' 'theirs, kB'
+for packet in 100 65024; do
+    "$work/pages_made" "$bytes" "$packet" >"$work/file"
+    cat "$work/file" >/dev/null
+    both "links_$packet" "$work/file" links "$work/file" -- "$work/split_libogg" links
+    same
+    both "split_$packet" "$work/file" split "$work/file" 0 -- "$work/split_libogg" split
+    same
+    both "split_stream_$packet" "$work/file" split "$work/file" 0 1 -- "$work/split_libogg" split
+    same
+    both "salvage_$packet" "$work/file" salvage "$work/file" -- "$work/split_libogg" salvage
+    same
+done
+head -c "$bytes" /dev/urandom >"$work/file"
+cat "$work/file" >/dev/null
+both salvage_random "$work/file" salvage "$work/file" -- "$work/captures"
+[ "$status" -eq 0 ] || echo "they differ"
+exit "$status"
