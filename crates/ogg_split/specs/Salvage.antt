@@ -1,4 +1,5 @@
--- The good pages of any bytes, damaged ones too. Which pages are listed is ours; what a page is stands in RFC 3533, section 6.
+-- The good pages of any bytes, damaged ones too. What a page is stands in RFC 3533, section 6; which of them are listed
+-- is ours.
 use Rattle.std.specs.Prelude.{◌≡◌, ◌⊎◌, ℕ, ◌+◌, ◌<◌, ◌≤◌, List, [], ◌∷◌, ◌++◌, drop, ⊤}
 use Rattle.std.specs.List.{AllByRecursion}
 use Rattle.ogg_page.specs.Page.{Page, IsPage, page_bytes, page_size}

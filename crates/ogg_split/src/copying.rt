@@ -16,11 +16,11 @@ use ogg_page::write_whole;
 use packet_view::{Packets, packets_are_held};
 use std::io::Write;
 
-/// Writes the pages of the link with this number, counted from 0, as they stand in the file's bytes, and gives how many
-/// bytes they have. The bytes begin with those that the index is of. No memory is taken.
+/// Writes the pages of the link with this number, counted from 0, as they stand in the file's bytes, and gives how
+/// many bytes they have. The bytes begin with those that the index is of. No memory is taken.
 ///
-/// The faults are `NoLink`, where nothing is written, and `Write`, where a prefix of the pages was written. `Source` comes
-/// only of bytes that don't go as far as the index does; nothing is written then.
+/// The faults are `NoLink`, after which nothing is written, and `Write`, after which a prefix of the pages was
+/// written. `Source` comes only of bytes that don't go as far as the index does, and nothing is written then.
 pub fn copy_link<W: Write>(
     bytes: &[u8],
     index: &Index,
@@ -46,8 +46,12 @@ pub fn copy_link<W: Write>(
     }
 }
 
-/// Writes the pages of the stream with this serial in the link with this number, as [`copy_link`] does, each by itself.
-/// `NoStream` is the fault if the link has no such stream, and then nothing is written either.
+/// Writes the pages of the stream with this serial in the link with this number, as they stand in the file's bytes,
+/// each by itself, and gives how many bytes they have. The bytes begin with those that the index is of. No memory is
+/// taken.
+///
+/// The faults are `NoLink` and `NoStream`, after which nothing is written, and `Write`, after which a prefix of the
+/// pages was written. `Source` comes only of bytes that aren't those of the index; a prefix may be written then.
 pub fn copy_stream<W: Write>(
     bytes: &[u8],
     index: &Index,
@@ -75,10 +79,9 @@ pub fn copy_stream<W: Write>(
     }
 }
 
-/// The packets of the stream with this serial in the link with this number. They are lent out of the file's bytes, which
-/// begin with those that the index is of. No memory is taken.
-///
-/// The packets are followed by a fault only if the last one is unfinished.
+/// The packets of the stream with this serial in the link with this number. They are lent out of the file's bytes,
+/// which begin with those that the index is of. A fault follows them only if the last packet is unfinished. No memory
+/// is taken.
 ///
 /// The faults are `NoLink` and `NoStream`; `Source` comes only of bytes that don't go as far as the index does.
 pub fn packets_of<'a>(

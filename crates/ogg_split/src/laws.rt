@@ -9,8 +9,9 @@ ghost use Rattle.ogg_split.specs.declared.salvaging.GoodPage.{GoodPage as GoodPa
 
 /// The index has a stream with a serial in the entry of a link if, and only if, the link has such a stream.
 pub fn index_has_the_streams()
-    ensures { (bytes : List ℕ) (links : List (List Page)) (number serial : ℕ) (pages : List Page) (entry : LinkEntry) → AreLinks bytes links
-        → slice_get links number ≡ Some pages → slice_get (index_of links) number ≡ Some entry → has_serial entry.streams serial ≡ has_stream pages serial }
+    ensures { (bytes : List ℕ) (links : List (List Page)) (number serial : ℕ) (pages : List Page) (entry : LinkEntry)
+        → AreLinks bytes links → slice_get links number ≡ Some pages → slice_get (index_of links) number ≡ Some entry
+        → has_serial entry.streams serial ≡ has_stream pages serial }
 {}
 
 /// Bytes have one list of good pages.

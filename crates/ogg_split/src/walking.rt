@@ -14,7 +14,8 @@ use std::io::Write;
 pub fn copy_pages<W: Write>(bytes: &[u8], only: Option<u32>, out: &mut W) -> Result<u64, SplitFault>
     ensures copied { (pages : List PageValue) → AllByRecursion IsPage pages → bytes.now ≡ bytes_of_pages pages
         → IsCopy (W.contents out.old) (W.contents out.new) (bytes_of_pages (pages_asked only pages)) result }
-    ensures sound { (pages : List PageValue) → AllByRecursion IsPage pages → bytes.now ≡ bytes_of_pages pages → result ≢ Err SplitFault.Source }
+    ensures sound { (pages : List PageValue) → AllByRecursion IsPage pages → bytes.now ≡ bytes_of_pages pages
+        → result ≢ Err SplitFault.Source }
     ensures there { IsThere result }
 {
     let mut rest = bytes;

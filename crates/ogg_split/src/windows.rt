@@ -15,12 +15,12 @@ use ogg_page::{PageSource, Window};
 use std::io::Write;
 
 /// Writes the pages of the link with this number, counted from 0, as they stand in the window's source, and gives how
-/// many bytes they have. The source's bytes begin with those that the index is of. Each page is written by itself, out
-/// of the window's room; the range of the window is set to the link's, and is left where the copy ended. No memory is
-/// taken.
+/// many bytes they have. The source's bytes begin with those that the index is of. Each page is written by itself,
+/// out of the window's room; the range of the window is set to the link's, and is left where the copy ended. No
+/// memory is taken.
 ///
-/// The faults are `NoLink`, where nothing is written; `Source`, where a read failed or gave no good page; and `Write`.
-/// After `Source` and `Write` a prefix of the pages was written.
+/// The faults are `NoLink`, after which nothing is written; `Source`, if a read failed or gave no good page; and
+/// `Write`. After `Source` and `Write` a prefix of the pages was written.
 pub fn copy_link_from<S: PageSource, W: Write>(
     window: &mut Window<S>,
     index: &Index,
@@ -49,8 +49,8 @@ pub fn copy_link_from<S: PageSource, W: Write>(
     }
 }
 
-/// Writes the pages of the stream with this serial in the link with this number, as [`copy_link_from`] does. `NoStream`
-/// is the fault if the link has no such stream, and then nothing is written either.
+/// Writes the pages of the stream with this serial in the link with this number, as [`copy_link_from`] does. Another
+/// fault is `NoStream`, if the link has no such stream; nothing is written then.
 pub fn copy_stream_from<S: PageSource, W: Write>(
     window: &mut Window<S>,
     index: &Index,
