@@ -3,9 +3,13 @@
 
 The packets' bytes come from a fixed seed, so that each run has the same feed.
 """
+import os
 import random
 import struct
 import sys
+
+sys.path.insert(0, os.path.join(os.path.dirname(os.path.abspath(__file__)), "..", "tests", "program"))
+from records import record
 
 # For each shape: streams, packets in a put (neighbours are of one stream), bytes in a packet.
 SHAPES = {
@@ -15,10 +19,6 @@ SHAPES = {
     "frames": (1, 1, 20000),
     "large": (1, 1, 1000000),
 }
-
-
-def record(kind, payload):
-    return struct.pack("<BI", kind, len(payload)) + payload
 
 
 def main(shape, megabytes):

@@ -15,8 +15,9 @@ streams=${1:-1}
 
 # feed LINKS STREAMS ORDER: links with an empty header for each stream, and the ends of all of them.
 feed() {
-    python3 -c '
-import random, struct, sys
+    PYTHONPATH=$here/../tests/program python3 -c '
+import random, sys
+from records import begin, end
 links, streams, order = int(sys.argv[1]), int(sys.argv[2]), sys.argv[3]
 count = links * streams
 chosen = {
@@ -28,8 +29,7 @@ chosen = {
 write = sys.stdout.buffer.write
 for link in range(links):
     serials = chosen[link * streams : (link + 1) * streams]
-    payload = b"\0" + struct.pack("<H", streams) + b"".join(struct.pack("<IHI", s, 1, 0) + bytes(31) for s in serials)
-    write(struct.pack("<BI", 1, len(payload)) + payload + b"".join(struct.pack("<BII", 3, 4, s) for s in serials))
+    write(begin(serials, b"") + b"".join(map(end, serials)))
 ' "$1" "$2" "$3"
 }
 

@@ -23,14 +23,13 @@ least() { printf '%s\n' "$@" | sort -n | head -n 1; }
 # measure NAME PACKETS BYTES GROUP
 measure() {
     local ours='' plain='' sqlite=''
-    python3 - "$2" "$3" >"$work/feed" <<'END'
-import struct, sys
+    PYTHONPATH=$here/../tests/program python3 - "$2" "$3" >"$work/feed" <<'END'
+import sys
+from records import begin, put
 count, size = int(sys.argv[1]), int(sys.argv[2])
-def record(kind, payload): return struct.pack("<BI", kind, len(payload)) + payload
-write = sys.stdout.buffer.write
-write(record(1, b"\0" + struct.pack("<HIHI", 1, 1, 1, 3) + b"abc" + bytes(31)))
+sys.stdout.buffer.write(begin([1]))
 for n in range(count):
-    write(record(2, struct.pack("<HIQI", 1, 1, n, size) + bytes(n * 31 % 256 for _ in range(size))))
+    sys.stdout.buffer.write(put([(1, n, bytes(n * 31 % 256 for _ in range(size)))]))
 END
     for _ in 1 2 3; do
         rm -f "$work"/file.*

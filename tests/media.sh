@@ -38,7 +38,7 @@ packets() {
 # Without serials and numbers of streams, which a Skeleton moves.
 warnings() { ogginfo "$1" | grep -i 'warning\|error' | sed 's/serial: [0-9a-f]*//; s/stream ([0-9]*)/stream/'; }
 same_warnings() { [ "$(warnings "$1")" = "$(warnings "$2")" ]; }
-replies_keep() { ! grep -v '^kept ' "$1"; }
+replies_keep() { [ -s "$1" ] && ! grep -v '^kept ' "$1"; }
 
 # again NAME: the packets of NAME.ogg, muxed again, are the same.
 again() {
@@ -135,9 +135,10 @@ for name in vorbis opus flac theora chain; do
     check "$name with a Skeleton: ogginfo warns of no more than of the encoder's file" \
         same_warnings "$work/$name.ogg" "$work/$name.described.ogg"
     [ "$name" != chain ] || continue
-    packets "$work/$name.described.ogg" | cut -f 2 | sort >"$work/$name.found"
+    # Stream 0 is the Skeleton.
+    packets "$work/$name.described.ogg" | awk '$1 > 0' | cut -f 2 | sort >"$work/$name.found"
     cut -f 2 "$work/$name.want" | sort >"$work/$name.sorted"
-    check "$name with a Skeleton: the packets are the same" cmp "$work/$name.sorted" <(grep -F -f "$work/$name.sorted" "$work/$name.found")
+    check "$name with a Skeleton: the packets are the same" cmp "$work/$name.sorted" "$work/$name.found"
 done
 
 finish

@@ -55,7 +55,9 @@ pages() { python3 "$here/pages.py" "$@"; }
 records() { python3 "$here/records.py" "$1"; }
 bytes() { printf '%b' "$(printf '%s' "$*" | tr -d ' \n' | sed 's/../\\x&/g')"; }
 
+# A script that has checked nothing has failed.
 finish() {
+    [ "$((passed + failed))" -gt 0 ] || failed=1
     echo "$passed passed, $failed failed"
     [ "$failed" -eq 0 ]
     exit

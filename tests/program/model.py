@@ -13,6 +13,7 @@ import sys
 
 sys.path.insert(0, os.path.dirname(os.path.abspath(__file__)))
 from pages import page
+from records import record
 
 MOST_PAYLOAD = 33554432
 MOST_PACKET = 8388608
@@ -331,7 +332,7 @@ def random_feed(chance):
             serial = chance.choice(begun or serials)
             begun = [other for other in begun if other != serial] if chance.random() < 0.8 else begun
             payload, kind = struct.pack("<I", serial), END
-        feed += struct.pack("<BI", kind, len(payload)) + payload
+        feed += record(kind, payload)
     if chance.random() < 0.1:
         return feed[: chance.randrange(len(feed) + 1)]
     if chance.random() < 0.1:

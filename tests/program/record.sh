@@ -79,6 +79,17 @@ run record "$work" <"$top/examples/hello.feed"
 came "a folder" 1 '' 'fault file\n'
 run record "$work/none/one.ogg" <"$top/examples/hello.feed"
 came "no such folder" 1 '' 'fault file\n'
+# A folder that nobody may write to, tried by someone who isn't root.
+mkdir "$work/shut"
+cp "$program" "$work/program"
+chmod 755 "$work"
+chmod 555 "$work/shut"
+nobody=()
+[ "$(id -u)" -ne 0 ] || nobody=(setpriv --reuid 65534 --clear-groups)
+timeout 20 "${nobody[@]}" "$work/program" record "$work/shut/one.ogg" <"$top/examples/hello.feed" >"$work/out" 2>"$work/err"
+status=$?
+came "a folder that is shut" 1 '' 'fault file\n'
+check "a folder that is shut: no file is made" [ ! -e "$work/shut/one.ogg" ]
 run record /dev/full <"$top/examples/hello.feed"
 came "no regular file" 1 '' 'fault open 1 Disk\n'
 run links "$work/none.ogg"
