@@ -14,11 +14,13 @@ mod answer;
 mod digits;
 mod fields;
 mod head;
+mod laws;
 mod range;
 mod target;
 
 pub use answer::{Answer, Memory, response_head};
 pub use head::{HeadRead, Request, Verb, read_head};
+pub use laws::ranges_lie_inside;
 pub use range::{Ranged, range_of};
 pub use target::Resource;
 
