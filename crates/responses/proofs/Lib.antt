@@ -1,0 +1,3 @@
+mod OneResponse
+mod Framing
+mod Examples
