@@ -1,3 +1,4 @@
+mod Reading
 mod OneResponse
 mod Framing
 mod Examples

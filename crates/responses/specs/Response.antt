@@ -1,5 +1,5 @@
 -- The response to a request: its head and its content (RFC 9110, sections 9.3 and 15).
-use Rattle.std.specs.Prelude.{◌≡◌, ℕ, ◌+◌, ◌<◌, ◌≤◌, Bool, not, ◌&&◌, ◌==◌, if◌then◌else◌, Option, Some, None, option_map, option_and_then, option_copied, List, [], ◌++◌, length, map, slice_get, slice_range, codes}
+use Rattle.std.specs.Prelude.{◌≡◌, ◌⊎◌, ℕ, ◌+◌, ◌<◌, ◌≤◌, Bool, not, ◌&&◌, ◌==◌, if◌then◌else◌, Option, Some, None, option_map, option_and_then, option_copied, List, [], ◌++◌, length, map, slice_get, slice_range, codes}
 use Rattle.std.specs.List.{flat_map}
 use Rattle.httparse.specs.Grammar.{RequestHead, ReadsRequest}
 use Rattle.httparse.specs.Spans.{name_and_value}
@@ -9,7 +9,7 @@ use Rattle.link_index.specs.Index.{index_of}
 use Rattle.link_index.specs.Listing.{listing}
 use Rattle.ogg_http.specs.Answer.{answer_head}
 use Rattle.ogg_http.specs.Fields.{count_of, range_in}
-use Rattle.ogg_http.specs.Head.{IsHopeless, head_bytes, most_bytes, most_fields, verb_of}
+use Rattle.ogg_http.specs.Head.{IsAwaited, IsHopeless, head_bytes, most_bytes, most_fields, verb_of}
 use Rattle.ogg_http.specs.Range.{range_of}
 use Rattle.ogg_http.specs.Target.{resource_of}
 use Rattle.ogg_http.specs.declared.answer.Answer.{Answer}
@@ -72,6 +72,10 @@ pub record HasNoRequest (received : List ℕ) : Type 0 where
 abbrev pub Asks : List ℕ → Option Asked → Type 0
 Asks received (Some asked) = (head : RequestHead) × HasRequest received head × (asked ≡ asked_of head)
 Asks received None = HasNoRequest received
+
+-- what was received asks something, or more of the head has to come
+abbrev pub AsksOrWaits : List ℕ → Type 0
+AsksOrWaits received = ((asked : Option Asked) × Asks received asked) ⊎ IsAwaited received
 
 -- ---- what a resource has
 -- a text, or the bytes of pages; a range can be asked of pages only

@@ -1,7 +1,7 @@
 //! What is asked by what was received.
 ghost use Rattle.std.specs.Prelude.{◌≡◌, Some, None};
 ghost use Rattle.ogg_http.specs.Head.{IfWhole, IsAwaited};
-ghost use Rattle.responses.specs.Response.{Asks, asked_by};
+ghost use Rattle.responses.specs.Response.{Asks, AsksOrWaits, asked_by};
 
 use ogg_http::{HeadRead, read_head};
 
@@ -12,6 +12,8 @@ pub fn find_head<'a>(received: &'a [u8]) -> HeadRead<'a>
     ensures whole { IfWhole result (λ request. Asks received.now (Some (asked_by request))) }
     ensures bad { result ≡ HeadRead.Bad → Asks received.now None }
     ensures partial { result ≡ HeadRead.Partial → IsAwaited received.now }
+    // So it finds one of the three.
+    ensures read { AsksOrWaits received.now }
 {
     read_head(received)
 }

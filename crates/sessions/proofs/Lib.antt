@@ -1,0 +1,12 @@
+mod Sessions
+mod Seen
+mod Numbers
+mod Served
+mod Match
+mod Alone
+mod Others
+mod Exact
+mod Few
+mod Grows
+mod Recorded
+mod Answered

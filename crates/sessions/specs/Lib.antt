@@ -1,0 +1,5 @@
+pub mod HubFault
+pub mod Hub
+pub mod Run
+pub mod Sound
+pub mod Calls

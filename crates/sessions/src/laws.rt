@@ -1,0 +1,111 @@
+//! What always holds of the sessions of a hub.
+ghost use Rattle.std.specs.Prelude.{◌≡◌, ◌≢◌, ◌↔◌, ◌⊎◌, ◌<◌, ◌≤◌, ◌^◌, ◌++◌, ℕ, List, Option, Some, None, IsSome, Result, Ok, Err, false, length, ⊤};
+ghost use Rattle.std.specs.List.{AllByRecursion, range_with_len};
+ghost use Rattle.ogg_command.specs.declared.command.Command.{Command};
+ghost use Rattle.ogg_command.specs.declared.refusal.Refusal.{Refusal};
+ghost use Rattle.ogg_command.specs.declared.refusal.Refusal.TheVariants.{Memory as NoRoom, Disk};
+ghost use Rattle.feed_codec.specs.declared.reply.Kept.{Kept};
+ghost use Rattle.ogg_recorder.specs.declared.commanding.Outcome.{Outcome};
+ghost use Rattle.responses.specs.Response.{Asked, Asks, AsksOrWaits, IsResponse};
+ghost use Rattle.sessions.specs.declared.fault.HubFault.{HubFault as HubFaultOf};
+ghost use Rattle.sessions.specs.declared.fault.HubFault.TheVariants.{NoSession, SessionsFull, Source, Memory, NoFile};
+ghost use Rattle.sessions.specs.declared.answers.Progress.{Progress as ProgressOf};
+ghost use Rattle.sessions.specs.Hub.{HubState, IsNew, Given, Event, Reading, Connect, Receive, Pull, Close, Record, Flush, hub_step, phase_of};
+ghost use Rattle.sessions.specs.Run.{Step, AreSteps, IsUnused, own_calls, committed_at_head, pulled, session_of, IsServed, all_connected};
+ghost use Rattle.sessions.specs.Sound.{Extends, HasCommand, IsSound};
+
+use chain_rules::{command_adds_its_packets, refusals_are_of_the_table};
+use link_chain::bytes_are_one_chain;
+use responses::responses_are_unambiguous;
+
+/// Whichever calls come, in any order: what a session pulls is the front of one response, that to its request over the
+/// bytes that were committed when its head was complete. It is as long as the session's buffers, and all of the response
+/// if a pull said so.
+pub fn sessions_get_their_responses()
+    ensures served { (start : HubState) (steps : List Step) (id : ℕ) → IsUnused start id → AreSteps start steps
+        → IsServed id steps }
+    // A new hub has given no number.
+    ensures from_new { (start : HubState) (steps : List Step) (id : ℕ) → IsNew start → AreSteps start steps
+        → IsServed id steps }
+    // Two sessions, of one hub or of two, pull the same if their own calls are the same, and the same was committed when
+    // their heads were complete, whatever other sessions and the recorder do.
+    ensures alone { (start other_start : HubState) (steps other_steps : List Step) (id other : ℕ)
+        → IsUnused start id → AreSteps start steps → IsUnused other_start other → AreSteps other_start other_steps
+        → own_calls id steps ≡ own_calls other other_steps
+        → committed_at_head id steps ≡ committed_at_head other other_steps
+        → pulled id steps ≡ pulled other other_steps }
+{
+    responses_are_unambiguous();
+}
+
+/// A call changes no session but its own.
+pub fn other_sessions_stay()
+    ensures { (old new : HubState) (event : Event) (id : ℕ) → hub_step old event new → session_of event ≢ Some id
+        → phase_of new id ≡ phase_of old id }
+{}
+
+/// The numbers that are given to sessions rise one by one, so that none is given twice.
+pub fn numbers_are_given_once()
+    ensures { (start : HubState) (steps : List Step) → AreSteps start steps
+        → all_connected steps ≡ range_with_len start.next_id (length (all_connected steps)) }
+{}
+
+/// There are never more than 64 sessions.
+pub fn sessions_are_few()
+    ensures { (start : HubState) (steps : List Step) → length start.sessions ≤ 64 → AreSteps start steps
+        → AllByRecursion (λ (step : Step). length step.after.sessions ≤ 64) steps }
+{}
+
+/// A call of a session is refused for what the hub is exactly if the hub is so: `SessionsFull`, `NoSession` and `NoFile`.
+pub fn refusals_are_exact()
+    ensures connect { (old new : HubState) (answer : Result ℕ HubFaultOf) → hub_step old (Connect answer) new
+        → (answer ≡ Err SessionsFull) ↔ ((64 ≤ length old.sessions) ⊎ (2 ^ 64 ≤ old.next_id)) }
+    ensures receive { (old new : HubState) (id : ℕ) (bytes : List ℕ) (answer : Result ProgressOf HubFaultOf)
+        → hub_step old (Receive id bytes answer) new
+        → ((answer ≡ Err NoSession) ↔ (phase_of old id ≡ None))
+        × ((answer ≡ Err NoFile) ↔ (IsSome (phase_of old id) × (old.has_file ≡ false))) }
+    ensures pull { (old new : HubState) (id size : ℕ) (answer : Result Given HubFaultOf)
+        → hub_step old (Pull id size answer) new
+        → ((answer ≡ Err NoSession) ↔ (phase_of old id ≡ None))
+        × ((answer ≡ Err NoFile) ↔ (IsSome (phase_of old id) × (old.has_file ≡ false))) }
+    ensures close { (old new : HubState) (id : ℕ) (answer : Result ⊤ HubFaultOf) → hub_step old (Close id answer) new
+        → (answer ≡ Err NoSession) ↔ (phase_of old id ≡ None) }
+{}
+
+/// Committed bytes stay in front, whichever calls come. If they hold a recording at first, with what waits and with the
+/// group in doubt, they do after each step, and then whatever is asked has a response.
+pub fn committed_bytes_grow()
+    ensures grows { (start : HubState) (steps : List Step) → AreSteps start steps
+        → AllByRecursion (λ (step : Step). Extends start.committed step.after.committed) steps }
+    ensures sound { (start : HubState) (steps : List Step) → IsSound start
+        → AllByRecursion (λ (step : Step). HasCommand step.event) steps → AreSteps start steps
+        → AllByRecursion (λ (step : Step). IsSound step.after) steps }
+    ensures answered { (hub : HubState) (received : List ℕ) (asked : Option Asked) → IsSound hub → Asks received asked
+        → (bytes : List ℕ) × IsResponse hub.committed received bytes }
+{
+    bytes_are_one_chain();
+    command_adds_its_packets();
+}
+
+/// Each call has an answer other than want of memory and a fault of the disk, so that the steps ask nothing impossible of
+/// a hub.
+pub fn calls_can_be_answered()
+    ensures connect { (hub : HubState) → (answer : Result ℕ HubFaultOf) × (new : HubState)
+        × (answer ≢ Err Memory) × hub_step hub (Connect answer) new }
+    // `find_head` shows that what was received asks something, or that more has to come.
+    ensures receive { (hub : HubState) (id : ℕ) (bytes : List ℕ) → IsSound hub
+        → ((received : List ℕ) → phase_of hub id ≡ Some (Reading received) → AsksOrWaits (received ++ bytes))
+        → (answer : Result ProgressOf HubFaultOf) × (new : HubState)
+        × (answer ≢ Err Memory) × (answer ≢ Err Source) × hub_step hub (Receive id bytes answer) new }
+    ensures pull { (hub : HubState) (id size : ℕ) → (answer : Result Given HubFaultOf) × (new : HubState)
+        × (answer ≢ Err Source) × hub_step hub (Pull id size answer) new }
+    ensures close { (hub : HubState) (id : ℕ) → (answer : Result ⊤ HubFaultOf) × (new : HubState)
+        × hub_step hub (Close id answer) new }
+    ensures command { (hub : HubState) (command : Command) → IsSound hub
+        → (answer : Result Outcome Refusal) × (new : HubState)
+        × (answer ≢ Err NoRoom) × (answer ≢ Err Disk) × hub_step hub (Record command answer) new }
+    ensures flush { (hub : HubState) → (answer : Result Kept Refusal) × (new : HubState)
+        × (answer ≢ Err Disk) × hub_step hub (Flush answer) new }
+{
+    refusals_are_of_the_table();
+}

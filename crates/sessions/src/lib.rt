@@ -1,0 +1,24 @@
+//! One file, recorded and served at the same time: what each call does, and what each session gets.
+//!
+//! A hub is a machine whose steps are its calls. A session receives the head of a request; the call that completes it
+//! fixes the whole response, over the bytes that are committed then; pulls take the response from its front. A command
+//! changes what later sessions get, and nothing of a session that has its response. So what a session pulls depends on
+//! its own calls and on one moment alone, whichever calls of others come between.
+//!
+//! The calls of a server are to be such steps. Here are the machine and its laws; nothing runs but the tables of
+//! `HubFault`.
+//!
+//! Start at `specs/Hub.antt`, which is the machine, and go on to `specs/Run.antt`, which says what a session gets of its
+//! steps; `sessions_get_their_responses` joins them.
+#![tactic(auto)]
+
+mod answers;
+mod fault;
+mod laws;
+
+pub use answers::{Progress, Pulled};
+pub use fault::HubFault;
+pub use laws::{
+    calls_can_be_answered, committed_bytes_grow, numbers_are_given_once, other_sessions_stay,
+    refusals_are_exact, sessions_are_few, sessions_get_their_responses,
+};
