@@ -20,7 +20,7 @@ use Rattle.ogg_recorder.specs.declared.commanding.Outcome.TheVariants.{Held as W
 use Rattle.sessions.specs.declared.answers.Progress.{Progress}
 use Rattle.sessions.specs.declared.answers.Progress.TheVariants.{More, Ready}
 use Rattle.responses.specs.Response.{AsksOrWaits}
-use Rattle.sessions.specs.Hub.{HubState, Phase, Reading, Sending, Given, phase_of, with_phase, with_session, without_session, is_full, is_failed, is_nothing, connect_step, receive_step, pull_step, close_step, command_step, flush_step, IsRefused, holding, committing, kept_by}
+use Rattle.sessions.specs.Hub.{HubState, Phase, Reading, Sending, Given, phase_of, with_phase, with_session, without_session, is_full, is_failed, is_nothing, connect_step, receive_step, pull_step, close_step, command_step, flush_step, IsRefused, MayBeFound, holding, committing, without_file, kept_by, reopen_step}
 use Rattle.sessions.specs.Sound.{IsSound}
 use Rattle.sessions.proofs.Recorded.{has_response}
 
@@ -132,3 +132,7 @@ flushes hub =
       | inl failed ↦ (Err FailedOf, hub, λ e. cc, (failed, refl))
       | inr fine ↦ (Ok (kept_by (committing hub)), committing hub, λ e. cc, (fine, refl, refl))
     ]
+
+pub reopens : (hub : HubState) (found : List ℕ) → MayBeFound hub found
+    → (new : HubState) × reopen_step hub (Some found) new × (new.committed ≡ found)
+reopens hub found may = (record (without_file hub) { committed = found; in_doubt = None; has_file = true }, (may, refl), refl)

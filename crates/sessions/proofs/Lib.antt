@@ -10,3 +10,7 @@ mod Few
 mod Grows
 mod Recorded
 mod Answered
+mod Parts
+mod StreamRest
+mod LinkPlaces
+mod Seeing

@@ -7,7 +7,7 @@ use Rattle.sessions.specs.Hub.{Phase, Session, phase_in, with_phase_in, without_
 pub same_number : (id : ℕ) → nat_eq id id ≡ true
 same_number id = eq-eqb id id refl
 
--- the first session, or those behind it
+-- the first session, or those after it
 at_first : (id : ℕ) (s : Session) (sessions : List Session) → nat_eq s.id id ≡ true → phase_in id (s ∷ sessions) ≡ Some s.phase
 at_first id s sessions e = cond-true (nat_eq s.id id) (Some s.phase) (phase_in id sessions) e
 

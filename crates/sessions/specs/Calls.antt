@@ -1,29 +1,36 @@
--- The calls of a hub as events.
-use Rattle.std.specs.Prelude.{◌≡◌, ◌⊎◌, ℕ, ◌-◌, ◌^◌, ◌<◌, Option, Some, None, Result, Ok, Err, List, take}
-use Rattle.sessions.specs.declared.fault.HubFault.{HubFault}
+-- The calls of a program's hub, as steps of the machine. Ours.
+use Rattle.std.specs.Prelude.{◌≡◌, ℕ, ⊤, Option, Some, None, Result, Ok, Err, List, [], ◌∷◌, take}
 use Rattle.sessions.specs.declared.answers.Pulled.{Pulled}
+use Rattle.sessions.specs.declared.fault.HubFault.{HubFault}
 use Rattle.sessions.specs.Hub.{HubState, Given, Event, hub_step}
+use Rattle.sessions.specs.Run.{Step}
 
--- what a pull left in its buffer
+-- what a pull gave, of what it left in its buffer
 abbrev pub given_in : List ℕ → Result Pulled HubFault → Result Given HubFault
 given_in buffer (Ok pulled) = Ok (record { bytes = take pulled.count buffer; done = pulled.done })
 given_in buffer (Err fault) = Err fault
 
--- what a reopening found
+-- what a reopening found, that left the machine so
 abbrev pub found_by : {T E : Type 0} → Result T E → HubState → Option (List ℕ)
 found_by (Ok done) after = Some after.committed
 found_by (Err fault) after = None
 
--- a disk failed in this call, or its count of failures stands at the top of a `u64`
-abbrev pub Failed : ℕ → ℕ → Type 0
-Failed before now = (before < now) ⊎ (now ≡ 2 ^ 64 - 1)
-
--- A call is a step of the machine that the hub is seen as, whichever of those that it may be: the group that met a
--- fault is in no field, and only the images of the disk tell of it.
+-- A call that leaves the new hub is a step of the machine, whichever machine the old hub is seen as. A hub may be seen as
+-- several: the bytes in doubt are in none of its fields, and only the images of its disk show them.
 abbrev pub Steps : {H : Type 0} → (H → HubState → Type 0) → H → H → (HubState → Event) → Type 0
 Steps shows old new event =
     (before : HubState) → shows old before → (after : HubState) × shows new after × hub_step before (event after) after
 
--- P of the machine
-abbrev pub IfShown : {H : Type 0} → (H → HubState → Type 0) → H → (HubState → Type 0) → Type 0
-IfShown shows hub P = (machine : HubState) → shows hub machine → P machine
+-- a call, by the machine that it left, and the hub that it left
+pub record Call (H : Type 0) : Type 0 where
+  pub event : HubState → Event
+  pub after : H
+
+-- each is a step, from the hub that the one before it left
+abbrev pub AreCalls : {H : Type 0} → (H → HubState → Type 0) → H → List (Call H) → Type 0
+AreCalls shows old [] = ⊤
+AreCalls shows old (call ∷ calls) = Steps shows old call.after call.event × AreCalls shows call.after calls
+
+-- the step is what the call is for the machine
+abbrev pub IsSeenAs : {H : Type 0} → (H → HubState → Type 0) → Call H → Step → Type 0
+IsSeenAs shows call step = shows call.after step.after × (step.event ≡ call.event step.after)

@@ -1,6 +1,6 @@
 -- A file that is recorded and served at the same time, as a machine: one call of a session or of the recorder is one
 -- step. Ours.
-use Rattle.std.specs.Prelude.{◌≡◌, ◌≢◌, ◌⊎◌, ℕ, ◌+◌, ◌^◌, ◌<◌, ◌≤◌, ⊤, Bool, true, false, not, ◌||◌, nat_eq, nat_le, if◌then◌else◌, Option, Some, None, is_some, IsOk, Result, Ok, Err, List, [], ◌∷◌, ◌++◌, length, take, drop}
+use Rattle.std.specs.Prelude.{◌≡◌, ◌≢◌, ◌⊎◌, ℕ, ◌+◌, ◌-◌, ◌^◌, ◌<◌, ◌≤◌, ⊤, Bool, true, false, not, ◌||◌, nat_eq, nat_le, if◌then◌else◌, Option, Some, None, is_some, IsOk, Result, Ok, Err, List, [], ◌∷◌, ◌++◌, length, take, drop}
 use Rattle.std.specs.List.{filter}
 use Rattle.ogg_page.specs.Page.{Page}
 use Rattle.link_chain.specs.ChainState.{chain_state_of}
@@ -42,7 +42,7 @@ pub record HubState : Type 0 where
   pub most : ℕ
   -- how many will share a commit after a reopening: as many as were last asked for, or 1
   pub most_after_reopening : ℕ
-  -- how many commands were accepted since the last opening
+  -- how many commands were accepted since the last opening: those that were kept, and those that wait
   pub count : ℕ
   -- the bytes of the group whose commit met a disk fault: it isn't known whether they are kept
   pub in_doubt : Option (List ℕ)
@@ -184,9 +184,9 @@ holding added hub = record hub { held = hub.held ++ added; waiting = hub.waiting
 abbrev pub committing : HubState → HubState
 committing hub = record hub { committed = hub.committed ++ hub.held; held = []; waiting = 0 }
 
--- the hub after the disk failed in the commit of all that waits
+-- the hub after the disk failed while all that waits was to be committed: nothing waits any more
 abbrev pub doubting : HubState → HubState
-doubting hub = record hub { in_doubt = Some hub.held; held = []; waiting = 0 }
+doubting hub = record hub { in_doubt = Some hub.held; held = []; waiting = 0; count = hub.count - hub.waiting }
 
 -- how many commands were accepted, and how long the committed bytes are
 abbrev pub kept_by : HubState → Kept
@@ -224,12 +224,16 @@ abbrev pub MayBeFound : HubState → List ℕ → Type 0
 MayBeFound hub found =
     (found ≡ hub.committed) ⊎ ((group : List ℕ) × (hub.in_doubt ≡ Some group) × (found ≡ hub.committed ++ group))
 
--- A reopening found these bytes, or failed. The sessions stay, and what waits is lost.
+-- the hub after its disk was given back: what waits is lost, and the sessions stay
+abbrev pub without_file : HubState → HubState
+without_file hub = record hub { held = []; waiting = 0; most = hub.most_after_reopening; count = 0; has_file = false }
+
+-- a reopening failed, or found these bytes
 abbrev pub reopen_step : HubState → Option (List ℕ) → HubState → Type 0
-reopen_step old None new = new ≡ record old { held = []; waiting = 0; has_file = false }
+reopen_step old None new = new ≡ without_file old
 reopen_step old (Some found) new =
     MayBeFound old found
-    × (new ≡ record old { committed = found; held = []; waiting = 0; most = old.most_after_reopening; count = 0; in_doubt = None; has_file = true })
+    × (new ≡ record (without_file old) { committed = found; in_doubt = None; has_file = true })
 
 -- ---- any call
 -- a call of a hub, with its arguments and its answer

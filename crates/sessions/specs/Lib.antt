@@ -3,3 +3,4 @@ pub mod Hub
 pub mod Run
 pub mod Sound
 pub mod Calls
+pub mod Places

@@ -10,7 +10,7 @@ ghost use Rattle.responses.specs.Response.{Asked, Asks, AsksOrWaits, IsResponse}
 ghost use Rattle.sessions.specs.declared.fault.HubFault.{HubFault as HubFaultOf};
 ghost use Rattle.sessions.specs.declared.fault.HubFault.TheVariants.{NoSession, SessionsFull, Source, Memory, NoFile};
 ghost use Rattle.sessions.specs.declared.answers.Progress.{Progress as ProgressOf};
-ghost use Rattle.sessions.specs.Hub.{HubState, IsNew, Given, Event, Reading, Connect, Receive, Pull, Close, Record, Flush, hub_step, phase_of};
+ghost use Rattle.sessions.specs.Hub.{HubState, IsNew, Given, Event, Reading, Connect, Receive, Pull, Close, Record, Flush, Reopen, MayBeFound, hub_step, phase_of};
 ghost use Rattle.sessions.specs.Run.{Step, AreSteps, IsUnused, own_calls, committed_at_head, pulled, session_of, IsServed, all_connected};
 ghost use Rattle.sessions.specs.Sound.{Extends, HasCommand, IsSound};
 
@@ -106,6 +106,9 @@ pub fn calls_can_be_answered()
         × (answer ≢ Err NoRoom) × (answer ≢ Err Disk) × hub_step hub (Record command answer) new }
     ensures flush { (hub : HubState) → (answer : Result Kept Refusal) × (new : HubState)
         × (answer ≢ Err Disk) × hub_step hub (Flush answer) new }
+    // A reopening may find what is committed, and with it a group in doubt.
+    ensures reopen { (hub : HubState) (found : List ℕ) → MayBeFound hub found
+        → (new : HubState) × hub_step hub (Reopen (Some found)) new × (new.committed ≡ found) }
 {
     refusals_are_of_the_table();
 }

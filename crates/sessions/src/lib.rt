@@ -5,20 +5,27 @@
 //! changes what later sessions get, and nothing of a session that has its response. So what a session pulls depends on
 //! its own calls and on one moment alone, whichever calls of others come between.
 //!
-//! The calls of a server are to be such steps. Here are the machine and its laws; nothing runs but the tables of
-//! `HubFault`.
+//! Here are the machine and its laws; nothing runs but the tables of `HubFault`. A hub that runs has these laws once each
+//! of its calls is a step: see `calls_are_steps`.
 //!
 //! Start at `specs/Hub.antt`, which is the machine, and go on to `specs/Run.antt`, which says what a session gets of its
 //! steps; `sessions_get_their_responses` joins them.
 #![tactic(auto)]
 
 mod answers;
+mod calls;
 mod fault;
 mod laws;
+mod rests;
 
 pub use answers::{Progress, Pulled};
+pub use calls::{SeenAsHub, calls_are_steps};
 pub use fault::HubFault;
 pub use laws::{
     calls_can_be_answered, committed_bytes_grow, numbers_are_given_once, other_sessions_stay,
     refusals_are_exact, sessions_are_few, sessions_get_their_responses,
+};
+pub use rests::{
+    parts_are_places, stream_rests_are_found, stream_rests_are_places,
+    stream_rests_begin_with_links,
 };

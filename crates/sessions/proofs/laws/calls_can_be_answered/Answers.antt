@@ -1,5 +1,5 @@
 use Rattle.sessions.specs.Hub.{phase_of}
-use Rattle.sessions.proofs.Answered.{connects, receives, pulls, closes, commands, flushes}
+use Rattle.sessions.proofs.Answered.{connects, receives, pulls, closes, commands, flushes, reopens}
 use Rattle.sessions.proofs.laws.calls_can_be_answered.Goals as goal
 
 pub returns : goal.returns
@@ -10,4 +10,5 @@ returns c = record {
   close = λ hub id. closes hub id (phase_of hub id);
   command = commands c.refusals_are_of_the_table.ensures;
   flush = flushes;
+  reopen = reopens;
 }
