@@ -32,13 +32,13 @@ no_such_link : response [] (Some (get (codes "/link/9")))
 unfolding digits
 no_such_link = refl
 
--- before it is asked what the target names
+-- whatever the target names
 post_is_not_allowed : response [] (Some (record (get (codes "/link/9")) { verb = Other }))
     ≡ codes "HTTP/1.1 405 Method Not Allowed\r\nContent-Length: 0\r\nAllow: GET, HEAD\r\nConnection: close\r\n\r\n"
 unfolding digits
 post_is_not_allowed = refl
 
--- before the method is asked
+-- whatever the method is
 without_host : response [] (Some (record (get (codes "/")) { hosts = 0; verb = Other }))
     ≡ codes "HTTP/1.1 400 Bad Request\r\nContent-Length: 0\r\nConnection: close\r\n\r\n"
 unfolding digits
@@ -48,6 +48,6 @@ no_request : response [] None ≡ codes "HTTP/1.1 400 Bad Request\r\nContent-Len
 no_request = refl
 
 -- ---- of five bytes
--- both ends of a part are in it
+-- both ends of a part belong to it
 part_of_five : (ranged (10 ∷ 11 ∷ 12 ∷ 13 ∷ 14 ∷ []) (Part 1 3)).content ≡ 11 ∷ 12 ∷ 13 ∷ []
 part_of_five = refl

@@ -14,3 +14,4 @@ mod Parts
 mod StreamRest
 mod LinkPlaces
 mod Seeing
+mod Examples

@@ -6,7 +6,7 @@ use Rattle.link_chain.specs.Links.{AreLinks, pages_with}
 use Rattle.link_index.specs.Index.{link_entry, index_from}
 use Rattle.sessions.specs.Places.{BeginsWithLink}
 
--- the link with this number, between those before it and those behind it
+-- the link with this number, between those before it and those after it
 record Between (links : List (List Page)) (number first : ℕ) (link : List Page) : Type 0 where
   pub front : List ℕ
   pub behind : List ℕ

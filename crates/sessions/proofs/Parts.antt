@@ -8,21 +8,21 @@ use Rattle.ogg_page.specs.Page.{Page, IsPage, page_bytes, bytes_of_pages}
 use Rattle.link_chain.specs.Links.{pages_with}
 use Rattle.sessions.specs.Places.{part_at, IsStreamRest}
 
--- more bytes behind change no part
+-- bytes that follow change no part
 pub part_stays : (place count : ℕ) (bytes more : List ℕ) → place + count ≤ length bytes → part_at place count (bytes ++ more) ≡ part_at place count bytes
 part_stays place count bytes more inside =
     let left = length-drop place bytes in
     ap (take count) (drop-append-le place bytes more (omega (arith, inside)))
     ∙ take-append-le count (drop place bytes) more (omega (arith, inside, left))
 
--- the front of a part, and what is behind it
+-- the front of a part, and what follows it
 pub part_front : (place n m : ℕ) (bytes : List ℕ) → take n (part_at place (n + m) bytes) ≡ part_at place n bytes
 part_front place n m bytes = grind (arith, take-take)
 
 pub part_rest : (place n m : ℕ) (bytes : List ℕ) → drop n (part_at place (n + m) bytes) ≡ part_at (place + n) m bytes
 part_rest place n m bytes = drop-take n m (drop place bytes) ∙ ap (take m) (drop-drop n place bytes ∙ ap (λ k. drop k bytes) (omega arith))
 
--- a part behind a front
+-- a part of what follows a front
 pub part_behind : (skip count : ℕ) (front bytes : List ℕ) → part_at (length front + skip) count (front ++ bytes) ≡ part_at skip count bytes
 part_behind skip count front bytes =
     ap (take count) (sym (drop-drop skip (length front) (front ++ bytes) ∙ ap (λ k. drop k (front ++ bytes)) (omega arith))
@@ -47,7 +47,7 @@ rest_stays committed more serial place skip count rest r = record {
   rest_is = r.rest_is;
 }
 
--- the place behind the page
+-- the place after the page
 split_behind : (committed front behind : List ℕ) (page : Page) (pages : List Page) → committed ≡ front ++ (bytes_of_pages (page ∷ pages) ++ behind)
     → committed ≡ (front ++ page_bytes page) ++ (bytes_of_pages pages ++ behind)
 split_behind committed front behind page pages e =

@@ -37,7 +37,7 @@ among_located offset (page ∷ pages) more none = ap (λ l. page ∷ l) (among_l
 
 module _ (one_list : (bytes : List ℕ) (p q : List Page) (x y : List ℕ) → BeginsWithPages bytes p x → BeginsWithPages bytes q y → (p ≡ q) × (x ≡ y))
     (in_turn : (bytes : List ℕ) → ((i : ℕ) → slice_index bytes i < 256) → AreFoundIn bytes (found_in 0 bytes)) where
-  -- pages in front are found, and then those behind them
+  -- pages in front are found, and then those that follow them
   found_pages : (bytes behind : List ℕ) (pages : List Page) → ((i : ℕ) → slice_index bytes i < 256) → ((i : ℕ) → slice_index behind i < 256)
       → bytes ≡ bytes_of_pages pages ++ behind → AllByRecursion IsPage pages → (others : List Page) × (pages_among (found_in 0 bytes) ≡ pages ++ others)
   found_pages bytes behind pages small small_behind is each =

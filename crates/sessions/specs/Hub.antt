@@ -58,9 +58,11 @@ pub record IsNew (hub : HubState) : Type 0 where
   pub file : hub.has_file ≡ true
   pub sessions : hub.sessions ≡ []
   pub numbers : hub.next_id ≡ 0
+  -- its recorder may have been given groups before, and then a reopening makes none of it
   pub group : hub.most_after_reopening ≡ 1
 
 -- ---- sessions
+-- how many sessions a hub has at most
 abbrev pub most_sessions : ℕ
 most_sessions = 64
 
@@ -73,6 +75,7 @@ phase_in id (session ∷ sessions) = if nat_eq session.id id then Some session.p
 abbrev pub phase_of : HubState → ℕ → Option Phase
 phase_of hub id = phase_in id hub.sessions
 
+-- the first session with this number has come into this phase
 abbrev pub with_phase_in : ℕ → Phase → List Session → List Session
 with_phase_in id phase [] = []
 with_phase_in id phase (session ∷ sessions) =
@@ -82,6 +85,7 @@ with_phase_in id phase (session ∷ sessions) =
 abbrev pub with_phase : ℕ → Phase → HubState → HubState
 with_phase id phase hub = record hub { sessions = with_phase_in id phase hub.sessions }
 
+-- the sessions that have another number
 abbrev pub without_in : ℕ → List Session → List Session
 without_in id sessions = filter (λ (session : Session). not (nat_eq session.id id)) sessions
 
@@ -99,6 +103,7 @@ with_session hub =
     record hub { sessions = hub.sessions ++ record { id = hub.next_id; phase = Reading [] } ∷ []; next_id = hub.next_id + 1 }
 
 -- ---- the calls of sessions
+-- A session is connected, and gets the next number. Want of memory is possible only if there is a place.
 abbrev pub connect_step : HubState → Result ℕ HubFault → HubState → Type 0
 connect_step old (Ok id) new = (is_full old ≡ false) × (id ≡ old.next_id) × (new ≡ with_session old)
 connect_step old (Err SessionsFull) new = (is_full old ≡ true) × (new ≡ old)
@@ -107,9 +112,9 @@ connect_step old (Err NoSession) new = ⊥
 connect_step old (Err Source) new = ⊥
 connect_step old (Err NoFile) new = ⊥
 
--- Bytes have come to the session's head, which is now this. The call that completes the head fixes the response, over the
--- bytes that are committed then. By Source, a fault of the disk, the session ends; that is possible only if a whole head
--- is there.
+-- Bytes have come to the session's head, and this is what was received so far. The call that completes the head fixes the
+-- response, over the bytes that are committed then. By `Source`, a fault of the disk, the session ends; it is possible
+-- only once the head is complete, since nothing is read before.
 abbrev pub head_step : HubState → ℕ → List ℕ → Result Progress HubFault → HubState → Type 0
 head_step old id received (Ok More) new = IsAwaited received × (new ≡ with_phase id (Reading received) old)
 head_step old id received (Ok Ready) new =
@@ -136,7 +141,7 @@ abbrev pub is_nothing : List ℕ → Bool
 is_nothing [] = true
 is_nothing (byte ∷ bytes) = false
 
--- What is left of the response fills the buffer, as far as either goes. By Source the session ends; that is possible only
+-- What is left of the response fills the buffer, as far as either goes. By `Source` the session ends; it is possible only
 -- if a byte was to be given.
 abbrev pub send_step : HubState → ℕ → List ℕ → ℕ → Result Given HubFault → HubState → Type 0
 send_step old id rest size (Ok given) new =
@@ -156,6 +161,7 @@ pull_step (Some (Reading received)) true old id size answer new =
     (answer ≡ Ok (record { bytes = []; done = false })) × (new ≡ old)
 pull_step (Some (Sending rest)) true old id size answer new = send_step old id rest size answer new
 
+-- a session is ended, with or without a file
 abbrev pub close_step : Option Phase → HubState → ℕ → Result ⊤ HubFault → HubState → Type 0
 close_step None old id answer new = (answer ≡ Err NoSession) × (new ≡ old)
 close_step (Some phase) old id answer new = (answer ≡ Ok tt) × (new ≡ without_session id old)
@@ -171,7 +177,7 @@ IsAccepted hub command added =
     (links : List (List Page)) × AreLinks (hub.committed ++ hub.held) links × IsOk (decision (chain_state_of links) command)
     × (added ≡ command_bytes (chain_state_of links) command)
 
--- the first rule that it breaks refuses it so
+-- a rule refuses the command after those that wait, and this is the first one that it breaks
 abbrev pub IsRefused : HubState → Command → Refusal → Type 0
 IsRefused hub command refusal =
     (links : List (List Page)) × AreLinks (hub.committed ++ hub.held) links × (decision (chain_state_of links) command ≡ Err refusal)
@@ -224,7 +230,7 @@ abbrev pub MayBeFound : HubState → List ℕ → Type 0
 MayBeFound hub found =
     (found ≡ hub.committed) ⊎ ((group : List ℕ) × (hub.in_doubt ≡ Some group) × (found ≡ hub.committed ++ group))
 
--- the hub after its disk was given back: what waits is lost, and the sessions stay
+-- the hub after its disk was given back to be opened again: what waits is lost, and the sessions stay
 abbrev pub without_file : HubState → HubState
 without_file hub = record hub { held = []; waiting = 0; most = hub.most_after_reopening; count = 0; has_file = false }
 

@@ -33,6 +33,7 @@ session_of (Flush answer) = None
 session_of (Group most) = None
 session_of (Reopen found) = None
 
+-- the number that the call gave to a session, if it did
 abbrev pub connected : Event → List ℕ
 connected (Connect (Ok id)) = id ∷ []
 connected _ = []
@@ -48,6 +49,7 @@ pub data OwnCall : Type 0 where
   Received : (bytes : List ℕ) (progress : Progress) → OwnCall
   Pulled : (size : ℕ) → OwnCall
 
+-- the call, if it is the session's and was carried out
 abbrev pub own_call : ℕ → Event → List OwnCall
 own_call id (Receive other bytes (Ok progress)) = if nat_eq other id then Received bytes progress ∷ [] else []
 own_call id (Pull other size (Ok given)) = if nat_eq other id then Pulled size ∷ [] else []
@@ -81,7 +83,8 @@ room_after_head (Received bytes More ∷ calls) = room_after_head calls
 room_after_head (Received bytes Ready ∷ calls) = room_in calls
 room_after_head (Pulled size ∷ calls) = room_after_head calls
 
--- ---- what it gets
+-- ---- what a session gets
+-- the bytes that the call gave the session
 abbrev pub given_by : ℕ → Event → List ℕ
 given_by id (Pull other size (Ok given)) = if nat_eq other id then given.bytes else []
 given_by id _ = []
@@ -90,6 +93,7 @@ given_by id _ = []
 abbrev pub pulled : ℕ → List Step → List ℕ
 pulled id steps = flat_map (λ (step : Step). given_by id step.event) steps
 
+-- the call is the session's, and says that nothing is left
 abbrev pub says_done : ℕ → Event → Bool
 says_done id (Pull other size (Ok given)) = nat_eq other id && given.done
 says_done id _ = false
@@ -98,7 +102,8 @@ says_done id _ = false
 abbrev pub was_done : ℕ → List Step → Bool
 was_done id steps = list_any (λ (step : Step). says_done id step.event) steps
 
--- ---- what is committed when its head is complete
+-- ---- what is committed when a head is complete
+-- the call is the session's, and says that its head is complete
 abbrev pub completes : ℕ → Event → Bool
 completes id (Receive other bytes (Ok Ready)) = nat_eq other id
 completes id _ = false

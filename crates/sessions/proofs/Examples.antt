@@ -1,0 +1,79 @@
+-- What one session sees of steps, by evaluation. The hubs between the steps are left out but for what is committed.
+use Rattle.std.specs.Prelude.{◌≡◌, ℕ, true, false, Bool, Some, None, Ok, Err, List, [], ◌∷◌, refl}
+use Rattle.sessions.specs.declared.fault.HubFault.TheVariants.{Memory}
+use Rattle.sessions.specs.declared.answers.Progress.TheVariants.{More, Ready}
+use Rattle.sessions.specs.Hub.{HubState, Given, Event, Connect, Receive, Pull, Reopen}
+use Rattle.sessions.specs.Run.{Step, Received, Pulled, own_calls, head_in, room_after_head, pulled, was_done, committed_at_head, all_connected}
+
+abbrev hub : List ℕ → HubState
+hub committed =
+    record {
+      committed = committed;
+      held = [];
+      waiting = 0;
+      most = 1;
+      most_after_reopening = 1;
+      count = 0;
+      in_doubt = None;
+      has_file = true;
+      sessions = [];
+      next_id = 0;
+    }
+
+abbrev step : Event → List ℕ → Step
+step event committed = record { event = event; after = hub committed }
+
+abbrev given : List ℕ → Bool → Given
+given bytes done = record { bytes = bytes; done = done }
+
+-- two sessions take turns: bytes 5 and 6 are committed between their heads; a call of the first is refused, and it pulls
+-- three bytes in two pulls, the second of which says that nothing is left
+abbrev steps : List Step
+steps =
+    step (Connect (Ok 0)) []
+    ∷ step (Receive 0 (71 ∷ []) (Ok More)) []
+    ∷ step (Connect (Ok 1)) []
+    ∷ step (Receive 0 (69 ∷ []) (Err Memory)) []
+    ∷ step (Receive 0 (69 ∷ 84 ∷ []) (Ok Ready)) []
+    ∷ step (Pull 1 8 (Ok (given [] false))) []
+    ∷ step (Reopen (Some (5 ∷ 6 ∷ []))) (5 ∷ 6 ∷ [])
+    ∷ step (Receive 1 (72 ∷ []) (Ok Ready)) (5 ∷ 6 ∷ [])
+    ∷ step (Pull 0 2 (Ok (given (1 ∷ 2 ∷ []) false))) (5 ∷ 6 ∷ [])
+    ∷ step (Receive 0 (13 ∷ []) (Ok Ready)) (5 ∷ 6 ∷ [])
+    ∷ step (Pull 1 1 (Ok (given (9 ∷ []) false))) (5 ∷ 6 ∷ [])
+    ∷ step (Pull 0 4 (Ok (given (3 ∷ []) true))) (5 ∷ 6 ∷ [])
+    ∷ []
+
+numbers : all_connected steps ≡ 0 ∷ 1 ∷ []
+numbers = refl
+
+-- the refused call isn't among the first session's calls, and nothing of the second session is
+first_calls : own_calls 0 steps
+    ≡ Received (71 ∷ []) More ∷ Received (69 ∷ 84 ∷ []) Ready ∷ Pulled 2 ∷ Received (13 ∷ []) Ready ∷ Pulled 4 ∷ []
+first_calls = refl
+
+first_head : head_in (own_calls 0 steps) ≡ Some (71 ∷ 69 ∷ 84 ∷ [])
+first_head = refl
+
+first_room : room_after_head (own_calls 0 steps) ≡ 6
+first_room = refl
+
+first_pulled : pulled 0 steps ≡ 1 ∷ 2 ∷ 3 ∷ []
+first_pulled = refl
+
+first_done : was_done 0 steps ≡ true
+first_done = refl
+
+-- a pull before the head is complete isn't counted
+second_room : room_after_head (own_calls 1 steps) ≡ 1
+second_room = refl
+
+second_done : was_done 1 steps ≡ false
+second_done = refl
+
+-- each head has its own moment
+first_moment : committed_at_head 0 steps ≡ Some []
+first_moment = refl
+
+second_moment : committed_at_head 1 steps ≡ Some (5 ∷ 6 ∷ [])
+second_moment = refl
