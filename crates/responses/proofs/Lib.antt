@@ -1,4 +1,5 @@
 mod Reading
 mod OneResponse
+mod Contents
 mod Framing
 mod Examples

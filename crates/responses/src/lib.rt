@@ -11,4 +11,4 @@ mod asking;
 mod laws;
 
 pub use asking::find_head;
-pub use laws::{responses_are_framed, responses_are_unambiguous};
+pub use laws::{contents_lie_in_the_file, responses_are_framed, responses_are_unambiguous};
