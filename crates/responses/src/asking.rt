@@ -6,8 +6,8 @@ ghost use Rattle.responses.specs.Response.{Asks, AsksOrWaits, asked_by};
 use ogg_http::{HeadRead, read_head};
 
 /// Finds what is asked by the bytes that a client has sent so far: a request, or that none can come (`Bad`), or that
-/// more bytes have to come (`Partial`). The request borrows from the bytes, and no memory is taken (RFC 9112, sections 2
-/// to 5).
+/// more bytes have to come (`Partial`). The request borrows from the bytes, and no memory is taken (RFC 9112,
+/// sections 2 to 5).
 pub fn find_head<'a>(received: &'a [u8]) -> HeadRead<'a>
     ensures whole { IfWhole result (λ request. Asks received.now (Some (asked_by request))) }
     ensures bad { result ≡ HeadRead.Bad → Asks received.now None }

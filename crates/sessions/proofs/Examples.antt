@@ -26,8 +26,8 @@ step event committed = record { event = event; after = hub committed }
 abbrev given : List ℕ → Bool → Given
 given bytes done = record { bytes = bytes; done = done }
 
--- two sessions take turns: bytes 5 and 6 are committed between their heads; a call of the first is refused, and it pulls
--- three bytes in two pulls, the second of which says that nothing is left
+-- two sessions take turns: bytes 5 and 6 are committed between their heads; a call of the first is refused, and it
+-- pulls three bytes in two pulls, the second of which says that nothing is left
 abbrev steps : List Step
 steps =
     step (Connect (Ok 0)) []

@@ -15,8 +15,8 @@ abbrev pub found_by : {T E : Type 0} → Result T E → HubState → Option (Lis
 found_by (Ok done) after = Some after.committed
 found_by (Err fault) after = None
 
--- A call that leaves the new hub is a step of the machine, whichever machine the old hub is seen as. A hub may be seen as
--- several: the bytes in doubt are in none of its fields, and only the images of its disk show them.
+-- A call that leaves the new hub is a step of the machine, whichever machine the old hub is seen as. A hub may be
+-- seen as several: the bytes in doubt are in none of its fields, and only the images of its disk show them.
 abbrev pub Steps : {H : Type 0} → (H → HubState → Type 0) → H → H → (HubState → Event) → Type 0
 Steps shows old new event =
     (before : HubState) → shows old before → (after : HubState) × shows new after × hub_step before (event after) after

@@ -112,9 +112,9 @@ connect_step old (Err NoSession) new = ⊥
 connect_step old (Err Source) new = ⊥
 connect_step old (Err NoFile) new = ⊥
 
--- Bytes have come to the session's head, and this is what was received so far. The call that completes the head fixes the
--- response, over the bytes that are committed then. By `Source`, a fault of the disk, the session ends; it is possible
--- only once the head is complete, since nothing is read before.
+-- Bytes have come to the session's head, and this is what was received so far. The call that completes the head fixes
+-- the response, over the bytes that are committed then. By `Source`, a fault of the disk, the session ends; it is
+-- possible only once the head is complete, since nothing is read before.
 abbrev pub head_step : HubState → ℕ → List ℕ → Result Progress HubFault → HubState → Type 0
 head_step old id received (Ok More) new = IsAwaited received × (new ≡ with_phase id (Reading received) old)
 head_step old id received (Ok Ready) new =
@@ -141,8 +141,8 @@ abbrev pub is_nothing : List ℕ → Bool
 is_nothing [] = true
 is_nothing (byte ∷ bytes) = false
 
--- What is left of the response fills the buffer, as far as either goes. By `Source` the session ends; it is possible only
--- if a byte was to be given.
+-- What is left of the response fills the buffer, as far as either goes. By `Source` the session ends; it is possible
+-- only if a byte was to be given.
 abbrev pub send_step : HubState → ℕ → List ℕ → ℕ → Result Given HubFault → HubState → Type 0
 send_step old id rest size (Ok given) new =
     (given ≡ record { bytes = take size rest; done = is_nothing (drop size rest) })

@@ -43,8 +43,8 @@ abbrev pub all_connected : List Step → List ℕ
 all_connected steps = flat_map (λ (step : Step). connected step.event) steps
 
 -- ---- what a session does
--- A call of the session that was carried out, as far as the session knows it: bytes with the progress that they made, or
--- the size of a buffer.
+-- A call of the session that was carried out, as far as the session knows it: bytes with the progress that they made,
+-- or the size of a buffer.
 pub data OwnCall : Type 0 where
   Received : (bytes : List ℕ) (progress : Progress) → OwnCall
   Pulled : (size : ℕ) → OwnCall
@@ -114,8 +114,8 @@ committed_at_head id [] = None
 committed_at_head id (step ∷ steps) = if completes id step.event then Some step.after.committed else committed_at_head id steps
 
 -- ---- what a session is promised
--- What was received has a response over what was committed when its head was complete. The bytes that the session pulled
--- are the first ones of the response, as many as its buffers hold, and all of them if a pull said so.
+-- What was received has a response over what was committed when its head was complete. The bytes that the session
+-- pulled are the first ones of the response, as many as its buffers hold, and all of them if a pull said so.
 pub record GetsResponse (id : ℕ) (steps : List Step) (received : List ℕ) : Type 0 where
   pub committed : List ℕ
   pub moment : committed_at_head id steps ≡ Some committed

@@ -18,17 +18,17 @@ use chain_rules::{command_adds_its_packets, refusals_are_of_the_table};
 use link_chain::bytes_are_one_chain;
 use responses::responses_are_unambiguous;
 
-/// Whichever calls come, in any order: what a session pulls is the front of one response, that to its request over the
-/// bytes that were committed when its head was complete. It is as long as the session's buffers, and all of the response
-/// if a pull said so.
+/// Whichever calls come, in any order: what a session pulls is the front of one response, that to its request over
+/// the bytes that were committed when its head was complete. The front is as long as the session's buffers allow, and
+/// all of the response if a pull said so.
 pub fn sessions_get_their_responses()
     ensures served { (start : HubState) (steps : List Step) (id : ℕ) → IsUnused start id → AreSteps start steps
         → IsServed id steps }
     // A new hub has given no number.
     ensures from_new { (start : HubState) (steps : List Step) (id : ℕ) → IsNew start → AreSteps start steps
         → IsServed id steps }
-    // Two sessions, of one hub or of two, pull the same if their own calls are the same, and the same was committed when
-    // their heads were complete, whatever other sessions and the recorder do.
+    // Two sessions, of one hub or of two, pull the same if their own calls are the same, and the same was committed
+    // when their heads were complete, whatever other sessions and the recorder do.
     ensures alone { (start other_start : HubState) (steps other_steps : List Step) (id other : ℕ)
         → IsUnused start id → AreSteps start steps → IsUnused other_start other → AreSteps other_start other_steps
         → own_calls id steps ≡ own_calls other other_steps
@@ -56,7 +56,8 @@ pub fn sessions_are_few()
         → AllByRecursion (λ (step : Step). length step.after.sessions ≤ 64) steps }
 {}
 
-/// A call of a session is refused for what the hub is exactly if the hub is so: `SessionsFull`, `NoSession` and `NoFile`.
+/// A call of a session is refused for what the hub is exactly if the hub is so: `SessionsFull`, `NoSession` and
+/// `NoFile`.
 pub fn refusals_are_exact()
     ensures connect { (old new : HubState) (answer : Result ℕ HubFaultOf) → hub_step old (Connect answer) new
         → (answer ≡ Err SessionsFull) ↔ ((64 ≤ length old.sessions) ⊎ (2 ^ 64 ≤ old.next_id)) }
@@ -87,8 +88,8 @@ pub fn committed_bytes_grow()
     command_adds_its_packets();
 }
 
-/// Each call has an answer other than want of memory and a fault of the disk, so that the steps ask nothing impossible of
-/// a hub.
+/// Each call has an answer other than want of memory and a fault of the disk, so that the steps ask nothing
+/// impossible of a hub.
 pub fn calls_can_be_answered()
     ensures connect { (hub : HubState) → (answer : Result ℕ HubFaultOf) × (new : HubState)
         × (answer ≢ Err Memory) × hub_step hub (Connect answer) new }

@@ -5,11 +5,11 @@
 //! changes what later sessions get, and nothing of a session that has its response. So what a session pulls depends on
 //! its own calls and on one moment alone, whichever calls of others come between.
 //!
-//! Here are the machine and its laws; nothing runs but the tables of `HubFault`. A hub that runs has these laws once each
-//! of its calls is a step: see `calls_are_steps`.
+//! Here are the machine and its laws; nothing runs but the tables of `HubFault`. A hub that runs has these laws once
+//! each of its calls is a step: see `calls_are_steps`.
 //!
-//! Start at `specs/Hub.antt`, which is the machine, and go on to `specs/Run.antt`, which says what a session gets of its
-//! steps; `sessions_get_their_responses` joins them.
+//! Start at `specs/Hub.antt`, which is the machine, and go on to `specs/Run.antt`, which says what a session gets of
+//! its steps; `sessions_get_their_responses` joins them.
 #![tactic(auto)]
 
 mod answers;

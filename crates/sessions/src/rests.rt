@@ -19,8 +19,8 @@ pub fn parts_are_places()
 {}
 
 /// The rest of a stream stays as it is while the committed bytes grow, and its place moves on page by page: a page of
-/// another stream is passed over, and so is one of the stream's own that lies before the rest; of any other page the next
-/// bytes are given.
+/// another stream is passed over, and so is one of the stream's own that lies before the rest; of any other page the
+/// next bytes are given.
 pub fn stream_rests_are_places()
     ensures stays { (committed more : List ℕ) (serial place skip count : ℕ) (rest : List ℕ)
         → IsStreamRest committed serial place skip count rest
