@@ -1,14 +1,14 @@
 -- The room of a window: what is read into it, and a page that is lent out of it.
 use Rattle.std.proofs.Common.{◌≡◌, ℕ, ◌+◌, ◌-◌, ◌≤◌, min, Bool, true, false, List, [], ◌++◌, length, take, drop, refl, sym, ◌∙◌, ap, subst, arith, append_assoc, length-append, Ok, Err, sum}
-use Rattle.std.specs.Prelude.{nat_lt}
+use Rattle.std.specs.Prelude.{nat_lt, slice_index}
 use Rattle.std.specs.List.{copy_within}
 use Rattle.std.proofs.Math.Seq.{take-add}
 use Rattle.std.proofs.lemmas.Bool.{ltb-true, ltb-false}
 use Rattle.std.proofs.lemmas.List.{length-take-le, length-drop, take-take, take_at, drop-drop, drop-take, append-nil}
 use Rattle.ogg_page.specs.Page.{Page, IsPage, AreBytes, page_bytes, page_size}
-use Rattle.ogg_page.specs.Reading.{page_at, fields_at}
+use Rattle.ogg_page.specs.Reading.{page_at, fields_at, lacing_at, size_at, IsPageOf}
 use Rattle.ogg_page.specs.declared.fault.PageFault.{PageFault}
-use Rattle.ogg_page.specs.Laws.ReadAgain.{read_is_page, page_is_read, length-page_bytes, passed}
+use Rattle.ogg_page.specs.Laws.ReadAgain.{read_is_page, page_is_read, length-page_bytes, passed, known_sizes}
 use Rattle.ogg_page.specs.declared.held.Held.{Held}
 use Rattle.ogg_page.specs.Room.{HoldsBytes, BeginsWithPage, held_of}
 use Rattle.ogg_page.specs.Laws.Sight.{fault_in_front}
@@ -54,6 +54,15 @@ pub record Stands (room : List ℕ) (held : Held) (n : ℕ) : Type 0 where
   pub front : take n (drop held.start room) ≡ page_bytes page
   pub fields : fields_at (take n (drop held.start room)) ≡ page
   pub read : page_at (take n (drop held.start room)) ≡ Ok (fields_at (take n (drop held.start room)))
+  pub whole : n ≡ size_at (take n (drop held.start room))
+
+-- a page's own bytes are as many as its head and its lacing values say
+sized : (bytes : List ℕ) (page : Page) → IsPage page → page_at bytes ≡ Ok page → page_size page ≡ size_at bytes
+sized bytes page is read =
+    let q : IsPageOf bytes (slice_index bytes 26) (sum (lacing_at bytes)) = known_sizes bytes (Ok page) read refl in
+    let same : lacing_at bytes ≡ page.lacing = ap (λ (p : Page). p.lacing) (passed bytes page read).page in
+    let values : length (lacing_at bytes) ≡ slice_index bytes 26 = length-take-le (slice_index bytes 26) (drop 27 bytes) (omega (arith, q.whole, length-drop 27 bytes)) in
+    omega (arith, values, ap length same, ap sum same, is.whole)
 
 pub stands : (room : List ℕ) (held : Held) (n : ℕ) → held.start ≤ held.end → held.end ≤ length room → BeginsWithPage (held_of room held) n → Stands room held n
 stands room held n ordered inside begins =
@@ -77,6 +86,7 @@ stands room held n ordered inside begins =
       front = front;
       fields = fields;
       read = read ∙ ap Ok (sym fields);
+      whole = begins.whole ∙ sized (take n (drop held.start room)) page both.0 read;
     }
 
 -- behind the page what is held is still the source's

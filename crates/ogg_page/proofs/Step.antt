@@ -2,7 +2,7 @@
 use Rattle.std.proofs.Common.{◌≡◌, ◌≢◌, ℕ, ◌+◌, ◌-◌, ◌<◌, ◌≤◌, List, [], ◌++◌, length, take, drop, refl, sym, ◌∙◌, ap, subst, arith, Option, Some, None, Result, Ok, Err}
 use Rattle.std.proofs.lemmas.List.{length-take-le, length-drop}
 use Rattle.ogg_page.specs.Page.{Page as PageValue, IsPage, page_bytes, page_size}
-use Rattle.ogg_page.specs.Reading.{page_at, fields_at}
+use Rattle.ogg_page.specs.Reading.{page_at, fields_at, size_at}
 use Rattle.ogg_page.specs.declared.held.Held.{Held}
 use Rattle.ogg_page.specs.declared.fault.WindowFault.{WindowFault}
 use Rattle.ogg_page.specs.declared.fault.WindowFault.TheVariants.{Source, Page}
@@ -89,7 +89,12 @@ still bytes honest size room again held at to n same holds here =
     let exact : n ≡ held.start + n - held.start = omega arith in
     subst (λ (r : List ℕ). HoldsBytes bytes honest size r (record { start = held.start + n; end = held.end }) (at + n) to × IsLent r (Some (record { offset = at; start = held.start; end = held.start + n }))) (sym same) (
       behind bytes honest size room held at to n holds here.fits,
-      (omega arith, omega (arith, here.fits, holds.fits), subst (λ k. page_at (take k (drop held.start room)) ≡ Ok (fields_at (take k (drop held.start room)))) exact here.read),
+      (
+        omega arith,
+        omega (arith, here.fits, holds.fits),
+        subst (λ k. page_at (take k (drop held.start room)) ≡ Ok (fields_at (take k (drop held.start room)))) exact here.read,
+        subst (λ k. k ≡ size_at (take k (drop held.start room))) exact here.whole,
+      ),
     )
 
 -- the page that is lent

@@ -1,7 +1,7 @@
 -- What a window holds in its room. Ours.
 use Rattle.std.specs.Prelude.{◌≡◌, ℕ, ◌+◌, ◌-◌, ◌≤◌, Option, Some, None, Result, Ok, Err, List, length, take, drop, ⊤}
 use Rattle.ogg_page.specs.Page.{Page as PageValue, IsPage, AreBytes, page_size}
-use Rattle.ogg_page.specs.Reading.{page_at, fields_at}
+use Rattle.ogg_page.specs.Reading.{page_at, fields_at, size_at}
 use Rattle.ogg_page.specs.Window.{LentAt}
 use Rattle.ogg_page.specs.declared.fault.WindowFault.{WindowFault}
 use Rattle.ogg_page.specs.declared.fault.WindowFault.TheVariants.{Source, Page}
@@ -46,4 +46,6 @@ lent_of room (Some lent) = Some (lent.offset, fields_at (lent_bytes room lent))
 
 abbrev pub IsLent : List ℕ → Option Lent → Type 0
 IsLent room None = ⊤
-IsLent room (Some lent) = (lent.start ≤ lent.end) × (lent.end ≤ 65307) × (page_at (lent_bytes room lent) ≡ Ok (fields_at (lent_bytes room lent)))
+IsLent room (Some lent) =
+    (lent.start ≤ lent.end) × (lent.end ≤ 65307) × (page_at (lent_bytes room lent) ≡ Ok (fields_at (lent_bytes room lent)))
+    × (lent.end - lent.start ≡ size_at (lent_bytes room lent))

@@ -1,6 +1,6 @@
 //! A page in a window's room.
-ghost use Rattle.std.specs.Prelude.{◌≡◌, Ok};
-ghost use Rattle.ogg_page.specs.Reading.{page_at, fields_at};
+ghost use Rattle.std.specs.Prelude.{◌≡◌, Ok, length};
+ghost use Rattle.ogg_page.specs.Reading.{page_at, fields_at, size_at};
 
 use crate::page::Page;
 use crate::reading::known_page;
@@ -11,6 +11,7 @@ pub struct LentPage<'a> {
     pub(crate) offset: u64,
     pub(crate) bytes: &'a [u8],
     ghost is_page: { page_at bytes.now ≡ Ok (fields_at bytes.now) },
+    ghost whole: { length bytes.now ≡ size_at bytes.now },
 }
 
 impl<'a> LentPage<'a> {

@@ -2,7 +2,7 @@
 ghost use Rattle.std.specs.Prelude.{◌≡◌, ◌≤◌, ◌+◌, ◌++◌, length, drop, IfOk, IsOk, MatchResult, Ok, Err, List, ℕ};
 ghost use Rattle.byteorder.specs.Endian.{little_number};
 ghost use Rattle.ogg_page.specs.Page.{Page as PageValue, IsPage, AreBytes, page_bytes, page_size};
-ghost use Rattle.ogg_page.specs.Reading.{page_at, fields_at, blanked, IsPageOf};
+ghost use Rattle.ogg_page.specs.Reading.{page_at, fields_at, size_at, blanked, IsPageOf};
 ghost use Rattle.ogg_page.specs.Room.{BeginsWithPage};
 ghost use Rattle.ogg_page.specs.Checksum.{checksum_of};
 
@@ -66,12 +66,14 @@ pub(crate) fn size_in_front(bytes: &[u8]) -> Result<usize, PageFault>
     Ok(page.whole().len())
 }
 
-/// The page that is known to be these bytes.
+/// The page that is known to be these bytes. It takes no time for its lacing values either.
 pub(crate) fn known_page(bytes: &[u8]) -> Page<'_>
-    requires { page_at bytes.now ≡ Ok (fields_at bytes.now) }
+    requires page { page_at bytes.now ≡ Ok (fields_at bytes.now) }
+    requires whole { length bytes.now ≡ size_at bytes.now }
     ensures { result ≡ fields_at bytes.now }
 {
-    split_known_page(bytes).0
+    let values = usize::from(bytes[26]);
+    page_in_front(bytes, values, bytes.len() - FIXED - values)
 }
 
 /// How many lacing values and how many bytes of body the page at the front has.
