@@ -51,7 +51,12 @@ rest_cut (value ∷ left) values bytes = Some (record { values = values; bytes =
 -- the part that is lent
 abbrev pub part_given : Page → Given → PagePart
 part_given page given =
-    record { bytes = take (given.end - given.start) (drop given.start page.body); first = given.first; last = given.last; position = given.position }
+    record {
+      bytes = take (given.end - given.start) (drop given.start page.body);
+      first = given.first;
+      last = given.last;
+      position = given.position;
+    }
 
 abbrev pub given_in : Option LentAt → Option Given → Option PagePart
 given_in lent None = None
@@ -96,12 +101,14 @@ calls_at w p = length (left_in w.lent p.unfinished p.cut) + (w.to - w.at)
 
 -- A page is passed: the parts are those that it has and those after it, whatever is found there.
 abbrev pub Passes : ℕ → Behind → Bool → LentAt → Result (Behind × Bool) ViewFault → Type 0
-Passes serial behind unfinished at (Err fault) = (found : List FoundPage) → parts_from serial behind unfinished (Ok at ∷ found) ≡ no_part (Some fault)
+Passes serial behind unfinished at (Err fault) = (found : List FoundPage) →
+    parts_from serial behind unfinished (Ok at ∷ found) ≡ no_part (Some fault)
 Passes serial behind unfinished at (Ok (next, false)) = (found : List FoundPage) →
     parts_from serial behind unfinished (Ok at ∷ found) ≡ parts_from serial next unfinished found
 Passes serial behind unfinished at (Ok (next, true)) = (0 < length at.1.lacing) × ((found : List FoundPage) →
     parts_from serial behind unfinished (Ok at ∷ found)
-    ≡ after_parts (page_parts (position_in at.1) (not unfinished) 0 at.1.lacing at.1.body) (parts_from serial next (goes_on unfinished at.1.lacing) found))
+    ≡ after_parts (page_parts (position_in at.1) (not unfinished) 0 at.1.lacing at.1.body)
+    (parts_from serial next (goes_on unfinished at.1.lacing) found))
 
 -- nothing of a page is read
 abbrev pub at_front : Behind → Bool → Progress
@@ -115,7 +122,8 @@ LeadsOn old new from (Err Source) = ⊤
 LeadsOn old new from (Err (View fault)) = old ≡ no_part (Some fault)
 
 abbrev pub IsReady : {S : Type 0} → Progress → WindowState S → WindowState S → Result (Option Progress) StreamFault → Type 0
-IsReady from old new (Ok (Some p)) = IsCut new.fault new.lent p.cut × IsSome p.cut × (new.fault ≡ None) × (calls_at new p ≤ calls_at old from)
+IsReady from old new (Ok (Some p)) =
+    IsCut new.fault new.lent p.cut × IsSome p.cut × (new.fault ≡ None) × (calls_at new p ≤ calls_at old from)
 IsReady from old new (Ok None) = (from.cut ≡ None) × (new.fault ≡ None)
 IsReady from old new (Err fault) = from.cut ≡ None
 

@@ -11,8 +11,8 @@ use Rattle.packet_view.specs.declared.fault.StreamFault.{StreamFault}
 use Rattle.packet_view.specs.declared.fault.StreamFault.TheVariants.{Source, View}
 use Rattle.packet_view.specs.declared.fault.ViewFault.TheVariants.{Page as PageIsAtFault}
 
--- Its window, and the serial of its stream; the parts of the page that is lent which aren't given yet, and what the stream's
--- next page must fit after them; the fault that ended it, and the part that is lent.
+-- Its window, and the serial of its stream; the parts that aren't given yet of the page that is lent, and what the stream's
+-- next page must fit; the fault that ended it, and the part that is lent.
 pub record StreamState (S : Type 0) : Type 0 where
   pub window : WindowState S
   pub serial : ℕ
@@ -36,12 +36,21 @@ first_fault None (Some fault) = Some (fault_of_window fault)
 -- the stream that has given nothing of its window
 abbrev pub stream : {S : Type 0} → WindowState S → ℕ → StreamState S
 stream window serial =
-    record { window = window; serial = serial; left = []; behind = at_start; unfinished = false; fault = first_fault None window.fault; given = None }
+    record {
+      window = window;
+      serial = serial;
+      left = [];
+      behind = at_start;
+      unfinished = false;
+      fault = first_fault None window.fault;
+      given = None;
+    }
 
 -- the parts that are still to come, where reads give these bytes
 abbrev pub parts_left : {S : Type 0} → (S → List ℕ) → StreamState S → PartsLeft
 parts_left bytes s =
-    after_parts s.left (parts_from s.serial s.behind s.unfinished (found_in (left_of bytes s.window).offset (left_of bytes s.window).bytes))
+    after_parts s.left
+    (parts_from s.serial s.behind s.unfinished (found_in (left_of bytes s.window).offset (left_of bytes s.window).bytes))
 
 -- a part that is lent, as its bytes
 abbrev pub part_value : Part → PagePart
@@ -65,8 +74,8 @@ abbrev pub stream_fault_left : {T : Type 0} → Result T StreamFault → Option 
 stream_fault_left (Ok value) = None
 stream_fault_left (Err fault) = Some fault
 
--- A call gives the first of the parts that are left. If none is left it gives the fault or the end. If the source fails, nothing
--- is known.
+-- A call gives the first of the parts that are left. If none is left it gives the fault or the end. If the source fails,
+-- nothing is known.
 abbrev pub TakesPart : PartsLeft → Result (Option PagePart) StreamFault → PartsLeft → Type 0
 TakesPart old (Ok (Some part)) new = old ≡ after_parts (part ∷ []) new
 TakesPart old (Ok None) new = (old ≡ no_part None) × (new ≡ old)
@@ -77,7 +86,7 @@ TakesPart old (Err (View fault)) new = old ≡ no_part (Some fault)
 abbrev pub HasReadCause : {T : Type 0} → ℕ → ℕ → Result T StreamFault → Type 0
 HasReadCause before now result = (before ≤ now) × (result ≡ Err Source → (before < now) ⊎ (now ≡ 2 ^ 64 - 1))
 
--- no more calls give a part: the parts of the page that is lent, and the bytes of the range after it
+-- at most this many calls give a part: the parts of the page that is lent, and the bytes of the range after it
 abbrev pub calls_left : {S : Type 0} → StreamState S → ℕ
 calls_left s = length s.left + (s.window.to - s.window.at)
 

@@ -6,23 +6,27 @@ use Rattle.packet_view.specs.declared.place.Behind.{Behind}
 use Rattle.packet_view.specs.declared.fault.ViewFault.{ViewFault}
 use Rattle.packet_view.specs.declared.fault.ViewFault.TheVariants.{Page as PageIsAtFault, Unfinished}
 
--- what one page has of a packet: the bytes, whether the packet begins and whether it ends with them, and its position if it ends
+-- what one page has of a packet: the bytes, whether the packet begins and ends with them, and its position if it ends
 pub record PagePart : Type 0 where
   pub bytes : List ℕ
   pub first : Bool
   pub last : Bool
   pub position : Option ℕ
 
--- The parts in a page with these lacing values and this body: one for each packet that has a lacing value there. The lacing
--- values before these gave the first of them `size` bytes, and `first` says whether its packet begins with it. Only the last
--- packet that ends in the page has the page's position.
+-- The parts in a page with these lacing values and this body: one for each packet that has a lacing value there. The first
+-- of them has `size` bytes by the lacing values before these, and `first` says whether its packet begins with it. Only the
+-- last packet that ends in the page has the page's position.
 unfoldable pub page_parts : Option ℕ → Bool → ℕ → List ℕ → List ℕ → List PagePart
 page_parts position first size [] body =
     if nat_eq size 0 then [] else record { bytes = take size body; first = first; last = false; position = None } ∷ []
 page_parts position first size (value ∷ lacing) body =
     if nat_eq value 255 then page_parts position first (size + 255) lacing body
-    else record { bytes = take (size + value) body; first = first; last = true; position = if ends_packet lacing then None else position }
-    ∷ page_parts position true 0 lacing (drop (size + value) body)
+    else record {
+      bytes = take (size + value) body;
+      first = first;
+      last = true;
+      position = if ends_packet lacing then None else position;
+    } ∷ page_parts position true 0 lacing (drop (size + value) body)
 
 -- whether a packet goes on after these lacing values, if one goes on before them or not
 unfoldable pub goes_on : Bool → List ℕ → Bool
@@ -40,8 +44,8 @@ no_part fault = record { parts = []; fault = fault }
 abbrev pub after_parts : List PagePart → PartsLeft → PartsLeft
 after_parts parts left = record { parts = parts ++ left.parts; fault = left.fault }
 
--- The parts of the stream's packets in what is found from some place on, up to the first fault. The pages before left a packet
--- unfinished, or not.
+-- The parts of the stream's packets in what is found from some place on, up to the first fault. The pages before left a
+-- packet unfinished, or not.
 unfoldable pub parts_from : ℕ → Behind → Bool → List FoundPage → PartsLeft
 parts_from serial behind unfinished [] = no_part (if unfinished then Some Unfinished else None)
 parts_from serial behind unfinished (Err fault ∷ found) = no_part (Some (PageIsAtFault fault.0 fault.1))

@@ -54,8 +54,8 @@ pub(crate) fn cut_lent<S: PageSource>(
     Some(cut_front(&page, progress, cut))
 }
 
-/// Cuts the front part off a page that is read so far. It looks at the lacing values of that part only, and at those that follow
-/// up to the next end of a packet.
+/// Cuts the front part off a page that is read so far. It looks at the lacing values of that part only, and at those that
+/// follow it up to the next end of a packet.
 fn cut_front(page: &Page<'_>, progress: Progress, cut: Cut) -> (Given, Progress)
     requires { CutFits page.now cut }
     ensures { HasCut page.now progress cut result.0 result.1 }

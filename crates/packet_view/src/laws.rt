@@ -19,10 +19,11 @@ pub fn parts_are_in_order()
     ensures { (serial : ℕ) (bytes : List ℕ) → ((i : ℕ) → slice_index bytes i < 256) → AreInOrder bytes 0 (parts_of_all (packets_of serial bytes).packets) }
 {}
 
-/// The parts that [`Stream`](crate::Stream) gives are those of the packets that [`Packets`](crate::Packets) gives over the same
-/// bytes: joined from a first part to the next last one they are the packets, in order and with their positions, and the same
-/// fault follows. The first byte is at this offset of the source.
+/// The parts that [`Stream`](crate::Stream) gives are those of the packets that [`Packets`](crate::Packets) gives over the
+/// same bytes. Joined from a first part to the next last one they are the packets, in order and with their positions, and
+/// the same fault follows. The first byte is at this offset of the source.
 pub fn parts_are_of_the_packets()
     ensures { (serial offset : ℕ) (bytes : List ℕ) → ((i : ℕ) → slice_index bytes i < 256)
-        → AreTheirParts (packets_from serial at_start [] (found_in offset bytes)) (parts_from serial at_start false (found_in offset bytes)) }
+        → AreTheirParts (packets_from serial at_start [] (found_in offset bytes))
+        (parts_from serial at_start false (found_in offset bytes)) }
 {}

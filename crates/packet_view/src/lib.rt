@@ -4,6 +4,9 @@
 //! first page at fault, and then that fault. A `Packet` is its parts, one for each page that has
 //! bytes of it: nothing is copied, and no call takes memory.
 //!
+//! A file may be larger than memory: a `Stream` over a window lends the same packets part by part, out
+//! of the memory of one page.
+//!
 //! Start at `specs/Packets.antt`, which says which packets bytes hold.
 #![tactic(auto)]
 

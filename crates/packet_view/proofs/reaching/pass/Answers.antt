@@ -27,7 +27,7 @@ returns-then-has_values c =
           parts-page c.args.serial c.args.behind c.args.unfinished (c.args.offset, page) found None
           (eq-eqb page.serial c.args.serial (sym c.serial.ensures ∙ c.if-serial.false)) (sym c.misplaced.ensures ∙ no_fault c.misplaced.result c.in_default.not-Some)
           ∙ ap (λ b. after_parts (page_parts (position_in page) (not c.args.unfinished) 0 page.lacing page.body) (parts_from c.args.serial b (goes_on c.args.unfinished page.lacing) found))
-              (sym c.behind_page-next.ensures),
+          (sym c.behind_page-next.ensures),
     )
 
 pub returns : goal.returns
