@@ -1,3 +1,4 @@
+pub mod Bytes
 pub mod Ended
 pub mod Steps
 pub mod World

@@ -115,7 +115,7 @@ flush_holds : {D : Type 0} (most : ℕ) (w : World Command) (refusal : Refusal) 
 flush_holds most w Disk old new is = refl
 flush_holds most w refusal old new is = absurd is
 
-flush_not_held : {D : Type 0} (failed : Bool) (count : ℕ) (old new : RecorderState D) → FlushedBy failed old (HeldReply count) new → ⊥
+pub flush_not_held : {D : Type 0} (failed : Bool) (count : ℕ) (old new : RecorderState D) → FlushedBy failed old (HeldReply count) new → ⊥
 flush_not_held true count old new (is, same) = cc is
 flush_not_held false count old new is = is
 
@@ -154,7 +154,7 @@ one table w old new Flush (RefusedReply refusal) is = record {
 
 -- ---- records in turn
 -- after a disk fault each is refused, and nothing changes
-shut_reply : {D : Type 0} (given : Record) (reply : Reply) (old new : RecorderState D) → old.file.failed ≡ true → Replies old given reply new → (reply ≡ RefusedReply Failed) × (new ≡ old)
+pub shut_reply : {D : Type 0} (given : Record) (reply : Reply) (old new : RecorderState D) → old.file.failed ≡ true → Replies old given reply new → (reply ≡ RefusedReply Failed) × (new ≡ old)
 shut_reply (CommandOf command) reply old new bad is = subst (λ (failed : Bool). AnsweredBy failed (decision old.chain command) old command reply new) bad is
 shut_reply Flush reply old new bad is = subst (λ (failed : Bool). FlushedBy failed old reply new) bad is
 
@@ -166,7 +166,7 @@ module _ {D : Type 0} (is_honest : D → Type 0) (state : D → DiskState) (mome
   abbrev pub AreAnswered : Progress D → List Record → List Reply → List ℕ → Progress D → Type 0
   AreAnswered before records replies bytes after = AnswersAll (Answers is_honest state moment images_since failures) before records replies bytes after
 
-  none_kept : (waiting : List Command) (before : Progress D) (records : List Record) (replies : List Reply) (bytes : List ℕ) (after : Progress D)
+  pub none_kept : (waiting : List Command) (before : Progress D) (records : List Record) (replies : List Reply) (bytes : List ℕ) (after : Progress D)
       → before.now.file.failed ≡ true → AreAnswered before records replies bytes after → kept_after waiting records replies ≡ []
   none_kept waiting before [] replies bytes after bad all = refl
   none_kept waiting before (given ∷ records) [] bytes after bad all = refl

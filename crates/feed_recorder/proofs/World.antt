@@ -8,6 +8,8 @@ use Rattle.feed_codec.specs.declared.reply.Reply.{Reply}
 use Rattle.gate_file.specs.Commit.{CommitsTo}
 use Rattle.gate_file.specs.Gate.{EachImage}
 use Rattle.link_chain.specs.Recording.{Recording, Holds}
+use Rattle.feed_run.specs.Counting.{kept_after}
+use Rattle.chain_rules.specs.Commands.{bytes_of_commands}
 use Rattle.chain_rules.specs.Recording.{add}
 use Rattle.ogg_command.specs.declared.command.Command.{Command}
 use Rattle.history.specs.Showing.{ShowsOnly}
@@ -15,20 +17,20 @@ use Rattle.history.specs.World.{World, Step, Held, Kept, Flushed, Refused, Fault
 use Rattle.history.specs.History.{StandsIn, IsStep, AreSteps}
 use Rattle.history.specs.Recovery.{recovers_only}
 use Rattle.history.specs.Runs.{ShowsSome, AreCommands, accepted}
-use Rattle.ogg_recorder.specs.Recovery.{Commits, Shows, Accepts}
+use Rattle.ogg_recorder.specs.Recovery.{Links, Commits, Shows, Accepts}
 use Rattle.ogg_recorder.specs.Recorder.{RecorderState, committed}
 use Rattle.ogg_recorder.specs.Running.{Progress}
-use Rattle.feed_recorder.specs.Recorded.{answered, HasSteps, HasRecorded, Stands, accepted_of}
+use Rattle.feed_recorder.specs.Recorded.{answered, HasWaiting, HasSteps, HasRecorded, Stands, accepted_of}
 
-grows : {D : Type 0} (w : World Command) (steps : List (Step Command × D)) → AreCommands steps → (run w steps).acknowledged ≡ w.acknowledged ++ acknowledged w steps
-grows w [] are = sym (append-nil w.acknowledged)
-grows w ((Held c, disk) ∷ steps) are = grows (happens w (Held c)) steps are
-grows w ((Kept c, disk) ∷ steps) are =
-    grows (happens w (Kept c)) steps are ∙ append_assoc w.acknowledged (w.held ++ c ∷ []) (acknowledged (happens w (Kept c)) steps)
-grows w ((Flushed, disk) ∷ steps) are = grows (happens w Flushed) steps are ∙ append_assoc w.acknowledged w.held (acknowledged (happens w Flushed) steps)
-grows w ((Refused c, disk) ∷ steps) are = grows w steps are
-grows w ((Faulted call, disk) ∷ steps) are = grows (happens w (Faulted call)) steps are.1
-grows w ((step, disk) ∷ steps) are = absurd are
+acknowledges : {D : Type 0} (w : World Command) (steps : List (Step Command × D)) → AreCommands steps → (run w steps).acknowledged ≡ w.acknowledged ++ acknowledged w steps
+acknowledges w [] are = sym (append-nil w.acknowledged)
+acknowledges w ((Held c, disk) ∷ steps) are = acknowledges (happens w (Held c)) steps are
+acknowledges w ((Kept c, disk) ∷ steps) are =
+    acknowledges (happens w (Kept c)) steps are ∙ append_assoc w.acknowledged (w.held ++ c ∷ []) (acknowledged (happens w (Kept c)) steps)
+acknowledges w ((Flushed, disk) ∷ steps) are = acknowledges (happens w Flushed) steps are ∙ append_assoc w.acknowledged w.held (acknowledged (happens w Flushed) steps)
+acknowledges w ((Refused c, disk) ∷ steps) are = acknowledges w steps are
+acknowledges w ((Faulted call, disk) ∷ steps) are = acknowledges (happens w (Faulted call)) steps are.1
+acknowledges w ((step, disk) ∷ steps) are = absurd are
 
 module _ {D : Type 0} (is_honest : D → Type 0) (state : D → DiskState) (moment : D → ℕ) (images_since : D → ℕ → List ℕ → Type 0) where
   abbrev pub Are : Recording → World Command → D → List (Step Command × D) → Type 0
@@ -61,14 +63,17 @@ module _ {D : Type 0} (is_honest : D → Type 0) (state : D → DiskState) (mome
 
   -- what records have recorded that are steps
   pub has_recorded : ShowsFirstOnes → StandsAfter → (before after : Progress D) (records : List Record) (replies : List Reply) → Commit before.now
+      → (is_honest before.now.file.disk → (links : Links) (waiting : List Command) → HasWaiting state links waiting before.now
+      → committed state after.now ≡ committed state before.now ++ bytes_of_commands links (kept_after waiting records replies))
       → HasSteps is_honest state moment images_since before after records replies → HasRecorded is_honest state moment images_since before after (answered records replies)
-  has_recorded law later before after records replies images are =
+  has_recorded law later before after records replies images grows are =
       let w : World Command = before.world in
       let disk : D = before.now.file.disk in
       let Some : List Command → List ℕ → Type 0 = λ all image. ShowsSome Shows add before.first all image in
       record {
+        grows = grows;
         same = are.same;
-        keeps = ap (λ (v : World Command). v.acknowledged) (sym are.leads) ∙ grows w are.steps are.are_commands ∙ ap (λ (l : List Command). w.acknowledged ++ l) are.keeps;
+        keeps = ap (λ (v : World Command). v.acknowledged) (sym are.leads) ∙ acknowledges w are.steps are.are_commands ∙ ap (λ (l : List Command). w.acknowledged ++ l) are.keeps;
         stands = are.stands;
         any_moment = λ stands good.
             subst (λ (l : List Command). LeavesOnly moment images_since disk after.now.file.disk (Some (w.acknowledged ++ w.held ++ l))) are.accepts

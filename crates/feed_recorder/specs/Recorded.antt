@@ -11,14 +11,16 @@ use Rattle.feed_codec.specs.declared.reply.Reply.{Reply}
 use Rattle.feed_codec.specs.declared.reply.Reply.TheVariants.{Held as HeldReply, Kept as KeptReply, Refused as RefusedReply}
 use Rattle.feed_run.specs.Counting.{kept_after}
 use Rattle.feed_run.specs.Run.{Streams, Outcome, RunsTo, StopsWriting, StopsAt, EndsBy}
+use Rattle.link_chain.specs.ChainState.{chain_state_of}
+use Rattle.chain_rules.specs.Commands.{bytes_of_commands, links_behind}
 use Rattle.chain_rules.specs.Recording.{add}
 use Rattle.ogg_command.specs.declared.command.Command.{Command}
 use Rattle.ogg_command.specs.declared.refusal.Refusal.TheVariants.{Disk}
 use Rattle.history.specs.World.{Step, run, disk_after, acknowledged}
 use Rattle.history.specs.History.{AreSteps, StandsIn}
 use Rattle.history.specs.Runs.{ShowsSome, AreCommands, accepted}
-use Rattle.ogg_recorder.specs.Recovery.{Shows, Accepts}
-use Rattle.ogg_recorder.specs.Recorder.{IsIn}
+use Rattle.ogg_recorder.specs.Recovery.{Links, Shows, Accepts}
+use Rattle.ogg_recorder.specs.Recorder.{RecorderState, IsIn, committed, staged}
 use Rattle.ogg_recorder.specs.Running.{Progress}
 
 -- ---- which records were answered
@@ -54,6 +56,12 @@ module _ {S : Type 0} (answers : S → Record → Reply → List ℕ → S → T
   answered_by Write start now before after ended = answered_until start now before after ended
 
 -- ---- what they have recorded
+-- After these links, which are committed, these commands wait, and the recorder hasn't failed.
+pub record HasWaiting {D : Type 0} (state : D → DiskState) (links : Links) (waiting : List Command) (recorder : RecorderState D) : Type 0 where
+  pub good : recorder.file.failed ≡ false
+  pub chain : recorder.chain ≡ chain_state_of (links_behind links waiting)
+  pub waits : staged state recorder ≡ bytes_of_commands links waiting
+
 -- the command that a reply says was accepted; one that met a disk fault was
 abbrev pub accepted_by : Record → Reply → List Command
 accepted_by (CommandOf command) (HeldReply count) = command ∷ []
@@ -86,6 +94,9 @@ module _ {D : Type 0} (is_honest : D → Type 0) (state : D → DiskState) (mome
 
   -- What a run has recorded.
   pub record HasRecorded (before after : Progress D) (all : Answered) : Type 0 where
+    -- the committed bytes grow by exactly those of the kept commands
+    pub grows : is_honest before.now.file.disk → (links : Links) (waiting : List Command) → HasWaiting state links waiting before.now
+        → committed state after.now ≡ committed state before.now ++ bytes_of_commands links (kept_after waiting all.records all.replies)
     pub same : after.first ≡ before.first
     -- the kept commands are acknowledged, after those that were
     pub keeps : after.world.acknowledged ≡ before.world.acknowledged ++ kept_after before.world.held all.records all.replies

@@ -1,5 +1,6 @@
 -- The records of a feed are answered, each as a step of a history.
-use Rattle.std.proofs.Common.{◌≡◌, ◌≢◌, ◌⊎◌, ◌↔◌, inl, inr, ⊎_elim, ℕ, zero, suc, ◌+◌, ◌-◌, ◌^◌, ◌<◌, ◌≤◌, Bool, true, false, List, [], ◌∷◌, refl, sym, ap, ◌∙◌, subst, arith, Result, Ok, Err}
+use Rattle.std.proofs.Common.{◌≡◌, ◌≢◌, ◌⊎◌, ◌↔◌, inl, inr, ⊎_elim, ℕ, zero, suc, ◌+◌, ◌-◌, ◌^◌, ◌<◌, ◌≤◌, Bool, true, false, List, [], ◌∷◌, ◌++◌, refl, sym, ap, ◌∙◌, subst, arith, append_assoc, Result, Ok, Err}
+use Rattle.std.proofs.lemmas.List.{append-nil, append_cancel_left}
 use Rattle.std.specs.Prelude.{IsOk, IfOk, IfErr, OnOk}
 use Rattle.disk_model.specs.Image.{DiskState}
 use Rattle.feed_codec.specs.declared.item.Record.{Record}
@@ -10,7 +11,7 @@ use Rattle.feed_codec.specs.declared.reply.Reply.TheVariants.{Refused as Refused
 use Rattle.link_chain.specs.ChainState.{ChainState, chain_state_of}
 use Rattle.link_chain.specs.Recording.{Recording}
 use Rattle.chain_rules.specs.Decision.{decision}
-use Rattle.chain_rules.specs.Encoding.{links_after}
+use Rattle.chain_rules.specs.Encoding.{command_bytes, links_after}
 use Rattle.chain_rules.specs.Recording.{add}
 use Rattle.ogg_command.specs.declared.command.Command.{Command}
 use Rattle.ogg_command.specs.declared.refusal.Refusal.{Refusal}
@@ -20,9 +21,9 @@ use Rattle.history.specs.History.{IsStep, AreSteps}
 use Rattle.ogg_recorder.specs.declared.commanding.Outcome.{Outcome}
 use Rattle.ogg_recorder.specs.declared.commanding.Outcome.TheVariants.{Held as WasHeld, Kept as WasKept}
 use Rattle.ogg_recorder.specs.Recovery.{Links, Shows, Accepts}
-use Rattle.ogg_recorder.specs.Recorder.{RecorderState, IsIn, recorder_state}
+use Rattle.ogg_recorder.specs.Recorder.{RecorderState, IsIn, recorder_state, committed, staged}
 use Rattle.ogg_recorder.specs.Answer.{Tells, kept_by, call_of, command_step, flush_step}
-use Rattle.ogg_recorder.specs.Running.{Progress, progress, Answers, Replies, AnsweredBy, FlushedBy, FlushBecomes, Becomes, Fails, reply_of, reply_of_flush, steps_of}
+use Rattle.ogg_recorder.specs.Running.{Progress, progress, Answers, Replies, Writes, AnsweredBy, FlushedBy, FlushBecomes, Becomes, Fails, reply_of, reply_of_flush, steps_of}
 use Rattle.ogg_recorder.proofs.Lasting.{never}
 use Rattle.ogg_recorder.proofs.Stepping.{is_open}
 
@@ -76,6 +77,34 @@ flushed_by false (Err refusal) old new by_failed refusals nothing faulted tells 
     ⊎_elim (λ (is, bad). absurd (never bad))
     (λ is. subst (λ (q : Refusal). FlushBecomes old (RefusedReply q) new) (sym is) (some_wait old.held (λ none. let e = (nothing refl none).0 in cc e), faulted is)) refusals
 
+-- ---- bytes
+pub writes_command : {D : Type 0} {H : Type 0} (h : H) (state : D → DiskState) (r : Result Outcome Refusal) (old new : RecorderState D) (command : Command)
+    → OnOk r (H → committed state new ++ staged state new ≡ (committed state old ++ staged state old) ++ command_bytes old.chain command)
+    → IfOk r (λ outcome. (count : ℕ) → outcome ≡ WasHeld count → committed state new ≡ committed state old)
+    → IfOk r (λ outcome. (kept : KeptOf) → outcome ≡ WasKept kept → staged state new ≡ [])
+    → IfErr r (λ _. committed state new ≡ committed state old)
+    → Writes state old (CommandOf command) (reply_of r) new
+writes_command h state (Ok (WasHeld count)) old new command grows stays none front =
+    let same = stays count refl in
+    let own : List ℕ = command_bytes old.chain command in (
+      same,
+      append_cancel_left (committed state new) (staged state new) (staged state old ++ own)
+          (grows h ∙ append_assoc (committed state old) (staged state old) own ∙ ap (λ (l : List ℕ). l ++ (staged state old ++ own)) (sym same)),
+    )
+writes_command h state (Ok (WasKept kept)) old new command grows stays none front =
+    let nothing = none kept refl in (
+      sym (append-nil (committed state new)) ∙ ap (λ (l : List ℕ). committed state new ++ l) (sym nothing) ∙ grows h
+      ∙ append_assoc (committed state old) (staged state old) (command_bytes old.chain command),
+      nothing,
+    )
+writes_command h state (Err refusal) old new command grows stays none front = front
+
+pub writes_flush : {D : Type 0} {H : Type 0} (h : H) (state : D → DiskState) (r : Result KeptOf Refusal) (old new : RecorderState D)
+    → OnOk r (H → committed state new ≡ committed state old ++ staged state old) → OnOk r (staged state new ≡ []) → IfErr r (λ _. committed state new ≡ committed state old)
+    → Writes state old Flush (reply_of_flush r) new
+writes_flush h state (Ok kept) old new grows none front = (grows h, none)
+writes_flush h state (Err refusal) old new grows none front = front
+
 -- ---- steps
 pub step_is : {D : Type 0} (r : Result Outcome Refusal) (most : ℕ) (w : World Command) (command : Command) (disk : D)
     → steps_of most w (CommandOf command) (reply_of r) disk ≡ (command_step r (call_of most w command) command, disk) ∷ []
@@ -112,13 +141,15 @@ module _ {D : Type 0} (is_honest : D → Type 0) (state : D → DiskState) (mome
 
   -- a record that is a step
   pub one_step : (given : Record) (reply : Reply) (step : Step Command) → steps_of old.most w given reply new.file.disk ≡ (step, new.file.disk) ∷ []
-      → Replies old given reply new → (IsIn is_honest state first w old → is_honest old.file.disk → IsNext step)
+      → Replies old given reply new → (is_honest old.file.disk → Writes state old given reply new)
+      → (IsIn is_honest state first w old → is_honest old.file.disk → IsNext step)
       → is_honest old.file.disk ↔ is_honest new.file.disk → failures old.file.disk ≤ failures new.file.disk → Rises reply → IsAnswered given reply
-  one_step given reply step same replies next honest later cause = (
+  one_step given reply step same replies writes next honest later cause = (
     progress first (happens w step) new,
     record {
       replies = replies;
       none = refl;
+      writes = writes;
       same = refl;
       world_is = sym (ap (λ (l : List (Step Command × D)). run w l) same);
       comes_next = λ h is_in.
@@ -140,6 +171,7 @@ module _ {D : Type 0} (is_honest : D → Type 0) (state : D → DiskState) (mome
         record {
           replies = subst (λ (failed : Bool). FlushedBy failed old reply new) (sym bad) (is, same);
           none = refl;
+          writes = λ h. subst (λ (r : Reply). Writes state old Flush r new) (sym is) (ap (λ (r : RecorderState D). committed state r) same);
           same = refl;
           world_is = sym (ap (λ (l : List (Step Command × D)). run w l) none);
           comes_next = λ h is_in. (
@@ -157,14 +189,14 @@ module _ {D : Type 0} (is_honest : D → Type 0) (state : D → DiskState) (mome
   pub flush_answered : (failed : Bool) (r : Result KeptOf Refusal) → old.file.failed ≡ failed
       → (failed ≡ true → (r ≡ Err Failed) × (new ≡ old))
       → IfErr r (λ refusal. ((refusal ≡ Failed) × (failed ≡ true)) ⊎ (refusal ≡ Disk))
-      → FlushedBy failed old (reply_of_flush r) new
+      → FlushedBy failed old (reply_of_flush r) new → (is_honest old.file.disk → Writes state old Flush (reply_of_flush r) new)
       → (IsIn is_honest state first w old → w.is_open ≡ true → is_honest old.file.disk → IsNext (flush_step r))
       → is_honest old.file.disk ↔ is_honest new.file.disk → failures old.file.disk ≤ failures new.file.disk → Rises (reply_of_flush r)
       → IsAnswered Flush (reply_of_flush r)
-  flush_answered true r bad by_failed refusals replies next honest later cause = let (is, same) = by_failed refl in no_step (reply_of_flush r) (ap reply_of_flush is) bad same
-  flush_answered false r good by_failed refusals replies next honest later cause =
+  flush_answered true r bad by_failed refusals replies writes next honest later cause = let (is, same) = by_failed refl in no_step (reply_of_flush r) (ap reply_of_flush is) bad same
+  flush_answered false r good by_failed refusals replies writes next honest later cause =
       one_step Flush (reply_of_flush r) (flush_step r) (flush_is r old.most w new.file.disk (only_disk r refusals))
-      (subst (λ (failed : Bool). FlushedBy failed old (reply_of_flush r) new) (sym good) replies)
+      (subst (λ (failed : Bool). FlushedBy failed old (reply_of_flush r) new) (sym good) replies) writes
       (λ is_in h. next is_in (is_open is_honest state moment images_since first w old is_in good) h) honest later cause
 
 -- the disk's fault is told

@@ -1,5 +1,5 @@
 -- What an opening leaves, and what it finds.
-use Rattle.std.proofs.Common.{◌≡◌, ℕ, Bool, false, List, ◌++◌, refl, sym, ◌∙◌, ap, subst, arith, append-nil}
+use Rattle.std.proofs.Common.{[], ◌≡◌, ℕ, Bool, false, List, ◌++◌, refl, sym, ◌∙◌, ap, subst, arith, append-nil}
 use Rattle.disk_model.specs.Image.{DiskState, IsImage}
 use Rattle.disk_model.specs.Clock.{HasImages, LeavesOnly, and_then, weakened}
 use Rattle.gate_file.specs.Commit.{CommitsTo}
@@ -53,6 +53,9 @@ module _ {D : Type 0} (moment : D → ℕ) (images_since : D → ℕ → List �
   images_have state P has leaves = λ image is. leaves.each image (has.counts_now (moment old) image leaves.later is)
 
 -- ---- a recorder of which nothing waits
+pub nothing_in : {D : Type 0} (state : D → DiskState) (file : GateState D) → file.staged ≡ 0 → G.staged_bytes state file ≡ []
+nothing_in state file none = ap (λ (n : ℕ). G.staged_bytes state (record file { staged = n })) none
+
 pub none_staged : {D : Type 0} (state : D → DiskState) (file : GateState D) → file.staged ≡ 0 → G.committed state file ++ G.staged_bytes state file ≡ G.committed state file
 none_staged state file none = ap (λ (n : ℕ). G.committed state file ++ G.staged_bytes state (record file { staged = n })) none ∙ append-nil (G.committed state file)
 

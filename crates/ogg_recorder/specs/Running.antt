@@ -1,5 +1,5 @@
 -- How a recorder answers the records of a feed, and which steps of its file's history they are. Ours.
-use Rattle.std.specs.Prelude.{◌≡◌, ◌⊎◌, ◌↔◌, ℕ, ◌+◌, ◌-◌, ◌^◌, ◌<◌, ◌≤◌, Bool, true, false, Result, Ok, Err, List, [], ◌∷◌}
+use Rattle.std.specs.Prelude.{◌≡◌, ◌⊎◌, ◌↔◌, ℕ, ◌+◌, ◌-◌, ◌^◌, ◌<◌, ◌≤◌, Bool, true, false, Result, Ok, Err, List, [], ◌∷◌, ◌++◌}
 use Rattle.disk_model.specs.Image.{DiskState}
 use Rattle.feed_codec.specs.declared.item.Record.{Record}
 use Rattle.feed_codec.specs.declared.item.Record.TheVariants.{Command as CommandOf, Flush}
@@ -9,7 +9,7 @@ use Rattle.feed_codec.specs.declared.reply.Reply.TheVariants.{Held as HeldReply,
 use Rattle.link_chain.specs.ChainState.{chain_state_of}
 use Rattle.link_chain.specs.Recording.{Recording}
 use Rattle.chain_rules.specs.Decision.{decision}
-use Rattle.chain_rules.specs.Encoding.{links_after}
+use Rattle.chain_rules.specs.Encoding.{command_bytes, links_after}
 use Rattle.chain_rules.specs.Recording.{add}
 use Rattle.ogg_command.specs.declared.command.Command.{Command}
 use Rattle.ogg_command.specs.declared.refusal.Refusal.{Refusal}
@@ -19,7 +19,7 @@ use Rattle.history.specs.History.{AreSteps}
 use Rattle.ogg_recorder.specs.declared.commanding.Outcome.{Outcome}
 use Rattle.ogg_recorder.specs.declared.commanding.Outcome.TheVariants.{Held as WasHeld, Kept as WasKept}
 use Rattle.ogg_recorder.specs.Recovery.{Links, Shows, Accepts}
-use Rattle.ogg_recorder.specs.Recorder.{RecorderState, IsIn, recorder_state}
+use Rattle.ogg_recorder.specs.Recorder.{RecorderState, IsIn, recorder_state, committed, staged}
 use Rattle.ogg_recorder.specs.Answer.{Tells, kept_by, call_of, refused_step}
 
 -- How far a recorder has come: what its file showed at first, what has become of the commands since then, and the
@@ -95,6 +95,16 @@ abbrev pub Replies : {D : Type 0} → RecorderState D → Record → Reply → R
 Replies old (CommandOf command) reply new = AnsweredBy old.file.failed (decision old.chain command) old command reply new
 Replies old Flush reply new = FlushedBy old.file.failed old reply new
 
+-- What the reply says of the bytes of an honest disk: those of a command that is held are staged after the others, a
+-- reply that keeps commands commits all that is staged, and a refusal commits nothing.
+abbrev pub Writes : {D : Type 0} → (D → DiskState) → RecorderState D → Record → Reply → RecorderState D → Type 0
+Writes state old (CommandOf command) (HeldReply count) new =
+    (committed state new ≡ committed state old) × (staged state new ≡ staged state old ++ command_bytes old.chain command)
+Writes state old (CommandOf command) (KeptReply kept) new =
+    (committed state new ≡ committed state old ++ (staged state old ++ command_bytes old.chain command)) × (staged state new ≡ [])
+Writes state old Flush (KeptReply kept) new = (committed state new ≡ committed state old ++ staged state old) × (staged state new ≡ [])
+Writes state old given reply new = committed state new ≡ committed state old
+
 -- ---- steps
 -- which step of the history a command is by its reply, if `most` commands share a commit
 abbrev pub step_of : ℕ → World Command → Command → Reply → Step Command
@@ -115,6 +125,7 @@ module _ {D : Type 0} (is_honest : D → Type 0) (state : D → DiskState) (mome
   pub record Answers (before : Progress D) (given : Record) (reply : Reply) (own : List ℕ) (after : Progress D) : Type 0 where
     pub replies : Replies before.now given reply after.now
     pub none : own ≡ []
+    pub writes : is_honest before.now.file.disk → Writes state before.now given reply after.now
     pub same : after.first ≡ before.first
     pub world_is : after.world ≡ run before.world (steps_of before.now.most before.world given reply after.now.file.disk)
     pub comes_next : is_honest before.now.file.disk → IsIn is_honest state before.first before.world before.now

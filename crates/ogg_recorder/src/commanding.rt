@@ -1,5 +1,5 @@
 //! Commands are recorded, in groups that share a commit.
-ghost use Rattle.std.specs.Prelude.{◌≡◌, ◌≢◌, ◌↔◌, ◌⊎◌, ◌+◌, ◌-◌, ◌^◌, ◌<◌, ◌≤◌, ◌++◌, true, false, List, ℕ, length, OnOk, OnErr, IfOk, IfErr, IsOk, Ok, Err};
+ghost use Rattle.std.specs.Prelude.{◌≡◌, ◌≢◌, ◌↔◌, ◌⊎◌, ◌+◌, ◌-◌, ◌^◌, ◌<◌, ◌≤◌, ◌++◌, true, false, List, [], ℕ, length, OnOk, OnErr, IfOk, IfErr, IsOk, Ok, Err};
 ghost use Rattle.disk_model.specs.Clock.{LeavesOnly};
 ghost use Rattle.gate_file.specs.Commit.{CommitsTo, CommitsToEither};
 ghost use Rattle.gate_file.specs.Gate.{EachImage};
@@ -10,6 +10,7 @@ ghost use Rattle.chain_rules.specs.Encoding.{command_bytes, links_after};
 ghost use Rattle.chain_rules.specs.Recording.{add};
 ghost use Rattle.ogg_command.specs.declared.command.Command.{Command as CommandOf};
 ghost use Rattle.ogg_command.specs.declared.refusal.Refusal.{Refusal as RefusalOf};
+ghost use Rattle.feed_codec.specs.declared.reply.Kept.{Kept as KeptOf};
 ghost use Rattle.history.specs.World.{World, happens};
 ghost use Rattle.history.specs.History.{IsStep};
 ghost use Rattle.ogg_recorder.specs.Recovery.{Links, Shows, Accepts};
@@ -74,6 +75,11 @@ impl<D: Disk> Recorder<D> {
         ensures grows { OnOk result (D.is_honest self.old.file.disk → committed D.state self.new ++ staged D.state self.new
             ≡ (committed D.state self.old ++ staged D.state self.old) ++ command_bytes self.old.chain command.now) }
         ensures front { D.is_honest self.old.file.disk → IfErr result (λ _. committed D.state self.new ≡ committed D.state self.old) }
+
+        // What waits isn't committed, and what is kept doesn't wait.
+        ensures stays { D.is_honest self.old.file.disk → IfOk result (λ outcome. (count : ℕ) → outcome ≡ Outcome.Held count
+            → committed D.state self.new ≡ committed D.state self.old) }
+        ensures none_waits { IfOk result (λ outcome. (kept : KeptOf) → outcome ≡ Outcome.Kept kept → staged D.state self.new ≡ []) }
 
         // Every image since the call began commits to what was committed, without the group or with all of it.
         ensures any_moment { D.is_honest self.old.file.disk → self.old.file.failed ≡ false
@@ -156,6 +162,7 @@ impl<D: Disk> Recorder<D> {
         // What waited is committed.
         ensures grows { OnOk result (D.is_honest self.old.file.disk
             → committed D.state self.new ≡ committed D.state self.old ++ staged D.state self.old) }
+        ensures none_waits { OnOk result (staged D.state self.new ≡ []) }
         ensures front { D.is_honest self.old.file.disk → IfErr result (λ _. committed D.state self.new ≡ committed D.state self.old) }
 
         // Every image since the call began commits to what was committed, without the group or with all of it.

@@ -20,7 +20,8 @@ returns-in-Ok-clause-ok g c = λ first w.
       is,
       run,
       has_recorded d.is_honest d.state d.moment d.images_since c.runs_show_first_commands.ensures c.disks_stand_in_their_world.ensures.step before after
-          (run.run.records ++ run.run.closing) (run.run.replies ++ run.run.last) c.end-end.ensures.images (c.records_are_steps.ensures before after _ _ all.0 all.1),
+          (run.run.records ++ run.run.closing) (run.run.replies ++ run.run.last) c.end-end.ensures.images
+          (λ honest links waiting has. c.records_are_steps.ensures.bytes before after _ _ all.0 all.1 honest links waiting has) (c.records_are_steps.ensures.steps before after _ _ all.0 all.1),
     )
 
 pub returns-in-Ok-clause-honest : goal.returns-in-Ok-clause-honest
@@ -59,7 +60,9 @@ returns-in-Err-clause-err g c = λ first w.
       is,
       run,
       has_recorded d.is_honest d.state d.moment d.images_since c.runs_show_first_commands.ensures c.disks_stand_in_their_world.ensures.step before after
-          found.records found.replies c.end-end.ensures.images (c.records_are_steps.ensures before after found.records found.replies all.0 all.1),
+          found.records found.replies c.end-end.ensures.images
+          (λ honest links waiting has. c.records_are_steps.ensures.bytes before after found.records found.replies all.0 all.1 honest links waiting has)
+          (c.records_are_steps.ensures.steps before after found.records found.replies all.0 all.1),
     )
 
 pub returns-in-Err-clause-honest : goal.returns-in-Err-clause-honest

@@ -11,7 +11,7 @@ use Rattle.ogg_recorder.specs.Recorder.{recorder_state}
 use Rattle.ogg_recorder.proofs.Refused.{not_disk}
 use Rattle.ogg_recorder.proofs.Growing.{command_pages, command_some}
 use Rattle.ogg_recorder.proofs.Lasting.{not_failed, never, lt_false, same_refusal, staged_then, same_front, is_waiting, is_kept}
-use Rattle.ogg_recorder.proofs.Opened.{images_have}
+use Rattle.ogg_recorder.proofs.Opened.{images_have, nothing_in}
 use Rattle.ogg_recorder.proofs.Stepping.{is_open, step_refused, held_step, kept_step, faulted_staging, faulted_commit}
 use Rattle.ogg_recorder.proofs.recorder.Recorder.command.Goals as goal
 
@@ -197,3 +197,9 @@ returns-clause-step g c =
     (staged_then d.moment d.images_since in_.file.disk mid.disk file.disk (committed d.state in_.file) (staged_bytes d.state in_.file ++ command_bytes chain command)
     (committed d.state mid) (staged_bytes d.state mid) (c.stage_pages.ensures.front honest) more (c.stage_pages.ensures.any_moment honest) (c.commit.ensures.any_moment here))
     (subst (λ (l : List ℕ). EachImage (d.state file.disk) (CommitsTo l)) grown (c.in-Ok-commit.ensures.only here)))
+
+pub returns-then-self-from-clause-stays : goal.returns-then-self-from-clause-stays
+returns-then-self-from-clause-stays g c = rw (← c.self.view_is) (λ honest count is. c.stage_pages.ensures.front honest)
+
+pub returns-clause-none_waits : goal.returns-clause-none_waits
+returns-clause-none_waits g c = λ kept is. nothing_in g.D.Disk.state c.commit.new.self c.in-Ok-commit.ensures.none

@@ -4,7 +4,7 @@ use Rattle.gate_file.specs.Gate.{EachImage}
 use Rattle.gate_file.specs.GateFile.{committed, staged_bytes}
 use Rattle.ogg_recorder.specs.Recorder.{recorder_state}
 use Rattle.ogg_recorder.proofs.Lasting.{not_failed, never, nothing_staged, same_front}
-use Rattle.ogg_recorder.proofs.Opened.{none_staged}
+use Rattle.ogg_recorder.proofs.Opened.{none_staged, nothing_in}
 use Rattle.ogg_recorder.proofs.Stepping.{flushed, faulted_flush}
 use Rattle.ogg_recorder.proofs.recorder.Recorder.flush.Goals as goal
 
@@ -47,3 +47,10 @@ returns-clause-step g c =
     (λ first w is_in opened honest. flushed d.is_honest d.state d.moment d.images_since first w (recorder_state in_.file in_.shape.chain in_.tail in_.kept in_.held in_.most) is_in opened honest
     (recorder_state file in_.shape.chain in_.tail (in_.kept + in_.held) 0 in_.most) (c.commit.ensures.honest.0 honest)
     (not_failed file.failed (λ bad. never (c.in-Ok.ensures.failed.0 bad))) c.in-Ok.ensures.none refl (c.in-Ok.ensures.grown honest) (c.commit.ensures.any_moment honest) (c.in-Ok.ensures.only honest))
+
+pub returns-then-self-eq0-clause-none_waits : goal.returns-then-self-eq0-clause-none_waits
+returns-then-self-eq0-clause-none_waits g c =
+    rw (← c.self.view_is) (nothing_in g.D.Disk.state c.self.inside.file (c.self.invariant.empty (sym c.is_failed.ensures ∙ c.if-is_failed.false) c.if-self-eq0.true))
+
+pub returns-clause-none_waits : goal.returns-clause-none_waits
+returns-clause-none_waits g c = nothing_in g.D.Disk.state c.commit.new.self c.in-Ok.ensures.none

@@ -6,7 +6,7 @@ use Rattle.chain_rules.specs.Decision.{decision}
 use Rattle.ogg_recorder.specs.Answer.{call_of, command_step}
 use Rattle.ogg_recorder.proofs.Refused.{not_disk}
 use Rattle.ogg_recorder.specs.Running.{progress}
-use Rattle.ogg_recorder.proofs.Answered.{ComesTo, at_reached, answered_by, one_step, step_is, command_fault}
+use Rattle.ogg_recorder.proofs.Answered.{ComesTo, at_reached, answered_by, one_step, step_is, command_fault, writes_command}
 use Rattle.ogg_recorder.proofs.running.RecorderRunner.run_command.Goals as goal
 
 pub returns-clause-ok : goal.returns-clause-ok
@@ -24,5 +24,6 @@ returns-clause-ok g c = λ before reached.
     (step_is r old.most before.world command new.file.disk)
     (answered_by old.file.failed (decision old.chain command) r old new command e.by_failed e.by_rules e.otherwise e.same e.faulted e.tells e.good e.links
     (λ refusal is. not_disk refusal (c.refusals_are_of_the_table.ensures old.chain command refusal is).1))
+    (λ honest. writes_command honest d.state r old new command e.grows (e.stays honest) e.none_waits (e.front honest))
     (λ is_in honest. e.step before.first before.world is_in honest) e.honest e.later (λ told. e.cause (command_fault r told)))) in
     ([], came.0, came.1, came.2, Appends-nil _)

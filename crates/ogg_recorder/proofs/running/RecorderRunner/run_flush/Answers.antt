@@ -2,7 +2,7 @@ use Rattle.std.proofs.Common.{refl, sym, subst}
 use Rattle.feed_codec.specs.declared.item.Record.TheVariants.{Flush}
 use Rattle.feed_codec.specs.declared.reply.Reply.{Reply}
 use Rattle.ogg_recorder.specs.Running.{progress}
-use Rattle.ogg_recorder.proofs.Answered.{ComesTo, at_reached, flushed_by, flush_answered, flush_fault}
+use Rattle.ogg_recorder.proofs.Answered.{ComesTo, at_reached, flushed_by, flush_answered, flush_fault, writes_flush}
 use Rattle.ogg_recorder.proofs.running.RecorderRunner.run_flush.Goals as goal
 
 pub returns-clause-answers : goal.returns-clause-answers
@@ -16,4 +16,5 @@ returns-clause-answers g c = λ before reached.
     (subst (λ (reply : Reply). ComesTo d.is_honest d.state d.moment d.images_since d.failures Flush reply new (progress before.first before.world old)) (sym c.reply_to_flush.ensures)
     (flush_answered d.is_honest d.state d.moment d.images_since d.failures before.first before.world old new old.file.failed r refl e.by_failed e.refusals
     (flushed_by old.file.failed r old new e.by_failed e.refusals e.nothing e.faulted e.tells e.good)
+    (λ honest. writes_flush honest d.state r old new e.grows e.none_waits (e.front honest))
     (λ is_in opened honest. e.step before.first before.world is_in opened honest) e.honest e.later (λ told. e.cause (flush_fault r told))))
