@@ -18,7 +18,7 @@ use Rattle.ogg_command.specs.declared.command.Command.{Command}
 use Rattle.ogg_command.specs.declared.refusal.Refusal.{Refusal}
 use Rattle.ogg_command.specs.declared.refusal.Refusal.TheVariants.{Failed, Memory, Disk}
 use Rattle.ogg_recorder.specs.Recovery.{Links}
-use Rattle.ogg_recorder.specs.Recorder.{RecorderState, committed, staged}
+use Rattle.ogg_recorder.specs.Recorder.{RecorderState, committed}
 use Rattle.ogg_recorder.specs.Running.{Progress, AnsweredBy, FlushedBy, FlushBecomes, Becomes, Takes, Replies, Writes}
 use Rattle.feed_recorder.specs.Recorded.{HasWaiting}
 use Rattle.feed_recorder.proofs.Steps.{OfTable, AreAnswered, shut_reply, none_kept, flush_not_held}

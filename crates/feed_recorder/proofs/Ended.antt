@@ -1,8 +1,6 @@
 -- The records of a run, whichever way it ended, are answered in turn.
-use Rattle.std.proofs.Common.{◌≡◌, ◌⊎◌, ◌↔◌, inl, inr, ⊎_elim, ℕ, ◌≤◌, List, [], ◌∷◌, ◌++◌, refl, sym, ap, ◌∙◌, subst, arith, append_assoc, Option, Result, Ok, Err}
+use Rattle.std.proofs.Common.{◌≡◌, ◌↔◌, inl, inr, ℕ, ◌≤◌, List, [], ◌∷◌, ◌++◌, refl, sym, ap, ◌∙◌, subst, arith, append_assoc, Option, Err}
 use Rattle.std.proofs.lemmas.List.{append-nil}
-use Rattle.std.specs.Io.KnownBytes.{Appends}
-use Rattle.ogg_page.specs.Output.{WritesPrefix}
 use Rattle.disk_model.specs.Image.{DiskState}
 use Rattle.feed_codec.specs.declared.fault.RunFault.{RunFault}
 use Rattle.feed_codec.specs.declared.fault.RunFault.TheVariants.{Feed, Write, TooMany}
@@ -10,7 +8,7 @@ use Rattle.feed_codec.specs.declared.item.Record.{Record}
 use Rattle.feed_codec.specs.declared.item.Record.TheVariants.{Flush}
 use Rattle.feed_codec.specs.declared.reply.Reply.{Reply}
 use Rattle.feed_run.specs.Answering.{AnswersAll}
-use Rattle.feed_run.specs.Run.{Streams, Outcome, RunsTo, StopsWriting, StopsAt, EndsBy, IsClosed}
+use Rattle.feed_run.specs.Run.{Streams, Outcome, RunsTo, StopsAt, EndsBy, IsClosed}
 use Rattle.ogg_recorder.specs.Recorder.{RecorderState}
 use Rattle.ogg_recorder.specs.Running.{Progress, Answers}
 use Rattle.feed_recorder.specs.Recorded.{Answered, answered_with, answered_by}

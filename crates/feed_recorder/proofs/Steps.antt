@@ -1,5 +1,5 @@
 -- Records answered in turn are steps of the history.
-use Rattle.std.proofs.Common.{◌≡◌, ◌≢◌, ◌⊎◌, inl, inr, ⊎_elim, ℕ, ◌+◌, ◌<◌, ◌≤◌, Bool, true, false, nat_lt, if◌then◌else◌, List, [], ◌∷◌, ◌++◌, length, refl, sym, ap, ◌∙◌, subst, arith, append_assoc, Result, Ok, Err}
+use Rattle.std.proofs.Common.{◌≡◌, ℕ, ◌+◌, ◌≤◌, Bool, true, false, nat_lt, if◌then◌else◌, List, [], ◌∷◌, ◌++◌, length, refl, sym, ap, ◌∙◌, subst, arith, append_assoc, Result, Ok, Err}
 use Rattle.std.proofs.lemmas.List.{append-nil}
 use Rattle.disk_model.specs.Image.{DiskState}
 use Rattle.feed_codec.specs.declared.item.Record.{Record}
@@ -16,14 +16,14 @@ use Rattle.ogg_command.specs.Refusal.{code_of}
 use Rattle.ogg_command.specs.declared.command.Command.{Command}
 use Rattle.ogg_command.specs.declared.refusal.Refusal.{Refusal}
 use Rattle.ogg_command.specs.declared.refusal.Refusal.TheVariants.{Failed, Memory, Disk}
-use Rattle.history.specs.World.{World, Call, Staging, Committing, Flushing, Step, Held, Kept, Flushed, Refused, Faulted, happens, run, disk_after, acknowledged, acknowledged_by as acknowledged_in}
+use Rattle.history.specs.World.{World, Call, Staging, Committing, Step, Held, Kept, Faulted, happens, run, disk_after, acknowledged, acknowledged_by as acknowledged_in}
 use Rattle.history.specs.History.{AreSteps, run-append, disk_after-append, steps-append}
 use Rattle.history.specs.Runs.{AreCommands, IsCommand, accepted, accepted_by as accepted_in, commands-append}
 use Rattle.ogg_recorder.specs.Recovery.{Shows, Accepts}
 use Rattle.ogg_recorder.specs.Recorder.{RecorderState}
 use Rattle.ogg_recorder.specs.Answer.{call_of, refused_step}
 use Rattle.ogg_recorder.specs.Running.{Progress, Answers, Replies, AnsweredBy, FlushedBy, FlushBecomes, Becomes, steps_of}
-use Rattle.feed_recorder.specs.Recorded.{HasSteps, Stands, accepted_by, accepted_of}
+use Rattle.feed_recorder.specs.Recorded.{HasSteps, Stands, accepted_by}
 
 -- ---- lists of steps
 accepted-append : {D : Type 0} (xs ys : List (Step Command × D)) → accepted (xs ++ ys) ≡ accepted xs ++ accepted ys

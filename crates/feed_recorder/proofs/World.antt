@@ -1,5 +1,5 @@
 -- What steps of a run acknowledge, and what its disk shows at the end.
-use Rattle.std.proofs.Common.{◌≡◌, inl, ℕ, false, List, [], ◌∷◌, ◌++◌, refl, sym, ap, ◌∙◌, subst, append_assoc}
+use Rattle.std.proofs.Common.{◌≡◌, inl, ℕ, false, List, [], ◌∷◌, ◌++◌, sym, ap, ◌∙◌, subst, append_assoc}
 use Rattle.std.proofs.lemmas.List.{append-nil}
 use Rattle.disk_model.specs.Image.{DiskState}
 use Rattle.disk_model.specs.Clock.{LeavesOnly}
@@ -20,7 +20,7 @@ use Rattle.history.specs.Runs.{ShowsSome, AreCommands, accepted}
 use Rattle.ogg_recorder.specs.Recovery.{Links, Commits, Shows, Accepts}
 use Rattle.ogg_recorder.specs.Recorder.{RecorderState, committed}
 use Rattle.ogg_recorder.specs.Running.{Progress}
-use Rattle.feed_recorder.specs.Recorded.{answered, HasWaiting, HasSteps, HasRecorded, Stands, accepted_of}
+use Rattle.feed_recorder.specs.Recorded.{answered, HasWaiting, HasSteps, HasRecorded, Stands}
 
 acknowledges : {D : Type 0} (w : World Command) (steps : List (Step Command × D)) → AreCommands steps → (run w steps).acknowledged ≡ w.acknowledged ++ acknowledged w steps
 acknowledges w [] are = sym (append-nil w.acknowledged)

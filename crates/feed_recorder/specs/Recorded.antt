@@ -1,5 +1,5 @@
 -- What a run over a feed has recorded, at each moment and at its end. Ours.
-use Rattle.std.specs.Prelude.{◌≡◌, ◌⊎◌, ℕ, false, Option, List, [], ◌∷◌, ◌++◌}
+use Rattle.std.specs.Prelude.{◌≡◌, ℕ, false, Option, List, [], ◌∷◌, ◌++◌}
 use Rattle.std.proofs.Common.{inl, inr}
 use Rattle.disk_model.specs.Image.{DiskState}
 use Rattle.disk_model.specs.Clock.{LeavesOnly}
@@ -33,31 +33,36 @@ abbrev pub answered : List Record → List Reply → Answered
 answered records replies = record { records = records; replies = replies }
 
 -- A writer failed over this record: it counts as answered if it has been run.
-abbrev pub answered_with : {S : Type 0} → List Record → List Reply → Record → (pages new_pages lines new_lines : Option (List ℕ)) (own : List ℕ) (reply : Reply) (before reached after : S)
+abbrev pub answered_with : {S : Type 0} → List Record → List Reply → Record
+    → (pages new_pages lines new_lines : Option (List ℕ)) (own : List ℕ) (reply : Reply) (before reached after : S)
     → StopsAt pages new_pages lines new_lines own reply before reached after → Answered
 answered_with records replies given pages new_pages lines new_lines own reply before reached after (inl none) = answered records replies
-answered_with records replies given pages new_pages lines new_lines own reply before reached after (inr whole) = answered (records ++ given ∷ []) (replies ++ reply ∷ [])
+answered_with records replies given pages new_pages lines new_lines own reply before reached after (inr whole) =
+    answered (records ++ given ∷ []) (replies ++ reply ∷ [])
 
 module _ {S : Type 0} (answers : S → Record → Reply → List ℕ → S → Type 0) (held : S → ℕ) where
   -- the records of a run that was ended by the feed, and the flush after them
-  abbrev pub answered_to : (outcome : Outcome) (start now : Streams) (before after : S) → RunsTo answers held outcome start now before after → Answered
+  abbrev pub answered_to : (outcome : Outcome) (start now : Streams) (before after : S)
+      → RunsTo answers held outcome start now before after → Answered
   answered_to outcome start now before after whole = answered (whole.records ++ whole.closing) (whole.replies ++ whole.last)
 
   -- the records of a run that a writer stopped
   abbrev pub answered_until : (start now : Streams) (before after : S) → StopsWriting answers held start now before after → Answered
   answered_until start now before after stopped =
-      answered_with stopped.records stopped.replies stopped.stop.given stopped.at.pages now.pages stopped.at.lines now.lines stopped.stop.own stopped.stop.reply stopped.mid stopped.stop.reached after
-      stopped.stop.written
+      answered_with stopped.records stopped.replies stopped.stop.given stopped.at.pages now.pages stopped.at.lines now.lines
+      stopped.stop.own stopped.stop.reply stopped.mid stopped.stop.reached after stopped.stop.written
 
   -- the records of a run that a fault has ended
-  abbrev pub answered_by : (fault : RunFault) (start now : Streams) (before after : S) → EndsBy answers held fault start now before after → Answered
+  abbrev pub answered_by : (fault : RunFault) (start now : Streams) (before after : S)
+      → EndsBy answers held fault start now before after → Answered
   answered_by (Feed fault) start now before after ended = answered (ended.records ++ ended.closing) (ended.replies ++ ended.last)
   answered_by TooMany start now before after ended = answered (ended.records ++ ended.closing) (ended.replies ++ ended.last)
   answered_by Write start now before after ended = answered_until start now before after ended
 
 -- ---- what they have recorded
 -- After these links, which are committed, these commands wait, and the recorder hasn't failed.
-pub record HasWaiting {D : Type 0} (state : D → DiskState) (links : Links) (waiting : List Command) (recorder : RecorderState D) : Type 0 where
+pub record HasWaiting {D : Type 0} (state : D → DiskState) (links : Links) (waiting : List Command)
+    (recorder : RecorderState D) : Type 0 where
   pub good : recorder.file.failed ≡ false
   pub chain : recorder.chain ≡ chain_state_of (links_behind links waiting)
   pub waits : staged state recorder ≡ bytes_of_commands links waiting
@@ -89,7 +94,8 @@ module _ {D : Type 0} (is_honest : D → Type 0) (state : D → DiskState) (mome
     pub ends : disk_after before.now.file.disk steps ≡ after.now.file.disk
     pub accepts : accepted steps ≡ accepted_of records replies
     pub keeps : acknowledged before.world steps ≡ kept_after before.world.held records replies
-    pub are : Stands before → AreSteps is_honest state moment images_since Shows Accepts add before.first before.world before.now.file.disk steps
+    pub are : Stands before
+        → AreSteps is_honest state moment images_since Shows Accepts add before.first before.world before.now.file.disk steps
     pub stands : Stands before → Stands after
 
   -- What a run has recorded.
@@ -102,7 +108,8 @@ module _ {D : Type 0} (is_honest : D → Type 0) (state : D → DiskState) (mome
     pub keeps : after.world.acknowledged ≡ before.world.acknowledged ++ kept_after before.world.held all.records all.replies
     pub stands : Stands before → Stands after
     -- at each moment each image shows some first ones of the accepted commands
-    pub any_moment : Stands before → before.now.file.failed ≡ false → LeavesOnly moment images_since before.now.file.disk after.now.file.disk
+    pub any_moment : Stands before → before.now.file.failed ≡ false
+        → LeavesOnly moment images_since before.now.file.disk after.now.file.disk
         (ShowsSome Shows add before.first (before.world.acknowledged ++ before.world.held ++ accepted_of all.records all.replies))
     -- at the end each image shows every acknowledged command, without the group in doubt or with it
     pub at_end : Stands before → before.now.file.failed ≡ false → StandsIn Shows add after.first after.world (state after.now.file.disk)

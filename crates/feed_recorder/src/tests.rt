@@ -29,8 +29,8 @@ const BROKEN_OFF: &[u8] = b"\x02\x17\0\0\0\x01\0\x01";
 /// How a run ended: the counts of all, of the kept and of the refused commands, and the length.
 type Came = Result<(u64, u64, u64, u64), RunFault>;
 
-/// A feed, how many commands share a commit, which call of the disk fails once if one does, the reply lines, how the run
-/// ended, and where an opening then finds the end.
+/// A feed, how many commands share a commit, which call of the disk fails once if one does, the reply lines, how the
+/// run ended, and where an opening then finds the end.
 struct Run {
     feed: &'static [&'static [u8]],
     most: u32,
@@ -125,12 +125,7 @@ fn feeds_are_answered_and_found_again_as_the_rows_say(rt: HostRuntime) -> Result
         let disk = FuseDisk::fail_once(MemDisk::of(alloc, b"")?, run.bad);
         let mut recorder = opened(alloc, disk, run.most)?;
         let mut replies = Vec::new(alloc);
-        let came = match record_feed(
-            alloc,
-            &mut feed.as_slice(),
-            &mut replies,
-            &mut recorder,
-        ) {
+        let came = match record_feed(alloc, &mut feed.as_slice(), &mut replies, &mut recorder) {
             Ok(tally) => Ok((tally.commands, tally.kept, tally.refused, tally.end)),
             Err(fault) => Err(fault),
         };
@@ -152,12 +147,7 @@ fn a_writer_that_fails_ends_the_run_and_what_waits_still_waits(
     // Room for one line.
     let mut line = [0; 7];
     let mut replies: &mut [u8] = &mut line;
-    let run = record_feed(
-        alloc,
-        &mut feed.as_slice(),
-        &mut replies,
-        &mut recorder,
-    );
+    let run = record_feed(alloc, &mut feed.as_slice(), &mut replies, &mut recorder);
     assert!(rt; run == Err(RunFault::Write), "the second line is written");
     assert_eq!(rt; (recorder.held(), recorder.end()), (2, 0));
     assert_eq!(rt; &line, b"held 1\n");

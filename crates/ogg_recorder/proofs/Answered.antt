@@ -94,7 +94,7 @@ writes_command h state (Ok (WasHeld count)) old new command grows stays none fro
 writes_command h state (Ok (WasKept kept)) old new command grows stays none front =
     let nothing = none kept refl in (
       sym (append-nil (committed state new)) ∙ ap (λ (l : List ℕ). committed state new ++ l) (sym nothing) ∙ grows h
-      ∙ append_assoc (committed state old) (staged state old) (command_bytes old.chain command),
+          ∙ append_assoc (committed state old) (staged state old) (command_bytes old.chain command),
       nothing,
     )
 writes_command h state (Err refusal) old new command grows stays none front = front
@@ -175,8 +175,8 @@ module _ {D : Type 0} (is_honest : D → Type 0) (state : D → DiskState) (mome
           same = refl;
           world_is = sym (ap (λ (l : List (Step Command × D)). run w l) none);
           comes_next = λ h is_in. (
-              subst (λ (l : List (Step Command × D)). AreSteps is_honest state moment images_since Shows Accepts add first w old.file.disk l) (sym none) tt,
-              subst (λ (r : RecorderState D). IsIn is_honest state first w r) (sym same) is_in,
+            subst (λ (l : List (Step Command × D)). AreSteps is_honest state moment images_since Shows Accepts add first w old.file.disk l) (sym none) tt,
+            subst (λ (r : RecorderState D). IsIn is_honest state first w r) (sym same) is_in,
           );
           honest = (λ h. subst is_honest disk h, λ h. subst is_honest (sym disk) h);
           later = omega (arith, ap failures disk);

@@ -61,7 +61,8 @@ Fails old new =
 -- the command was accepted: the links grow by its own
 abbrev pub Takes : {D : Type 0} → RecorderState D → Command → RecorderState D → Type 0
 Takes old command new =
-    (new.file.failed ≡ false) × ((links : Links) → old.chain ≡ chain_state_of links → new.chain ≡ chain_state_of (links_after links command))
+    (new.file.failed ≡ false)
+    × ((links : Links) → old.chain ≡ chain_state_of links → new.chain ≡ chain_state_of (links_after links command))
 
 -- What becomes of a command that no rule refuses: it waits, or is kept with all that waited; or memory is short, and
 -- then nothing changes; or the disk fails.
@@ -112,16 +113,17 @@ step_of most world command (HeldReply count) = Held command
 step_of most world command (KeptReply kept) = Kept command
 step_of most world command (RefusedReply refusal) = refused_step refusal (call_of most world command) command
 
--- The steps that a record is, with the disk after it: one, but a flush that the rules refuse after a disk fault is none.
+-- the steps that a record is, with the disk after it: one, but a flush after a disk fault is none
 abbrev pub steps_of : {D : Type 0} → ℕ → World Command → Record → Reply → D → List (Step Command × D)
 steps_of most world (CommandOf command) reply disk = (step_of most world command reply, disk) ∷ []
 steps_of most world Flush (RefusedReply Failed) disk = []
 steps_of most world Flush (RefusedReply refusal) disk = (Faulted Flushing, disk) ∷ []
 steps_of most world Flush reply disk = (Flushed, disk) ∷ []
 
-module _ {D : Type 0} (is_honest : D → Type 0) (state : D → DiskState) (moment : D → ℕ) (images_since : D → ℕ → List ℕ → Type 0) (failures : D → ℕ) where
-  -- The record is answered so. No bytes are its pages: they go to the disk. In each history in which the recorder stands,
-  -- if its disk is honest, the record is what comes next.
+module _ {D : Type 0} (is_honest : D → Type 0) (state : D → DiskState) (moment : D → ℕ)
+    (images_since : D → ℕ → List ℕ → Type 0) (failures : D → ℕ) where
+  -- The record is answered so. No bytes are its pages: they go to the disk. In each history in which the recorder
+  -- stands, if its disk is honest, the record is what comes next.
   pub record Answers (before : Progress D) (given : Record) (reply : Reply) (own : List ℕ) (after : Progress D) : Type 0 where
     pub replies : Replies before.now given reply after.now
     pub none : own ≡ []
@@ -134,4 +136,5 @@ module _ {D : Type 0} (is_honest : D → Type 0) (state : D → DiskState) (mome
         × IsIn is_honest state after.first after.world after.now
     pub honest : is_honest before.now.file.disk ↔ is_honest after.now.file.disk
     pub later : failures before.now.file.disk ≤ failures after.now.file.disk
-    pub cause : reply ≡ RefusedReply Disk → (failures before.now.file.disk < failures after.now.file.disk) ⊎ (failures after.now.file.disk ≡ 2 ^ 64 - 1)
+    pub cause : reply ≡ RefusedReply Disk → (failures before.now.file.disk < failures after.now.file.disk)
+        ⊎ (failures after.now.file.disk ≡ 2 ^ 64 - 1)
