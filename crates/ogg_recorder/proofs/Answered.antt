@@ -1,5 +1,5 @@
 -- The records of a feed are answered, each as a step of a history.
-use Rattle.std.proofs.Common.{◌≡◌, ◌≢◌, ◌⊎◌, ◌↔◌, inl, inr, ⊎_elim, ℕ, zero, suc, ◌+◌, ◌-◌, ◌^◌, ◌<◌, ◌≤◌, Bool, true, false, List, [], ◌∷◌, ◌++◌, refl, sym, ap, ◌∙◌, subst, arith, append_assoc, Result, Ok, Err}
+use Rattle.std.proofs.Common.{◌≡◌, ◌≢◌, ◌⊎◌, ◌↔◌, ⊎_elim, ℕ, zero, suc, ◌+◌, ◌-◌, ◌^◌, ◌<◌, ◌≤◌, Bool, true, false, List, [], ◌∷◌, ◌++◌, refl, sym, ap, ◌∙◌, subst, arith, append_assoc, Result, Ok, Err}
 use Rattle.std.proofs.lemmas.List.{append-nil, append_cancel_left}
 use Rattle.std.specs.Prelude.{IsOk, IfOk, IfErr, OnOk}
 use Rattle.disk_model.specs.Image.{DiskState}
@@ -8,9 +8,8 @@ use Rattle.feed_codec.specs.declared.item.Record.TheVariants.{Command as Command
 use Rattle.feed_codec.specs.declared.reply.Kept.{Kept as KeptOf}
 use Rattle.feed_codec.specs.declared.reply.Reply.{Reply}
 use Rattle.feed_codec.specs.declared.reply.Reply.TheVariants.{Refused as RefusedReply}
-use Rattle.link_chain.specs.ChainState.{ChainState, chain_state_of}
+use Rattle.link_chain.specs.ChainState.{chain_state_of}
 use Rattle.link_chain.specs.Recording.{Recording}
-use Rattle.chain_rules.specs.Decision.{decision}
 use Rattle.chain_rules.specs.Encoding.{command_bytes, links_after}
 use Rattle.chain_rules.specs.Recording.{add}
 use Rattle.ogg_command.specs.declared.command.Command.{Command}

@@ -8,7 +8,7 @@
 //!
 //! Start at `specs/Recovery.antt`, which says what is recovered from an image, and go on to `specs/Recorder.antt`,
 //! which says where a recorder stands in a history; `acknowledged_commands_survive` is what follows for every list of
-//! calls.
+//! calls. `specs/Running.antt` says how a recorder runs the records of a feed.
 #![tactic(auto)]
 
 mod commanding;

@@ -1,4 +1,4 @@
-use Rattle.std.proofs.Common.{[], refl, sym, subst}
+use Rattle.std.proofs.Common.{[], sym, subst}
 use Rattle.std.proofs.KnownBytes.{Appends-nil}
 use Rattle.feed_codec.specs.declared.item.Record.TheVariants.{Command as CommandOf}
 use Rattle.feed_codec.specs.declared.reply.Reply.{Reply}
