@@ -1,5 +1,5 @@
 //! The run over a whole feed.
-ghost use Rattle.std.specs.Prelude.{◌≡◌, ◌↔◌, ◌≤◌, true, IfOk, IfErr, None};
+ghost use Rattle.std.specs.Prelude.{◌≡◌, ◌↔◌, ◌≤◌, IfOk, IfErr, None};
 ghost use Rattle.link_chain.specs.Recording.{Recording};
 ghost use Rattle.ogg_command.specs.declared.command.Command.{Command as CommandOf};
 ghost use Rattle.history.specs.World.{World};
@@ -23,15 +23,15 @@ use std::io::{Read, Write, sink};
 /// stops at the first fault. `Feed` is a fault of the feed, and `TooMany` says that a record follows 4,294,967,295
 /// others, which isn't run: in both cases what waits is flushed. `Write` says that `replies` has failed: nothing is
 /// flushed then, and what waits still waits. A disk fault ends nothing: it is the reply of the command that met
-/// it, and each command after it is refused as `Failed`. So is what waited lost, and no reply says that it is kept.
+/// it, and each command after it is refused as `Failed`. What waited is lost then, and no reply says that it is kept.
 pub fn record_feed<D: Disk, R: Read + Drop, W: Write>(
     alloc: Global,
     reader: &mut R,
     replies: &mut W,
     recorder: &mut Recorder<D>,
 ) -> Result<Tally, RunFault>
-    // In each history in which the recorder stands, if its disk is honest: what was read, run and written, and what
-    // every image showed meanwhile.
+    // What was read, run and written, on any disk. Of an honest one also what was recorded: the bytes, and in each
+    // history in which the recorder stands what every image showed meanwhile.
     ensures ok { (first : Recording) (w : World CommandOf)
         → IfOk result (λ tally. (after : Progress D) × (after.now ≡ recorder.new)
         × (run : RunsWhole (Answers D.is_honest D.state D.moment D.images_since D.failures) waiting_in
