@@ -55,6 +55,20 @@ for packet in 100 65024; do
     both "salvage_$packet" "$work/file" salvage "$work/file" -- "$work/split_libogg" salvage
     same
 done
+# As many pages in one link, and in 65,536 links: links cost what their pages cost.
+for serials in 1 65536; do
+    PYTHONPATH=$here/../tests/program python3 - "$serials" >"$work/feed" <<'END'
+import sys
+from records import begin, end, put
+links = int(sys.argv[1])
+for serial in range(1, links + 1):
+    sys.stdout.buffer.write(begin([serial]) + b"".join(put([(serial, 0, b"x")]) for _ in range(65536 * 14 // links)) + end(serial))
+END
+    "$program" mux <"$work/feed" >"$work/file" 2>"$work/replies"
+    for _ in 1 2 3; do "$work/measured" "$work/ours" /dev/null "$program" links "$work/file"; done >"$work/ours.s"
+    echo "$serials $(stat -c %s "$work/file") $(least "$work/ours.s")" |
+        awk '{ printf "%-26s %8.1f %10.2f %10s %7s %10d\n", "links_in_" $1 "_links", $2 / 1e6, $3, "", "", $4 }'
+done
 head -c "$bytes" /dev/urandom >"$work/file"
 cat "$work/file" >/dev/null
 both salvage_random "$work/file" salvage "$work/file" -- "$work/captures"

@@ -48,6 +48,27 @@ cp "$work/tail.ogg" "$work/was.ogg"
 cut "before a tail" "$work/link" "$work/tail.ogg" 0
 check "before a tail: untouched" cmp "$work/tail.ogg" "$work/was.ogg"
 
+# Each front of a file of three pages, of 31, 33 and 27 bytes: what is left of a page after one byte is damage.
+pages "02 0 1 0 3 abc" "00 5 1 1 5 hello" "04 5 1 2 - -" >"$work/sealed"
+ends=(0 31 64 91)
+streams=('' 'stream 1 31 1 open\n' 'stream 1 64 2 open\n' 'stream 1 91 3 ended\n')
+for size in $(seq 0 91); do
+    whole=0
+    [ "$size" -lt 31 ] || whole=1
+    [ "$size" -lt 64 ] || whole=2
+    [ "$size" -lt 91 ] || whole=3
+    end=${ends[whole]}
+    head -c "$size" "$work/sealed" >"$work/front"
+    run links "$work/front"
+    if [ "$((size - end))" -gt 1 ]; then
+        came "the first $size bytes" 1 '' "fault open 2 Page $end 1 Short\n"
+    elif [ "$end" -eq 0 ]; then
+        came "the first $size bytes" 0 'committed 0\n' ''
+    else
+        came "the first $size bytes" 0 "committed $end\nlink 0 0 $end 1\n${streams[whole]}" ''
+    fi
+done
+
 # Good pages, in front of damage and after it, and a page inside a packet.
 pages "02 0 1 0 3 abc" "00 5 1 1 5 hello" "04 5 1 2 - -" >"$work/bad.ogg"
 printf H | dd of="$work/bad.ogg" bs=1 seek=59 conv=notrunc status=none
