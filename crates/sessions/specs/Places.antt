@@ -43,7 +43,7 @@ stream_rest committed serial place skip count =
     stream_part serial (pages_among (found_in 0 (drop place committed))) skip count
 
 -- a part of this stream of the link, as a rest that begins where the index says that the link begins
-pub record BeginsWithLink (committed : List ℕ) (links : List (List Page)) (number : ℕ) (link : List Page) (serial skip count : ℕ) : Type 0 where
+pub record BeginsWithLink (bytes : List ℕ) (links : List (List Page)) (number : ℕ) (link : List Page) (serial skip count : ℕ) : Type 0 where
   pub entry : LinkEntry
   pub entry_is : slice_get (index_of links) number ≡ Some entry
-  pub is_rest : IsStreamRest committed serial entry.info.start skip count (stream_part serial link skip count)
+  pub is_rest : IsStreamRest bytes serial entry.info.start skip count (stream_part serial link skip count)
