@@ -73,34 +73,51 @@ def items(words):
     return found
 
 
+def record_of(version, words):
+    """The record of a line's words."""
+    kind, rest = words[0], words[1:]
+    if words == ["version", "2"]:
+        return record(0, b"\2")
+    if kind == "begin":
+        streams = [stream(version, *item) for item in items(rest)]
+        return record(1, b"\0" + struct.pack("<H", len(streams)) + b"".join(streams))
+    if kind == "skeleton":
+        head, *rest = items(rest)
+        streams = [described(version, *item) for item in rest]
+        front = struct.pack("<BIqqqq20x", 1, int(head[0]), 0, 1, 0, 1)
+        return record(1, front + struct.pack("<H", len(streams)) + b"".join(streams))
+    if kind == "put":
+        entries = [entry(*item) for item in items(rest)]
+        return record(2, struct.pack("<H", len(entries)) + b"".join(entries))
+    if kind == "end":
+        (serial,) = rest
+        return record(3, struct.pack("<I", int(serial)))
+    if words == ["flush"]:
+        return record(4, b"")
+    raise ValueError("a line begins with version, begin, skeleton, put, end or flush")
+
+
+# What is wanted where a line has too few words, or too many.
+FORMS = {
+    "begin": "begin SERIAL HEADER [HEADER] .. [; ..]",
+    "skeleton": "skeleton SERIAL ; SERIAL MEDIA RATE HEADER [HEADER] .. [; ..]",
+    "put": "put SERIAL POSITION PACKET [; ..]",
+    "end": "end SERIAL",
+}
+
+
 def feed_of(lines):
     feed, version = b"", 1
-    for line in lines.splitlines():
-        if line.strip().startswith("#"):
+    for number, line in enumerate(lines.splitlines(), 1):
+        if not line.strip() or line.strip().startswith("#"):
             continue
-        words = shlex.split(line)
-        if not words:
-            continue
-        if words == ["version", "2"]:
-            version = 2
-            feed += record(0, b"\2")
-        elif words[0] == "begin":
-            streams = [stream(version, *item) for item in items(words[1:])]
-            feed += record(1, b"\0" + struct.pack("<H", len(streams)) + b"".join(streams))
-        elif words[0] == "skeleton":
-            head, *rest = items(words[1:])
-            streams = [described(version, *item) for item in rest]
-            front = struct.pack("<BIqqqq20x", 1, int(head[0]), 0, 1, 0, 1)
-            feed += record(1, front + struct.pack("<H", len(streams)) + b"".join(streams))
-        elif words[0] == "put":
-            entries = [entry(*item) for item in items(words[1:])]
-            feed += record(2, struct.pack("<H", len(entries)) + b"".join(entries))
-        elif words[0] == "end":
-            feed += record(3, struct.pack("<I", int(words[1])))
-        elif words == ["flush"]:
-            feed += record(4, b"")
-        else:
-            sys.exit(f"feed.py: no such line: {line}")
+        try:
+            words = shlex.split(line)
+            version = 2 if words == ["version", "2"] else version
+            feed += record_of(version, words)
+        except (ValueError, TypeError, IndexError, struct.error) as fault:
+            form = FORMS.get(line.split()[0])
+            sys.exit(f"feed.py: line {number}: {line.strip()}: {'it should be ' + form if form else fault}")
     return feed
 
 
