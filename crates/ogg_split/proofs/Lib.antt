@@ -1,4 +1,5 @@
 mod Copied
+mod Parted
 mod Placed
 mod Salvaged
 mod Unfinished

@@ -14,7 +14,7 @@ use Rattle.ogg_split.specs.Copying.{IsThere}
 use Rattle.ogg_split.specs.declared.fault.SplitFault.{SplitFault}
 use Rattle.ogg_split.specs.declared.fault.SplitFault.TheVariants.{NoLink, NoStream, Source, Write}
 
-inside : {A : Type 0} (x y : A) → Some x ≡ Some y → x ≡ y
+pub inside : {A : Type 0} (x y : A) → Some x ≡ Some y → x ≡ y
 inside x y e = cc
 
 record Placed (links : List (List Page)) (number start : ℕ) (pages : List Page) : Type 0 where
@@ -78,7 +78,7 @@ some_link links index bytes number entry are there =
     (pages, stands_in links index bytes number pages entry are e there)
 
 -- and it is a link
-link_at : (links : List (List Page)) (number : ℕ) (pages : List Page) → AllByRecursion IsLink links → slice_get links number ≡ Some pages → IsLink pages
+pub link_at : (links : List (List Page)) (number : ℕ) (pages : List Page) → AllByRecursion IsLink links → slice_get links number ≡ Some pages → IsLink pages
 link_at [] number pages each e = cc
 link_at (first ∷ links) zero pages each e = subst IsLink (inside first pages e) each.0
 link_at (first ∷ links) (suc number) pages each e = link_at links number pages each.1 e

@@ -22,10 +22,10 @@ use Rattle.ogg_split.specs.Unfinished.{IsUnfinishedAtMost}
 abbrev page_at_place : ℕ × Page → Page
 page_at_place at = at.1
 
-all_found : (pages : List Page) → AllByRecursion IsPage pages → found_in 0 (bytes_of_pages pages) ≡ located 0 pages
-all_found pages are =
-    ap (found_in 0) (sym (append-nil (bytes_of_pages pages))) ∙ found-pages 0 pages [] are
-    ∙ ap (λ (l : List FoundPage). located 0 pages ++ l) (found-nothing (0 + length (bytes_of_pages pages))) ∙ append-nil (located 0 pages)
+pub all_found : (offset : ℕ) (pages : List Page) → AllByRecursion IsPage pages → found_in offset (bytes_of_pages pages) ≡ located offset pages
+all_found offset pages are =
+    ap (found_in offset) (sym (append-nil (bytes_of_pages pages))) ∙ found-pages offset pages [] are
+    ∙ ap (λ (l : List FoundPage). located offset pages ++ l) (found-nothing (offset + length (bytes_of_pages pages))) ∙ append-nil (located offset pages)
 
 record Splits (pages : List Page) (good : List (ℕ × Page)) (page : Page) : Type 0 where
   pub more : List Page
@@ -111,7 +111,7 @@ at_the_end false = tt
 
 pub unfinished_at_most : (serial : ℕ) (pages : List Page) (left : PacketsLeft) → AllByRecursion IsPage pages → FlagsFit (pages_with serial pages)
     → AreHeld serial (found_in 0 (bytes_of_pages pages)) left → IsUnfinishedAtMost left.fault
-unfinished_at_most serial pages left are fit held = by_rest held.rest (sym (all_found pages are) ∙ held.split) held.fault
+unfinished_at_most serial pages left are fit held = by_rest held.rest (sym (all_found 0 pages are) ∙ held.split) held.fault
   where
     by_rest : (rest : List FoundPage) → located 0 pages ≡ map found_page held.good ++ rest
         → IsFaultBehind serial (pages_of_stream serial held.good) held.segments rest left.fault → IsUnfinishedAtMost left.fault

@@ -3,3 +3,4 @@ pub mod Asked
 pub mod Copying
 pub mod Salvage
 pub mod Unfinished
+pub mod LinkParts

@@ -3,8 +3,8 @@
 //!
 //! An index says where a link lies in its file and which streams it has. By it a link's pages are written as they
 //! stand, or those of one of its streams alone; or the stream's packets are given. The file is a slice, or it is read
-//! through a window, one page at a time, so it may be larger than memory. None of this takes memory. `salvage` needs no
-//! index: it lists the pages that any bytes have, damaged ones too.
+//! through a window, one page at a time, so it may be larger than memory; the packets come part by part then. None of
+//! this takes memory. `salvage` needs no index: it lists the pages that any bytes have, damaged ones too.
 //!
 //! Start at `specs/Asked.antt` and `specs/Copying.antt`, which say what a copy is, and at `specs/Salvage.antt`, which
 //! says which pages are good.
@@ -23,7 +23,7 @@ pub use fault::SplitFault;
 pub use laws::{good_pages_are_one_list, index_has_the_streams};
 pub use ogg_page::Memory;
 pub use salvaging::{GoodPage, salvage};
-pub use windows::{copy_link_from, copy_stream_from};
+pub use windows::{copy_link_from, copy_stream_from, parts_of};
 
 #[cfg(test)]
 mod tests;

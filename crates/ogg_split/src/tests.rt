@@ -286,6 +286,41 @@ fn the_packets_of_a_stream_are_given(rt: HostRuntime) -> Result<(), Fail> {
     Ok(())
 }
 
+/// The parts of stream 1: how many bytes each has, whether its packet begins and ends with it, and its position.
+const PARTS: [(usize, bool, bool, Option<u64>); 3] = [
+    (3, true, true, Some(0)),
+    (65_025, true, false, None),
+    (4_975, false, true, Some(7)),
+];
+
+#[test]
+fn the_parts_of_a_stream_are_lent(rt: HostRuntime) -> Result<(), Fail> {
+    let bytes = file_of(rt.alloc(), None)?;
+    let index = Index::scan(rt.alloc(), &bytes)?;
+    let mut window = window_over(rt.alloc(), &bytes, 0)?;
+    for (link, serial, fault) in [(1, 1, SplitFault::NoLink), (0, 3, SplitFault::NoStream)] {
+        match parts_of(window, &index, link, serial) {
+            Err((found, back)) => {
+                assert!(rt; found == fault);
+                window = back;
+            }
+            Ok(stream) => {
+                assert!(rt; false, "link {link}, serial {serial}");
+                window = stream.into_window();
+            }
+        }
+    }
+    let mut stream = parts_of(window, &index, 0, 1).map_err(|(fault, _)| fault)?;
+    for want in PARTS {
+        let part = stream.next_part()?.map(|part| {
+            (part.bytes.len(), part.first, part.last, part.position)
+        });
+        assert!(rt; part == Some(want));
+    }
+    assert!(rt; stream.next_part()?.is_none());
+    Ok(())
+}
+
 /// A stream with two packets, in pages of 31, 33 and 27 bytes.
 const ONE_STREAM: [PageSpec; 3] = [
     (FIRST, 0, 1, 0, Held::Short(b"abc")),

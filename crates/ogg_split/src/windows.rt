@@ -1,17 +1,26 @@
-//! Copies out of a file that is read through a window.
-ghost use Rattle.std.specs.Prelude.{◌≡◌, ◌≢◌, ◌↔◌, ◌⊎◌, ◌≤◌, ◌<◌, ◌^◌, ◌-◌, List, [], Some, Err, length, slice_get};
+//! Copies and packets out of a file that is read through a window.
+ghost use Rattle.std.specs.Prelude.{◌≡◌, ◌≢◌, ◌↔◌, ◌⊎◌, ◌≤◌, ◌<◌, ◌^◌, ◌+◌, ◌-◌, List, [], false, Some, Err, length, slice_get};
+ghost use Rattle.std.specs.Prelude.{IfOk, IfErr, IsOk, OnOk};
 ghost use Rattle.std.specs.Io.KnownBytes.{Appends};
 ghost use Rattle.ogg_page.specs.Page.{Page as PageValue, bytes_of_pages};
+ghost use Rattle.ogg_page.specs.Pages.{found_in};
 ghost use Rattle.ogg_page.specs.Window.{KeepsSource};
 ghost use Rattle.link_chain.specs.Links.{pages_with};
+ghost use Rattle.link_index.specs.Index.{LinkEntry};
+ghost use Rattle.packet_view.specs.Packets.{packets_of};
+ghost use Rattle.packet_view.specs.Stream.{parts_left, stream};
+ghost use Rattle.packet_view.specs.StreamParts.{AreTheirParts, at_start, parts_from};
 ghost use Rattle.ogg_split.specs.Asked.{AreIndexed, LacksStream, StandsIn, pages_asked};
 ghost use Rattle.ogg_split.specs.Copying.{IsCopy, IsThere};
+ghost use Rattle.ogg_split.specs.LinkParts.{answer_of, window_of_link};
+ghost use Rattle.ogg_split.specs.Unfinished.{IsUnfinishedAtMost};
 
 use crate::fault::SplitFault;
 use crate::finding::{find_link, find_stream};
 use crate::walking::copy_lent;
 use link_index::{Index, LinkInfo};
 use ogg_page::{PageSource, Window};
+use packet_view::{Stream, packets_are_held, parts_are_of_the_packets};
 use std::io::Write;
 
 /// Writes the pages of the link with this number, counted from 0, as they stand in the window's source, and gives how
@@ -81,6 +90,58 @@ pub fn copy_stream_from<S: PageSource, W: Write>(
     }
 }
 
+/// The packets of the stream with this serial in the link with this number, part by part (RFC 3533, sections 5 and 6).
+/// The window's range is set to the link's bytes, and the window is the stream's from now on. The source's bytes begin
+/// with those that the index is of. Nothing is read, and no memory is taken.
+///
+/// The parts, joined from a first one to the next last one, are the packets of [`packets_of`](crate::packets_of). A
+/// fault follows them only if the last packet is unfinished, or if a read fails.
+///
+/// The faults are `NoLink` and `NoStream`; `Source` comes only of a source that doesn't go as far as the index does.
+/// With a fault the window is given back, over the same source; its range may be another.
+pub fn parts_of<S: PageSource>(
+    window: Window<S>,
+    index: &Index,
+    link: u32,
+    serial: u32,
+) -> Result<Stream<S>, (SplitFault, Window<S>)>
+    ensures made { IfOk result (λ made. (entry : LinkEntry) × (slice_get index.now.entries link ≡ Some entry)
+        × (made ≡ stream (window_of_link window.source entry.info) serial)) }
+
+    // What the stream has to give: the parts of the link's pages.
+    ensures parts { (links : List (List PageValue)) (pages : List PageValue) (entry : LinkEntry)
+        → AreIndexed links index.now (S.bytes window.source) → slice_get links link ≡ Some pages
+        → slice_get index.now.entries link ≡ Some entry
+        → IfOk result (λ made.
+        parts_left S.bytes made ≡ parts_from serial at_start false (found_in entry.info.start (bytes_of_pages pages))) }
+    ensures packets { (links : List (List PageValue)) (pages : List PageValue)
+        → AreIndexed links index.now (S.bytes window.source) → slice_get links link ≡ Some pages
+        → IfOk result (λ made. AreTheirParts (packets_of serial (bytes_of_pages pages)) (parts_left S.bytes made)) }
+    ensures unfinished { (links : List (List PageValue)) → AreIndexed links index.now (S.bytes window.source)
+        → IfOk result (λ made. IsUnfinishedAtMost (parts_left S.bytes made).fault) }
+
+    // Which fault, and when.
+    ensures no_link { (answer_of result ≡ Err SplitFault.NoLink) ↔ (length index.now.entries ≤ link) }
+    ensures no_stream { (answer_of result ≡ Err SplitFault.NoStream) ↔ LacksStream index.now.entries link serial }
+    ensures no_source { (links : List (List PageValue)) → S.is_honest window.source → AreIndexed links index.now (S.bytes window.source)
+        → answer_of result ≢ Err SplitFault.Source }
+    ensures no_write { answer_of result ≢ Err SplitFault.Write }
+    ensures back { IfErr result (λ given. given.1.source ≡ window.source) }
+{
+    let mut window = window;
+    match find_stream(index, link, serial) {
+        Ok(found) => match set_range(&mut window, found) {
+            Ok(()) => {
+                packets_are_held();
+                parts_are_of_the_packets();
+                Ok(Stream::of(window, serial))
+            }
+            Err(fault) => Err((fault, window)),
+        },
+        Err(fault) => Err((fault, window)),
+    }
+}
+
 /// Writes those of the link's pages that are asked for.
 fn copy_range<S: PageSource, W: Write>(
     window: &mut Window<S>,
@@ -97,10 +158,25 @@ fn copy_range<S: PageSource, W: Write>(
     ensures source { KeepsSource S.bytes S.is_honest S.size S.only_reads window.old.source window.new.source }
     ensures there { IsThere result }
 {
+    match set_range(window, link) {
+        Ok(()) => copy_lent(window, only, out),
+        Err(fault) => Err(fault),
+    }
+}
+
+/// Sets the window's range to the link's, if the source goes so far.
+fn set_range<S: PageSource>(window: &mut Window<S>, link: LinkInfo) -> Result<(), SplitFault>
+    ensures ok { OnOk result (window.new ≡ window_of_link window.old.source link) }
+    ensures short { OnOk result (link.start + link.length < 2 ^ 64) }
+    ensures there { (pages : List PageValue) → S.is_honest window.old.source → StandsIn (S.bytes window.old.source) link pages
+        → IsOk result }
+    ensures err { IfErr result (λ fault. fault ≡ SplitFault.Source) }
+    ensures same { window.new.source ≡ window.old.source }
+{
     let end = window.source_mut().end();
     if link.start > end || link.length > end - link.start {
         return Err(SplitFault::Source);
     }
     window.set(link.start, link.start + link.length);
-    copy_lent(window, only, out)
+    Ok(())
 }
