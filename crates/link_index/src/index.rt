@@ -1,5 +1,5 @@
 //! The index of the bytes so far.
-ghost use Rattle.std.specs.Prelude.{◌≡◌, ◌↔◌, ◌≤◌, ◌<◌, ◌+◌, ◌++◌, ◌^◌, ℕ, List, [], true, Some, None, OnOk, OnErr, IfOk, IfErr, IfSome, IsSome, Err, length, vec_len, vec_capacity};
+ghost use Rattle.std.specs.Prelude.{◌≡◌, ◌↔◌, ◌≤◌, ◌<◌, ◌+◌, ◌++◌, ◌^◌, ℕ, List, [], true, false, Some, None, IsOk, OnOk, OnErr, IfOk, IfErr, IfSome, IsSome, Err, length, vec_len, vec_capacity};
 ghost use Rattle.ogg_page.specs.LogicalStream.{is_first};
 ghost use Rattle.ogg_page.specs.Page.{Page as PageValue, page_size};
 ghost use Rattle.link_index.specs.Adding.{fault_at};
@@ -92,12 +92,14 @@ impl Index {
     }
 
     /// Adds a page that was read, which stands at the offset `end` of the file. The faults are those of
-    /// `Chain::take_page`, in their order, `Memory` last. After a fault the index is as it was.
+    /// `Chain::take_page`, in their order, `Memory` last, for want of which only a stream's first page is refused. After a
+    /// fault the index is as it was.
     pub fn add_page(&mut self, page: &Page<'_>) -> Result<(), ChainFault>
         requires { self.old.chain.chain.length_of + page_size page.now < 2 ^ 63 }
         ensures fault { (fault : ChainFaultOf) → fault_of_page self.old.chain.chain page.now ≡ Some fault → result ≡ Err fault }
         ensures memory { fault_of_page self.old.chain.chain page.now ≡ None → OnErr result ((result ≡ Err ChainFault.Memory)
             × (HasRoomFor self.old.chain page.now → 1 ≤ self.old.link_room → 1 ≤ self.old.stream_room → ⊥)) }
+        ensures later { is_first page.now ≡ false → fault_of_page self.old.chain.chain page.now ≡ None → IsOk result }
         ensures index { OnOk result ((links : List (List PageValue)) → IsIndexOf links self.old → IsIndexOf (links_with links page.now) self.new) }
         ensures grows { OnOk result (self.new.chain.chain.length_of ≡ self.old.chain.chain.length_of + page_size page.now) }
         ensures same { OnErr result ((self.new.chain.chain ≡ self.old.chain.chain) × (self.new.entries ≡ self.old.entries)) }
@@ -179,7 +181,7 @@ impl Index {
         ensures full { OnErr result (vec_capacity out.old < vec_len out.old + length (listing self.now.chain.chain.length_of self.now.entries)) }
     {
         append_listing(
-            self.chain.len(),
+            self.end(),
             self.rows.as_slice(),
             self.streams.as_slice(),
             out,
