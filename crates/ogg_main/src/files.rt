@@ -1,8 +1,8 @@
 //! The commands that look into a file. They open it to be read, and write nothing to it.
 
-use crate::fault::Fault;
 use crate::indexing::{Indexed, find_index};
 use disk_model::{FileDisk, FileMode};
+use fault_lines::Fault;
 use ogg_page::{Window, write_whole};
 use ogg_split::{SplitFault, copy_link_from, copy_stream_from};
 use std::io::{BufWriter, Write};

@@ -1,8 +1,8 @@
 //! The index of a file's committed bytes, made in the pass that finds where they end.
 ghost use Rattle.std.specs.Prelude.{⊤};
 
-use crate::fault::Fault;
 use disk_model::Disk;
+use fault_lines::Fault;
 use gate_file::{Found, GateFile, PageVisitor};
 use link_chain::ChainFault;
 use link_index::{Index, IndexFault};

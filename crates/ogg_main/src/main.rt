@@ -4,16 +4,15 @@
 //! asks for nothing that can be done; then a text on standard error says what it could ask for.
 #![tactic(auto)]
 
-mod fault;
 mod files;
 mod indexing;
 mod salvaging;
 mod streams;
 mod words;
 
-use crate::fault::{Fault, write_fault};
 use crate::words::{Action, action_of, words};
 use clap::Error;
+use fault_lines::{Fault, write_fault};
 use std::process::ExitCode;
 
 fn main(rt: HostRuntime) -> ExitCode {

@@ -1,9 +1,9 @@
 //! The command that lists the good pages of a damaged file, which may be larger than memory.
 ghost use Rattle.std.specs.Prelude.{◌≤◌, length, IfOk};
 
-use crate::fault::Fault;
 use crate::files::open;
 use disk_model::{Disk, FileDisk};
+use fault_lines::Fault;
 use ogg_page::{Memory, write_whole};
 use ogg_split::{GoodPage, salvage as good_pages};
 use std::alloc::Global;

@@ -1,7 +1,7 @@
 //! The commands that read a feed from standard input.
 
-use crate::fault::Fault;
 use disk_model::{FileDisk, FileMode};
+use fault_lines::Fault;
 use feed_codec::FeedFault;
 use feed_recorder::record_feed;
 use ogg_recorder::Recorder;

@@ -1,9 +1,9 @@
-//! What ends the program with status 1, and its line on standard error.
+//! The faults, and how a line is written.
 ghost use Rattle.std.specs.Prelude.{◌≡◌, ◌≤◌, ◌+◌, ◌++◌, OnOk, OnErr, codes, decimal, length};
 ghost use Rattle.std.specs.Io.KnownBytes.{Appends};
 ghost use Rattle.ogg_page.specs.Output.{WritesPrefix};
 ghost use Rattle.feed_codec.specs.Reply.{line_end};
-ghost use Rattle.ogg_main.specs.Fault.{IsOfRun, coded, fault_line, index_rest, open_rest, place};
+ghost use Rattle.fault_lines.specs.Fault.{IsOfRun, coded, fault_line, index_rest, open_rest, place};
 
 use feed_codec::{FeedFault, RunFault};
 use gate_file::OpenFault;

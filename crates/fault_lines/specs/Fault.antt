@@ -14,8 +14,8 @@ use Rattle.feed_codec.specs.FeedFault as F
 use Rattle.feed_codec.specs.declared.fault.RunFault.{RunFault}
 use Rattle.feed_codec.specs.declared.fault.RunFault.TheVariants.{Feed as RunFeed, Write as RunWrite, TooMany as RunTooMany}
 use Rattle.ogg_split.specs.SplitFault as S
-use Rattle.ogg_main.specs.declared.fault.Fault.{Fault}
-use Rattle.ogg_main.specs.declared.fault.Fault.TheVariants.{File, Memory, Open, Feed, Write, TooMany, Index, Split, Failed, Seal}
+use Rattle.fault_lines.specs.declared.fault.Fault.{Fault}
+use Rattle.fault_lines.specs.declared.fault.Fault.TheVariants.{File, Memory, Open, Feed, Write, TooMany, Index, Split, Failed, Seal}
 
 -- a number and a name, and then this
 abbrev pub coded : ℕ → List ℕ → List ℕ → List ℕ

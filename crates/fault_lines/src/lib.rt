@@ -1,0 +1,11 @@
+//! What ends the program with status 1, and its line on standard error.
+//!
+//! Each fault has one line: the words `fault` and where it was met, and then the number and the name that the crate of
+//! the fault gives it, with the page's offset if there is one. A line is put together on the stack.
+//!
+//! Start at `specs/Fault.antt`, which has the lines.
+#![tactic(auto)]
+
+mod fault;
+
+pub use fault::{Fault, write_fault};
