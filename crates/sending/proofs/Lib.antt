@@ -1,0 +1,3 @@
+mod Ahead
+mod Joined
+mod Pulled

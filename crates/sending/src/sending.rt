@@ -1,0 +1,73 @@
+//! A response that is being sent.
+ghost use Rattle.std.specs.Prelude.{◌≡◌, ◌≤◌, ℕ, List, ◌++◌, length, IfOk, IsErr, OnErr};
+ghost use Rattle.ogg_page.specs.Window.{KeepsSource};
+ghost use Rattle.sending.specs.Sending.{Gives, IsFaultOf, IsLeft};
+
+use crate::body::Body;
+use crate::pulling::{is_empty_body, pull_body, pull_text};
+use ogg_page::{PageSource, SourceFault, Window};
+use sessions::Pulled;
+use std::marker::Model;
+
+/// A response, as far as it isn't sent yet: a text that it owns, and then what stays in the file until it is sent.
+#[derive(Debug, Drop)]
+pub struct Sending {
+    text: Vec<u8>,
+    sent: usize,
+    body: Body,
+}
+
+impl Model for Sending {
+    ghost use Rattle.std.specs.Prelude.{◌≤◌, drop, length};
+    ghost use Rattle.sending.specs.Sending.{SendingState};
+
+    ghost Value = { SendingState };
+
+    ghost view = { λ s. record { text = drop s.sent s.text.items; body = s.body } };
+
+    ghost invariant = { λ s. s.sent ≤ length s.text.items };
+}
+
+impl Sending {
+    /// Fills the buffer with the first bytes of what is left, as many as it holds, or all. `count` is how many these
+    /// are, and `done` says that none is left then. What the buffer holds after them means nothing. No memory is
+    /// taken, and the window's source is only read.
+    ///
+    /// `SourceFault` is the answer if a read failed or gave no good page. The response is left as it was then, and the
+    /// buffer may hold anything.
+    pub fn pull<S: PageSource>(
+        &mut self,
+        window: &mut Window<S>,
+        buffer: &mut [u8],
+    ) -> Result<Pulled, SourceFault>
+        ensures gives { (committed more rest : List ℕ) → S.is_honest window.old.source → S.bytes window.old.source ≡ committed ++ more
+            → IsLeft committed self.old rest → IfOk result (λ pulled. Gives committed rest (length buffer.old) buffer.new pulled self.new) }
+
+        // A fault has a cause, and comes only if a byte was to be given.
+        ensures cause { (committed more rest : List ℕ) → S.is_honest window.old.source → S.bytes window.old.source ≡ committed ++ more
+            → IsLeft committed self.old rest → IsErr result
+            → IsFaultOf rest (length buffer.old) (S.failures window.old.source) (S.failures window.new.source) }
+        ensures same { OnErr result (self.new ≡ self.old) }
+
+        // What always holds.
+        ensures within { IfOk result (λ pulled. pulled.count ≤ length buffer.old) }
+        ensures later { S.failures window.old.source ≤ S.failures window.new.source }
+        ensures source { KeepsSource S.bytes S.is_honest S.size S.only_reads window.old.source window.new.source }
+    {
+        let (_, text) = self.text.as_slice().split_at(self.sent);
+        let count = pull_text(text, buffer);
+        let (_, room) = buffer.split_at_mut(count);
+        match pull_body(window, self.body, room) {
+            Ok((more, body)) => {
+                self.sent += count;
+                self.body = body;
+                let done = self.sent == self.text.len() && is_empty_body(body);
+                Ok(Pulled {
+                    count: count + more,
+                    done,
+                })
+            }
+            Err(fault) => Err(fault),
+        }
+    }
+}
