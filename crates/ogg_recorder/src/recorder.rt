@@ -17,7 +17,7 @@ ghost use Rattle.history.specs.World.{World, Opening, Opened, Sealing, Sealed, L
 ghost use Rattle.history.specs.History.{StandsIn, IsStep};
 ghost use Rattle.ogg_recorder.specs.Recovery.{Commits, Shows, Accepts};
 ghost use Rattle.ogg_recorder.specs.Taking.{HoldsChain, IsBrokenAt, IsUnfinished};
-ghost use Rattle.ogg_recorder.specs.Recorder.{RecorderState, IsIn, recorder_state, over_disk, committed};
+ghost use Rattle.ogg_recorder.specs.Recorder.{RecorderState, IsRecorder, IsIn, recorder_state, over_disk, committed};
 
 use crate::opening::{FoundChain, find_chain};
 use chain_rules::Shape;
@@ -128,6 +128,8 @@ impl<D: Disk> Recorder<D> {
     /// The length of the committed bytes: those of the last command that was kept, after a fault too.
     pub fn end(&self) -> u64
         ensures end { result ≡ self.now.file.end }
+        // What holds of each recorder.
+        ensures always { IsRecorder D.is_honest D.state self.now }
         ensures inside { D.is_honest self.now.file.disk → length (committed D.state self.now) ≡ self.now.file.end }
         // While it hasn't failed, every image commits to them.
         ensures images { self.now.file.failed ≡ false → D.is_honest self.now.file.disk

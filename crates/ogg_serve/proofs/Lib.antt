@@ -1,0 +1,4 @@
+mod Listed
+mod Stepping
+mod Reopening
+mod Sessions

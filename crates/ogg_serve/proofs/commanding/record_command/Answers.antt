@@ -1,0 +1,13 @@
+use Rattle.ogg_serve.proofs.Stepping.{commands}
+use Rattle.ogg_serve.proofs.commanding.record_command.Goals as goal
+
+pub returns : goal.returns
+returns g c = λ before s.
+    let d = g.D.Disk in
+    let e = c.command-answer.ensures in
+    let new = c.command-answer.new.self in
+    let honest = e.honest.0 s.honest in
+    commands d.is_honest d.state d.moment d.images_since c.args.recorder.now new before s c.end-before.ensures.always c.end-after.ensures.always honest (g.met.D.Disk.laws new.file.disk honest)
+    (c.end-before.ensures.inside s.honest) (c.end-after.ensures.inside honest) c.args.command.now c.command-answer.result
+    (c.refusals_are_of_the_table.ensures c.args.recorder.now.chain c.args.command.now) e.by_failed e.by_rules e.otherwise e.accepted e.same e.faulted e.tells e.good e.grows (e.front s.honest)
+    (e.any_moment s.honest)

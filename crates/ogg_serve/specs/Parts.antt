@@ -1,0 +1,40 @@
+-- What a hub keeps, as its contracts see it. Ours.
+use Rattle.std.specs.Prelude.{◌≡◌, ℕ, ◌^◌, ◌≤◌, Option, None, Some, IsSome, List, []}
+use Rattle.sessions.specs.Hub.{Session, Reading}
+use Rattle.ogg_recorder.specs.Recorder.{RecorderState}
+use Rattle.ogg_serve.specs.declared.opening.Lost.{Lost}
+use Rattle.ogg_serve.specs.declared.session.Session.{Session as SessionParts}
+
+-- a session as the machine has it
+abbrev pub session_of : SessionParts → Session
+session_of parts = record { id = parts.id; phase = Reading parts.head.items }
+
+-- a session that has received nothing
+abbrev pub fresh : ℕ → Session
+fresh id = record { id = id; phase = Reading [] }
+
+-- the next number, or the one after the last
+abbrev pub next_of : Option ℕ → ℕ
+next_of None = 2 ^ 64
+next_of (Some id) = id
+
+abbrev pub lost_file : {D : Type 0} → D → ℕ → Lost D
+lost_file disk end = record { disk = disk; end = end }
+
+-- A hub's recorder, if there is a file; else the disk that was given back. Its sessions, the next number, if one is
+-- left, and how many commands will share a commit after a reopening.
+pub record HubParts (D : Type 0) : Type 0 where
+  pub file : Option (RecorderState D)
+  pub lost : Option (Lost D)
+  pub sessions : List Session
+  pub next : Option ℕ
+  pub most : ℕ
+
+abbrev pub hub_parts : {D : Type 0} → Option (RecorderState D) → Option (Lost D) → List Session → Option ℕ → ℕ → HubParts D
+hub_parts file lost sessions next most = record { file = file; lost = lost; sessions = sessions; next = next; most = most }
+
+-- what always holds
+pub record IsHub {D : Type 0} (hub : HubParts D) : Type 0 where
+  pub one : hub.file ≡ None → IsSome hub.lost
+  pub some : 1 ≤ hub.most
+  pub few : hub.most ≤ 1024

@@ -1,0 +1,63 @@
+-- Which machine a hub is. Ours.
+use Rattle.std.specs.Prelude.{◌≡◌, ℕ, ◌+◌, true, false, if◌then◌else◌, is_some, Option, None, Some, List, [], length, take}
+use Rattle.disk_model.specs.Image.{DiskState}
+use Rattle.gate_file.specs.Commit.{CommitsTo}
+use Rattle.gate_file.specs.Gate.{EachImage}
+use Rattle.ogg_recorder.specs.Recorder.{RecorderState, committed, staged}
+use Rattle.sessions.specs.Hub.{HubState, MayBeFound}
+use Rattle.ogg_serve.specs.declared.opening.Lost.{Lost}
+use Rattle.ogg_serve.specs.Parts.{HubParts, next_of}
+
+-- an image has the committed bytes of the machine, with or without the group in doubt
+abbrev pub Commits : HubState → List ℕ → Type 0
+Commits machine image = (found : List ℕ) × MayBeFound machine found × CommitsTo found image
+
+module _ {D : Type 0} (is_honest : D → Type 0) (state : D → DiskState) where
+  -- with a file: the machine has what the recorder has, and a group is in doubt exactly if the recorder has failed
+  pub record ShowsFile (recorder : RecorderState D) (machine : HubState) : Type 0 where
+    pub honest : is_honest recorder.file.disk
+    pub has_file : machine.has_file ≡ true
+    pub committed_is : machine.committed ≡ committed state recorder
+    pub held_is : machine.held ≡ (if recorder.file.failed then [] else staged state recorder)
+    pub waiting_is : machine.waiting ≡ recorder.held
+    pub most_is : machine.most ≡ recorder.most
+    pub count_is : machine.count ≡ recorder.kept + recorder.held
+    pub failed_is : is_some machine.in_doubt ≡ recorder.file.failed
+    pub images : EachImage (state recorder.file.disk) (Commits machine)
+
+  -- without a file nothing waits
+  pub record ShowsLost (lost : Lost D) (machine : HubState) : Type 0 where
+    pub honest : is_honest lost.disk
+    pub has_file : machine.has_file ≡ false
+    pub committed_is : machine.committed ≡ take lost.end (state lost.disk).contents
+    pub long : length machine.committed ≡ lost.end
+    pub held_is : machine.held ≡ []
+    pub waiting_is : machine.waiting ≡ 0
+    pub most_is : machine.most ≡ machine.most_after_reopening
+    pub count_is : machine.count ≡ 0
+    pub images : EachImage (state lost.disk) (Commits machine)
+
+  -- each image of the disk has the committed bytes of the machine, of which there are so many
+  pub record IsOver (disk : D) (end : ℕ) (machine : HubState) : Type 0 where
+    pub honest : is_honest disk
+    pub long : length machine.committed ≡ end
+    pub images : EachImage (state disk) (Commits machine)
+
+  abbrev pub ShowsPlace : Option (RecorderState D) → Option (Lost D) → HubState → Type 0
+  ShowsPlace (Some recorder) lost machine = ShowsFile recorder machine
+  ShowsPlace None (Some lost) machine = ShowsLost lost machine
+  ShowsPlace None None machine = ⊥
+
+  -- The hub is this machine: its disk is honest, and the machine has what the fields of the hub have. The group in doubt
+  -- is in none of them: only the images of the disk show it. So a hub may be several machines after a fault.
+  pub record Shows (hub : HubParts D) (machine : HubState) : Type 0 where
+    pub place : ShowsPlace hub.file hub.lost machine
+    pub sessions_are : machine.sessions ≡ hub.sessions
+    pub next_is : machine.next_id ≡ next_of hub.next
+    pub most_is : machine.most_after_reopening ≡ hub.most
+
+-- the calls of the recorder leave the sessions as they are
+pub record KeepsSessions (old new : HubState) : Type 0 where
+  pub sessions : new.sessions ≡ old.sessions
+  pub numbers : new.next_id ≡ old.next_id
+  pub group : new.most_after_reopening ≡ old.most_after_reopening

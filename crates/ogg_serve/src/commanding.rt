@@ -1,0 +1,88 @@
+//! Commands go to the recorder of a hub, if there is a file.
+ghost use Rattle.std.specs.Prelude.{◌≡◌, ◌≤◌, ℕ, None, Some, Option, length, IsSome};
+ghost use Rattle.sessions.specs.Hub.{HubState, command_step, flush_step, group_step};
+ghost use Rattle.ogg_recorder.specs.Recorder.{RecorderState, recorder_state};
+ghost use Rattle.ogg_serve.specs.declared.opening.Lost.{Lost};
+ghost use Rattle.ogg_serve.specs.Showing.{ShowsFile, ShowsPlace, KeepsSessions};
+
+use chain_rules::{Command, Refusal, refusals_are_of_the_table};
+use disk_model::Disk;
+use feed_codec::Kept;
+use ogg_recorder::{Outcome, Recorder};
+
+/// Records a command.
+fn record_command<D: Disk>(
+    recorder: &mut Recorder<D>,
+    command: &Command,
+) -> Result<Outcome, Refusal>
+    ensures { (before : HubState) → ShowsFile D.is_honest D.state recorder.old before → (after : HubState)
+        × ShowsFile D.is_honest D.state recorder.new after × command_step before command.now result after × KeepsSessions before after }
+{
+    refusals_are_of_the_table();
+    let _before = recorder.end();
+    let answer = recorder.command(command);
+    let _after = recorder.end();
+    answer
+}
+
+/// Commits what waits.
+fn flush_commands<D: Disk>(recorder: &mut Recorder<D>) -> Result<Kept, Refusal>
+    ensures { (before : HubState) → ShowsFile D.is_honest D.state recorder.old before → (after : HubState)
+        × ShowsFile D.is_honest D.state recorder.new after × flush_step before result after × KeepsSessions before after }
+{
+    let _before = recorder.end();
+    let answer = recorder.flush();
+    let _after = recorder.end();
+    answer
+}
+
+/// Records a command, if there is a file.
+pub(crate) fn command_file<D: Disk>(
+    file: &mut Option<Recorder<D>>,
+    command: &Command,
+) -> Result<Outcome, Refusal>
+    ensures step { (lost : Option (Lost D)) (before : HubState) → ShowsPlace D.is_honest D.state file.old lost before → (after : HubState)
+        × ShowsPlace D.is_honest D.state file.new lost after × command_step before command.now result after × KeepsSessions before after }
+    ensures stays { file.new ≡ None → file.old ≡ None }
+{
+    match file {
+        Some(recorder) => record_command(recorder, command),
+        None => Err(Refusal::Failed),
+    }
+}
+
+/// Commits what waits, if there is a file.
+pub(crate) fn flush_file<D: Disk>(file: &mut Option<Recorder<D>>) -> Result<Kept, Refusal>
+    ensures step { (lost : Option (Lost D)) (before : HubState) → ShowsPlace D.is_honest D.state file.old lost before → (after : HubState)
+        × ShowsPlace D.is_honest D.state file.new lost after × flush_step before result after × KeepsSessions before after }
+    ensures stays { file.new ≡ None → file.old ≡ None }
+{
+    match file {
+        Some(recorder) => flush_commands(recorder),
+        None => Err(Refusal::Failed),
+    }
+}
+
+/// Sets how many commands share a commit.
+pub(crate) fn group_file<D: Disk>(file: &mut Option<Recorder<D>>, most: u32)
+    requires some { 1 ≤ most }
+    requires few { most ≤ 1024 }
+    requires none { (recorder : RecorderState D) → file.old ≡ Some recorder → recorder.held ≡ 0 }
+    ensures set { (recorder : RecorderState D) → file.old ≡ Some recorder
+        → file.new ≡ Some (recorder_state recorder.file recorder.chain recorder.tail recorder.kept recorder.held most) }
+    ensures stays { file.new ≡ None → file.old ≡ None }
+{
+    if let Some(recorder) = file {
+        recorder.group(most);
+    }
+}
+
+/// How many commands wait.
+pub(crate) fn held_in<D: Disk>(file: &Option<Recorder<D>>) -> u64
+    ensures { (lost : Option (Lost D)) (machine : HubState) → ShowsPlace D.is_honest D.state file.now lost machine → result ≡ machine.waiting }
+{
+    match file {
+        Some(recorder) => recorder.held(),
+        None => 0,
+    }
+}

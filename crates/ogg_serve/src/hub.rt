@@ -1,0 +1,182 @@
+//! A recorder, and the sessions of those who fetch its file.
+ghost use Rattle.std.specs.Prelude.{◌≡◌, ◌≢◌, ◌≤◌, [], ℕ, false, List, None, Some, Err, IsSome, length, IfOk, IfErr};
+ghost use Rattle.ogg_recorder.specs.Recorder.{RecorderState, committed};
+ghost use Rattle.sessions.specs.Hub.{HubState, IsNew, Connect, Close, Record, Flush, Group, Reopen};
+ghost use Rattle.sessions.specs.Calls.{Steps, found_by};
+
+use crate::commanding::{command_file, flush_file, group_file, held_in};
+use crate::opening::{Lost, end_in, open_again, take_disk};
+use crate::session::{Session, add_session, drop_session, has_session};
+use chain_rules::{Command, Refusal};
+use disk_model::Disk;
+use feed_codec::Kept;
+use gate_file::OpenFault;
+use ogg_recorder::{Outcome, Recorder};
+use sessions::HubFault;
+use std::alloc::{AllocError as Memory, Global};
+use std::marker::Model;
+
+/// How many sessions there are at most.
+const MOST_SESSIONS: usize = 64;
+
+/// A recorder, and the sessions of those who fetch its file.
+#[derive(Drop)]
+pub struct Hub<D: Disk> {
+    // none after a reopening that failed
+    file: Option<Recorder<D>>,
+    lost: Option<Lost<D>>,
+    // with room for as many as there may be
+    sessions: Vec<Session>,
+    // none if all numbers are given
+    next: Option<u64>,
+    // how many commands will share a commit after a reopening
+    most: u32,
+    alloc: Global,
+}
+
+impl<D: Disk> Model for Hub<D> {
+    ghost use Rattle.std.specs.Prelude.{◌≤◌, map, vec_capacity};
+    ghost use Rattle.ogg_serve.specs.Parts.{HubParts, IsHub, hub_parts, session_of};
+
+    ghost Value = { HubParts D };
+
+    ghost view = { λ h. hub_parts h.file h.lost (map session_of h.sessions.items) h.next h.most };
+
+    ghost invariant = { λ h. IsHub (hub_parts h.file h.lost (map session_of h.sessions.items) h.next h.most) × (64 ≤ vec_capacity h.sessions) };
+}
+
+impl<D: Disk> Hub<D> {
+    ghost use Rattle.ogg_serve.specs.Parts.{hub_parts};
+    ghost use Rattle.ogg_serve.specs.Showing.{Shows};
+
+    /// A hub over this recorder, without sessions. It makes the room for all sessions that there may be. After `Memory`
+    /// the recorder is given back.
+    pub fn new(alloc: Global, recorder: Recorder<D>) -> Result<Hub<D>, (Memory, Recorder<D>)>
+        ensures owns { IfOk result (λ hub. hub ≡ hub_parts (Some recorder) None [] (Some 0) 1) }
+        // If the recorder hasn't failed, the hub is seen as a new machine.
+        ensures shown { IfOk result (λ hub. recorder.file.failed ≡ false → D.is_honest recorder.file.disk
+            → (machine : HubState) × Shows D.is_honest D.state hub machine × IsNew machine) }
+        ensures back { IfErr result (λ e. e.1 ≡ recorder) }
+    {
+        let _end = recorder.end();
+        match Vec::with_capacity(alloc, MOST_SESSIONS) {
+            Ok(sessions) => Ok(Hub {
+                file: Some(recorder),
+                lost: None,
+                sessions,
+                next: Some(0),
+                most: 1,
+                alloc,
+            }),
+            Err(memory) => Err((memory, recorder)),
+        }
+    }
+
+    /// Begins a session. Its number is the next one, from 0 on. No memory is taken. `SessionsFull` says that there are 64
+    /// sessions, or that all numbers of 64 bits are given; nothing is changed then.
+    pub fn connect(&mut self) -> Result<u64, HubFault>
+        ensures step { Steps (Shows D.is_honest D.state) self.old self.new (λ after. Connect result) }
+        ensures room { result ≢ Err HubFault.Memory }
+    {
+        let Some(id) = self.next else {
+            return Err(HubFault::SessionsFull);
+        };
+        if self.sessions.len() >= MOST_SESSIONS {
+            return Err(HubFault::SessionsFull);
+        }
+        add_session(&mut self.sessions, id, self.alloc);
+        self.next = id.checked_add(1);
+        Ok(id)
+    }
+
+    /// Ends a session. `NoSession` says that there is none with this number; nothing is changed then.
+    pub fn close(&mut self, id: u64) -> Result<(), HubFault>
+        ensures step { Steps (Shows D.is_honest D.state) self.old self.new (λ after. Close id result) }
+    {
+        if has_session(self.sessions.as_slice(), id) {
+            drop_session(&mut self.sessions, id);
+            Ok(())
+        } else {
+            Err(HubFault::NoSession)
+        }
+    }
+
+    /// Records a command, as [`Recorder::command`] does. Without a file it is refused as `Failed`.
+    pub fn command(&mut self, command: &Command) -> Result<Outcome, Refusal>
+        ensures step { Steps (Shows D.is_honest D.state) self.old self.new (λ after. Record command.now result) }
+    {
+        command_file(&mut self.file, command)
+    }
+
+    /// Commits the commands that wait, as [`Recorder::flush`] does. Without a file it is refused as `Failed`.
+    pub fn flush(&mut self) -> Result<Kept, Refusal>
+        ensures step { Steps (Shows D.is_honest D.state) self.old self.new (λ after. Flush result) }
+    {
+        flush_file(&mut self.file)
+    }
+
+    /// From now on `most` commands share a commit, 1 to 1,024, and so they do after a reopening. There is a file, and
+    /// nothing waits.
+    pub fn group(&mut self, most: u32)
+        requires some { 1 ≤ most }
+        requires few { most ≤ 1024 }
+        requires file { IsSome self.old.file }
+        requires none { (recorder : RecorderState D) → self.old.file ≡ Some recorder → recorder.held ≡ 0 }
+        ensures step { Steps (Shows D.is_honest D.state) self.old self.new (λ after. Group most) }
+    {
+        group_file(&mut self.file, most);
+        self.most = most;
+    }
+
+    /// How many commands wait; none without a file.
+    pub fn held(&self) -> u64
+        ensures { (machine : HubState) → Shows D.is_honest D.state self.now machine → result ≡ machine.waiting }
+    {
+        held_in(&self.file)
+    }
+
+    /// The length of the committed bytes, the last known one without a file.
+    pub fn end(&self) -> u64
+        ensures { (machine : HubState) → Shows D.is_honest D.state self.now machine → result ≡ length machine.committed }
+    {
+        end_in(&self.file, &self.lost)
+    }
+}
+
+impl<D: Disk + Drop> Hub<D> {
+    ghost use Rattle.ogg_serve.specs.Parts.{lost_file};
+    ghost use Rattle.ogg_serve.specs.Showing.{Shows};
+
+    /// Gives the disk back, and opens it again, as [`Recorder::open`] does. The sessions stay. What waited is lost. After a
+    /// fault there is no file, and the disk is kept for another reopening.
+    pub fn reopen(&mut self) -> Result<(), OpenFault>
+        ensures step { Steps (Shows D.is_honest D.state) self.old self.new (λ after. Reopen (found_by result after)) }
+    {
+        let Lost { disk, end } = take_disk(&mut self.file, &mut self.lost);
+        match open_again(self.alloc, disk, end, self.most) {
+            Ok(recorder) => {
+                self.file = Some(recorder);
+                Ok(())
+            }
+            Err((fault, disk)) => {
+                self.lost = Some(Lost { disk, end });
+                Err(fault)
+            }
+        }
+    }
+
+    /// The recorder, or the disk if there is no file. The sessions are ended. No call of the disk is made, and no memory is
+    /// taken.
+    pub fn into_recorder(self) -> Result<Recorder<D>, D>
+        ensures recorder { IfOk result (λ recorder. self.file ≡ Some recorder) }
+        ensures committed { IfOk result (λ recorder. (machine : HubState) → Shows D.is_honest D.state self machine
+            → committed D.state recorder ≡ machine.committed) }
+        ensures none { IfErr result (λ disk. (self.file ≡ None) × (end : ℕ) × (self.lost ≡ Some (lost_file disk end))) }
+    {
+        let Hub { file, lost, .. } = self;
+        match file {
+            Some(recorder) => Ok(recorder),
+            None => Err(lost.unwrap().disk),
+        }
+    }
+}
