@@ -1,13 +1,12 @@
 -- What is given of a text and of a body, and what is left of both.
-use Rattle.std.proofs.Common.{◌≡◌, ◌≢◌, ◌⊎◌, inl, inr, ℕ, ◌+◌, ◌-◌, ◌≤◌, ◌<◌, Bool, true, false, List, [], ◌∷◌, ◌++◌, length, take, drop, min, refl, sym, ◌∙◌, ap, subst, arith, length-take, length-drop, length-append, take_all, drop_of_length-le, append_assoc, append-nil}
+use Rattle.std.proofs.Common.{◌≡◌, ◌≢◌, ◌⊎◌, inl, inr, ℕ, ◌+◌, ◌-◌, ◌≤◌, Bool, false, List, [], ◌∷◌, ◌++◌, length, take, drop, min, refl, sym, ◌∙◌, ap, subst, arith, length-take, length-drop, length-append, take_all, drop_of_length-le, append-nil}
 use Rattle.std.specs.Prelude.{◌==◌}
 use Rattle.std.proofs.lemmas.Bool.{cases_lt, ne_eqb}
 use Rattle.std.proofs.lemmas.List.{take-append-le, drop-append-le}
-use Rattle.std.proofs.Math.Seq.{take-append-add, drop-append-add, take-append_seam}
+use Rattle.std.proofs.Math.Seq.{take-append-add, drop-append-add}
 use Rattle.sessions.specs.Hub.{is_nothing}
 use Rattle.sessions.specs.Places.{part_at, IsStreamRest}
-use Rattle.sessions.specs.declared.answers.Pulled.{Pulled}
-use Rattle.sending.specs.Sending.{SendingState, IsBodyLeft, IsLeft, GivesBody, Gives, is_empty_body}
+use Rattle.sending.specs.Sending.{IsBodyLeft, GivesBody, Gives, is_empty_body}
 use Rattle.sending.specs.Walking.{IsPulled, IsOver}
 use Rattle.sending.specs.declared.body.Body.{Body}
 use Rattle.sending.specs.declared.body.Body.TheVariants.{Nothing, Part, Stream}

@@ -1,3 +1,6 @@
 mod Ahead
+mod Answered
 mod Joined
+mod Located
 mod Pulled
+mod Staying

@@ -1,5 +1,5 @@
 -- How far a pull of a stream's rest has come.
-use Rattle.std.proofs.Common.{◌≡◌, ◌≢◌, ◌⊎◌, inl, inr, ℕ, ◌+◌, ◌-◌, ◌≤◌, ◌<◌, List, [], ◌∷◌, ◌++◌, length, take, drop, refl, sym, ◌∙◌, ap, subst, arith, drop-drop, length-take, length-drop, length-append}
+use Rattle.std.proofs.Common.{◌≡◌, ℕ, ◌+◌, ◌-◌, ◌≤◌, List, ◌++◌, length, take, drop, refl, sym, ◌∙◌, ap, subst, arith, drop-drop, length-take}
 use Rattle.std.proofs.Math.Seq.{take-append_seam, take-append-add, take-add}
 use Rattle.sessions.specs.Places.{part_at, IsStreamRest}
 use Rattle.sending.specs.Walking.{IsPulled}

@@ -1,5 +1,5 @@
 -- What is left of a response, as a text and a place in the committed bytes. Ours.
-use Rattle.std.specs.Prelude.{◌≡◌, ◌≢◌, ◌⊎◌, ℕ, ◌+◌, ◌-◌, ◌^◌, ◌<◌, Bool, true, ◌==◌, List, [], ◌++◌, length, take, drop, min}
+use Rattle.std.specs.Prelude.{◌≡◌, ◌≢◌, ◌⊎◌, ℕ, ◌-◌, ◌^◌, ◌<◌, Bool, true, ◌==◌, List, [], ◌++◌, length, take, drop, min}
 use Rattle.sessions.specs.Hub.{is_nothing}
 use Rattle.sessions.specs.Places.{part_at, LiesIn, IsStreamRest, stream_rest}
 use Rattle.sessions.specs.declared.answers.Pulled.{Pulled}

@@ -1,5 +1,5 @@
 -- How far a pull of a stream's rest has come. Ours.
-use Rattle.std.specs.Prelude.{◌≡◌, ◌⊎◌, ℕ, ◌+◌, ◌<◌, ◌≤◌, List, length, take, drop}
+use Rattle.std.specs.Prelude.{◌≡◌, ◌⊎◌, ℕ, ◌+◌, List, length, take, drop}
 use Rattle.sessions.specs.Places.{IsStreamRest}
 use Rattle.sending.specs.declared.walking.StreamLeft.{StreamLeft}
 

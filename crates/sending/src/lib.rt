@@ -7,10 +7,14 @@
 //! Start at `specs/Sending.antt`.
 #![tactic(auto)]
 
+mod answering;
 mod body;
+mod finding;
+mod laws;
 mod pulling;
 mod sending;
 mod walking;
 
-pub use body::Body;
+pub use laws::rests_of_responses_stay;
+pub use ogg_page::Memory;
 pub use sending::Sending;

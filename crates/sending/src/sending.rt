@@ -3,10 +3,16 @@ ghost use Rattle.std.specs.Prelude.{◌≡◌, ◌≤◌, ℕ, List, ◌++◌, l
 ghost use Rattle.ogg_page.specs.Window.{KeepsSource};
 ghost use Rattle.sending.specs.Sending.{Gives, IsFaultOf, IsLeft};
 
+use crate::Memory;
+use crate::answering::{lacks_host, plain, respond};
 use crate::body::Body;
+use crate::finding::find;
 use crate::pulling::{is_empty_body, pull_body, pull_text};
+use link_index::Index;
+use ogg_http::{Answer, Request};
 use ogg_page::{PageSource, SourceFault, Window};
 use sessions::Pulled;
+use std::alloc::Global;
 use std::marker::Model;
 
 /// A response, as far as it isn't sent yet: a text that it owns, and then what stays in the file until it is sent.
@@ -29,6 +35,45 @@ impl Model for Sending {
 }
 
 impl Sending {
+    ghost use Rattle.std.specs.Prelude.{option_map};
+    ghost use Rattle.ogg_page.specs.Page.{Page};
+    ghost use Rattle.link_chain.specs.Links.{AreLinks};
+    ghost use Rattle.link_index.specs.Adding.{IsIndexOf};
+    ghost use Rattle.responses.specs.Response.{asked_by, response};
+
+    /// A text and what follows it.
+    pub(crate) fn new(text: Vec<u8>, body: Body) -> Sending
+        ensures text { result.text ≡ text.items }
+        ensures body { result.body ≡ body }
+    {
+        Sending {
+            text,
+            sent: 0,
+            body,
+        }
+    }
+
+    /// The response to a request, or to what is no request, over the file's bytes that the index is of (RFC 9110,
+    /// RFC 9112). None of it is sent yet. Memory is taken for its head, and for a listing.
+    ///
+    /// `Memory` is the answer if there is no room for them.
+    pub fn of(alloc: Global, request: Option<Request<'_>>, index: &Index) -> Result<Sending, Memory>
+        ensures { (committed : List ℕ) (links : List (List Page)) → AreLinks committed links → IsIndexOf links index.now
+            → IfOk result (λ sending. IsLeft committed sending (response links (option_map asked_by request.entry))) }
+    {
+        match request {
+            Some(request) => {
+                if lacks_host(&request) {
+                    plain(alloc, Answer::BadRequest)
+                } else {
+                    let found = find(index, request.target);
+                    respond(alloc, index, request.verb, request.range, found)
+                }
+            }
+            None => plain(alloc, Answer::BadRequest),
+        }
+    }
+
     /// Fills the buffer with the first bytes of what is left, as many as it holds, or all. `count` is how many these
     /// are, and `done` says that none is left then. What the buffer holds after them means nothing. No memory is
     /// taken, and the window's source is only read.

@@ -1,7 +1,6 @@
-use Rattle.std.proofs.Common.{◌≡◌, ◌+◌, ◌<◌, ◌≤◌, ℕ, List, ◌++◌, length, take, drop, ◌-◌, sym, ◌∙◌, ap, subst, arith, refl}
+use Rattle.std.proofs.Common.{◌≡◌, ◌+◌, ◌<◌, ◌≤◌, length, drop, ◌-◌, sym, ◌∙◌, ap, subst, arith, refl}
 use Rattle.ogg_page.specs.Page.{page_bytes}
 use Rattle.sessions.specs.Places.{IsStreamRest}
-use Rattle.sending.specs.Walking.{IsPulled}
 use Rattle.sending.proofs.Pulled.{page_given, page_passed}
 use Rattle.sending.proofs.walking.pull_page.Goals as goal
 

@@ -1,4 +1,4 @@
-use Rattle.std.proofs.Common.{◌≡◌, ◌+◌, ◌<◌, ◌≤◌, ℕ, List, ◌++◌, length, take, drop, inl, inr, refl, sym, ◌∙◌, ap, subst, arith, None, Some, Ok, Err}
+use Rattle.std.proofs.Common.{◌≡◌, ◌+◌, length, drop, inl, inr, refl, sym, ◌∙◌, ap, subst, arith, None, Some, Ok, Err}
 use Rattle.ogg_page.specs.Page.{page_bytes}
 use Rattle.ogg_page.specs.PageLaws.{length-page_bytes}
 use Rattle.ogg_page.specs.Window.{answer, left_of, HasMoved}

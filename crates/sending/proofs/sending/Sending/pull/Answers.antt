@@ -1,7 +1,7 @@
-use Rattle.std.proofs.Common.{◌≡◌, ◌≢◌, ◌≤◌, ℕ, List, ◌++◌, length, drop, take, min, ◌+◌, ◌-◌, sym, ◌∙◌, ap, subst, arith, inl, inr, refl, length-drop, drop-drop}
+use Rattle.std.proofs.Common.{◌≡◌, ◌≤◌, ℕ, List, ◌++◌, length, drop, take, min, ◌+◌, ◌-◌, sym, ◌∙◌, ap, subst, arith, inl, inr, refl, length-drop, drop-drop}
 use Rattle.std.proofs.lemmas.Bool.{ne_eqb}
 use Rattle.std.specs.Vec.{vec_len}
-use Rattle.sending.specs.Sending.{Gives, IsFaultOf, IsLeft, SendingState}
+use Rattle.sending.specs.Sending.{Gives, IsLeft, SendingState}
 use Rattle.sending.proofs.Joined.{SaysDone, both_given, some_given}
 use Rattle.sending.proofs.sending.Sending.pull.Goals as goal
 use Rattle.sending.proofs.sending.Sending.pull.Goals.{then-self-len, else-self-len}
