@@ -18,3 +18,6 @@ mod walking;
 pub use laws::rests_of_responses_stay;
 pub use ogg_page::Memory;
 pub use sending::Sending;
+
+#[cfg(test)]
+mod tests;
