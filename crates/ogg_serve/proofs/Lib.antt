@@ -2,3 +2,4 @@ mod Listed
 mod Stepping
 mod Reopening
 mod Sessions
+mod Imaged

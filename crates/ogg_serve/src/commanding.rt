@@ -3,6 +3,7 @@ ghost use Rattle.std.specs.Prelude.{◌≡◌, ◌≤◌, ℕ, None, Some, Optio
 ghost use Rattle.sessions.specs.Hub.{HubState, command_step, flush_step, group_step};
 ghost use Rattle.ogg_recorder.specs.Recorder.{RecorderState, recorder_state};
 ghost use Rattle.ogg_serve.specs.declared.opening.Lost.{Lost};
+ghost use Rattle.ogg_serve.specs.Images.{IfFile, Records, Flushes};
 ghost use Rattle.ogg_serve.specs.Showing.{ShowsFile, ShowsPlace, KeepsSessions};
 
 use chain_rules::{Command, Refusal, refusals_are_of_the_table};
@@ -15,8 +16,9 @@ fn record_command<D: Disk>(
     recorder: &mut Recorder<D>,
     command: &Command,
 ) -> Result<Outcome, Refusal>
-    ensures { (before : HubState) → ShowsFile D.is_honest D.state recorder.old before → (after : HubState)
+    ensures step { (before : HubState) → ShowsFile D.is_honest D.state recorder.old before → (after : HubState)
         × ShowsFile D.is_honest D.state recorder.new after × command_step before command.now result after × KeepsSessions before after }
+    ensures disk { Records D.is_honest D.state D.moment D.images_since D.failures command.now result recorder.old recorder.new }
 {
     refusals_are_of_the_table();
     let _before = recorder.end();
@@ -27,8 +29,9 @@ fn record_command<D: Disk>(
 
 /// Commits what waits.
 fn flush_commands<D: Disk>(recorder: &mut Recorder<D>) -> Result<Kept, Refusal>
-    ensures { (before : HubState) → ShowsFile D.is_honest D.state recorder.old before → (after : HubState)
+    ensures step { (before : HubState) → ShowsFile D.is_honest D.state recorder.old before → (after : HubState)
         × ShowsFile D.is_honest D.state recorder.new after × flush_step before result after × KeepsSessions before after }
+    ensures disk { Flushes D.is_honest D.state D.moment D.images_since D.failures result recorder.old recorder.new }
 {
     let _before = recorder.end();
     let answer = recorder.flush();
@@ -44,6 +47,7 @@ pub(crate) fn command_file<D: Disk>(
     ensures step { (lost : Option (Lost D)) (before : HubState) → ShowsPlace D.is_honest D.state file.old lost before → (after : HubState)
         × ShowsPlace D.is_honest D.state file.new lost after × command_step before command.now result after × KeepsSessions before after }
     ensures stays { file.new ≡ None → file.old ≡ None }
+    ensures disk { IfFile (Records D.is_honest D.state D.moment D.images_since D.failures command.now result) file.old file.new }
 {
     match file {
         Some(recorder) => record_command(recorder, command),
@@ -56,6 +60,7 @@ pub(crate) fn flush_file<D: Disk>(file: &mut Option<Recorder<D>>) -> Result<Kept
     ensures step { (lost : Option (Lost D)) (before : HubState) → ShowsPlace D.is_honest D.state file.old lost before → (after : HubState)
         × ShowsPlace D.is_honest D.state file.new lost after × flush_step before result after × KeepsSessions before after }
     ensures stays { file.new ≡ None → file.old ≡ None }
+    ensures disk { IfFile (Flushes D.is_honest D.state D.moment D.images_since D.failures result) file.old file.new }
 {
     match file {
         Some(recorder) => flush_commands(recorder),

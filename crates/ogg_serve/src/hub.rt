@@ -3,6 +3,7 @@ ghost use Rattle.std.specs.Prelude.{◌≡◌, ◌≢◌, ◌≤◌, [], ℕ, fa
 ghost use Rattle.ogg_recorder.specs.Recorder.{RecorderState, committed};
 ghost use Rattle.sessions.specs.Hub.{HubState, IsNew, Connect, Close, Record, Flush, Group, Reopen};
 ghost use Rattle.sessions.specs.Calls.{Steps, found_by};
+ghost use Rattle.ogg_serve.specs.Images.{IfFile, Records, Flushes, Reopens, disk_in};
 
 use crate::commanding::{command_file, flush_file, group_file, held_in};
 use crate::opening::{Lost, end_in, open_again, take_disk};
@@ -72,8 +73,9 @@ impl<D: Disk> Hub<D> {
         }
     }
 
-    /// Begins a session. Its number is the next one, from 0 on. No memory is taken. `SessionsFull` says that there are 64
-    /// sessions, or that all numbers of 64 bits are given; nothing is changed then.
+    /// Begins a session. Its number is the next one, from 0 on. No memory is taken.
+    ///
+    /// `SessionsFull` says that there are 64 sessions, or that all numbers of 64 bits are given. Nothing is changed then.
     pub fn connect(&mut self) -> Result<u64, HubFault>
         ensures step { Steps (Shows D.is_honest D.state) self.old self.new (λ after. Connect result) }
         ensures room { result ≢ Err HubFault.Memory }
@@ -101,9 +103,10 @@ impl<D: Disk> Hub<D> {
         }
     }
 
-    /// Records a command, as [`Recorder::command`] does. Without a file it is refused as `Failed`.
+    /// Records a command, as [`Recorder::command`] does, with its refusals. Without a file it is refused as `Failed`.
     pub fn command(&mut self, command: &Command) -> Result<Outcome, Refusal>
         ensures step { Steps (Shows D.is_honest D.state) self.old self.new (λ after. Record command.now result) }
+        ensures disk { IfFile (Records D.is_honest D.state D.moment D.images_since D.failures command.now result) self.old.file self.new.file }
     {
         command_file(&mut self.file, command)
     }
@@ -111,6 +114,7 @@ impl<D: Disk> Hub<D> {
     /// Commits the commands that wait, as [`Recorder::flush`] does. Without a file it is refused as `Failed`.
     pub fn flush(&mut self) -> Result<Kept, Refusal>
         ensures step { Steps (Shows D.is_honest D.state) self.old self.new (λ after. Flush result) }
+        ensures disk { IfFile (Flushes D.is_honest D.state D.moment D.images_since D.failures result) self.old.file self.new.file }
     {
         flush_file(&mut self.file)
     }
@@ -147,10 +151,12 @@ impl<D: Disk + Drop> Hub<D> {
     ghost use Rattle.ogg_serve.specs.Parts.{lost_file};
     ghost use Rattle.ogg_serve.specs.Showing.{Shows};
 
-    /// Gives the disk back, and opens it again, as [`Recorder::open`] does. The sessions stay. What waited is lost. After a
-    /// fault there is no file, and the disk is kept for another reopening.
+    /// Gives the disk back, and opens it again, as [`Recorder::open`] does, with its faults. The sessions stay, and what
+    /// waited is lost. After a fault there is no file, and the disk is kept for another reopening.
     pub fn reopen(&mut self) -> Result<(), OpenFault>
         ensures step { Steps (Shows D.is_honest D.state) self.old self.new (λ after. Reopen (found_by result after)) }
+        ensures disk { (old new : D) → disk_in self.old.file self.old.lost ≡ Some old → disk_in self.new.file self.new.lost ≡ Some new
+            → Reopens D.is_honest D.state D.moment D.images_since D.failures result self.new.file old new }
     {
         let Lost { disk, end } = take_disk(&mut self.file, &mut self.lost);
         match open_again(self.alloc, disk, end, self.most) {
@@ -165,8 +171,8 @@ impl<D: Disk + Drop> Hub<D> {
         }
     }
 
-    /// The recorder, or the disk if there is no file. The sessions are ended. No call of the disk is made, and no memory is
-    /// taken.
+    /// The recorder, or the disk if there is no file. The sessions are ended. No call of the disk is made, and no memory
+    /// is taken.
     pub fn into_recorder(self) -> Result<Recorder<D>, D>
         ensures recorder { IfOk result (λ recorder. self.file ≡ Some recorder) }
         ensures committed { IfOk result (λ recorder. (machine : HubState) → Shows D.is_honest D.state self machine

@@ -4,7 +4,7 @@
 //! that crate `sessions` describes, so that its laws hold of whatever calls come, in any order.
 //!
 //! Start at `specs/Showing.antt`, which says which machine a hub is, and go on to `src/hub.rt`, where each call has its
-//! step.
+//! step. `specs/Images.antt` says what each image of the disk shows while a call goes on.
 #![tactic(auto)]
 
 mod commanding;

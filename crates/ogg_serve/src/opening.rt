@@ -1,7 +1,8 @@
 //! A disk is given back and opened again.
-ghost use Rattle.std.specs.Prelude.{◌≡◌, ◌≤◌, None, Some, Option, IsSome, length, IfOk, IfErr};
+ghost use Rattle.std.specs.Prelude.{◌≡◌, ◌≤◌, Ok, Err, None, Some, Option, IsSome, length, IfOk, IfErr};
 ghost use Rattle.sessions.specs.Hub.{HubState, reopen_step, without_file};
 ghost use Rattle.ogg_serve.specs.Parts.{lost_file};
+ghost use Rattle.ogg_serve.specs.Images.{Reopens, disk_in};
 ghost use Rattle.ogg_serve.specs.Showing.{IsOver, ShowsFile, ShowsLost, ShowsPlace, KeepsSessions};
 
 use disk_model::Disk;
@@ -31,6 +32,8 @@ pub(crate) fn open_again<D: Disk>(
         × ShowsFile D.is_honest D.state recorder after × reopen_step before (Some after.committed) after × KeepsSessions before after) }
     ensures lost { IfErr result (λ e. (before : HubState) → IsOver D.is_honest D.state disk end before
         → ShowsLost D.is_honest D.state (lost_file e.1 end) (without_file before)) }
+    ensures opened { IfOk result (λ recorder. Reopens D.is_honest D.state D.moment D.images_since D.failures (Ok tt) (Some recorder) disk recorder.file.disk) }
+    ensures failed { IfErr result (λ e. Reopens D.is_honest D.state D.moment D.images_since D.failures (Err e.0) None disk e.1) }
 {
     match Recorder::open(alloc, disk) {
         Ok(mut recorder) => {
@@ -52,6 +55,7 @@ pub(crate) fn take_disk<D: Disk + Drop>(
     ensures lost { lost.new ≡ None }
     ensures over { (before : HubState) → ShowsPlace D.is_honest D.state file.old lost.old before
         → IsOver D.is_honest D.state result.disk result.end before }
+    ensures disk { disk_in file.old lost.old ≡ Some result.disk }
 {
     match file.take() {
         Some(recorder) => {

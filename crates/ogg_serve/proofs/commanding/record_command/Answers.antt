@@ -1,8 +1,8 @@
 use Rattle.ogg_serve.proofs.Stepping.{commands}
 use Rattle.ogg_serve.proofs.commanding.record_command.Goals as goal
 
-pub returns : goal.returns
-returns g c = λ before s.
+pub returns-clause-step : goal.returns-clause-step
+returns-clause-step g c = λ before s.
     let d = g.D.Disk in
     let e = c.command-answer.ensures in
     let new = c.command-answer.new.self in
@@ -11,3 +11,15 @@ returns g c = λ before s.
     (c.end-before.ensures.inside s.honest) (c.end-after.ensures.inside honest) c.args.command.now c.command-answer.result
     (c.refusals_are_of_the_table.ensures c.args.recorder.now.chain c.args.command.now) e.by_failed e.by_rules e.otherwise e.accepted e.same e.faulted e.tells e.good e.grows (e.front s.honest)
     (e.any_moment s.honest)
+
+pub returns-clause-disk : goal.returns-clause-disk
+returns-clause-disk g c =
+    let e = c.command-answer.ensures in
+    record {
+      any_moment = e.any_moment;
+      waits = e.waits;
+      step = e.step;
+      honest = e.honest;
+      later = e.later;
+      cause = e.cause;
+    }

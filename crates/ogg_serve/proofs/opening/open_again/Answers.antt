@@ -1,4 +1,5 @@
 use Rattle.ogg_serve.proofs.Reopening.{opened, lost}
+use Rattle.ogg_serve.proofs.Imaged.{reopened, fault_is}
 use Rattle.ogg_serve.proofs.opening.open_again.Goals as goal
 
 pub returns-in-Ok-clause-found : goal.returns-in-Ok-clause-found
@@ -16,3 +17,20 @@ returns-in-Err-clause-lost g c = λ before over.
     let new = c.in-Err.fault.1 in
     let honest = e.honest_err.0 over.honest in
     lost d.is_honest d.state d.moment d.images_since c.args.disk c.args.end before over new honest (g.met.D.Disk.laws new honest) (e.any_moment_err over.honest)
+
+pub returns-in-Ok-clause-opened : goal.returns-in-Ok-clause-opened
+returns-in-Ok-clause-opened g c =
+    let d = g.D.Disk in
+    reopened d.is_honest d.state d.moment d.images_since d.failures c.args.disk c.in-Ok.recorder c.group.new.self c.args.most c.group.ensures.set c.in-Ok.ensures.any_moment c.in-Ok.ensures.step
+    c.group.ensures.stands c.in-Ok.ensures.honest c.in-Ok.ensures.later
+
+pub returns-in-Err-clause-failed : goal.returns-in-Err-clause-failed
+returns-in-Err-clause-failed g c =
+    let e = c.in-Err.ensures in
+    record {
+      any_moment = e.any_moment_err;
+      step = λ first w stands closed honest. e.step_err first w closed honest;
+      honest = e.honest_err;
+      later = e.cause.0;
+      cause = λ is. e.cause.1 (fault_is c.in-Err.fault.0 is);
+    }
