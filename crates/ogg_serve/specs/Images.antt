@@ -70,8 +70,8 @@ module _ {D : Type 0} (is_honest : D → Type 0) (state : D → DiskState) (mome
       × IsIn is_honest state first (happens w (Opened found)) recorder
   OpensIn first w old new None = IsStep is_honest state moment images_since Shows Accepts add first w (Faulted Opening) old new
 
-  -- What a reopening leaves of the disk, with its answer, and the recorder that it opened: each image since the call began
-  -- commits to what an image at its start commits to.
+  -- What a reopening leaves of the disk, with its answer, and the recorder that it opened: each image since the call
+  -- began commits to what an image at its start commits to.
   pub record Reopens (result : Result ⊤ OpenFault) (file : Option (RecorderState D)) (old new : D) : Type 0 where
     pub any_moment : is_honest old → LeavesOnly moment images_since old new (IsAsBefore Commits (state old))
     pub step : (first : Recording) (w : World Command) → StandsIn Shows add first w (state old) → w.is_open ≡ false → is_honest old

@@ -48,8 +48,8 @@ module _ {D : Type 0} (is_honest : D → Type 0) (state : D → DiskState) where
   ShowsPlace None (Some lost) machine = ShowsLost lost machine
   ShowsPlace None None machine = ⊥
 
-  -- The hub is this machine: its disk is honest, and the machine has what the fields of the hub have. The group in doubt
-  -- is in none of them: only the images of the disk show it. So a hub may be several machines after a fault.
+  -- The hub is this machine: its disk is honest, and the machine has what the fields of the hub have. The group in
+  -- doubt is in none of them: only the images of the disk show it. So a hub may be several machines after a fault.
   pub record Shows (hub : HubParts D) (machine : HubState) : Type 0 where
     pub place : ShowsPlace hub.file hub.lost machine
     pub sessions_are : machine.sessions ≡ hub.sessions

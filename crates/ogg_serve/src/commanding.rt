@@ -84,7 +84,8 @@ pub(crate) fn group_file<D: Disk>(file: &mut Option<Recorder<D>>, most: u32)
 
 /// How many commands wait.
 pub(crate) fn held_in<D: Disk>(file: &Option<Recorder<D>>) -> u64
-    ensures { (lost : Option (Lost D)) (machine : HubState) → ShowsPlace D.is_honest D.state file.now lost machine → result ≡ machine.waiting }
+    ensures { (lost : Option (Lost D)) (machine : HubState) → ShowsPlace D.is_honest D.state file.now lost machine
+        → result ≡ machine.waiting }
 {
     match file {
         Some(recorder) => recorder.held(),

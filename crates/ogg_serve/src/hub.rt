@@ -13,7 +13,7 @@ use disk_model::Disk;
 use feed_codec::Kept;
 use gate_file::OpenFault;
 use ogg_recorder::{Outcome, Recorder};
-use sessions::HubFault;
+use sessions::{HubFault, SeenAsHub};
 use std::alloc::{AllocError as Memory, Global};
 use std::marker::Model;
 
@@ -44,6 +44,13 @@ impl<D: Disk> Model for Hub<D> {
     ghost view = { λ h. hub_parts h.file h.lost (map session_of h.sessions.items) h.next h.most };
 
     ghost invariant = { λ h. IsHub (hub_parts h.file h.lost (map session_of h.sessions.items) h.next h.most) × (64 ≤ vec_capacity h.sessions) };
+}
+
+/// What holds of all steps of the machine holds of a hub's calls.
+impl<D: Disk> SeenAsHub for Hub<D> {
+    ghost use Rattle.ogg_serve.specs.Showing.{Shows};
+
+    ghost shows = { Shows D.is_honest D.state };
 }
 
 impl<D: Disk> Hub<D> {
@@ -106,7 +113,8 @@ impl<D: Disk> Hub<D> {
     /// Records a command, as [`Recorder::command`] does, with its refusals. Without a file it is refused as `Failed`.
     pub fn command(&mut self, command: &Command) -> Result<Outcome, Refusal>
         ensures step { Steps (Shows D.is_honest D.state) self.old self.new (λ after. Record command.now result) }
-        ensures disk { IfFile (Records D.is_honest D.state D.moment D.images_since D.failures command.now result) self.old.file self.new.file }
+        ensures disk { IfFile (Records D.is_honest D.state D.moment D.images_since D.failures command.now result)
+            self.old.file self.new.file }
     {
         command_file(&mut self.file, command)
     }

@@ -32,7 +32,8 @@ pub(crate) fn open_again<D: Disk>(
         × ShowsFile D.is_honest D.state recorder after × reopen_step before (Some after.committed) after × KeepsSessions before after) }
     ensures lost { IfErr result (λ e. (before : HubState) → IsOver D.is_honest D.state disk end before
         → ShowsLost D.is_honest D.state (lost_file e.1 end) (without_file before)) }
-    ensures opened { IfOk result (λ recorder. Reopens D.is_honest D.state D.moment D.images_since D.failures (Ok tt) (Some recorder) disk recorder.file.disk) }
+    ensures opened { IfOk result (λ recorder. Reopens D.is_honest D.state D.moment D.images_since D.failures
+        (Ok tt) (Some recorder) disk recorder.file.disk) }
     ensures failed { IfErr result (λ e. Reopens D.is_honest D.state D.moment D.images_since D.failures (Err e.0) None disk e.1) }
 {
     match Recorder::open(alloc, disk) {
