@@ -3,7 +3,8 @@ ghost use Rattle.std.specs.Prelude.{◌≡◌, ◌+◌, ◌≤◌, ℕ, List, Op
 ghost use Rattle.link_index.specs.Listing.{listing};
 ghost use Rattle.ogg_http.specs.Answer.{AnswerFits, answer_head};
 ghost use Rattle.ogg_http.specs.Range.{LiesIn};
-ghost use Rattle.responses.specs.Response.{Content, Pages, asked_by, asked_range, get_response, lacks_host, ranged, response_by, without_content};
+ghost use Rattle.responses.specs.Response.{Content, Pages, asked_by, asked_range, lacks_host};
+ghost use Rattle.responses.specs.Response.{get_response, ranged, response_by, without_content};
 ghost use Rattle.sending.specs.Answering.{AreFound, IsAnswered, IsFound, IsWhole, cut, length_of, listing_text};
 
 use crate::Memory;
@@ -95,7 +96,8 @@ fn asked_range(range: Option<&[u8]>, len: u64) -> Ranged
 /// The answer with all of the bytes, a part of them, or none (RFC 9110, sections 15.3.1, 15.3.7 and 15.5.17).
 fn ranged(found: Found, range: Ranged) -> (Answer, Body)
     requires { LiesIn (length_of found) range }
-    ensures answered { (committed bytes : List ℕ) → AreFound committed bytes found → IsAnswered committed (ranged bytes range) result.0 result.1 }
+    ensures answered { (committed bytes : List ℕ) → AreFound committed bytes found
+        → IsAnswered committed (ranged bytes range) result.0 result.1 }
     ensures fits { AnswerFits result.0 }
 {
     let len = length_of(found);

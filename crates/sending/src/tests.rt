@@ -33,7 +33,8 @@ const CASES: [Case; 6] = [
     (
         b"/",
         None,
-        "HTTP/1.1 200 OK\r\nContent-Type: text/plain\r\nContent-Length: 68\r\nConnection: close\r\n\r\ncommitted 148\nlink 0 0 148 2\nstream 1 87 3 ended\nstream 2 61 2 open\n",
+        "HTTP/1.1 200 OK\r\nContent-Type: text/plain\r\nContent-Length: 68\r\nConnection: close\r\n\r\n\
+         committed 148\nlink 0 0 148 2\nstream 1 87 3 ended\nstream 2 61 2 open\n",
         false,
         0,
         0,
@@ -41,7 +42,8 @@ const CASES: [Case; 6] = [
     (
         b"/all",
         None,
-        "HTTP/1.1 200 OK\r\nContent-Type: application/ogg\r\nContent-Length: 148\r\nAccept-Ranges: bytes\r\nConnection: close\r\n\r\n",
+        "HTTP/1.1 200 OK\r\nContent-Type: application/ogg\r\nContent-Length: 148\r\nAccept-Ranges: bytes\r\n\
+         Connection: close\r\n\r\n",
         false,
         0,
         148,
@@ -49,7 +51,8 @@ const CASES: [Case; 6] = [
     (
         b"/link/0",
         Some(b"bytes=10-40"),
-        "HTTP/1.1 206 Partial Content\r\nContent-Type: application/ogg\r\nContent-Length: 31\r\nContent-Range: bytes 10-40/148\r\nAccept-Ranges: bytes\r\nConnection: close\r\n\r\n",
+        "HTTP/1.1 206 Partial Content\r\nContent-Type: application/ogg\r\nContent-Length: 31\r\n\
+         Content-Range: bytes 10-40/148\r\nAccept-Ranges: bytes\r\nConnection: close\r\n\r\n",
         false,
         10,
         41,
@@ -57,7 +60,8 @@ const CASES: [Case; 6] = [
     (
         b"/link/0/1",
         Some(b"bytes=30-60"),
-        "HTTP/1.1 206 Partial Content\r\nContent-Type: application/ogg\r\nContent-Length: 31\r\nContent-Range: bytes 30-60/87\r\nAccept-Ranges: bytes\r\nConnection: close\r\n\r\n",
+        "HTTP/1.1 206 Partial Content\r\nContent-Type: application/ogg\r\nContent-Length: 31\r\n\
+         Content-Range: bytes 30-60/87\r\nAccept-Ranges: bytes\r\nConnection: close\r\n\r\n",
         true,
         30,
         61,
@@ -65,7 +69,8 @@ const CASES: [Case; 6] = [
     (
         b"/link/0/1",
         Some(b"bytes=-28"),
-        "HTTP/1.1 206 Partial Content\r\nContent-Type: application/ogg\r\nContent-Length: 28\r\nContent-Range: bytes 59-86/87\r\nAccept-Ranges: bytes\r\nConnection: close\r\n\r\n",
+        "HTTP/1.1 206 Partial Content\r\nContent-Type: application/ogg\r\nContent-Length: 28\r\n\
+         Content-Range: bytes 59-86/87\r\nAccept-Ranges: bytes\r\nConnection: close\r\n\r\n",
         true,
         59,
         87,
