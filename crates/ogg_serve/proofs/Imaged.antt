@@ -37,8 +37,8 @@ module _ {D : Type 0} (is_honest : D → Type 0) (state : D → DiskState) (mome
       let disk_is : r.file.disk ≡ new.file.disk = sym (ap (λ (x : RecorderState D). x.file.disk) set) in
       record {
         any_moment = λ h. subst (λ (d : D). LeavesOnly moment images_since disk d (IsAsBefore Commits (state disk))) disk_is (any_moment h);
-        step = λ first w standing closed h.
-            let (found, is, in_) = step first w standing closed h in
+        step = λ first w there closed h.
+            let (found, is, in_) = step first w there closed h in
             (found, subst (λ (d : D). IsStep is_honest state moment images_since Shows Accepts add first w (Opened found) disk d) disk_is is, stands first (happens w (Opened found)) in_);
         honest = subst (λ (d : D). is_honest disk ↔ is_honest d) disk_is honest;
         later = subst (λ (d : D). failures disk ≤ failures d) disk_is later;

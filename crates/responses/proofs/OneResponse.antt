@@ -1,4 +1,4 @@
--- There is one response at most.
+-- There is one response at most. That a head is read in one way is said by httparse (the kit), whose page on calling it names this lemma.
 use Rattle.std.proofs.Common.{◌≡◌, ℕ, Option, Some, None, List, refl, sym, ◌∙◌, ap}
 use Rattle.httparse.proofs.GrammarLemmas.{request_unique}
 use Rattle.ogg_page.specs.Page.{Page}
