@@ -1,10 +1,11 @@
 //! Copies and packets out of a file that is read through a window.
-ghost use Rattle.std.specs.Prelude.{◌≡◌, ◌≢◌, ◌↔◌, ◌⊎◌, ◌≤◌, ◌<◌, ◌^◌, ◌+◌, ◌-◌, List, [], false, Some, Err, length, slice_get};
+ghost use Rattle.std.specs.Prelude.{◌≡◌, ◌≢◌, ◌↔◌, ◌⊎◌, ◌≤◌, ◌<◌, ◌^◌, ◌+◌, ◌-◌, List, [], false, None, Some, Err, length, slice_get};
 ghost use Rattle.std.specs.Prelude.{IfOk, IfErr, IsOk, OnOk};
 ghost use Rattle.std.specs.Io.KnownBytes.{Appends};
-ghost use Rattle.ogg_page.specs.Page.{Page as PageValue, bytes_of_pages};
+ghost use Rattle.std.specs.List.{AllByRecursion};
+ghost use Rattle.ogg_page.specs.Page.{Page as PageValue, IsPage, bytes_of_pages};
 ghost use Rattle.ogg_page.specs.Pages.{found_in};
-ghost use Rattle.ogg_page.specs.Window.{KeepsSource};
+ghost use Rattle.ogg_page.specs.Window.{KeepsSource, left_of};
 ghost use Rattle.link_chain.specs.Links.{pages_with};
 ghost use Rattle.link_index.specs.Index.{LinkEntry};
 ghost use Rattle.packet_view.specs.Packets.{packets_of};
@@ -139,6 +140,39 @@ pub fn parts_of<S: PageSource>(
             Err(fault) => Err((fault, window)),
         },
         Err(fault) => Err((fault, window)),
+    }
+}
+
+/// Sets the window's range to the link with this number, so that the window lends the link's pages from the first one on.
+/// The source's bytes begin with those that the index is of. Nothing is read, and no memory is taken.
+///
+/// The faults are `NoLink`, and `Source`, which comes only of a source that doesn't go as far as the index does. After
+/// `NoLink` the window is as it was.
+pub fn seek_link<S: PageSource>(
+    window: &mut Window<S>,
+    index: &Index,
+    link: u32,
+) -> Result<(), SplitFault>
+    ensures pages { (links : List (List PageValue)) (pages : List PageValue) → AreIndexed links index.now (S.bytes window.old.source)
+        → slice_get links link ≡ Some pages
+        → OnOk result (AllByRecursion IsPage pages × ((left_of S.bytes window.new).bytes ≡ bytes_of_pages pages)) }
+    ensures fresh { OnOk result (window.new.fault ≡ None) }
+    ensures order { OnOk result ((window.new.at ≤ window.new.to) × (window.new.to < 2 ^ 64)) }
+
+    // Which fault, and when.
+    ensures no_link { (result ≡ Err SplitFault.NoLink) ↔ (length index.now.entries ≤ link) }
+    ensures no_stream { result ≢ Err SplitFault.NoStream }
+    ensures no_source { (links : List (List PageValue)) → S.is_honest window.old.source → AreIndexed links index.now (S.bytes window.old.source)
+        → result ≢ Err SplitFault.Source }
+    ensures no_write { result ≢ Err SplitFault.Write }
+    ensures source { window.new.source ≡ window.old.source }
+{
+    match find_link(index, link) {
+        Ok(found) => match set_range(window, found) {
+            Ok(()) => Ok(()),
+            Err(fault) => Err(fault),
+        },
+        Err(fault) => Err(fault),
     }
 }
 
