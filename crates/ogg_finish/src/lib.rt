@@ -12,7 +12,9 @@
 #![tactic(auto)]
 
 mod laws;
+mod passes;
 mod stream_end;
+mod writing;
 
 pub use laws::{finished_links_hold_the_same, link_goes_on_after_its_first_page};
 pub use stream_end::{Mark, StreamEnd};

@@ -1,0 +1,75 @@
+//! A window's pages, looked at and written.
+ghost use Rattle.std.specs.Prelude.{◌≡◌, ◌≢◌, ◌⊎◌, ◌≤◌, ◌<◌, ◌^◌, ◌-◌, List, None, Err, IfErr, OnOk, OnErr};
+ghost use Rattle.std.specs.List.{AllByRecursion};
+ghost use Rattle.ogg_page.specs.Page.{Page as PageValue, IsPage, bytes_of_pages};
+ghost use Rattle.ogg_page.specs.Window.{KeepsSource, left_of};
+ghost use Rattle.ogg_split.specs.Copying.{IsCopy, IsThere};
+ghost use Rattle.ogg_finish.specs.Ends.{ends_after, finished_by};
+
+use crate::stream_end::{StreamEnd, mark_for, note_page};
+use crate::writing::write_page;
+use ogg_page::{PageBuffer, PageSource, Window};
+use ogg_split::SplitFault;
+use std::io::Write;
+
+/// Looks at all of the window's pages.
+pub fn find_ends<S: PageSource>(
+    window: &mut Window<S>,
+    ends: &mut [StreamEnd],
+) -> Result<(), SplitFault>
+    requires fresh { window.old.fault ≡ None }
+    requires order { window.old.at ≤ window.old.to }
+    ensures found { (pages : List PageValue) → S.is_honest window.old.source → AllByRecursion IsPage pages
+        → (left_of S.bytes window.old).bytes ≡ bytes_of_pages pages → OnOk result (ends.new ≡ ends_after pages ends.old) }
+    ensures cause { (pages : List PageValue) → S.is_honest window.old.source → AllByRecursion IsPage pages
+        → (left_of S.bytes window.old).bytes ≡ bytes_of_pages pages → OnErr result
+        ((S.failures window.old.source < S.failures window.new.source) ⊎ (S.failures window.new.source ≡ 2 ^ 64 - 1)) }
+    ensures err { IfErr result (λ fault. fault ≡ SplitFault.Source) }
+    ensures later { S.failures window.old.source ≤ S.failures window.new.source }
+    ensures source { KeepsSource S.bytes S.is_honest S.size S.only_reads window.old.source window.new.source }
+{
+    'pages: loop {
+        match window.advance() {
+            Ok(()) => match window.lent() {
+                Some((_, page)) => note_page(ends, &page),
+                None => return Ok(()),
+            },
+            Err(_) => return Err(SplitFault::Source),
+        }
+    }
+}
+
+/// Writes the window's pages as they are in the finished link.
+pub fn write_finished<S: PageSource, W: Write>(
+    window: &mut Window<S>,
+    ends: &[StreamEnd],
+    buffer: &mut PageBuffer,
+    out: &mut W,
+) -> Result<u64, SplitFault>
+    requires fresh { window.old.fault ≡ None }
+    requires order { window.old.at ≤ window.old.to }
+    requires short { window.old.to < 2 ^ 64 }
+    ensures copied { (pages : List PageValue) → S.is_honest window.old.source → AllByRecursion IsPage pages
+        → (left_of S.bytes window.old).bytes ≡ bytes_of_pages pages
+        → IsCopy (W.contents out.old) (W.contents out.new) (bytes_of_pages (finished_by ends.now pages)) result }
+    ensures cause { (pages : List PageValue) → S.is_honest window.old.source → AllByRecursion IsPage pages
+        → (left_of S.bytes window.old).bytes ≡ bytes_of_pages pages → result ≡ Err SplitFault.Source
+        → (S.failures window.old.source < S.failures window.new.source) ⊎ (S.failures window.new.source ≡ 2 ^ 64 - 1) }
+    ensures there { IsThere result }
+    ensures later { S.failures window.old.source ≤ S.failures window.new.source }
+    ensures source { KeepsSource S.bytes S.is_honest S.size S.only_reads window.old.source window.new.source }
+{
+    let mut count = 0;
+    'pages: loop {
+        match window.advance() {
+            Ok(()) => match window.lent() {
+                Some((_, page)) => match write_page(&page, mark_for(ends, page.serial()), buffer, out) {
+                    Ok(size) => count += size,
+                    Err(fault) => return Err(fault),
+                },
+                None => return Ok(count),
+            },
+            Err(_) => return Err(SplitFault::Source),
+        }
+    }
+}
