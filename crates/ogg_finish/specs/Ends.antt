@@ -1,6 +1,6 @@
 -- What is kept of a link's streams while its pages are looked at, in turn. Ours.
 use Rattle.std.specs.Prelude.{ℕ, ◌||◌, false, nat_eq, if◌then◌else◌, Option, None, List, [], ◌∷◌, map}
-use Rattle.std.specs.List.{flat_map, fold, list_any}
+use Rattle.std.specs.List.{flat_map, fold}
 use Rattle.ogg_page.specs.Page.{Page}
 use Rattle.ogg_page.specs.LogicalStream.{is_last}
 use Rattle.link_index.specs.declared.info.StreamInfo.{StreamInfo}

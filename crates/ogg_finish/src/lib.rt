@@ -11,10 +11,12 @@
 //! Start at `specs/Finishing.antt`, which says what a finished link is.
 #![tactic(auto)]
 
+mod finishing;
 mod laws;
 mod passes;
 mod stream_end;
 mod writing;
 
+pub use finishing::finish_link;
 pub use laws::{finished_links_hold_the_same, link_goes_on_after_its_first_page};
-pub use stream_end::{Mark, StreamEnd};
+pub use ogg_split::SplitFault;

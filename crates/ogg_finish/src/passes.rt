@@ -63,7 +63,12 @@ pub fn write_finished<S: PageSource, W: Write>(
     'pages: loop {
         match window.advance() {
             Ok(()) => match window.lent() {
-                Some((_, page)) => match write_page(&page, mark_for(ends, page.serial()), buffer, out) {
+                Some((_, page)) => match write_page(
+                    &page,
+                    mark_for(ends, page.serial()),
+                    buffer,
+                    out,
+                ) {
                     Ok(size) => count += size,
                     Err(fault) => return Err(fault),
                 },

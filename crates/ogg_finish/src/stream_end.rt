@@ -15,7 +15,7 @@ pub struct Mark {
 }
 
 /// What is known of a stream by some of its pages.
-#[derive(Clone, Copy, Debug, PartialEq, Eq)]
+#[derive(Clone, Copy, Debug, Default, PartialEq, Eq)]
 pub struct StreamEnd {
     /// The serial number that its pages have.
     pub serial: u32,

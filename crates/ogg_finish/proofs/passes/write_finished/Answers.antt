@@ -1,11 +1,11 @@
-use Rattle.std.proofs.Common.{◌≡◌, ◌≤◌, Option, refl, sym, ◌∙◌, ap, subst, arith, Some, None, Ok, Err, length}
-use Rattle.ogg_page.specs.Page.{bytes_of_pages, page_size}
+use Rattle.std.proofs.Common.{◌≡◌, Option, refl, sym, ◌∙◌, ap, subst, arith, Some, None, Ok, Err, length}
+use Rattle.ogg_page.specs.Page.{bytes_of_pages}
 use Rattle.ogg_page.specs.Window.{answer, HasMoved}
 use Rattle.ogg_split.specs.Copying.{IsCopy}
 use Rattle.ogg_finish.specs.declared.stream_end.Mark.{Mark}
 use Rattle.ogg_finish.specs.Ends.{mark_for}
 use Rattle.ogg_finish.specs.Finishing.{finished_page}
-use Rattle.ogg_finish.proofs.Passed.{begun, passed, part_of, part_fits, cut_within, finished, write_cause, later_cause}
+use Rattle.ogg_finish.proofs.Passed.{begun, passed, part_fits, cut_within, finished, write_cause, later_cause}
 use Rattle.ogg_finish.proofs.passes.write_finished.Goals as goal
 
 pub pages-init : goal.pages-init

@@ -1,0 +1,28 @@
+-- What is left of a source after two calls in turn.
+use Rattle.std.proofs.Common.{◌≡◌, ◌≢◌, ℕ, List, Result, Err, ◌∙◌, subst}
+use Rattle.ogg_split.specs.declared.fault.SplitFault.{SplitFault}
+use Rattle.ogg_split.specs.declared.fault.SplitFault.TheVariants.{NoLink, NoStream, Source, Write}
+use Rattle.ogg_page.specs.Window.{KeepsSource}
+
+pub keeps_on : {S : Type 0} (bytes : S → List ℕ) (honest : S → Type 0) (size : S → ℕ) (only : S → S → Type 0)
+    → ((first second third : S) → only first second → only second third → only first third)
+    → (old mid now : S) → KeepsSource bytes honest size only old mid → KeepsSource bytes honest size only mid now → KeepsSource bytes honest size only old now
+keeps_on bytes honest size only on old mid now a b = record {
+  bytes_same = λ sure. b.bytes_same (a.honest_same.0 sure) ∙ a.bytes_same sure;
+  honest_same = ((λ h. b.honest_same.0 (a.honest_same.0 h)), (λ h. a.honest_same.1 (b.honest_same.1 h)));
+  size_same = b.size_same ∙ a.size_same;
+  only = on old mid now a.only b.only;
+}
+
+-- a call that leaves the source as it is goes before another
+pub keeps_from : {S : Type 0} (bytes : S → List ℕ) (honest : S → Type 0) (size : S → ℕ) (only : S → S → Type 0)
+    → (old mid now : S) → mid ≡ old → KeepsSource bytes honest size only mid now → KeepsSource bytes honest size only old now
+keeps_from bytes honest size only old mid now same kept = subst (λ s. KeepsSource bytes honest size only s now) same kept
+
+-- a fault that is none of these isn't there
+pub none_of : {T : Type 0} (result : Result T SplitFault) (fault : SplitFault) → result ≡ Err fault → result ≢ Err NoLink → result ≢ Err NoStream → result ≢ Err Source
+    → result ≢ Err Write → ⊥
+none_of result NoLink is a b c d = a is
+none_of result NoStream is a b c d = b is
+none_of result Source is a b c d = c is
+none_of result Write is a b c d = d is

@@ -1,0 +1,132 @@
+//! A link written as players like it.
+ghost use Rattle.std.specs.Prelude.{◌≡◌, ◌≢◌, ◌↔◌, ◌⊎◌, ◌≤◌, ◌<◌, ◌^◌, ◌-◌, List, [], Some, None, Err, OnErr, IfOk, IfErr, length, map, slice_get};
+ghost use Rattle.std.specs.Io.KnownBytes.{Appends};
+ghost use Rattle.arrayvec.specs.ArrayVec.{array_vec_len};
+ghost use Rattle.ogg_page.specs.Page.{Page as PageValue, bytes_of_pages};
+ghost use Rattle.ogg_page.specs.Window.{KeepsSource};
+ghost use Rattle.ogg_split.specs.Asked.{AreIndexed};
+ghost use Rattle.ogg_split.specs.Copying.{IsCopy, IsThere};
+ghost use Rattle.ogg_finish.specs.Ends.{ends_after, finished_by, without_pages};
+ghost use Rattle.ogg_finish.specs.Finishing.{finished_link};
+
+use crate::passes::{find_ends, write_finished};
+use crate::stream_end::StreamEnd;
+use arrayvec::ArrayVec;
+use link_chain::MOST_STREAMS;
+use link_index::{Index, StreamInfo};
+use ogg_page::{PageBuffer, PageSource, Window};
+use ogg_split::{SplitFault, seek_link};
+use std::io::Write;
+
+/// Writes the link with this number, counted from 0, finished, and gives how many bytes it has then. The source's bytes
+/// begin with those that the index is of. The link is read twice, a page at a time; a page whose mark changes is made anew
+/// in the buffer, and each other is written as it stands. The range of the window is left where the writing ended. No
+/// memory is taken.
+///
+/// The faults are `NoLink`, after which nothing is written; `Source`, if a read failed or gave no good page; and `Write`.
+/// After `Source` and `Write` a prefix of the finished pages was written.
+pub fn finish_link<S: PageSource, W: Write>(
+    window: &mut Window<S>,
+    index: &Index,
+    link: u32,
+    buffer: &mut PageBuffer,
+    out: &mut W,
+) -> Result<u64, SplitFault>
+    ensures written { (links : List (List PageValue)) (pages : List PageValue) → S.is_honest window.old.source
+        → AreIndexed links index.now (S.bytes window.old.source) → slice_get links link ≡ Some pages
+        → IsCopy (W.contents out.old) (W.contents out.new) (bytes_of_pages (finished_link pages)) result }
+
+    // Which fault, and when.
+    ensures no_link { (result ≡ Err SplitFault.NoLink) ↔ (length index.now.entries ≤ link) }
+    ensures no_stream { result ≢ Err SplitFault.NoStream }
+    ensures nothing { result ≡ Err SplitFault.NoLink → Appends (W.contents out.old) (W.contents out.new) [] }
+    ensures cause { (links : List (List PageValue)) → S.is_honest window.old.source
+        → AreIndexed links index.now (S.bytes window.old.source) → result ≡ Err SplitFault.Source
+        → (S.failures window.old.source < S.failures window.new.source) ⊎ (S.failures window.new.source ≡ 2 ^ 64 - 1) }
+
+    // What it leaves of the source.
+    ensures later { S.failures window.old.source ≤ S.failures window.new.source }
+    ensures source { KeepsSource S.bytes S.is_honest S.size S.only_reads window.old.source window.new.source }
+{
+    match index.streams(link) {
+        Some(streams) => match find_link_ends(window, index, link, streams) {
+            Ok(ends) => write_link(window, index, link, ends.as_slice(), buffer, out),
+            Err(fault) => Err(fault),
+        },
+        None => Err(SplitFault::NoLink),
+    }
+}
+
+/// Looks at all of the link's pages. The streams are the link's.
+fn find_link_ends<S: PageSource>(
+    window: &mut Window<S>,
+    index: &Index,
+    link: u32,
+    streams: &[StreamInfo],
+) -> Result<ArrayVec<StreamEnd, MOST_STREAMS>, SplitFault>
+    requires here { link < length index.now.entries }
+    ensures found { (links : List (List PageValue)) (pages : List PageValue) → S.is_honest window.old.source
+        → AreIndexed links index.now (S.bytes window.old.source) → slice_get links link ≡ Some pages
+        → IfOk result (λ ends. ends.items ≡ ends_after pages (map without_pages streams.now)) }
+    ensures cause { (links : List (List PageValue)) → S.is_honest window.old.source
+        → AreIndexed links index.now (S.bytes window.old.source) → length streams.now ≤ 64 → OnErr result
+        ((S.failures window.old.source < S.failures window.new.source) ⊎ (S.failures window.new.source ≡ 2 ^ 64 - 1)) }
+    ensures err { IfErr result (λ fault. fault ≡ SplitFault.Source) }
+    ensures later { S.failures window.old.source ≤ S.failures window.new.source }
+    ensures source { KeepsSource S.bytes S.is_honest S.size S.only_reads window.old.source window.new.source }
+{
+    // A link has no more streams.
+    if streams.len() > MOST_STREAMS {
+        return Err(SplitFault::Source);
+    }
+    let mut ends = ends_of(streams);
+    match seek_link(window, index, link) {
+        Ok(()) => match find_ends(window, ends.as_mut_slice()) {
+            Ok(()) => Ok(ends),
+            Err(fault) => Err(fault),
+        },
+        Err(_) => Err(SplitFault::Source),
+    }
+}
+
+/// Writes the link's pages, finished by what is known of their streams.
+fn write_link<S: PageSource, W: Write>(
+    window: &mut Window<S>,
+    index: &Index,
+    link: u32,
+    ends: &[StreamEnd],
+    buffer: &mut PageBuffer,
+    out: &mut W,
+) -> Result<u64, SplitFault>
+    requires here { link < length index.now.entries }
+    ensures written { (links : List (List PageValue)) (pages : List PageValue) → S.is_honest window.old.source
+        → AreIndexed links index.now (S.bytes window.old.source) → slice_get links link ≡ Some pages
+        → IsCopy (W.contents out.old) (W.contents out.new) (bytes_of_pages (finished_by ends.now pages)) result }
+    ensures there { IsThere result }
+    ensures cause { (links : List (List PageValue)) → S.is_honest window.old.source
+        → AreIndexed links index.now (S.bytes window.old.source) → result ≡ Err SplitFault.Source
+        → (S.failures window.old.source < S.failures window.new.source) ⊎ (S.failures window.new.source ≡ 2 ^ 64 - 1) }
+    ensures later { S.failures window.old.source ≤ S.failures window.new.source }
+    ensures source { KeepsSource S.bytes S.is_honest S.size S.only_reads window.old.source window.new.source }
+{
+    match seek_link(window, index, link) {
+        Ok(()) => write_finished(window, ends, buffer, out),
+        Err(_) => Err(SplitFault::Source),
+    }
+}
+
+/// The streams before their first pages.
+fn ends_of(streams: &[StreamInfo]) -> ArrayVec<StreamEnd, MOST_STREAMS>
+    requires { length streams.now ≤ 64 }
+    ensures { result.items ≡ map without_pages streams.now }
+{
+    let mut ends = ArrayVec::new();
+    for stream in streams {
+        ends.push(StreamEnd {
+            serial: stream.serial,
+            ended: false,
+            mark: None,
+        });
+    }
+    ends
+}
