@@ -26,3 +26,7 @@ none_of result NoLink is a b c d = a is
 none_of result NoStream is a b c d = b is
 none_of result Source is a b c d = c is
 none_of result Write is a b c d = d is
+
+-- a result has one fault
+pub one_fault : {T : Type 0} (result : Result T SplitFault) (fault other : SplitFault) → result ≡ Err fault → result ≡ Err other → fault ≡ other
+one_fault result fault other a b = cc

@@ -127,6 +127,10 @@ pages_in [] number start lt = absurd (omega (arith, lt))
 pages_in (link ∷ links) zero start lt = (link, refl)
 pages_in (link ∷ links) (suc number) start lt = pages_in links number (start + length (bytes_of_pages link)) (omega (arith, lt))
 
+pub as_many_links : (links : List (List Page)) (start : ℕ) → length (index_from start links) ≡ length links
+as_many_links [] start = refl
+as_many_links (link ∷ links) start = ap suc (as_many_links links (start + length (bytes_of_pages link)))
+
 pub link_in : (links : List (List Page)) (number : ℕ) (pages : List Page) → AllByRecursion IsLink links → slice_get links number ≡ Some pages → IsLink pages
 link_in [] number pages each e = cc
 link_in (link ∷ links) zero pages each e = subst IsLink (inside link pages e) each.0

@@ -1,13 +1,15 @@
 //! A link written as players like it.
-ghost use Rattle.std.specs.Prelude.{◌≡◌, ◌≢◌, ◌↔◌, ◌⊎◌, ◌≤◌, ◌<◌, ◌^◌, ◌-◌, List, [], Some, None, Err, OnErr, IfOk, IfErr, length, map, slice_get};
+ghost use Rattle.std.specs.Prelude.{◌≡◌, ◌≢◌, ◌↔◌, ◌⊎◌, ◌≤◌, ◌<◌, ◌^◌, ◌-◌, List, [], Some, None, Err, OnOk, OnErr, IfOk, IfErr, length, map, slice_get};
 ghost use Rattle.std.specs.Io.KnownBytes.{Appends};
 ghost use Rattle.arrayvec.specs.ArrayVec.{array_vec_len};
+ghost use Rattle.std.specs.List.{flat_map};
+ghost use Rattle.ogg_page.specs.Output.{WritesPrefix};
 ghost use Rattle.ogg_page.specs.Page.{Page as PageValue, bytes_of_pages};
 ghost use Rattle.ogg_page.specs.Window.{KeepsSource};
 ghost use Rattle.ogg_split.specs.Asked.{AreIndexed};
 ghost use Rattle.ogg_split.specs.Copying.{IsCopy, IsThere};
 ghost use Rattle.ogg_finish.specs.Ends.{ends_after, finished_by, without_pages};
-ghost use Rattle.ogg_finish.specs.Finishing.{finished_link};
+ghost use Rattle.ogg_finish.specs.Finishing.{finished_link, finished_links};
 
 use crate::passes::{find_ends, write_finished};
 use crate::stream_end::StreamEnd;
@@ -55,6 +57,40 @@ pub fn finish_link<S: PageSource, W: Write>(
         },
         None => Err(SplitFault::NoLink),
     }
+}
+
+/// Writes all links of a file, finished, as [`finish_link`] does, in turn. The source's bytes begin with those that the
+/// index is of. No memory is taken.
+///
+/// The faults are `Source` and `Write`, after which a prefix of the finished pages was written.
+pub fn finish_file<S: PageSource, W: Write>(
+    window: &mut Window<S>,
+    index: &Index,
+    buffer: &mut PageBuffer,
+    out: &mut W,
+) -> Result<(), SplitFault>
+    ensures written { (links : List (List PageValue)) → S.is_honest window.old.source → AreIndexed links index.now (S.bytes window.old.source)
+        → OnOk result (Appends (W.contents out.old) (W.contents out.new) (flat_map bytes_of_pages (finished_links links))) }
+    ensures prefix { (links : List (List PageValue)) → S.is_honest window.old.source → AreIndexed links index.now (S.bytes window.old.source)
+        → OnErr result (WritesPrefix (W.contents out.old) (W.contents out.new) (flat_map bytes_of_pages (finished_links links))) }
+
+    // Which fault, and when.
+    ensures there { IsThere result }
+    ensures cause { (links : List (List PageValue)) → S.is_honest window.old.source
+        → AreIndexed links index.now (S.bytes window.old.source) → result ≡ Err SplitFault.Source
+        → (S.failures window.old.source < S.failures window.new.source) ⊎ (S.failures window.new.source ≡ 2 ^ 64 - 1) }
+
+    // What it leaves of the source.
+    ensures later { S.failures window.old.source ≤ S.failures window.new.source }
+    ensures source { KeepsSource S.bytes S.is_honest S.size S.only_reads window.old.source window.new.source }
+{
+    for link in 0..index.links() {
+        match finish_link(window, index, link, buffer, out) {
+            Ok(_) => {}
+            Err(fault) => return Err(fault),
+        }
+    }
+    Ok(())
 }
 
 /// Looks at all of the link's pages. The streams are the link's.

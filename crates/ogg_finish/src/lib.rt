@@ -17,6 +17,6 @@ mod passes;
 mod stream_end;
 mod writing;
 
-pub use finishing::finish_link;
+pub use finishing::{finish_file, finish_link};
 pub use laws::{finished_links_hold_the_same, link_goes_on_after_its_first_page};
 pub use ogg_split::SplitFault;
