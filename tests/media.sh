@@ -95,6 +95,32 @@ for name in vorbis opus flac theora chain; do
     read_whole "$name" "$work/$name.again.ogg"
 done
 
+# finished NAME: what is muxed again and then finished is played as the encoder's file is, to the last sample, and ends as oggz
+# wants it. Frames of a film are compared too.
+sounds() { ffmpeg -nostdin -loglevel error -i "$1" -map 0:a -f md5 - && ffmpeg -nostdin -loglevel error -i "$1" -map '0:v?' -map 0:a -f framemd5 - | cut -d , -f 1,6; }
+finished() {
+    local name=$1
+    "$program" finish "$work/$name.again.ogg" >"$work/$name.finished.ogg"
+    check "$name, finished: status" [ $? -eq 0 ]
+    packets "$work/$name.finished.ogg" >"$work/$name.found"
+    check "$name, finished: the packets are the same" cmp "$work/$name.want" "$work/$name.found"
+    sounds "$work/$name.ogg" >"$work/want"
+    sounds "$work/$name.finished.ogg" >"$work/found"
+    check "$name, finished: something is played" grep -q 'MD5=' "$work/want"
+    check "$name, finished: ffmpeg plays the same" cmp "$work/want" "$work/found"
+    check "$name, finished: ogginfo warns of no more than of the encoder's file" same_warnings "$work/$name.ogg" "$work/$name.finished.ogg"
+    oggz validate "$work/$name.ogg" >"$work/want" 2>&1
+    oggz validate "$work/$name.finished.ogg" >"$work/found" 2>&1
+    check "$name, finished: oggz validate complains of no more than of the encoder's file" \
+        [ -z "$(comm -13 <(complaints "$work/want") <(complaints "$work/found"))" ]
+    "$program" finish "$work/$name.ogg" >"$work/found"
+    check "$name: the encoder's file stays as it is" cmp "$work/$name.ogg" "$work/found"
+}
+complaints() { sed 's/^.*serialno [0-9]*[:;]* *//; s/^[0-9:. -]*//; /validate/d; /\.ogg/d' "$1" | sort -u; }
+for name in vorbis opus flac theora chain; do
+    finished "$name"
+done
+
 # Each stream of each link of an encoder's chain, cut out: oggz and ffprobe read its packets as they do of the file that the
 # encoder made.
 cut_out() {

@@ -15,7 +15,7 @@ use Rattle.feed_codec.specs.declared.fault.RunFault.{RunFault}
 use Rattle.feed_codec.specs.declared.fault.RunFault.TheVariants.{Feed as RunFeed, Write as RunWrite, TooMany as RunTooMany}
 use Rattle.ogg_split.specs.SplitFault as S
 use Rattle.fault_lines.specs.declared.fault.Fault.{Fault}
-use Rattle.fault_lines.specs.declared.fault.Fault.TheVariants.{File, Memory, Open, Feed, Write, TooMany, Index, Split, Failed, Seal}
+use Rattle.fault_lines.specs.declared.fault.Fault.TheVariants.{File, Memory, Open, Feed, Write, TooMany, Index, Split, Finish, Failed, Seal}
 
 -- a number and a name, and then this
 abbrev pub coded : ℕ → List ℕ → List ℕ → List ℕ
@@ -48,6 +48,7 @@ fault_line Write = codes "fault write" ++ line_end
 fault_line TooMany = codes "fault run 3 TooMany" ++ line_end
 fault_line (Index fault) = codes "fault index " ++ coded (I.code_of fault) (I.name_of fault) (index_rest fault)
 fault_line (Split fault) = codes "fault split " ++ coded (S.code_of fault) (S.name_of fault) line_end
+fault_line (Finish fault) = codes "fault finish " ++ coded (S.code_of fault) (S.name_of fault) line_end
 fault_line Failed = codes "fault failed" ++ line_end
 fault_line Seal = codes "fault seal" ++ line_end
 

@@ -41,6 +41,9 @@ pub enum Fault {
     /// A link or a stream wasn't copied as a whole.
     #[error("{0}")]
     Split(SplitFault),
+    /// A link wasn't written finished as a whole.
+    #[error("{0}")]
+    Finish(SplitFault),
     /// The disk has failed while it recorded.
     #[error("the disk has failed")]
     Failed,
@@ -100,6 +103,12 @@ fn line_of(fault: Fault) -> Line
             let mut line = Line::new();
             put_coded(&mut line, fault.code(), fault.name());
             line.put_text(b"fault split ");
+            line
+        }
+        Fault::Finish(fault) => {
+            let mut line = Line::new();
+            put_coded(&mut line, fault.code(), fault.name());
+            line.put_text(b"fault finish ");
             line
         }
         Fault::Failed => words(b"fault failed"),

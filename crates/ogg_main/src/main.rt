@@ -5,6 +5,7 @@
 #![tactic(auto)]
 
 mod files;
+mod finishing;
 mod indexing;
 mod salvaging;
 mod streams;
@@ -46,6 +47,7 @@ fn run(rt: &HostRuntime, action: Action<'_>) -> Result<(), Fault> {
         Action::Record { file, seal, most } => streams::record(rt, file, seal, most),
         Action::Links { file } => files::links(rt, file),
         Action::Split { file, link, serial } => files::split(rt, file, link, serial),
+        Action::Finish { file, link } => finishing::finish(rt, file, link),
         Action::Salvage { file } => salvaging::salvage(rt, file),
     }
 }

@@ -28,6 +28,11 @@ pub enum Action<'a> {
         link: u32,
         serial: Option<u32>,
     },
+    /// A link of the file as players like it, or all of its links.
+    Finish {
+        file: &'a str,
+        link: Option<u32>,
+    },
     /// Where the file has good pages.
     Salvage {
         file: &'a str,
@@ -52,6 +57,7 @@ pub fn action_of<'a>(alloc: Global, words: &'a [String]) -> Result<Action<'a>, E
         Some(("record", words)) => record_of(words),
         Some(("links", words)) => links_of(words),
         Some(("split", words)) => split_of(words),
+        Some(("finish", words)) => finish_of(words),
         Some(("salvage", words)) => salvage_of(words),
         _ => None,
     };
@@ -79,6 +85,7 @@ fn program<'a>(alloc: Global) -> Result<Command<'a>, AllocError> {
         .subcommand(record(alloc)?)?
         .subcommand(links(alloc)?)?
         .subcommand(split(alloc)?)?
+        .subcommand(finish(alloc)?)?
         .subcommand(salvage(alloc)?)
 }
 
@@ -236,6 +243,39 @@ fn split_of<'a>(words: &ArgMatches<'a>) -> Option<Action<'a>> {
         file: words.get_str("FILE")?,
         link: words.get_one::<u32>("LINK")?,
         serial: words.get_one::<u32>("SERIAL"),
+    })
+}
+
+fn finish<'a>(alloc: Global) -> Result<Command<'a>, AllocError> {
+    let link = Arg::new(alloc, "LINK")
+        .help(
+            "The link's number, counted from 0, as `links` lists it; without it all links are written",
+        )
+        .value_parser(value_parser!(u32));
+    Command::new(alloc, "finish")
+        .about("Writes a file, or one of its links, as players like it")
+        .after_help(FINISH_HELP)
+        .arg(file(alloc, "The file, which is only read"))?
+        .arg(link)
+}
+
+const FINISH_HELP: &str = "\
+`end` marks a stream's last page by one page more, without packets, which some players take for a few
+samples too many or too few. What goes to standard output has the mark on the last page with a packet,
+and such a page after it is gone; the streams and their packets are the same:
+
+  kudzuturret finish radio.ogg > radio-to-play.ogg
+  kudzuturret finish radio.ogg 0 > first-to-play.ogg
+
+A stream that hasn't ended stays as it is, and so does one whose end another program told by a
+position on a page without packets. A file that is being recorded, or that a stop left with a tail, is
+written up to its last command that was kept.
+";
+
+fn finish_of<'a>(words: &ArgMatches<'a>) -> Option<Action<'a>> {
+    Some(Action::Finish {
+        file: words.get_str("FILE")?,
+        link: words.get_one::<u32>("LINK"),
     })
 }
 
