@@ -6,6 +6,7 @@ mod Match
 mod Alone
 mod Others
 mod Exact
+mod Changes
 mod Few
 mod Grows
 mod Recorded
@@ -15,3 +16,5 @@ mod StreamRest
 mod LinkPlaces
 mod Seeing
 mod Examples
+mod Own
+mod Numbered

@@ -4,3 +4,4 @@ pub mod Run
 pub mod Sound
 pub mod Calls
 pub mod Places
+pub mod Own

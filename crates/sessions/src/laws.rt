@@ -1,5 +1,5 @@
 //! What always holds of the sessions of a hub.
-ghost use Rattle.std.specs.Prelude.{◌≡◌, ◌≢◌, ◌↔◌, ◌⊎◌, ◌<◌, ◌≤◌, ◌^◌, ◌++◌, ℕ, List, Option, Some, None, IsSome, Result, Ok, Err, false, length, ⊤};
+ghost use Rattle.std.specs.Prelude.{◌≡◌, ◌≢◌, ◌↔◌, ◌⊎◌, ◌<◌, ◌≤◌, ◌^◌, ◌++◌, [], ℕ, List, Option, Some, None, IsSome, Result, Ok, Err, false, length, ⊤};
 ghost use Rattle.std.specs.List.{AllByRecursion, range_with_len};
 ghost use Rattle.ogg_command.specs.declared.command.Command.{Command};
 ghost use Rattle.ogg_command.specs.declared.refusal.Refusal.{Refusal};
@@ -10,8 +10,9 @@ ghost use Rattle.responses.specs.Response.{Asked, Asks, AsksOrWaits, IsResponse}
 ghost use Rattle.sessions.specs.declared.fault.HubFault.{HubFault as HubFaultOf};
 ghost use Rattle.sessions.specs.declared.fault.HubFault.TheVariants.{NoSession, SessionsFull, Source, Memory, NoFile};
 ghost use Rattle.sessions.specs.declared.answers.Progress.{Progress as ProgressOf};
-ghost use Rattle.sessions.specs.Hub.{HubState, IsNew, Given, Event, Reading, Connect, Receive, Pull, Close, Record, Flush, Reopen, MayBeFound, hub_step, phase_of};
+ghost use Rattle.sessions.specs.Hub.{HubState, IsNew, Given, Event, Reading, Sending, Connect, Receive, Pull, Close, Record, Flush, Reopen, MayBeFound, hub_step, phase_of};
 ghost use Rattle.sessions.specs.Run.{Step, AreSteps, IsUnused, own_calls, committed_at_head, pulled, session_of, IsServed, all_connected};
+ghost use Rattle.sessions.specs.Own.{AreNumbered, HasReceived, HasPulled, KeepsFile};
 ghost use Rattle.sessions.specs.Sound.{Extends, HasCommand, IsSound};
 
 use chain_rules::{command_adds_its_packets, refusals_are_of_the_table};
@@ -44,10 +45,34 @@ pub fn other_sessions_stay()
         → phase_of new id ≡ phase_of old id }
 {}
 
+/// What a call does to its own session. A session that was connected has received nothing; what it receives is added
+/// to its head, until its response is fixed; a pull gives the front of what is left; and it ends when it is closed.
+/// None of these calls changes the file, or what waits for it.
+pub fn calls_move_their_session()
+    ensures connect { (old new : HubState) (id : ℕ) → hub_step old (Connect (Ok id)) new → phase_of old id ≡ None
+        → phase_of new id ≡ Some (Reading []) }
+    ensures receive { (old new : HubState) (id : ℕ) (received bytes : List ℕ) (progress : ProgressOf)
+        → phase_of old id ≡ Some (Reading received) → hub_step old (Receive id bytes (Ok progress)) new
+        → HasReceived old id (received ++ bytes) progress new }
+    ensures pull { (old new : HubState) (id size : ℕ) (rest : List ℕ) (given : Given)
+        → phase_of old id ≡ Some (Sending rest) → hub_step old (Pull id size (Ok given)) new → HasPulled id rest size given new }
+    ensures close { (old new : HubState) (id : ℕ) (answer : Result ⊤ HubFaultOf) → hub_step old (Close id answer) new
+        → phase_of new id ≡ None }
+    ensures file { (old new : HubState) (event : Event) (id : ℕ) → hub_step old event new → session_of event ≡ Some id
+        → KeepsFile old new }
+{}
+
 /// The numbers that are given to sessions rise one by one, so that none is given twice.
 pub fn numbers_are_given_once()
     ensures { (start : HubState) (steps : List Step) → AreSteps start steps
         → all_connected steps ≡ range_with_len start.next_id (length (all_connected steps)) }
+{}
+
+/// Each session has a number that was given, if it was so at first, and so no session has the next number.
+pub fn sessions_are_numbered()
+    ensures new { (hub : HubState) → IsNew hub → AreNumbered hub }
+    ensures kept { (old new : HubState) (event : Event) → hub_step old event new → AreNumbered old → AreNumbered new }
+    ensures unused { (hub : HubState) → AreNumbered hub → IsUnused hub hub.next_id }
 {}
 
 /// There are never more than 64 sessions.

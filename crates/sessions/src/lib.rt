@@ -22,8 +22,9 @@ pub use answers::{Progress, Pulled};
 pub use calls::{SeenAsHub, calls_are_steps};
 pub use fault::HubFault;
 pub use laws::{
-    calls_can_be_answered, committed_bytes_grow, numbers_are_given_once, other_sessions_stay,
-    refusals_are_exact, sessions_are_few, sessions_get_their_responses,
+    calls_can_be_answered, calls_move_their_session, committed_bytes_grow, numbers_are_given_once,
+    other_sessions_stay, refusals_are_exact, sessions_are_few, sessions_are_numbered,
+    sessions_get_their_responses,
 };
 pub use rests::{
     parts_are_places, stream_rests_are_found, stream_rests_are_places,

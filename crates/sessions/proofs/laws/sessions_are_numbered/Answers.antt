@@ -1,0 +1,5 @@
+use Rattle.sessions.proofs.Numbered.{at_first, kept, unused}
+use Rattle.sessions.proofs.laws.sessions_are_numbered.Goals as goal
+
+pub returns : goal.returns
+returns c = record { new = at_first; kept = kept; unused = unused }
