@@ -10,8 +10,8 @@ use feed_run::Runner;
 use ogg_page::WriteFault;
 use std::io::Write;
 
-/// The reply to a command.
-fn reply_to(answer: Result<Outcome, Refusal>) -> Reply
+/// The reply that tells what became of a command.
+pub fn reply_to(answer: Result<Outcome, Refusal>) -> Reply
     ensures { result ≡ reply_of answer }
 {
     match answer {
@@ -21,8 +21,8 @@ fn reply_to(answer: Result<Outcome, Refusal>) -> Reply
     }
 }
 
-/// The reply to a flush.
-fn reply_to_flush(answer: Result<Kept, Refusal>) -> Reply
+/// The reply that tells what became of a flush.
+pub fn reply_to_flush(answer: Result<Kept, Refusal>) -> Reply
     ensures { result ≡ reply_of_flush answer }
 {
     match answer {

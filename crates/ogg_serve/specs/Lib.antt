@@ -1,3 +1,4 @@
 pub mod Images
 pub mod Parts
 pub mod Showing
+pub mod Running

@@ -10,6 +10,7 @@
 mod commanding;
 mod hub;
 mod opening;
+mod running;
 mod session;
 
 pub use gate_file::OpenFault;
