@@ -1,5 +1,9 @@
-mod Listed
-mod Stepping
-mod Reopening
-mod Sessions
-mod Imaged
+pub mod Fronts
+pub mod Imaged
+pub mod Listed
+pub mod FileRead
+pub mod Reopening
+pub mod Sessions
+pub mod Stages
+pub mod Stepping
+pub mod Steps

@@ -3,6 +3,7 @@ use Rattle.std.specs.Prelude.{◌≡◌, ◌⊎◌, ◌↔◌, ℕ, ◌-◌, ◌
 use Rattle.disk_model.specs.Image.{DiskState}
 use Rattle.disk_model.specs.Clock.{LeavesOnly}
 use Rattle.gate_file.specs.Commit.{CommitsTo, CommitsToEither}
+use Rattle.gate_file.specs.Reading.{OnlyReads}
 use Rattle.gate_file.specs.declared.fault.OpenFault.{OpenFault}
 use Rattle.gate_file.specs.declared.fault.OpenFault.TheVariants.{Disk as DiskOf}
 use Rattle.link_chain.specs.Recording.{Recording}
@@ -10,16 +11,17 @@ use Rattle.chain_rules.specs.Encoding.{command_bytes}
 use Rattle.chain_rules.specs.Recording.{add}
 use Rattle.feed_codec.specs.declared.reply.Kept.{Kept}
 use Rattle.history.specs.Showing.{IsAsBefore}
-use Rattle.history.specs.World.{World, Opening, Opened, Faulted, happens}
+use Rattle.history.specs.World.{World, Opening, Opened, Looked, Faulted, happens}
 use Rattle.history.specs.History.{IsStep, StandsIn}
 use Rattle.ogg_command.specs.declared.command.Command.{Command}
 use Rattle.ogg_command.specs.declared.refusal.Refusal.{Refusal}
 use Rattle.ogg_command.specs.declared.refusal.Refusal.TheVariants.{Disk}
 use Rattle.ogg_recorder.specs.Answer.{call_of, command_step, flush_step}
-use Rattle.ogg_recorder.specs.Recorder.{RecorderState, IsIn, committed, staged}
+use Rattle.ogg_recorder.specs.Recorder.{RecorderState, IsIn, over_disk, committed, staged}
 use Rattle.ogg_recorder.specs.Recovery.{Commits, Shows, Accepts}
 use Rattle.ogg_recorder.specs.declared.commanding.Outcome.{Outcome}
 use Rattle.ogg_recorder.specs.declared.commanding.Outcome.TheVariants.{Held as WasHeld}
+use Rattle.sending.specs.Sending.{HasFailed}
 use Rattle.ogg_serve.specs.declared.opening.Lost.{Lost}
 
 -- the disk of a hub
@@ -62,6 +64,19 @@ module _ {D : Type 0} (is_honest : D → Type 0) (state : D → DiskState) (mome
     pub honest : is_honest old.file.disk ↔ is_honest new.file.disk
     pub later : failures old.file.disk ≤ failures new.file.disk
     pub cause : result ≡ Err Disk → (failures old.file.disk < failures new.file.disk) ⊎ (failures new.file.disk ≡ 2 ^ 64 - 1)
+
+  -- What a call of a session leaves of the file: it is only read, so that each image shows the same.
+  pub record Reads (old new : RecorderState D) : Type 0 where
+    pub only : OnlyReads is_honest state moment images_since old.file.disk new.file.disk
+    pub same : new ≡ over_disk new.file.disk old
+    pub step : (first : Recording) (w : World Command) → IsIn is_honest state first w old → is_honest old.file.disk
+        → IsStep is_honest state moment images_since Shows Accepts add first w Looked old.file.disk new.file.disk
+        × IsIn is_honest state first w new
+    pub later : failures old.file.disk ≤ failures new.file.disk
+
+  -- a failure of its disk was counted
+  abbrev pub Fails : RecorderState D → RecorderState D → Type 0
+  Fails old new = HasFailed (failures old.file.disk) (failures new.file.disk)
 
   -- which step of a history a reopening is
   abbrev pub OpensIn : Recording → World Command → D → D → Option (RecorderState D) → Type 0

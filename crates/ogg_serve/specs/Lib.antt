@@ -1,4 +1,6 @@
 pub mod Images
+pub mod Indexing
 pub mod Parts
+pub mod Serving
 pub mod Showing
 pub mod Running

@@ -1,17 +1,15 @@
 -- What a hub keeps, as its contracts see it. Ours.
-use Rattle.std.specs.Prelude.{◌≡◌, ℕ, ◌^◌, ◌≤◌, Option, None, Some, IsSome, List, []}
-use Rattle.sessions.specs.Hub.{Session, Reading}
+use Rattle.std.specs.Prelude.{◌≡◌, ℕ, ◌+◌, ◌^◌, ◌≤◌, nat_eq, if◌then◌else◌, Option, None, Some, IsSome, List, [], ◌∷◌}
+use Rattle.std.specs.Option.{option_map}
+use Rattle.link_index.specs.Adding.{IndexState}
 use Rattle.ogg_recorder.specs.Recorder.{RecorderState}
 use Rattle.ogg_serve.specs.declared.opening.Lost.{Lost}
-use Rattle.ogg_serve.specs.declared.session.Session.{Session as SessionParts}
+use Rattle.ogg_serve.specs.declared.session.Session.{Session}
 
--- a session as the machine has it
-abbrev pub session_of : SessionParts → Session
-session_of parts = record { id = parts.id; phase = Reading parts.head.items }
-
--- a session that has received nothing
-abbrev pub fresh : ℕ → Session
-fresh id = record { id = id; phase = Reading [] }
+-- where the first session with this number stands
+abbrev pub place_in : ℕ → List Session → Option ℕ
+place_in id [] = None
+place_in id (session ∷ sessions) = if nat_eq session.id id then Some 0 else option_map (λ (place : ℕ). place + 1) (place_in id sessions)
 
 -- the next number, or the one after the last
 abbrev pub next_of : Option ℕ → ℕ
@@ -21,17 +19,20 @@ next_of (Some id) = id
 abbrev pub lost_file : {D : Type 0} → D → ℕ → Lost D
 lost_file disk end = record { disk = disk; end = end }
 
--- A hub's recorder, if there is a file; else the disk that was given back. Its sessions, the next number, if one is
--- left, and how many commands will share a commit after a reopening.
+-- A hub's recorder, if there is a file; else the disk that was given back. The index of the file as far as it was
+-- brought up, the sessions, the next number, if one is left, and how many commands will share a commit after a
+-- reopening.
 pub record HubParts (D : Type 0) : Type 0 where
   pub file : Option (RecorderState D)
   pub lost : Option (Lost D)
+  pub index : IndexState
   pub sessions : List Session
   pub next : Option ℕ
   pub most : ℕ
 
-abbrev pub hub_parts : {D : Type 0} → Option (RecorderState D) → Option (Lost D) → List Session → Option ℕ → ℕ → HubParts D
-hub_parts file lost sessions next most = record { file = file; lost = lost; sessions = sessions; next = next; most = most }
+abbrev pub hub_parts : {D : Type 0} → Option (RecorderState D) → Option (Lost D) → IndexState → List Session → Option ℕ → ℕ → HubParts D
+hub_parts file lost index sessions next most =
+    record { file = file; lost = lost; index = index; sessions = sessions; next = next; most = most }
 
 -- what always holds
 pub record IsHub {D : Type 0} (hub : HubParts D) : Type 0 where

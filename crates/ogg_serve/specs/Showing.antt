@@ -1,12 +1,34 @@
 -- Which machine a hub is. Ours.
 use Rattle.std.specs.Prelude.{◌≡◌, ℕ, ◌+◌, true, false, if◌then◌else◌, is_some, Option, None, Some, List, [], length, take}
+use Rattle.std.specs.List.{AllZip}
 use Rattle.disk_model.specs.Image.{DiskState}
 use Rattle.gate_file.specs.Commit.{CommitsTo}
 use Rattle.gate_file.specs.Gate.{EachImage}
 use Rattle.ogg_recorder.specs.Recorder.{RecorderState, committed, staged}
-use Rattle.sessions.specs.Hub.{HubState, MayBeFound}
+use Rattle.sending.specs.Sending.{IsLeft}
+use Rattle.sessions.specs.Hub.{HubState, MayBeFound, Phase, Reading, Sending, Session}
 use Rattle.ogg_serve.specs.declared.opening.Lost.{Lost}
+use Rattle.ogg_serve.specs.declared.session.Session.{Session as SessionParts}
+use Rattle.ogg_serve.specs.declared.session.Stage.{Stage}
+use Rattle.ogg_serve.specs.declared.session.Stage.TheVariants.{Head, Response}
+use Rattle.ogg_serve.specs.Indexing.{IsOfFront}
 use Rattle.ogg_serve.specs.Parts.{HubParts, next_of}
+
+-- ---- sessions
+-- over these committed bytes, a session that keeps this is in this phase
+abbrev pub IsPhase : List ℕ → Stage → Phase → Type 0
+IsPhase committed (Head received) (Reading bytes) = received.items ≡ bytes
+IsPhase committed (Head received) (Sending rest) = ⊥
+IsPhase committed (Response sending) (Reading bytes) = ⊥
+IsPhase committed (Response sending) (Sending rest) = IsLeft committed sending rest
+
+abbrev pub IsSession : List ℕ → SessionParts → Session → Type 0
+IsSession committed parts session = (parts.id ≡ session.id) × IsPhase committed parts.stage session.phase
+
+abbrev pub AreSessions : List ℕ → List SessionParts → List Session → Type 0
+AreSessions committed parts sessions = AllZip (IsSession committed) parts sessions
+
+-- ---- the file
 
 -- an image has the committed bytes of the machine, with or without the group in doubt
 abbrev pub Commits : HubState → List ℕ → Type 0
@@ -48,11 +70,13 @@ module _ {D : Type 0} (is_honest : D → Type 0) (state : D → DiskState) where
   ShowsPlace None (Some lost) machine = ShowsLost lost machine
   ShowsPlace None None machine = ⊥
 
+  -- ---- the hub
   -- The hub is this machine: its disk is honest, and the machine has what the fields of the hub have. The group in
   -- doubt is in none of them: only the images of the disk show it. So a hub may be several machines after a fault.
   pub record Shows (hub : HubParts D) (machine : HubState) : Type 0 where
     pub place : ShowsPlace hub.file hub.lost machine
-    pub sessions_are : machine.sessions ≡ hub.sessions
+    pub indexed : IsOfFront machine.committed hub.index
+    pub sessions_are : AreSessions machine.committed hub.sessions machine.sessions
     pub next_is : machine.next_id ≡ next_of hub.next
     pub most_is : machine.most_after_reopening ≡ hub.most
 

@@ -1,19 +1,25 @@
 //! A recorder, and the sessions of those who fetch its file.
-ghost use Rattle.std.specs.Prelude.{◌≡◌, ◌≢◌, ◌≤◌, [], ℕ, false, List, None, Some, Err, IsSome, length, IfOk, IfErr};
+ghost use Rattle.std.specs.Prelude.{◌≡◌, ◌≢◌, ◌≤◌, ◌<◌, ◌+◌, ◌^◌, [], ℕ, false, List, vec_capacity, None, Some, Err, IsSome, length, IfOk, IfErr};
+ghost use Rattle.ogg_page.specs.Page.{Page};
+ghost use Rattle.link_chain.specs.Links.{AreLinks};
 ghost use Rattle.ogg_recorder.specs.Recorder.{RecorderState, committed};
-ghost use Rattle.sessions.specs.Hub.{HubState, IsNew, Connect, Close, Record, Flush, Group, Reopen};
-ghost use Rattle.sessions.specs.Calls.{Steps, found_by};
-ghost use Rattle.ogg_serve.specs.Images.{IfFile, Records, Flushes, Reopens, disk_in};
+ghost use Rattle.sessions.specs.Hub.{HubState, IsNew, Connect, Receive, Pull, Close, Record, Flush, Group, Reopen};
+ghost use Rattle.sessions.specs.Calls.{Steps, found_by, given_in};
+ghost use Rattle.ogg_serve.specs.Parts.{next_of};
+ghost use Rattle.ogg_serve.specs.Images.{IfFile, Records, Flushes, Reads, Fails, Reopens, disk_in};
 
 use crate::commanding::{command_file, flush_file, group_file, held_in};
 use crate::opening::{Lost, end_in, open_again, take_disk};
-use crate::session::{Session, add_session, drop_session, has_session};
+use crate::reading::{pull_from, receive_from};
+use crate::session::{Session, add_session, drop_session, place_of, sessions_stay};
 use chain_rules::{Command, Refusal};
 use disk_model::Disk;
 use feed_codec::Kept;
 use gate_file::OpenFault;
+use link_index::Index;
+use ogg_page::PageBuffer;
 use ogg_recorder::{Outcome, Recorder};
-use sessions::{HubFault, SeenAsHub};
+use sessions::{HubFault, Progress, Pulled, SeenAsHub};
 use std::alloc::{AllocError as Memory, Global};
 use std::marker::Model;
 
@@ -26,6 +32,9 @@ pub struct Hub<D: Disk> {
     // none after a reopening that failed
     file: Option<Recorder<D>>,
     lost: Option<Lost<D>>,
+    index: Index,
+    // room for a page; none only while a window has it
+    room: Option<PageBuffer>,
     // with room for as many as there may be
     sessions: Vec<Session>,
     // none if all numbers are given
@@ -36,14 +45,14 @@ pub struct Hub<D: Disk> {
 }
 
 impl<D: Disk> Model for Hub<D> {
-    ghost use Rattle.std.specs.Prelude.{◌≤◌, map, vec_capacity};
-    ghost use Rattle.ogg_serve.specs.Parts.{HubParts, IsHub, hub_parts, session_of};
+    ghost use Rattle.std.specs.Prelude.{◌≤◌, IsSome, vec_capacity};
+    ghost use Rattle.ogg_serve.specs.Parts.{HubParts, IsHub, hub_parts};
 
     ghost Value = { HubParts D };
 
-    ghost view = { λ h. hub_parts h.file h.lost (map session_of h.sessions.items) h.next h.most };
+    ghost view = { λ h. hub_parts h.file h.lost h.index h.sessions.items h.next h.most };
 
-    ghost invariant = { λ h. IsHub (hub_parts h.file h.lost (map session_of h.sessions.items) h.next h.most) × (64 ≤ vec_capacity h.sessions) };
+    ghost invariant = { λ h. IsHub (hub_parts h.file h.lost h.index h.sessions.items h.next h.most) × IsSome h.room × (64 ≤ vec_capacity h.sessions) };
 }
 
 /// What holds of all steps of the machine holds of a hub's calls.
@@ -53,24 +62,45 @@ impl<D: Disk> SeenAsHub for Hub<D> {
     ghost shows = { Shows D.is_honest D.state };
 }
 
+/// Room for all sessions that there may be, and for a page.
+fn rooms(alloc: Global) -> Result<(Vec<Session>, PageBuffer), Memory>
+    ensures none { IfOk result (λ made. made.0.items ≡ []) }
+    ensures all { IfOk result (λ made. 64 ≤ vec_capacity made.0) }
+{
+    let room = PageBuffer::new(alloc)?;
+    let sessions = Vec::with_capacity(alloc, MOST_SESSIONS)?;
+    Ok((sessions, room))
+}
+
+/// The number that follows this one, if there is one.
+fn next_after(id: u64) -> Option<u64>
+    ensures next { next_of result ≡ id + 1 }
+    ensures fits { id < 2 ^ 64 }
+{
+    id.checked_add(1)
+}
+
 impl<D: Disk> Hub<D> {
-    ghost use Rattle.ogg_serve.specs.Parts.{hub_parts};
+    ghost use Rattle.link_index.specs.Adding.{IsIndexOf};
     ghost use Rattle.ogg_serve.specs.Showing.{Shows};
 
-    /// A hub over this recorder, without sessions. It makes the room for all sessions that there may be. After `Memory`
-    /// the recorder is given back.
+    /// A hub over this recorder, without sessions. It makes the room for all sessions that there may be, and for a page.
+    /// After `Memory` the recorder is given back.
     pub fn new(alloc: Global, recorder: Recorder<D>) -> Result<Hub<D>, (Memory, Recorder<D>)>
-        ensures owns { IfOk result (λ hub. hub ≡ hub_parts (Some recorder) None [] (Some 0) 1) }
+        ensures owns { IfOk result (λ hub. (hub.file ≡ Some recorder) × (hub.lost ≡ None) × (hub.sessions ≡ [])
+            × (hub.next ≡ Some 0) × (hub.most ≡ 1) × IsIndexOf [] hub.index) }
         // If the recorder hasn't failed, the hub is seen as a new machine.
         ensures shown { IfOk result (λ hub. recorder.file.failed ≡ false → D.is_honest recorder.file.disk
             → (machine : HubState) × Shows D.is_honest D.state hub machine × IsNew machine) }
         ensures back { IfErr result (λ e. e.1 ≡ recorder) }
     {
         let _end = recorder.end();
-        match Vec::with_capacity(alloc, MOST_SESSIONS) {
-            Ok(sessions) => Ok(Hub {
+        match rooms(alloc) {
+            Ok((sessions, room)) => Ok(Hub {
                 file: Some(recorder),
                 lost: None,
+                index: Index::new(alloc),
+                room: Some(room),
                 sessions,
                 next: Some(0),
                 most: 1,
@@ -94,7 +124,7 @@ impl<D: Disk> Hub<D> {
             return Err(HubFault::SessionsFull);
         }
         add_session(&mut self.sessions, id, self.alloc);
-        self.next = id.checked_add(1);
+        self.next = next_after(id);
         Ok(id)
     }
 
@@ -102,11 +132,12 @@ impl<D: Disk> Hub<D> {
     pub fn close(&mut self, id: u64) -> Result<(), HubFault>
         ensures step { Steps (Shows D.is_honest D.state) self.old self.new (λ after. Close id result) }
     {
-        if has_session(self.sessions.as_slice(), id) {
-            drop_session(&mut self.sessions, id);
-            Ok(())
-        } else {
-            Err(HubFault::NoSession)
+        match place_of(self.sessions.as_slice(), id) {
+            Some(_) => {
+                drop_session(&mut self.sessions, id);
+                Ok(())
+            }
+            None => Err(HubFault::NoSession),
         }
     }
 
@@ -116,6 +147,7 @@ impl<D: Disk> Hub<D> {
         ensures disk { IfFile (Records D.is_honest D.state D.moment D.images_since D.failures command.now result)
             self.old.file self.new.file }
     {
+        sessions_stay();
         command_file(&mut self.file, command)
     }
 
@@ -124,6 +156,7 @@ impl<D: Disk> Hub<D> {
         ensures step { Steps (Shows D.is_honest D.state) self.old self.new (λ after. Flush result) }
         ensures disk { IfFile (Flushes D.is_honest D.state D.moment D.images_since D.failures result) self.old.file self.new.file }
     {
+        sessions_stay();
         flush_file(&mut self.file)
     }
 
@@ -136,6 +169,7 @@ impl<D: Disk> Hub<D> {
         requires none { (recorder : RecorderState D) → self.old.file ≡ Some recorder → recorder.held ≡ 0 }
         ensures step { Steps (Shows D.is_honest D.state) self.old self.new (λ after. Group most) }
     {
+        sessions_stay();
         group_file(&mut self.file, most);
         self.most = most;
     }
@@ -159,6 +193,55 @@ impl<D: Disk + Drop> Hub<D> {
     ghost use Rattle.ogg_serve.specs.Parts.{lost_file};
     ghost use Rattle.ogg_serve.specs.Showing.{Shows};
 
+    /// Bytes of the session's request have come. The call that completes its head, or shows that none can come, fixes the
+    /// response, over the bytes that are committed then: `Ready`, or `More` before. What comes later is ignored.
+    ///
+    /// `NoSession` says that there is no session with this number, and `NoFile` that there is no file; nothing is changed
+    /// then, nor by `Memory`. By `Source` the session ends.
+    pub fn receive(&mut self, id: u64, bytes: &[u8]) -> Result<Progress, HubFault>
+        ensures step { Steps (Shows D.is_honest D.state) self.old self.new (λ after. Receive id bytes.now result) }
+
+        // The file is only read, and a fault of committed links has a cause.
+        ensures disk { IfFile (Reads D.is_honest D.state D.moment D.images_since D.failures) self.old.file self.new.file }
+        ensures cause { result ≡ Err HubFault.Source → (machine : HubState) (links : List (List Page))
+            → Shows D.is_honest D.state self.old machine → AreLinks machine.committed links
+            → IfFile (Fails D.is_honest D.state D.moment D.images_since D.failures) self.old.file self.new.file }
+    {
+        receive_from(
+            &mut self.file,
+            &mut self.room,
+            &mut self.index,
+            self.alloc,
+            &mut self.sessions,
+            id,
+            bytes,
+        )
+    }
+
+    /// Fills the buffer with the session's next bytes, as many as it holds, or all that are left: `count` is how many these
+    /// are, and `done` says that none is left then. There is none before its head is complete. No memory is taken.
+    ///
+    /// `NoSession` and `NoFile` are as `receive` has them. By `Source` the session ends.
+    pub fn pull(&mut self, id: u64, buffer: &mut [u8]) -> Result<Pulled, HubFault>
+        ensures step { Steps (Shows D.is_honest D.state) self.old self.new
+            (λ after. Pull id (length buffer.old) (given_in buffer.new result)) }
+        ensures memory { result ≢ Err HubFault.Memory }
+        ensures within { IfOk result (λ pulled. pulled.count ≤ length buffer.old) }
+
+        // The file is only read, and a fault has a cause.
+        ensures disk { IfFile (Reads D.is_honest D.state D.moment D.images_since D.failures) self.old.file self.new.file }
+        ensures cause { result ≡ Err HubFault.Source → (machine : HubState) → Shows D.is_honest D.state self.old machine
+            → IfFile (Fails D.is_honest D.state D.moment D.images_since D.failures) self.old.file self.new.file }
+    {
+        pull_from(
+            &mut self.file,
+            &mut self.room,
+            &mut self.sessions,
+            id,
+            buffer,
+        )
+    }
+
     /// Gives the disk back, and opens it again, as [`Recorder::open`] does, with its faults. The sessions stay, and what
     /// waited is lost. After a fault there is no file, and the disk is kept for another reopening.
     pub fn reopen(&mut self) -> Result<(), OpenFault>
@@ -166,6 +249,7 @@ impl<D: Disk + Drop> Hub<D> {
         ensures disk { (old new : D) → disk_in self.old.file self.old.lost ≡ Some old → disk_in self.new.file self.new.lost ≡ Some new
             → Reopens D.is_honest D.state D.moment D.images_since D.failures result self.new.file old new }
     {
+        sessions_stay();
         let Lost { disk, end } = take_disk(&mut self.file, &mut self.lost);
         match open_again(self.alloc, disk, end, self.most) {
             Ok(recorder) => {

@@ -1,47 +1,90 @@
 //! The sessions of a hub.
-ghost use Rattle.std.specs.Prelude.{vec_len, vec_capacity, ◌≡◌, ◌<◌, ◌+◌, ◌++◌, ◌∷◌, [], map, is_some};
-ghost use Rattle.sessions.specs.Hub.{phase_in, without_in};
-ghost use Rattle.ogg_serve.specs.Parts.{session_of, fresh};
+ghost use Rattle.std.specs.Prelude.{vec_len, vec_capacity, ◌≡◌, ◌<◌, ◌+◌, ◌++◌, ◌∷◌, [], ℕ, List};
+ghost use Rattle.link_index.specs.Adding.{IndexState};
+ghost use Rattle.sessions.specs.Hub.{Event, HubState, Session as SessionOf, Reading, hub_step, without_in};
+ghost use Rattle.ogg_serve.specs.declared.session.Session.{Session as SessionParts};
+ghost use Rattle.ogg_serve.specs.Indexing.{IsOfFront};
+ghost use Rattle.ogg_serve.specs.Parts.{place_in};
+ghost use Rattle.ogg_serve.specs.Serving.{left_after};
+ghost use Rattle.ogg_serve.specs.Showing.{AreSessions};
 
+use sending::{Sending, rests_of_responses_stay};
+use sessions::{HubFault, committed_bytes_grow};
 use std::alloc::Global;
 
-/// A session, whose request's head isn't complete.
+/// What a session has come to.
 #[derive(Debug, Drop)]
-pub(crate) struct Session {
-    id: u64,
-    head: Vec<u8>,
+pub(crate) enum Stage {
+    /// The head of its request isn't complete: what was received so far.
+    Head(Vec<u8>),
+    /// The response is sent: what is left of it.
+    Response(Sending),
 }
 
-/// Whether there is a session with this number.
-pub(crate) fn has_session(sessions: &[Session], id: u64) -> bool
-    ensures { result ≡ is_some (phase_in id (map session_of sessions.now)) }
+/// A session, by its number.
+#[derive(Debug, Drop)]
+pub(crate) struct Session {
+    pub(crate) id: u64,
+    pub(crate) stage: Stage,
+}
+
+/// Where the first session with this number stands.
+pub(crate) fn place_of(sessions: &[Session], id: u64) -> Option<usize>
+    ensures { result ≡ place_in id sessions.now }
 {
     let mut rest = sessions;
+    let mut place = 0;
     while let Some((session, others)) = rest.split_first() {
         if session.id == id {
-            return true;
+            return Some(place);
         }
         rest = others;
+        place += 1;
     }
-    false
+    None
 }
 
 /// Adds a session that has received nothing.
 pub(crate) fn add_session(sessions: &mut Vec<Session>, id: u64, alloc: Global)
     requires { vec_len sessions.old < vec_capacity sessions.old }
-    ensures items { map session_of sessions.new.items ≡ map session_of sessions.old.items ++ fresh id ∷ [] }
+    ensures items { (committed : List ℕ) (machine : List SessionOf) → AreSessions committed sessions.old.items machine
+        → AreSessions committed sessions.new.items (machine ++ record { id = id; phase = Reading [] } ∷ []) }
     ensures capacity { vec_capacity sessions.new ≡ vec_capacity sessions.old }
 {
     sessions.push_reserved(Session {
         id,
-        head: Vec::new(alloc),
+        stage: Stage::Head(Vec::new(alloc)),
     });
 }
 
 /// Takes out the sessions with this number.
 pub(crate) fn drop_session(sessions: &mut Vec<Session>, id: u64)
-    ensures items { map session_of sessions.new.items ≡ without_in id (map session_of sessions.old.items) }
+    ensures items { (committed : List ℕ) (machine : List SessionOf) → AreSessions committed sessions.old.items machine
+        → AreSessions committed sessions.new.items (without_in id machine) }
     ensures capacity { vec_capacity sessions.new ≡ vec_capacity sessions.old }
 {
     sessions.retain(|session| session.id != id);
+}
+
+/// Ends the session after a fault of its file.
+pub(crate) fn end_after(fault: HubFault, sessions: &mut Vec<Session>, id: u64)
+    ensures items { (committed : List ℕ) (machine : List SessionOf) → AreSessions committed sessions.old.items machine
+        → AreSessions committed sessions.new.items (left_after fault id machine) }
+    ensures capacity { vec_capacity sessions.new ≡ vec_capacity sessions.old }
+{
+    match fault {
+        HubFault::Source => drop_session(sessions, id),
+        _ => {}
+    }
+}
+
+/// What is kept of sessions, and the index, stay true while the committed bytes grow.
+pub(crate) fn sessions_stay()
+    ensures { (before after : HubState) (event : Event) (index : IndexState) (parts : List SessionParts)
+        → hub_step before event after → after.sessions ≡ before.sessions → IsOfFront before.committed index
+        → AreSessions before.committed parts before.sessions
+        → IsOfFront after.committed index × AreSessions after.committed parts after.sessions }
+{
+    committed_bytes_grow();
+    rests_of_responses_stay();
 }

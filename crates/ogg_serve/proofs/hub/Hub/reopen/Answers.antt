@@ -1,0 +1,18 @@
+use Rattle.std.proofs.Common.{Some, ◌∙◌}
+use Rattle.sessions.specs.Hub.{Reopen}
+use Rattle.ogg_serve.proofs.Sessions.{goes_on}
+use Rattle.ogg_serve.proofs.hub.Hub.reopen.Goals as goal
+
+pub returns-in-Ok-clause-step : goal.returns-in-Ok-clause-step
+returns-in-Ok-clause-step g c =
+    let d = g.D.Disk in
+    let in_ = c.self.inside in
+    rw (← c.self.view_is)
+    (λ before s.
+    let over = c.take_disk-disk.ensures.over before s.place in
+    let (after, place, step, keeps) = c.in-Ok.ensures.found before over s.most_is in (
+      after,
+      goes_on d.is_honest d.state in_.file in_.lost in_.index in_.sessions.items in_.next in_.most before s (Some c.in-Ok.recorder) _ after (Reopen (Some after.committed)) c.sessions_stay.ensures place step
+          keeps.sessions keeps.numbers in_.most (keeps.group ∙ s.most_is),
+      step,
+    ))

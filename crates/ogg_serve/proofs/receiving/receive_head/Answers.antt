@@ -1,0 +1,21 @@
+use Rattle.std.proofs.Common.{Option, sym, ◌∙◌, subst, ap, take, option_map}
+use Rattle.std.proofs.lemmas.List.{take_at}
+use Rattle.ogg_http.specs.declared.head.Request.{Request}
+use Rattle.responses.specs.Response.{Asks, asked_by}
+use Rattle.ogg_serve.proofs.Stages.{head_fault}
+use Rattle.ogg_serve.proofs.receiving.receive_head.Goals.{in-Bad, in-Whole}
+use Rattle.ogg_serve.proofs.receiving.receive_head.Goals as goal
+
+pub returns-in-Err-respond-clause-head : goal.returns-in-Err-respond-clause-head
+returns-in-Err-respond-clause-head g c sure front =
+    let s = g.S.PageSource in
+    let request : Option Request = c.match-find_head.request in
+    let asks : Asks c.as_slice.result.now (option_map asked_by request) =
+    elim c.match-find_head.branch [
+      | in-Bad w ↦ subst (λ (o : Option Request). Asks c.as_slice.result.now (option_map asked_by o)) (sym w.request-is) (c.find_head.ensures.bad w.in-Bad.is)
+      | in-Whole w ↦ subst (λ (o : Option Request). Asks c.as_slice.result.now (option_map asked_by o)) (sym w.request-is) w.in-Whole.ensures.whole
+    ] in
+    head_fault (s.bytes c.args.window.now.source) c.args.head.now.items c.args.bytes.now c.as_slice.result.now c.truncate.new.self.items c.in-Err-respond.fault (option_map asked_by request)
+    (c.as_slice.ensures.value ∙ c.in-Ok.ensures.items) asks
+    (c.truncate.ensures.items ∙ ap (take c.len-before.result) c.in-Ok.ensures.items ∙ take_at c.args.head.now.items c.args.bytes.now c.len-before.result (sym c.args.head.now.ok.0 ∙ sym c.len-before.ensures))
+    c.in-Err-respond.ensures.faults

@@ -1,0 +1,12 @@
+use Rattle.std.proofs.Common.{List, [], ◌++◌, ◌∷◌, refl, sym, subst}
+use Rattle.sessions.specs.Hub.{Session, Reading}
+use Rattle.ogg_serve.specs.Showing.{AreSessions}
+use Rattle.ogg_serve.specs.declared.session.Session.{Session as SessionParts}
+use Rattle.ogg_serve.proofs.Listed.{one_more}
+use Rattle.ogg_serve.proofs.session.add_session.Goals as goal
+
+pub returns-clause-items : goal.returns-clause-items
+returns-clause-items c committed machine are =
+    let new : Session = record { id = c.args.id; phase = Reading [] } in
+    subst (λ (l : List SessionParts). AreSessions committed l (machine ++ new ∷ [])) (sym c.push_reserved.ensures.items)
+    (one_more committed c.args.sessions.now.items machine _ new are (refl, c.new.ensures.items))

@@ -1,0 +1,78 @@
+-- What a call of a session makes of it. Ours.
+use Rattle.std.specs.Prelude.{◌≡◌, ◌≢◌, ◌<◌, ◌≤◌, ◌^◌, ℕ, false, Option, Some, None, Result, Ok, Err, List, [], ◌++◌, take, drop}
+use Rattle.ogg_http.specs.Head.{IsAwaited}
+use Rattle.ogg_page.specs.Page.{Page}
+use Rattle.ogg_page.specs.Window.{KeepsSource}
+use Rattle.link_chain.specs.Links.{AreLinks}
+use Rattle.link_index.specs.Adding.{IndexState}
+use Rattle.responses.specs.Response.{Asked, Asks, IsResponse}
+use Rattle.sending.specs.Sending.{HasFailed, IsLeft, SendingState}
+use Rattle.sessions.specs.Hub.{Phase, Reading, Sending, Given, Session, is_nothing, without_in}
+use Rattle.sessions.specs.declared.answers.Progress.{Progress}
+use Rattle.sessions.specs.declared.answers.Progress.TheVariants.{More, Ready}
+use Rattle.sessions.specs.declared.fault.HubFault.{HubFault}
+use Rattle.sessions.specs.declared.fault.HubFault.TheVariants.{NoSession, SessionsFull, Source, Memory, NoFile}
+use Rattle.ogg_serve.specs.Indexing.{IsOfFront}
+
+-- ---- what is received
+-- What has come to a head when bytes were added: it isn't complete, or this is the response to it. After a fault
+-- it is as it was.
+abbrev pub HeadGets : List ℕ → List ℕ → List ℕ → Result (Option SendingState) HubFault → List ℕ → Type 0
+HeadGets committed old bytes (Ok None) new = IsAwaited (old ++ bytes) × (new ≡ old ++ bytes)
+HeadGets committed old bytes (Ok (Some sending)) new =
+    (response : List ℕ) × IsResponse committed (old ++ bytes) response × IsLeft committed sending response
+HeadGets committed old bytes (Err Source) new = (asked : Option Asked) × Asks (old ++ bytes) asked × (new ≡ old)
+HeadGets committed old bytes (Err Memory) new = new ≡ old
+HeadGets committed old bytes (Err NoSession) new = ⊥
+HeadGets committed old bytes (Err SessionsFull) new = ⊥
+HeadGets committed old bytes (Err NoFile) new = ⊥
+
+-- the phase of a session when bytes have come to it
+abbrev pub PhaseGets : List ℕ → Phase → List ℕ → Result Progress HubFault → Phase → Type 0
+PhaseGets committed (Reading old) bytes (Ok More) new = IsAwaited (old ++ bytes) × (new ≡ Reading (old ++ bytes))
+PhaseGets committed (Reading old) bytes (Ok Ready) new =
+    (response : List ℕ) × IsResponse committed (old ++ bytes) response × (new ≡ Sending response)
+PhaseGets committed (Reading old) bytes (Err Source) new = (asked : Option Asked) × Asks (old ++ bytes) asked
+PhaseGets committed (Reading old) bytes (Err Memory) new = new ≡ Reading old
+PhaseGets committed (Reading old) bytes (Err NoSession) new = ⊥
+PhaseGets committed (Reading old) bytes (Err SessionsFull) new = ⊥
+PhaseGets committed (Reading old) bytes (Err NoFile) new = ⊥
+PhaseGets committed (Sending rest) bytes answer new = (answer ≡ Ok Ready) × (new ≡ Sending rest)
+
+-- ---- what is pulled
+-- the phase of a session after a pull into a buffer of this size
+abbrev pub PhaseGives : Phase → ℕ → Result Given HubFault → Phase → Type 0
+PhaseGives (Reading received) size answer new = (answer ≡ Ok (record { bytes = []; done = false })) × (new ≡ Reading received)
+PhaseGives (Sending rest) size (Ok given) new =
+    (given ≡ record { bytes = take size rest; done = is_nothing (drop size rest) }) × (new ≡ Sending (drop size rest))
+PhaseGives (Sending rest) size (Err Source) new = take size rest ≢ []
+PhaseGives (Sending rest) size (Err Memory) new = ⊥
+PhaseGives (Sending rest) size (Err NoSession) new = ⊥
+PhaseGives (Sending rest) size (Err SessionsFull) new = ⊥
+PhaseGives (Sending rest) size (Err NoFile) new = ⊥
+
+-- ---- what is read
+-- what a call answers for a fault
+abbrev pub fault_in : {T : Type 0} → Result T HubFault → Option HubFault
+fault_in (Ok value) = None
+fault_in (Err fault) = Some fault
+
+module _ {S : Type 0} (bytes : S → List ℕ) (is_honest : S → Type 0) (size failures : S → ℕ) (only_reads : S → S → Type 0) where
+  -- What a call that may bring the index up leaves of the source and of the index. Of links nothing but a read fails.
+  pub record Indexes (fault : Option HubFault) (old new : S) (before after : IndexState) : Type 0 where
+    pub front : is_honest old → IsOfFront (bytes old) before → IsOfFront (bytes old) after
+    pub cause : fault ≡ Some Source → is_honest old → size old < 2 ^ 63 → IsOfFront (bytes old) before
+        → (links : List (List Page)) → AreLinks (bytes old) links → HasFailed (failures old) (failures new)
+    pub later : failures old ≤ failures new
+    pub source : KeepsSource bytes is_honest size only_reads old new
+
+-- ---- what is left
+-- a fault of the file ends the session
+abbrev pub left_after : HubFault → ℕ → List Session → List Session
+left_after Source id sessions = without_in id sessions
+left_after fault id sessions = sessions
+
+-- ---- no file
+abbrev pub fault_without_file : Option Phase → HubFault
+fault_without_file None = NoSession
+fault_without_file (Some phase) = NoFile

@@ -1,0 +1,72 @@
+//! What a session pulls: the rest of its response.
+ghost use Rattle.std.specs.Prelude.{◌≡◌, ◌≢◌, ◌≤◌, List, true, IfOk, length, vec_capacity};
+ghost use Rattle.ogg_page.specs.Window.{KeepsSource};
+ghost use Rattle.sending.specs.Sending.{HasFailed};
+ghost use Rattle.sessions.specs.Calls.{given_in};
+ghost use Rattle.sessions.specs.Hub.{HubState, Phase, Session as SessionOf, phase_of, pull_step};
+ghost use Rattle.ogg_serve.specs.Serving.{PhaseGives};
+ghost use Rattle.ogg_serve.specs.Showing.{AreSessions, IsPhase};
+
+use crate::session::{Session, Stage, end_after, place_of};
+use ogg_page::{PageSource, Window};
+use sessions::{HubFault, Pulled};
+
+/// Fills the buffer with the first bytes of a session's rest. There is none before its head is complete.
+pub(crate) fn pull_stage<S: PageSource>(
+    window: &mut Window<S>,
+    stage: &mut Stage,
+    buffer: &mut [u8],
+) -> Result<Pulled, HubFault>
+    ensures phase { S.is_honest window.old.source → (phase : Phase) → IsPhase (S.bytes window.old.source) stage.old phase
+        → (after : Phase) × IsPhase (S.bytes window.old.source) stage.new after
+        × PhaseGives phase (length buffer.old) (given_in buffer.new result) after }
+    ensures cause { result ≡ Err HubFault.Source → S.is_honest window.old.source → (phase : Phase) → IsPhase (S.bytes window.old.source) stage.old phase
+        → HasFailed (S.failures window.old.source) (S.failures window.new.source) }
+    ensures room { result ≢ Err HubFault.Memory }
+    ensures within { IfOk result (λ pulled. pulled.count ≤ length buffer.old) }
+    ensures later { S.failures window.old.source ≤ S.failures window.new.source }
+    ensures source { KeepsSource S.bytes S.is_honest S.size S.only_reads window.old.source window.new.source }
+{
+    match stage {
+        Stage::Head(_) => Ok(Pulled {
+            count: 0,
+            done: false,
+        }),
+        Stage::Response(sending) => match sending.pull(window, buffer) {
+            Ok(pulled) => Ok(pulled),
+            Err(_) => Err(HubFault::Source),
+        },
+    }
+}
+
+/// Pulls for the session with this number. It ends if the file can't be read.
+pub(crate) fn pull_in<S: PageSource>(
+    window: &mut Window<S>,
+    sessions: &mut Vec<Session>,
+    id: u64,
+    buffer: &mut [u8],
+) -> Result<Pulled, HubFault>
+    ensures step { S.is_honest window.old.source → (machine : HubState) → S.bytes window.old.source ≡ machine.committed
+        → AreSessions machine.committed sessions.old.items machine.sessions
+        → (left : List SessionOf) × AreSessions machine.committed sessions.new.items left
+        × pull_step (phase_of machine id) true machine id (length buffer.old) (given_in buffer.new result) (record machine { sessions = left }) }
+    ensures cause { result ≡ Err HubFault.Source → S.is_honest window.old.source → (machine : HubState) → S.bytes window.old.source ≡ machine.committed
+        → AreSessions machine.committed sessions.old.items machine.sessions
+        → HasFailed (S.failures window.old.source) (S.failures window.new.source) }
+    ensures room { result ≢ Err HubFault.Memory }
+    ensures capacity { vec_capacity sessions.new ≡ vec_capacity sessions.old }
+    ensures within { IfOk result (λ pulled. pulled.count ≤ length buffer.old) }
+    ensures later { S.failures window.old.source ≤ S.failures window.new.source }
+    ensures source { KeepsSource S.bytes S.is_honest S.size S.only_reads window.old.source window.new.source }
+{
+    let Some(place) = place_of(sessions.as_slice(), id) else {
+        return Err(HubFault::NoSession);
+    };
+    match pull_stage(window, &mut sessions.as_mut_slice()[place].stage, buffer) {
+        Ok(pulled) => Ok(pulled),
+        Err(fault) => {
+            end_after(fault, sessions, id);
+            Err(fault)
+        }
+    }
+}
