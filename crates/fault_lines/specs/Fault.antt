@@ -14,8 +14,9 @@ use Rattle.feed_codec.specs.FeedFault as F
 use Rattle.feed_codec.specs.declared.fault.RunFault.{RunFault}
 use Rattle.feed_codec.specs.declared.fault.RunFault.TheVariants.{Feed as RunFeed, Write as RunWrite, TooMany as RunTooMany}
 use Rattle.ogg_split.specs.SplitFault as S
+use Rattle.sessions.specs.HubFault as H
 use Rattle.fault_lines.specs.declared.fault.Fault.{Fault}
-use Rattle.fault_lines.specs.declared.fault.Fault.TheVariants.{File, Memory, Open, Feed, Write, TooMany, Index, Split, Finish, Failed, Seal}
+use Rattle.fault_lines.specs.declared.fault.Fault.TheVariants.{File, Memory, Open, Feed, Write, TooMany, Index, Split, Finish, Net, Serve, Failed, Seal}
 
 -- a number and a name, and then this
 abbrev pub coded : ℕ → List ℕ → List ℕ → List ℕ
@@ -49,6 +50,8 @@ fault_line TooMany = codes "fault run 3 TooMany" ++ line_end
 fault_line (Index fault) = codes "fault index " ++ coded (I.code_of fault) (I.name_of fault) (index_rest fault)
 fault_line (Split fault) = codes "fault split " ++ coded (S.code_of fault) (S.name_of fault) line_end
 fault_line (Finish fault) = codes "fault finish " ++ coded (S.code_of fault) (S.name_of fault) line_end
+fault_line Net = codes "fault net" ++ line_end
+fault_line (Serve fault) = codes "fault serve " ++ coded (H.code_of fault) (H.name_of fault) line_end
 fault_line Failed = codes "fault failed" ++ line_end
 fault_line Seal = codes "fault seal" ++ line_end
 

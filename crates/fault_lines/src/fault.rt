@@ -10,6 +10,7 @@ use gate_file::OpenFault;
 use link_index::IndexFault;
 use ogg_page::{WriteFault, write_whole};
 use ogg_split::SplitFault;
+use sessions::HubFault;
 use std::io::Write;
 use text_line::Line;
 use thiserror::Error;
@@ -44,6 +45,12 @@ pub enum Fault {
     /// A link wasn't written finished as a whole.
     #[error("{0}")]
     Finish(SplitFault),
+    /// The address can't be listened to.
+    #[error("the address can't be listened to")]
+    Net,
+    /// A connection wasn't served for what the hub is.
+    #[error("{0}")]
+    Serve(HubFault),
     /// The disk has failed while it recorded.
     #[error("the disk has failed")]
     Failed,
@@ -109,6 +116,13 @@ fn line_of(fault: Fault) -> Line
             let mut line = Line::new();
             put_coded(&mut line, fault.code(), fault.name());
             line.put_text(b"fault finish ");
+            line
+        }
+        Fault::Net => words(b"fault net"),
+        Fault::Serve(fault) => {
+            let mut line = Line::new();
+            put_coded(&mut line, fault.code(), fault.name());
+            line.put_text(b"fault serve ");
             line
         }
         Fault::Failed => words(b"fault failed"),

@@ -8,6 +8,7 @@ mod files;
 mod finishing;
 mod indexing;
 mod salvaging;
+mod server;
 mod streams;
 mod words;
 
@@ -49,5 +50,17 @@ fn run(rt: &HostRuntime, action: Action<'_>) -> Result<(), Fault> {
         Action::Split { file, link, serial } => files::split(rt, file, link, serial),
         Action::Finish { file, link } => finishing::finish(rt, file, link),
         Action::Salvage { file } => salvaging::salvage(rt, file),
+        Action::Serve {
+            file,
+            address,
+            count,
+        } => server::serve(rt, file, address, count),
+        Action::Live {
+            file,
+            address,
+            feed,
+            count,
+            most,
+        } => server::live(rt, file, address, feed, count, most),
     }
 }

@@ -37,6 +37,20 @@ pub enum Action<'a> {
     Salvage {
         file: &'a str,
     },
+    /// The file for this many connections to the address.
+    Serve {
+        file: &'a str,
+        address: &'a str,
+        count: u32,
+    },
+    /// The same, while a feed is recorded into the file, `most` commands to a commit.
+    Live {
+        file: &'a str,
+        address: &'a str,
+        feed: &'a str,
+        count: u32,
+        most: u32,
+    },
 }
 
 /// The words of the command line. An error is the text to show in their place.
@@ -59,6 +73,8 @@ pub fn action_of<'a>(alloc: Global, words: &'a [String]) -> Result<Action<'a>, E
         Some(("split", words)) => split_of(words),
         Some(("finish", words)) => finish_of(words),
         Some(("salvage", words)) => salvage_of(words),
+        Some(("serve", words)) => serve_of(words),
+        Some(("live", words)) => live_of(words),
         _ => None,
     };
     match action {
@@ -86,7 +102,9 @@ fn program<'a>(alloc: Global) -> Result<Command<'a>, AllocError> {
         .subcommand(links(alloc)?)?
         .subcommand(split(alloc)?)?
         .subcommand(finish(alloc)?)?
-        .subcommand(salvage(alloc)?)
+        .subcommand(salvage(alloc)?)?
+        .subcommand(serve(alloc)?)?
+        .subcommand(live(alloc)?)
 }
 
 const PROGRAM_HELP: &str = "\
@@ -96,6 +114,7 @@ docs/FORMATS.md describes it, and examples/ has some. A first try:
   kudzuturret mux < examples/hello.feed > hello.ogg
   kudzuturret record hello.ogg --seal < examples/hello.feed
   kudzuturret links hello.ogg
+  kudzuturret serve hello.ogg 127.0.0.1:8000 10
 
 Status: 0 done; 1 a fault, whose line `fault ..` is the last on standard error; 2 help, the version,
 or a command line that can't be read.
@@ -134,17 +153,21 @@ fn mux_of<'a>(words: &ArgMatches<'a>) -> Action<'a> {
     }
 }
 
+/// How many commands share one commit.
+fn group<'a>(alloc: Global) -> Arg<'a> {
+    Arg::new(alloc, "group")
+        .long("group")
+        .value_name("MOST")
+        .help("How many commands share one commit, 1 to 1024")
+        .value_parser(value_parser!(u32).range(1..=1024))
+        .default_value("1")
+}
+
 fn record<'a>(alloc: Global) -> Result<Command<'a>, AllocError> {
     let seal = Arg::new(alloc, "seal")
         .long("seal")
         .help("At the end, if no fault came, cuts the file to its pages")
         .action(ArgAction::SetTrue);
-    let group = Arg::new(alloc, "group")
-        .long("group")
-        .value_name("MOST")
-        .help("How many commands share one commit, 1 to 1024")
-        .value_parser(value_parser!(u32).range(1..=1024))
-        .default_value("1");
     Command::new(alloc, "record")
         .about("Records the feed on standard input into a file that survives a stop at any moment")
         .after_help(RECORD_HELP)
@@ -153,7 +176,7 @@ fn record<'a>(alloc: Global) -> Result<Command<'a>, AllocError> {
             "The file; it is made if there is none, and continued if there is one",
         ))?
         .arg(seal)?
-        .arg(group)
+        .arg(group(alloc))
 }
 
 const RECORD_HELP: &str = "\
@@ -302,5 +325,98 @@ after that page. So a page that is copied out by its line is whole:
 fn salvage_of<'a>(words: &ArgMatches<'a>) -> Option<Action<'a>> {
     Some(Action::Salvage {
         file: words.get_str("FILE")?,
+    })
+}
+
+/// The address that is listened to.
+fn address<'a>(alloc: Global) -> Arg<'a> {
+    Arg::new(alloc, "ADDR")
+        .required(true)
+        .help("The address and the port to listen to, as 127.0.0.1:8000")
+}
+
+/// How many connections are served.
+fn count<'a>(alloc: Global) -> Arg<'a> {
+    Arg::new(alloc, "COUNT")
+        .required(true)
+        .help("How many connections are served before the program ends, 1 to 65536")
+        .value_parser(value_parser!(u32).range(1..=65536))
+}
+
+fn serve<'a>(alloc: Global) -> Result<Command<'a>, AllocError> {
+    Command::new(alloc, "serve")
+        .about("Serves a file over HTTP: all of it, its links, single streams and ranges of bytes")
+        .after_help(SERVE_HELP)
+        .arg(file(alloc, "The file; a tail after its pages is closed"))?
+        .arg(address(alloc))?
+        .arg(count(alloc))
+}
+
+const SERVE_HELP: &str = "\
+What a browser or a player can fetch:
+
+  /                      the listing, as `links` writes it
+  /all                   all pages of the file
+  /link/NUMBER           a link, counted from 0
+  /link/NUMBER/SERIAL    one of its streams
+
+For example:
+
+  kudzuturret serve radio.ogg 127.0.0.1:8000 100
+  ffplay http://127.0.0.1:8000/all
+
+GET and HEAD are answered (HTTP/1.1), with one range of bytes if the request asks for one, and the
+connection is closed after its answer. One connection is served after the other: a client that
+neither sends nor takes a byte for 30 seconds is left, so that the next one gets its turn. There is no
+encryption and no list of who may read.
+
+At the end the file is cut to its pages if it had no tail at first and no fault came.
+";
+
+fn serve_of<'a>(words: &ArgMatches<'a>) -> Option<Action<'a>> {
+    Some(Action::Serve {
+        file: words.get_str("FILE")?,
+        address: words.get_str("ADDR")?,
+        count: words.get_one::<u32>("COUNT")?,
+    })
+}
+
+fn live<'a>(alloc: Global) -> Result<Command<'a>, AllocError> {
+    let feed = Arg::new(alloc, "FEED")
+        .required(true)
+        .help("The feed that is recorded into the file");
+    Command::new(alloc, "live")
+        .about("Serves a file over HTTP, and records a feed into it meanwhile")
+        .after_help(LIVE_HELP)
+        .arg(file(
+            alloc,
+            "The file, which is there already; a tail after its pages is closed",
+        ))?
+        .arg(address(alloc))?
+        .arg(feed)?
+        .arg(count(alloc))?
+        .arg(group(alloc))
+}
+
+const LIVE_HELP: &str = "\
+One record of the feed is run before each piece of 4,096 bytes that is sent, and the rest of the feed
+after the last connection. The lines of replies go to standard output, as those of `record`:
+
+  kudzuturret mux < examples/hello.feed > show.ogg
+  kudzuturret live show.ogg 127.0.0.1:8000 more.feed 100
+
+An answer is what the file had committed when its request was complete: the next request gets what
+was recorded since then. What can be fetched is told by `kudzuturret serve --help`.
+
+If the disk fails the file is opened again, and the sessions stay; if that fails too the program ends.
+";
+
+fn live_of<'a>(words: &ArgMatches<'a>) -> Option<Action<'a>> {
+    Some(Action::Live {
+        file: words.get_str("FILE")?,
+        address: words.get_str("ADDR")?,
+        feed: words.get_str("FEED")?,
+        count: words.get_one::<u32>("COUNT")?,
+        most: words.get_one::<u32>("group")?,
     })
 }

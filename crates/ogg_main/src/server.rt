@@ -1,0 +1,151 @@
+//! The commands that serve a file over HTTP.
+
+use disk_model::{FileDisk, FileMode};
+use fault_lines::Fault;
+use feed_codec::{FeedFault, RunFault};
+use ogg_recorder::Recorder;
+use ogg_serve::Hub;
+use serving::{LiveFeed, Step, live_one, serve_one};
+use std::fs::File;
+use std::io::{self, BufReader, Read, Write};
+use std::net::{TcpListener, TcpStream};
+use std::time::Duration;
+
+/// How many bytes of the feed are read at once.
+const AHEAD: usize = 65536;
+
+/// For how many seconds a client may neither send nor take a byte.
+const PATIENCE: u64 = 30;
+
+/// More steps than a feed takes: 4,294,967,295 records, a flush, and its end.
+const MOST_STEPS: u64 = 1 << 33;
+
+/// A hub over a file, and whether the file had no tail when it was opened.
+#[derive(Drop)]
+struct Opened {
+    hub: Hub<FileDisk>,
+    sealed: bool,
+}
+
+/// Serves the file for this many connections to the address.
+pub fn serve(rt: &HostRuntime, file: &str, address: &str, count: u32) -> Result<(), Fault> {
+    let Opened { mut hub, sealed } = open_hub(rt, file)?;
+    let listener = listen(rt, address)?;
+    let mut met = None;
+    for _ in 0..count {
+        // A connection that isn't accepted, or is cut, is no fault.
+        if let Ok(stream) = accept(&listener) {
+            if let Err(fault) = serve_one(&mut hub, &mut &stream, &mut &stream) {
+                met = met.or(Some(Fault::Serve(fault)));
+            }
+        }
+    }
+    close(hub, sealed, met)
+}
+
+/// Serves the file for this many connections to the address, and records the feed into it meanwhile.
+pub fn live(
+    rt: &HostRuntime,
+    file: &str,
+    address: &str,
+    feed: &str,
+    count: u32,
+    most: u32,
+) -> Result<(), Fault> {
+    let Opened { mut hub, sealed } = open_hub(rt, file)?;
+    // `clap` has seen to it that it lies there, and nothing waits yet.
+    hub.group(most.clamp(1, 1024));
+    let Ok(feed) = File::open(rt, feed) else {
+        return Err(Fault::File);
+    };
+    let Ok(feed) = BufReader::with_capacity(rt.alloc(), AHEAD, feed) else {
+        return Err(Fault::Feed(FeedFault::Memory));
+    };
+    let listener = listen(rt, address)?;
+    let mut feed = LiveFeed::new(rt.alloc(), feed, rt.stdout());
+    let mut met = None;
+    for _ in 0..count {
+        if is_lost(&feed) {
+            break;
+        }
+        if let Ok(stream) = accept(&listener) {
+            let served = live_one(&mut hub, &mut &stream, &mut &stream, &mut feed);
+            // A fault of the feed came before one that has ended the connection.
+            met = met.or(fault_in(feed.ended()));
+            if let Err(fault) = served {
+                met = met.or(Some(Fault::Serve(fault)));
+            }
+        }
+    }
+    for _ in 0..MOST_STEPS {
+        if feed.ended().is_some() {
+            break;
+        }
+        let _ = feed.step(&mut hub);
+    }
+    met = met.or(fault_in(feed.ended()));
+    close(hub, sealed, met)
+}
+
+/// Opens a file to be served, which is there already.
+fn open_hub(rt: &HostRuntime, file: &str) -> Result<Opened, Fault> {
+    let Ok(disk) = FileDisk::open(rt, file, FileMode::ReadWrite) else {
+        return Err(Fault::File);
+    };
+    let recorder = match Recorder::open(rt.alloc(), disk) {
+        Ok(recorder) => recorder,
+        Err((fault, _)) => return Err(Fault::Open(fault)),
+    };
+    let sealed = recorder.tail() == 0;
+    match Hub::new(rt.alloc(), recorder) {
+        Ok(hub) => Ok(Opened { hub, sealed }),
+        Err(_) => Err(Fault::Memory),
+    }
+}
+
+/// Listens to an address.
+fn listen(rt: &HostRuntime, address: &str) -> Result<TcpListener, Fault> {
+    match TcpListener::bind(rt, address) {
+        Ok(listener) => Ok(listener),
+        Err(_) => Err(Fault::Net),
+    }
+}
+
+/// The next connection, which is cut if its client is silent for too long.
+fn accept(listener: &TcpListener) -> io::Result<TcpStream> {
+    let (stream, _) = listener.accept()?;
+    let patience = Some(Duration::from_secs(PATIENCE));
+    stream.set_read_timeout(patience)?;
+    stream.set_write_timeout(patience)?;
+    Ok(stream)
+}
+
+/// Whether the file could not be opened again.
+fn is_lost<R: Read + Drop, W: Write + Drop>(feed: &LiveFeed<R, W>) -> bool {
+    matches!(feed.ended(), Some(Ok(Step::Lost(_))))
+}
+
+/// The fault with which a feed has ended, if it has.
+fn fault_in(ended: Option<Result<Step, RunFault>>) -> Option<Fault> {
+    match ended {
+        Some(Ok(Step::Lost(fault))) => Some(Fault::Open(fault)),
+        Some(Err(fault)) => Some(Fault::from(fault)),
+        _ => None,
+    }
+}
+
+/// Gives the fault that was met. If none was, the file is sealed, if it was at first.
+fn close(hub: Hub<FileDisk>, sealed: bool, met: Option<Fault>) -> Result<(), Fault> {
+    if let Some(fault) = met {
+        return Err(fault);
+    }
+    match hub.into_recorder() {
+        Ok(recorder) if sealed && !recorder.is_failed() && recorder.held() == 0 => {
+            match recorder.seal() {
+                Ok(_) => Ok(()),
+                Err(_) => Err(Fault::Seal),
+            }
+        }
+        _ => Ok(()),
+    }
+}

@@ -1,0 +1,6 @@
+mod Moves
+mod Received
+mod Sent
+mod Whole
+mod Written
+mod Alongside

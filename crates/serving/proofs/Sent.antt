@@ -1,0 +1,114 @@
+-- How far a session's response has been written.
+use Rattle.std.proofs.Common.{◌≡◌, ℕ, ◌+◌, Option, Some, Ok, Err, List, [], ◌++◌, length, take, drop, refl, sym, ◌∙◌, ap, subst, inl, inr, arith, append_assoc, length-append}
+use Rattle.std.specs.Io.KnownBytes.{Appends, Consumes}
+use Rattle.std.proofs.KnownBytes.{Appends-nil, Appends-trans}
+use Rattle.std.proofs.lemmas.List.{take-append-drop}
+use Rattle.std.proofs.Math.Seq.{take-append-add}
+use Rattle.ogg_page.specs.Output.{WritesPrefix}
+use Rattle.responses.specs.Response.{IsResponse}
+use Rattle.sessions.specs.Hub.{HubState, Sending, phase_of}
+use Rattle.sessions.specs.declared.fault.HubFault.{HubFault}
+use Rattle.serving.specs.declared.pieces.Served.{Served}
+use Rattle.serving.specs.declared.pieces.Served.TheVariants.{Whole, NoHead, Cut}
+use Rattle.serving.specs.Pieces.{HasHead, HasRead, HasSent, piece}
+use Rattle.serving.specs.Serving.{Gets, GetsWhole, GetsFront}
+
+-- so much was written, and the rest is left
+pub record IsSending (id : ℕ) (coming left : Option (List ℕ)) (old new : Option (List ℕ)) (before now : HubState) : Type 0 where
+  pub received : List ℕ
+  pub written : List ℕ
+  pub rest : List ℕ
+  pub read : Consumes coming left received
+  pub is_response : IsResponse before.committed received (written ++ rest)
+  pub wrote : Appends old new written
+  pub phase : phase_of now id ≡ Some (Sending rest)
+
+pub at_first : (id : ℕ) (coming left : Option (List ℕ)) (old : Option (List ℕ)) (before now : HubState) → HasHead coming left id before.committed now
+    → IsSending id coming left old old before now
+at_first id coming left old before now head =
+    record { received = head.received; written = []; rest = head.response; read = head.read; is_response = head.is_response; wrote = Appends-nil old; phase = head.phase }
+
+pub more : (id : ℕ) (coming left : Option (List ℕ)) (old mid new : Option (List ℕ)) (before now after : HubState) → (s : IsSending id coming left old mid before now)
+    → Appends mid new (take piece s.rest) → phase_of after id ≡ Some (Sending (drop piece s.rest)) → IsSending id coming left old new before after
+more id coming left old mid new before now after s wrote phase =
+    let whole : s.written ++ s.rest ≡ (s.written ++ take piece s.rest) ++ drop piece s.rest =
+    ap (λ (l : List ℕ). s.written ++ l) (sym (take-append-drop piece s.rest)) ∙ sym (append_assoc s.written (take piece s.rest) (drop piece s.rest)) in
+    record {
+      received = s.received;
+      written = s.written ++ take piece s.rest;
+      rest = drop piece s.rest;
+      read = s.read;
+      is_response = subst (λ (l : List ℕ). IsResponse before.committed s.received l) whole s.is_response;
+      wrote = Appends-trans old mid new s.written (take piece s.rest) s.wrote wrote;
+      phase = phase;
+    }
+
+pub whole : (id : ℕ) (coming left : Option (List ℕ)) (old mid new : Option (List ℕ)) (before now : HubState) → (s : IsSending id coming left old mid before now)
+    → Appends mid new s.rest → GetsWhole coming left old new before.committed
+whole id coming left old mid new before now s wrote =
+    record { received = s.received; response = s.written ++ s.rest; read = s.read; is_response = s.is_response; written = Appends-trans old mid new s.written s.rest s.wrote wrote }
+
+-- a prefix of the rest was written
+pub front : (id : ℕ) (coming left : Option (List ℕ)) (old mid new : Option (List ℕ)) (before now : HubState) → (s : IsSending id coming left old mid before now)
+    → WritesPrefix mid new s.rest → GetsFront coming left old new before.committed
+front id coming left old mid new before now s (n, low, wrote) =
+    record {
+      received = s.received;
+      read = s.read;
+      written = inr (
+        s.written ++ s.rest,
+        s.is_response,
+        (
+          length s.written + n,
+          omega (arith, low, length-append s.written s.rest),
+          subst (Appends old new) (sym (take-append-add s.written s.rest n)) (Appends-trans old mid new s.written (take n s.rest) s.wrote wrote),
+        ),
+      );
+    }
+
+-- nothing more was written
+pub stopped : (id : ℕ) (coming left : Option (List ℕ)) (old mid : Option (List ℕ)) (before now : HubState) → (s : IsSending id coming left old mid before now)
+    → GetsFront coming left old mid before.committed
+stopped id coming left old mid before now s = front id coming left old mid mid before now s (0, omega arith, Appends-nil mid)
+
+-- ---- how a connection has ended
+pub by_head : (id : ℕ) (coming left : Option (List ℕ)) (old : Option (List ℕ)) (before after : HubState) (served : Served)
+    → HasRead coming left id before.committed after (Ok (Some served)) → Gets coming left old old before.committed (Ok served)
+by_head id coming left old before after Whole has = absurd has
+by_head id coming left old before after NoHead has = record { received = has.received; read = has.read; no_head = has.no_head; ended = has.ended; written = refl }
+by_head id coming left old before after Cut has = record { received = has.0; read = has.1; written = inl refl }
+
+pub by_piece : (id : ℕ) (coming left : Option (List ℕ)) (old mid new : Option (List ℕ)) (before now after : HubState) (served : Served)
+    → (s : IsSending id coming left old mid before now) → HasSent mid new id s.rest after (Ok (Some served))
+    → Gets coming left old new before.committed (Ok served)
+by_piece id coming left old mid new before now after Whole s sent = whole id coming left old mid new before now s sent
+by_piece id coming left old mid new before now after NoHead s sent = absurd sent
+by_piece id coming left old mid new before now after Cut s sent = front id coming left old mid new before now s sent
+
+pub by_fault : (id : ℕ) (coming left : Option (List ℕ)) (old mid new : Option (List ℕ)) (before now after : HubState) (fault : HubFault)
+    → (s : IsSending id coming left old mid before now) → HasSent mid new id s.rest after (Err fault)
+    → Gets coming left old new before.committed (Err fault)
+by_fault id coming left old mid new before now after fault s sent =
+    subst (λ (o : Option (List ℕ)). GetsFront coming left old o before.committed) (sym sent) (stopped id coming left old mid before now s)
+
+-- an answer as it was told
+pub read_as : (coming left : Option (List ℕ)) (id : ℕ) (committed : List ℕ) (after : HubState) (some other : Option Served) → some ≡ other
+    → HasRead coming left id committed after (Ok some) → HasRead coming left id committed after (Ok other)
+read_as coming left id committed after some other e has = subst (λ (o : Option Served). HasRead coming left id committed after (Ok o)) e has
+
+pub sent_as : (old new : Option (List ℕ)) (id : ℕ) (rest : List ℕ) (after : HubState) (some other : Option Served) → some ≡ other
+    → HasSent old new id rest after (Ok some) → HasSent old new id rest after (Ok other)
+sent_as old new id rest after some other e sent = subst (λ (o : Option Served). HasSent old new id rest after (Ok o)) e sent
+
+-- nothing of it changes while the session stays in its phase
+pub later : (id : ℕ) (coming left : Option (List ℕ)) (old new : Option (List ℕ)) (before now after : HubState) → (s : IsSending id coming left old new before now)
+    → phase_of after id ≡ phase_of now id → IsSending id coming left old new before after
+later id coming left old new before now after s same = record {
+  received = s.received;
+  written = s.written;
+  rest = s.rest;
+  read = s.read;
+  is_response = s.is_response;
+  wrote = s.wrote;
+  phase = same ∙ s.phase;
+}

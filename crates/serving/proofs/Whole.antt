@@ -1,0 +1,36 @@
+-- A connection as a whole.
+use Rattle.std.proofs.Common.{◌≡◌, ℕ, Option, None, Result, List, ◌∙◌, ap, subst}
+use Rattle.sessions.specs.declared.fault.HubFault.{HubFault}
+use Rattle.sessions.specs.Hub.{HubState, phase_of}
+use Rattle.sessions.specs.Run.{IsUnused}
+use Rattle.serving.specs.declared.pieces.Served.{Served}
+use Rattle.serving.specs.Keeping.{KeepsOthers, OnlyServes}
+use Rattle.serving.specs.Serving.{Gets}
+use Rattle.serving.proofs.Moves.{committed_is}
+
+pub connected : (before : HubState) (id : ℕ) → id ≡ before.next_id → IsUnused before before.next_id → phase_of before id ≡ None
+connected before id same unused = ap (phase_of before) same ∙ unused.1
+
+-- by the number that the session has got
+pub all_of : (shows : HubState → Type 0) (coming left old new : Option (List ℕ)) (result : Result Served HubFault) (before begun after : HubState) (id : ℕ) → id ≡ before.next_id → shows after → OnlyServes id before after → phase_of after id ≡ None
+    → OnlyServes id before begun → Gets coming left old new begun.committed result
+    → (x : HubState) × shows x × OnlyServes before.next_id before x × (phase_of x before.next_id ≡ None) × Gets coming left old new before.committed result
+all_of shows coming left old new result before begun after id same shown only gone first gets = (
+  after,
+  shown,
+  subst (λ (n : ℕ). OnlyServes n before after) same only,
+  subst (λ (n : ℕ). phase_of after n ≡ None) same gone,
+  subst (λ (bytes : List ℕ). Gets coming left old new bytes result) (committed_is id before begun first) gets,
+)
+
+-- the same while a feed is recorded
+pub others_of : (shows : HubState → Type 0) (coming left old new : Option (List ℕ)) (result : Result Served HubFault) (before begun after : HubState) (id : ℕ) → id ≡ before.next_id → shows after → KeepsOthers id before after → phase_of after id ≡ None
+    → OnlyServes id before begun → Gets coming left old new begun.committed result
+    → (x : HubState) × shows x × KeepsOthers before.next_id before x × (phase_of x before.next_id ≡ None) × Gets coming left old new before.committed result
+others_of shows coming left old new result before begun after id same shown keeps gone first gets = (
+  after,
+  shown,
+  subst (λ (n : ℕ). KeepsOthers n before after) same keeps,
+  subst (λ (n : ℕ). phase_of after n ≡ None) same gone,
+  subst (λ (bytes : List ℕ). Gets coming left old new bytes result) (committed_is id before begun first) gets,
+)

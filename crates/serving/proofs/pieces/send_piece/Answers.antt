@@ -1,0 +1,44 @@
+use Rattle.std.proofs.Common.{Ok, Err, refl, subst}
+use Rattle.sessions.specs.Calls.{given_in}
+use Rattle.sessions.specs.Hub.{Pull}
+use Rattle.serving.specs.Pieces.{piece}
+use Rattle.std.specs.Io.KnownBytes.{Appends}
+use Rattle.serving.proofs.Moves.{only_serves}
+use Rattle.serving.proofs.Written.{all_given, prefix_of_all}
+use Rattle.serving.proofs.pieces.send_piece.Goals as goal
+
+pub returns-in-Ok-write_whole : goal.returns-in-Ok-write_whole
+returns-in-Ok-write_whole g c = λ before rest shown sending.
+    let s = c.in-Ok.ensures.step before shown in
+    let pulled = c.calls_move_their_session.ensures.pull before s.0 c.args.id piece rest _ sending s.2 in (
+      s.0,
+      s.1,
+      only_serves c.other_sessions_stay.ensures c.calls_move_their_session.ensures.file c.sessions_are_numbered.ensures.kept before s.0 (Pull c.args.id piece (given_in c.pull.new.buffer (Ok c.in-Ok.pulled))) c.args.id s.2 refl,
+      subst (λ bytes. Appends (g.W.Write.contents c.args.writer.now) (g.W.Write.contents c.write_whole.new.writer) bytes)
+          (all_given c.args.id rest piece _ s.0 pulled c.if-pulled.true) c.in-Ok-write_whole.ensures.ok,
+    )
+
+pub returns-in-Ok-2 : goal.returns-in-Ok-2
+returns-in-Ok-2 g c = λ before rest shown sending.
+    let s = c.in-Ok.ensures.step before shown in
+    let pulled = c.calls_move_their_session.ensures.pull before s.0 c.args.id piece rest _ sending s.2 in (
+      s.0,
+      s.1,
+      only_serves c.other_sessions_stay.ensures c.calls_move_their_session.ensures.file c.sessions_are_numbered.ensures.kept before s.0 (Pull c.args.id piece (given_in c.pull.new.buffer (Ok c.in-Ok.pulled))) c.args.id s.2 refl,
+      (subst (λ bytes. Appends (g.W.Write.contents c.args.writer.now) (g.W.Write.contents c.write_whole.new.writer) bytes) pulled.bytes c.in-Ok-2.ensures.ok, pulled.left),
+    )
+
+pub returns-in-Err-write_whole : goal.returns-in-Err-write_whole
+returns-in-Err-write_whole g c = λ before rest shown sending.
+    let s = c.in-Ok.ensures.step before shown in
+    let pulled = c.calls_move_their_session.ensures.pull before s.0 c.args.id piece rest _ sending s.2 in (
+      s.0,
+      s.1,
+      only_serves c.other_sessions_stay.ensures c.calls_move_their_session.ensures.file c.sessions_are_numbered.ensures.kept before s.0 (Pull c.args.id piece (given_in c.pull.new.buffer (Ok c.in-Ok.pulled))) c.args.id s.2 refl,
+      prefix_of_all (g.W.Write.contents c.args.writer.now) (g.W.Write.contents c.write_whole.new.writer) piece _ rest pulled.bytes c.in-Err-write_whole.ensures.err,
+    )
+
+pub returns-in-Err : goal.returns-in-Err
+returns-in-Err g c = λ before rest shown sending.
+    let s = c.in-Err.ensures.step before shown in
+    (s.0, s.1, only_serves c.other_sessions_stay.ensures c.calls_move_their_session.ensures.file c.sessions_are_numbered.ensures.kept before s.0 (Pull c.args.id piece (Err c.in-Err.fault)) c.args.id s.2 refl, refl)

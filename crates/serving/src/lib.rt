@@ -1,0 +1,19 @@
+//! One connection after the other: a request is read, and its response is written, while a feed may be recorded.
+//!
+//! `serve_one` gives a connection its session of a hub, and closes the session whatever happens. `live_one` does the
+//! same, and takes one step of a feed before each piece of the response. A connection is a reader and a writer, as two
+//! handles of one socket are.
+//!
+//! Start at `specs/Serving.antt`, which says what a connection gets, and go on to `specs/Feeding.antt`, which says what
+//! a step of the feed does, and to `specs/Keeping.antt`, which says what both leave of the hub.
+#![tactic(auto)]
+
+mod feeding;
+mod live;
+mod pieces;
+mod serve;
+
+pub use feeding::{LiveFeed, Step};
+pub use live::live_one;
+pub use pieces::Served;
+pub use serve::serve_one;

@@ -1,0 +1,89 @@
+//! A connection is served while a feed is recorded.
+ghost use Rattle.std.specs.Prelude.{◌≡◌, ℕ, [], Some, None, Err, true, false};
+ghost use Rattle.sessions.specs.Hub.{HubState, Reading, is_full, phase_of};
+ghost use Rattle.sessions.specs.Own.{AreNumbered};
+ghost use Rattle.ogg_serve.specs.Showing.{Shows};
+ghost use Rattle.serving.specs.Keeping.{KeepsAll, KeepsOthers};
+ghost use Rattle.serving.specs.Serving.{Gets};
+
+use crate::feeding::LiveFeed;
+use crate::pieces::{Served, read_head, send_piece};
+use crate::serve::MOST_PIECES;
+use disk_model::Disk;
+use ogg_serve::{Hub, HubFault};
+use sessions::{
+    calls_move_their_session, committed_bytes_grow, other_sessions_stay, sessions_are_numbered,
+};
+use std::io::{Read, Write};
+
+/// Serves one connection, as [`serve_one`](crate::serve_one) does, with its faults, and takes a step of the feed before each
+/// piece of the response. The end of the feed and its faults don't end the connection.
+pub fn live_one<D: Disk + Drop, R: Read, W: Write, F: Read + Drop, L: Write + Drop>(
+    hub: &mut Hub<D>,
+    reader: &mut R,
+    writer: &mut W,
+    feed: &mut LiveFeed<F, L>,
+) -> Result<Served, HubFault>
+    ensures served { (before : HubState) → Shows D.is_honest D.state hub.old before → is_full before ≡ false → AreNumbered before
+        → (after : HubState) × Shows D.is_honest D.state hub.new after × KeepsOthers before.next_id before after
+        × (phase_of after before.next_id ≡ None)
+        × Gets (R.remaining reader.old) (R.remaining reader.new) (W.contents writer.old) (W.contents writer.new) before.committed result }
+    ensures full { (before : HubState) → Shows D.is_honest D.state hub.old before → is_full before ≡ true
+        → (result ≡ Err HubFault.SessionsFull) × Shows D.is_honest D.state hub.new before × (feed.new ≡ feed.old)
+        × (reader.new ≡ reader.old) × (writer.new ≡ writer.old) }
+{
+    calls_move_their_session();
+    other_sessions_stay();
+    sessions_are_numbered();
+    match hub.connect() {
+        Ok(id) => {
+            let served = exchange(hub, id, reader, writer, feed);
+            // After `Source` the session has ended already.
+            let _ = hub.close(id);
+            served
+        }
+        Err(fault) => Err(fault),
+    }
+}
+
+/// Reads a session's request and writes its response, with a step of the feed before each piece.
+fn exchange<D: Disk + Drop, R: Read, W: Write, F: Read + Drop, L: Write + Drop>(
+    hub: &mut Hub<D>,
+    id: u64,
+    reader: &mut R,
+    writer: &mut W,
+    feed: &mut LiveFeed<F, L>,
+) -> Result<Served, HubFault>
+    ensures { (before : HubState) → Shows D.is_honest D.state hub.old before → phase_of before id ≡ Some (Reading [])
+        → (after : HubState) × Shows D.is_honest D.state hub.new after × KeepsOthers id before after
+        × Gets (R.remaining reader.old) (R.remaining reader.new) (W.contents writer.old) (W.contents writer.new) before.committed result }
+{
+    match read_head(hub, id, reader) {
+        Ok(None) => {}
+        Ok(Some(served)) => return Ok(served),
+        Err(fault) => return Err(fault),
+    }
+    for _ in 0..MOST_PIECES {
+        go_on(hub, feed);
+        match send_piece(hub, id, writer) {
+            Ok(None) => {}
+            Ok(Some(served)) => return Ok(served),
+            Err(fault) => return Err(fault),
+        }
+    }
+    Ok(Served::Cut)
+}
+
+/// Takes a step of the feed. If it was the last, what it came to stays in the feed. No session sees any of it.
+fn go_on<D: Disk + Drop, F: Read + Drop, L: Write + Drop>(
+    hub: &mut Hub<D>,
+    feed: &mut LiveFeed<F, L>,
+)
+    ensures { (before : HubState) → Shows D.is_honest D.state hub.old before
+        → (after : HubState) × Shows D.is_honest D.state hub.new after × KeepsAll before after }
+{
+    committed_bytes_grow();
+    other_sessions_stay();
+    sessions_are_numbered();
+    let _ = feed.step(hub);
+}

@@ -1,0 +1,82 @@
+//! The pieces in which a request is read and a response is written.
+ghost use Rattle.std.specs.Prelude.{◌≡◌, ℕ, List, [], Some};
+ghost use Rattle.sessions.specs.Hub.{HubState, Reading, Sending, phase_of};
+ghost use Rattle.ogg_serve.specs.Showing.{Shows};
+ghost use Rattle.serving.specs.Pieces.{HasRead, HasSent};
+ghost use Rattle.serving.specs.Keeping.{OnlyServes};
+
+use disk_model::Disk;
+use ogg_page::write_whole;
+use ogg_serve::{Hub, HubFault};
+use sessions::{Progress, calls_move_their_session, other_sessions_stay, sessions_are_numbered};
+use std::io::{Read, Write};
+
+/// How many bytes are read or written at once, at most.
+pub const PIECE: usize = 4096;
+
+/// A head is complete, or is none, within this many bytes.
+const MOST_HEAD: usize = 8192;
+
+/// How a connection has ended.
+#[derive(Clone, Copy, Debug, PartialEq, Eq)]
+pub enum Served {
+    /// The whole response was written.
+    Whole,
+    /// The reader came to its end before the request's head did. Nothing was written.
+    NoHead,
+    /// The reader or the writer failed. What was written is a front of the response, or nothing.
+    Cut,
+}
+
+/// Reads the head of a session's request. It is complete if nothing is given; else the connection has ended so.
+pub fn read_head<D: Disk + Drop, R: Read>(
+    hub: &mut Hub<D>,
+    id: u64,
+    reader: &mut R,
+) -> Result<Option<Served>, HubFault>
+    ensures { (before : HubState) → Shows D.is_honest D.state hub.old before → phase_of before id ≡ Some (Reading [])
+        → (after : HubState) × Shows D.is_honest D.state hub.new after × OnlyServes id before after
+        × HasRead (R.remaining reader.old) (R.remaining reader.new) id before.committed after result }
+{
+    calls_move_their_session();
+    other_sessions_stay();
+    sessions_are_numbered();
+    let mut piece = [0; PIECE];
+    // Each turn but the last adds a byte to the head.
+    for _ in 0..MOST_HEAD {
+        match reader.read(&mut piece) {
+            Ok(0) => return Ok(Some(Served::NoHead)),
+            Ok(count) => match hub.receive(id, &piece[..count]) {
+                Ok(Progress::More) => {}
+                Ok(Progress::Ready) => return Ok(None),
+                Err(fault) => return Err(fault),
+            },
+            Err(_) => return Ok(Some(Served::Cut)),
+        }
+    }
+    Ok(Some(Served::Cut))
+}
+
+/// Writes the next piece of a session's response. If the connection has ended then, this is how.
+pub fn send_piece<D: Disk + Drop, W: Write>(
+    hub: &mut Hub<D>,
+    id: u64,
+    writer: &mut W,
+) -> Result<Option<Served>, HubFault>
+    ensures { (before : HubState) (rest : List ℕ) → Shows D.is_honest D.state hub.old before → phase_of before id ≡ Some (Sending rest)
+        → (after : HubState) × Shows D.is_honest D.state hub.new after × OnlyServes id before after
+        × HasSent (W.contents writer.old) (W.contents writer.new) id rest after result }
+{
+    calls_move_their_session();
+    other_sessions_stay();
+    sessions_are_numbered();
+    let mut piece = [0; PIECE];
+    match hub.pull(id, &mut piece) {
+        Ok(pulled) => match write_whole(writer, &piece[..pulled.count]) {
+            Ok(()) if pulled.done => Ok(Some(Served::Whole)),
+            Ok(()) => Ok(None),
+            Err(_) => Ok(Some(Served::Cut)),
+        },
+        Err(fault) => Err(fault),
+    }
+}

@@ -1,0 +1,73 @@
+//! A connection is served.
+ghost use Rattle.std.specs.Prelude.{◌≡◌, ℕ, [], Some, None, Err, true, false};
+ghost use Rattle.sessions.specs.Hub.{HubState, Reading, is_full, phase_of};
+ghost use Rattle.sessions.specs.Own.{AreNumbered};
+ghost use Rattle.ogg_serve.specs.Showing.{Shows};
+ghost use Rattle.serving.specs.Keeping.{OnlyServes};
+ghost use Rattle.serving.specs.Serving.{Gets};
+
+use crate::pieces::{Served, read_head, send_piece};
+use disk_model::Disk;
+use ogg_serve::{Hub, HubFault};
+use sessions::{calls_move_their_session, other_sessions_stay, sessions_are_numbered};
+use std::io::{Read, Write};
+
+/// More pieces than any response has.
+pub const MOST_PIECES: u64 = 1 << 52;
+
+/// Serves one connection: a session is begun, its request is read, the response is written, and the session is closed, in
+/// pieces of at most 4,096 bytes.
+///
+/// `SessionsFull` says that no session could be begun, and nothing is read then. After any other fault what was written is
+/// a front of the response, or nothing; the session is closed then too.
+pub fn serve_one<D: Disk + Drop, R: Read, W: Write>(
+    hub: &mut Hub<D>,
+    reader: &mut R,
+    writer: &mut W,
+) -> Result<Served, HubFault>
+    ensures served { (before : HubState) → Shows D.is_honest D.state hub.old before → is_full before ≡ false → AreNumbered before
+        → (after : HubState) × Shows D.is_honest D.state hub.new after × OnlyServes before.next_id before after
+        × (phase_of after before.next_id ≡ None)
+        × Gets (R.remaining reader.old) (R.remaining reader.new) (W.contents writer.old) (W.contents writer.new) before.committed result }
+    ensures full { (before : HubState) → Shows D.is_honest D.state hub.old before → is_full before ≡ true
+        → (result ≡ Err HubFault.SessionsFull) × Shows D.is_honest D.state hub.new before × (reader.new ≡ reader.old) × (writer.new ≡ writer.old) }
+{
+    calls_move_their_session();
+    other_sessions_stay();
+    sessions_are_numbered();
+    match hub.connect() {
+        Ok(id) => {
+            let served = exchange(hub, id, reader, writer);
+            // After `Source` the session has ended already.
+            let _ = hub.close(id);
+            served
+        }
+        Err(fault) => Err(fault),
+    }
+}
+
+/// Reads a session's request and writes its response.
+fn exchange<D: Disk + Drop, R: Read, W: Write>(
+    hub: &mut Hub<D>,
+    id: u64,
+    reader: &mut R,
+    writer: &mut W,
+) -> Result<Served, HubFault>
+    ensures { (before : HubState) → Shows D.is_honest D.state hub.old before → phase_of before id ≡ Some (Reading [])
+        → (after : HubState) × Shows D.is_honest D.state hub.new after × OnlyServes id before after
+        × Gets (R.remaining reader.old) (R.remaining reader.new) (W.contents writer.old) (W.contents writer.new) before.committed result }
+{
+    match read_head(hub, id, reader) {
+        Ok(None) => {}
+        Ok(Some(served)) => return Ok(served),
+        Err(fault) => return Err(fault),
+    }
+    for _ in 0..MOST_PIECES {
+        match send_piece(hub, id, writer) {
+            Ok(None) => {}
+            Ok(Some(served)) => return Ok(served),
+            Err(fault) => return Err(fault),
+        }
+    }
+    Ok(Served::Cut)
+}
