@@ -1,0 +1,10 @@
+use Rattle.ogg_feed.proofs.AddUp.{add_up}
+use Rattle.ogg_feed.proofs.AreCommands.{are_commands, are_held}
+use Rattle.ogg_feed.proofs.ByInput.{by_input}
+use Rattle.ogg_feed.proofs.Fit.{by_whole}
+use Rattle.ogg_feed.proofs.laws.commands_of_links_add_up.Goals as goal
+
+pub returns : goal.returns
+returns c =
+    let law = c.command_adds_its_packets.ensures.links in
+    record { recording = add_up; commands = are_commands; held = are_held c.commands_add_their_packets.ensures.holds; refused = by_input law; whole = by_whole law }

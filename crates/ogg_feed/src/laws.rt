@@ -1,0 +1,41 @@
+//! What always holds of the commands of a chain of links.
+ghost use Rattle.std.specs.Prelude.{◌≡◌, ◌++◌, List, [], ℕ, take, length};
+ghost use Rattle.std.specs.List.{AllByRecursion};
+ghost use Rattle.ogg_page.specs.Page.{Page};
+ghost use Rattle.ogg_page.specs.LogicalStream.{HoldsPackets, joined_lacing};
+ghost use Rattle.packetiser.specs.Run.{packets_ended};
+ghost use Rattle.link_chain.specs.Links.{AreLinks};
+ghost use Rattle.chain_rules.specs.Recording.{Recording, Stream, HoldsLinks, Holds, after};
+ghost use Rattle.ogg_command.specs.Command.{IsCommand};
+ghost use Rattle.chain_rules.specs.Commands.{AreKept, bytes_of_commands};
+ghost use Rattle.ogg_feed.specs.Commands.{commands_of, CanBeFed, RefusedBy, RefusedByInput, of_the_whole};
+
+use chain_rules::{command_adds_its_packets, commands_add_their_packets};
+
+/// The commands of links add up to the recording that the links hold, whichever packets are headers.
+pub fn commands_of_links_add_up()
+    ensures recording { (headers : List Stream → ℕ → ℕ) (bytes : List ℕ) (links : List (List Page)) (recording : Recording) → AreLinks bytes links → HoldsLinks links recording →
+        after [] (commands_of headers links recording) ≡ recording }
+    ensures commands { (headers : List Stream → ℕ → ℕ) (bytes : List ℕ) (links : List (List Page)) (recording : Recording) → AreLinks bytes links → HoldsLinks links recording →
+        AllByRecursion IsCommand (commands_of headers links recording) }
+    // If none of them is refused, the bytes that they make hold just the recording.
+    ensures held { (headers : List Stream → ℕ → ℕ) (bytes : List ℕ) (links : List (List Page)) (recording : Recording) → AreLinks bytes links → HoldsLinks links recording →
+        AreKept [] (commands_of headers links recording) → Holds (bytes_of_commands [] (commands_of headers links recording)) recording }
+    // Only what the input is can have one refused: none is refused for its place among the others.
+    ensures refused { (headers : List Stream → ℕ → ℕ) (bytes : List ℕ) (links : List (List Page)) (recording : Recording) → AreLinks bytes links → HoldsLinks links recording →
+        RefusedByInput [] (commands_of headers links recording) }
+    // Of an input within the limits of one command, only what the whole of it is.
+    ensures whole { (headers : List Stream → ℕ → ℕ) (bytes : List ℕ) (links : List (List Page)) (recording : Recording) → AreLinks bytes links → HoldsLinks links recording →
+        CanBeFed headers links recording → RefusedBy of_the_whole [] (commands_of headers links recording) }
+{
+    command_adds_its_packets();
+    commands_add_their_packets();
+}
+
+/// What pages of a stream hold comes first in what they hold with more pages behind them, and as many packets end in
+/// them. So packets can be given out page by page.
+pub fn packets_of_a_front_come_first()
+    ensures { (front back : List Page) (packets all : List (List ℕ)) (segments : ℕ) (rest : List ℕ) →
+        HoldsPackets front packets segments rest → HoldsPackets (front ++ back) all 0 [] →
+        (take (length packets) all ≡ packets) × (packets_ended (joined_lacing front) ≡ length packets) }
+{}
