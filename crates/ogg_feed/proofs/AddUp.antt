@@ -38,7 +38,7 @@ pub all_to : {A : Type 0} (P Q : A → Type 0) → ((x : A) → P x → Q x) →
 all_to P Q f [] h = tt
 all_to P Q f (x ∷ xs) h = (f x h.0, all_to P Q f xs h.1)
 
-dropped_take : {A : Type 0} (k n : ℕ) (xs : List A) → drop k (take n xs) ≡ take (n - k) (drop k xs)
+pub dropped_take : {A : Type 0} (k n : ℕ) (xs : List A) → drop k (take n xs) ≡ take (n - k) (drop k xs)
 dropped_take zero n xs = ap (λ m. take m xs) (less n)
   where
     less : (n : ℕ) → n ≡ n - 0
@@ -108,13 +108,13 @@ own_one serial page e = cond-true (nat_eq page.serial serial) (page ∷ []) [] (
 other_one : (serial : ℕ) (page : Page) → (page.serial ≡ serial → ⊥) → pages_with serial (page ∷ []) ≡ []
 other_one serial page ne = cond-false (nat_eq page.serial serial) (page ∷ []) [] (ne_eqb page.serial serial ne)
 
-ended_more : (before : List Page) (page : Page) (serial : ℕ) → ended_in (before ++ page ∷ []) serial ≡ ended_in before serial + ended_in (page ∷ []) serial
+pub ended_more : (before : List Page) (page : Page) (serial : ℕ) → ended_in (before ++ page ∷ []) serial ≡ ended_in before serial + ended_in (page ∷ []) serial
 ended_more before page serial =
     ap (λ l. packets_ended (joined_lacing l)) (filter-append (λ (p : Page). nat_eq p.serial serial) before (page ∷ []))
     ∙ ap packets_ended (flat_map-append (λ (p : Page). p.lacing) (pages_with serial before) (pages_with serial (page ∷ [])))
     ∙ ended_app (joined_lacing (pages_with serial before)) (joined_lacing (pages_with serial (page ∷ [])))
 
-ended_here : (serial : ℕ) (page : Page) → page.serial ≡ serial → ended_in (page ∷ []) serial ≡ packets_ended page.lacing
+pub ended_here : (serial : ℕ) (page : Page) → page.serial ≡ serial → ended_in (page ∷ []) serial ≡ packets_ended page.lacing
 ended_here serial page e = ap (λ l. packets_ended (joined_lacing l)) (own_one serial page e) ∙ ap packets_ended (append-nil page.lacing)
 
 ended_elsewhere : (serial : ℕ) (page : Page) → (page.serial ≡ serial → ⊥) → ended_in (page ∷ []) serial ≡ 0

@@ -1,14 +1,14 @@
 //! What always holds of the commands of a chain of links.
-ghost use Rattle.std.specs.Prelude.{◌≡◌, ◌++◌, List, [], ℕ, take, length};
+ghost use Rattle.std.specs.Prelude.{◌≡◌, ◌++◌, ◌∷◌, ◌-◌, List, [], ℕ, take, drop, length};
 ghost use Rattle.std.specs.List.{AllByRecursion};
 ghost use Rattle.ogg_page.specs.Page.{Page};
 ghost use Rattle.ogg_page.specs.LogicalStream.{HoldsPackets, joined_lacing};
 ghost use Rattle.packetiser.specs.Run.{packets_ended};
-ghost use Rattle.link_chain.specs.Links.{AreLinks};
+ghost use Rattle.link_chain.specs.Links.{AreLinks, pages_with};
 ghost use Rattle.chain_rules.specs.Recording.{Recording, Stream, HoldsLinks, Holds, after};
 ghost use Rattle.ogg_command.specs.Command.{IsCommand};
 ghost use Rattle.chain_rules.specs.Commands.{AreKept, bytes_of_commands};
-ghost use Rattle.ogg_feed.specs.Commands.{commands_of, CanBeFed, RefusedBy, RefusedByInput, of_the_whole};
+ghost use Rattle.ogg_feed.specs.Commands.{commands_of, page_commands, page_packets, pages_commands, packets_of, CanBeFed, RefusedBy, RefusedByInput, of_the_whole};
 
 use chain_rules::{command_adds_its_packets, commands_add_their_packets};
 
@@ -38,4 +38,18 @@ pub fn packets_of_a_front_come_first()
     ensures { (front back : List Page) (packets all : List (List ℕ)) (segments : ℕ) (rest : List ℕ) →
         HoldsPackets front packets segments rest → HoldsPackets (front ++ back) all 0 [] →
         (take (length packets) all ≡ packets) × (packets_ended (joined_lacing front) ≡ length packets) }
+{}
+
+/// The commands of a link are known page by page: those of one page more come after those of the pages before, and the
+/// packets that end in a page are what its stream's pages hold so far, without what the pages before it hold. So nothing
+/// has to wait for a later page, but for a link's `Begin`.
+pub fn commands_come_page_by_page()
+    ensures turn { (headers : ℕ → ℕ) (streams : List Stream) (before pages : List Page) (page : Page) →
+        pages_commands headers streams before (pages ++ page ∷ [])
+        ≡ pages_commands headers streams before pages ++ page_commands headers streams (before ++ pages) page }
+    ensures packets { (headers : ℕ → ℕ) (streams : List Stream) (before after : List Page) (page : Page) (packets now : List (List ℕ)) (segments later : ℕ) (rest left : List ℕ) →
+        HoldsPackets (pages_with page.serial before) packets segments rest →
+        HoldsPackets (pages_with page.serial (before ++ page ∷ [])) now later left →
+        HoldsPackets (pages_with page.serial (before ++ page ∷ after)) (packets_of streams page.serial) 0 [] →
+        page_packets headers streams before page ≡ drop (headers page.serial - length packets) (drop (length packets) now) }
 {}

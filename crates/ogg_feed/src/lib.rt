@@ -11,4 +11,6 @@ mod headers;
 mod laws;
 
 pub use headers::header_count;
-pub use laws::{commands_of_links_add_up, packets_of_a_front_come_first};
+pub use laws::{
+    commands_come_page_by_page, commands_of_links_add_up, packets_of_a_front_come_first,
+};
