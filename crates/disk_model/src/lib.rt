@@ -24,6 +24,3 @@ pub use laws::{
 };
 pub use memory::{MemDisk, Memory};
 pub use raw::{FileDisk, RawFile};
-
-#[cfg(test)]
-mod tests;

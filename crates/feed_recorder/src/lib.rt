@@ -14,6 +14,3 @@ mod recording;
 
 pub use laws::records_are_steps;
 pub use recording::record_feed;
-
-#[cfg(test)]
-mod tests;

@@ -26,6 +26,3 @@ pub use laws::{
 };
 pub use ogg_page::Memory;
 pub use visiting::PageVisitor;
-
-#[cfg(test)]
-mod tests;

@@ -25,6 +25,3 @@ pub use gate_file::OpenFault;
 pub use laws::{Recorded, acknowledged_commands_survive, images_show_one_recording};
 pub use recorder::Recorder;
 pub use running::{reply_to, reply_to_flush};
-
-#[cfg(test)]
-mod tests;

@@ -1,0 +1,155 @@
+//! Feeds recorded onto disks in memory, and what an opening finds after them.
+use disk_model::{Disk, FuseDisk, MemDisk};
+use feed_codec::{FeedFault, RunFault};
+use feed_recorder::record_feed;
+use ogg_command::Memory;
+use ogg_recorder::Recorder;
+use std::alloc::Global;
+use std::process::Abort;
+use std::test::Fail;
+
+/// One stream begins, with serial 1 and the header `abc`.
+const BEGIN: &[u8] = b"\x01\x2f\0\0\0\0\x01\0\x01\0\0\0\x01\0\x03\0\0\0abc\0\0\
+    \0\0\0\0\0\0\0\0\0\0\0\0\0\0\0\0\0\0\0\0\0\0\0\0\0\0\0\0\0";
+
+/// It gets the packet `hello` at position 5.
+const PUT: &[u8] = b"\x02\x17\0\0\0\x01\0\x01\0\0\0\x05\0\0\0\0\0\0\0\x05\0\0\0hello";
+
+/// The same for a stream with serial 7, which no link has.
+const PUT_ELSEWHERE: &[u8] = b"\x02\x17\0\0\0\x01\0\x07\0\0\0\x05\0\0\0\0\0\0\0\x05\0\0\0hello";
+
+/// It ends.
+const END: &[u8] = b"\x03\x04\0\0\0\x01\0\0\0";
+
+const FLUSH: &[u8] = b"\x04\0\0\0\0";
+
+/// A feed that breaks off in a put.
+const BROKEN_OFF: &[u8] = b"\x02\x17\0\0\0\x01\0\x01";
+
+/// How a run ended: the counts of all, of the kept and of the refused commands, and the length.
+type Came = Result<(u64, u64, u64, u64), RunFault>;
+
+/// A feed, how many commands share a commit, which call of the disk fails once if one does, the reply lines, how the
+/// run ended, and where an opening then finds the end.
+struct Run {
+    feed: &'static [&'static [u8]],
+    most: u32,
+    bad: u64,
+    lines: &'static str,
+    came: Came,
+    end: u64,
+}
+
+const RUNS: [Run; 6] = [
+    Run {
+        feed: &[BEGIN, PUT, END, END],
+        most: 1,
+        bad: 0,
+        lines: "kept 1 31\nkept 2 64\nkept 3 91\nrefused 3 NoLink\n",
+        came: Ok((4, 3, 1, 91)),
+        end: 91,
+    },
+    // A refusal, the end and a flush leave their neighbours as they are.
+    Run {
+        feed: &[BEGIN, PUT_ELSEWHERE, PUT, FLUSH, END],
+        most: 8,
+        bad: 0,
+        lines: "held 1\nrefused 12 UnknownSerial\nheld 2\nkept 2 64\nheld 3\nkept 3 91\n",
+        came: Ok((4, 3, 1, 91)),
+        end: 91,
+    },
+    Run {
+        feed: &[BEGIN, PUT, BROKEN_OFF],
+        most: 8,
+        bad: 0,
+        lines: "held 1\nheld 2\nkept 2 64\n",
+        came: Err(RunFault::Feed(FeedFault::Truncated)),
+        end: 64,
+    },
+    // The opening makes four calls of the disk and a command of one page four more, the last of them a sync. Here the
+    // second one's fails, when its commit byte is written already.
+    Run {
+        feed: &[BEGIN, PUT, END, FLUSH],
+        most: 1,
+        bad: 12,
+        lines: "kept 1 31\nrefused 21 Disk\nrefused 1 Failed\nrefused 1 Failed\n",
+        came: Ok((3, 1, 2, 31)),
+        end: 64,
+    },
+    // Its first sync fails, and no commit byte is written.
+    Run {
+        feed: &[BEGIN, PUT, END],
+        most: 1,
+        bad: 10,
+        lines: "kept 1 31\nrefused 21 Disk\nrefused 1 Failed\n",
+        came: Ok((3, 1, 2, 31)),
+        end: 31,
+    },
+    // So does that of the flush at the end, after two commands are staged.
+    Run {
+        feed: &[BEGIN, PUT],
+        most: 8,
+        bad: 7,
+        lines: "held 1\nheld 2\nrefused 21 Disk\n",
+        came: Ok((2, 0, 2, 0)),
+        end: 0,
+    },
+];
+
+fn joined(alloc: Global, parts: &[&[u8]]) -> Result<Vec<u8>, Memory> {
+    let mut feed = Vec::new(alloc);
+    for part in parts {
+        feed.extend_from_slice(part)?;
+    }
+    Ok(feed)
+}
+
+/// A recorder on this disk, whose commands share commits in groups of `most`.
+fn opened<D: Disk + Drop>(alloc: Global, disk: D, most: u32) -> Result<Recorder<D>, Fail> {
+    match Recorder::open(alloc, disk) {
+        Ok(mut recorder) => {
+            if most > 0 && most <= 1024 && recorder.held() == 0 {
+                recorder.group(most);
+            }
+            Ok(recorder)
+        }
+        Err(_) => Err(Fail::from("not opened")),
+    }
+}
+
+#[test]
+fn feeds_are_answered_and_found_again_as_the_rows_say(rt: HostRuntime) -> Result<(), Fail> {
+    let alloc = rt.alloc();
+    for run in &RUNS {
+        let feed = joined(alloc, run.feed)?;
+        let disk = FuseDisk::fail_once(MemDisk::of(alloc, b"")?, run.bad);
+        let mut recorder = opened(alloc, disk, run.most)?;
+        let mut replies = Vec::new(alloc);
+        let came = match record_feed(alloc, &mut feed.as_slice(), &mut replies, &mut recorder) {
+            Ok(tally) => Ok((tally.commands, tally.kept, tally.refused, tally.end)),
+            Err(fault) => Err(fault),
+        };
+        assert!(rt; replies.as_slice() == run.lines.as_bytes());
+        assert!(rt; came == run.came);
+        let found = opened(alloc, recorder.give_back().into_inner(), 1)?;
+        assert!(rt; found.end() == run.end);
+    }
+    Ok(())
+}
+
+#[test]
+fn a_writer_that_fails_ends_the_run_and_what_waits_still_waits(
+    rt: HostRuntime,
+) -> Result<(), Fail> {
+    let alloc = rt.alloc();
+    let feed = joined(alloc, &[BEGIN, PUT, END])?;
+    let mut recorder = opened(alloc, MemDisk::of(alloc, b"")?, 8)?;
+    // Room for one line.
+    let mut line = [0; 7];
+    let mut replies: &mut [u8] = &mut line;
+    let run = record_feed(alloc, &mut feed.as_slice(), &mut replies, &mut recorder);
+    assert!(rt; run == Err(RunFault::Write), "the second line is written");
+    assert!(rt; (recorder.held(), recorder.end()) == (2, 0));
+    assert!(rt; &line == b"held 1\n");
+    Ok(())
+}

@@ -1,7 +1,0 @@
-//! What no clause says: rows by hand, an exhaustive run, refused memory, real files, and raw files that fall short.
-
-mod files;
-mod fuses;
-mod images;
-mod memory;
-mod short;

@@ -1,7 +1,0 @@
-//! What no clause says: rows by hand over disks in memory, with a stop after each call and every image that it may leave,
-//! and how many calls of the disk each call makes.
-
-mod appends;
-mod groups;
-mod openings;
-mod tools;

@@ -1,6 +1,0 @@
-//! What no clause says: rows by hand over disks in memory, and how many calls of the disk each call makes.
-
-mod commands;
-mod openings;
-mod stops;
-mod tools;
