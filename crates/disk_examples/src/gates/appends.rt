@@ -66,16 +66,8 @@ fn an_append_makes_four_calls(rt: HostRuntime) -> Result<(), Fail> {
     Ok(())
 }
 
-/// Asks each of these images that a stop may leave for its end, and wants one of the two: the second only if the byte at
-/// 31 is the first of a page.
-fn check_images<R: Abort>(
-    rt: &R,
-    alloc: Global,
-    disk: &MemDisk,
-    may_grow: bool,
-    has_grown: bool,
-) -> Result<(), Fail> {
-    let bytes = disk.contents();
+/// These bytes changed in many ways from the commit byte on.
+fn images_of(alloc: Global, bytes: &[u8]) -> Result<Vec<Vec<u8>>, Fail> {
     let foreign = row_3(alloc)?;
     let mut images = Vec::new(alloc);
     images.push(bytes.to_vec(alloc)?)?;
@@ -92,8 +84,20 @@ fn check_images<R: Abort>(
         image.truncate(length);
         images.push(image)?;
     }
+    Ok(images)
+}
+
+/// Asks each of the images that a stop may leave for its end, and wants one of the two: the second only if the byte at
+/// 31 is the first of a page.
+fn check_images<R: Abort>(
+    rt: &R,
+    alloc: Global,
+    disk: &MemDisk,
+    may_grow: bool,
+    has_grown: bool,
+) -> Result<(), Fail> {
     let mut asked = false;
-    for image in &images {
+    for image in &images_of(alloc, disk.contents())? {
         if disk.is_image(image) {
             asked = true;
             let open = image.get(31) == Some(&b'O');

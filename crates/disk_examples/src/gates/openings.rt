@@ -6,6 +6,7 @@ use disk_model::{FuseDisk, MemDisk};
 use gate_file::{GateFile, OpenFault, PageVisitor};
 use ogg_page::{Page, PageBuffer, PageFault};
 use std::alloc::Global;
+use std::process::Abort;
 use std::test::Fail;
 
 /// The pages of the first rows, joined.
@@ -36,26 +37,55 @@ fn a_sealed_file_is_cut_at_each_byte(rt: HostRuntime) -> Result<(), Fail> {
     Ok(())
 }
 
+/// The byte is a tail, and the first append writes over it.
+fn check_lone_byte<R: Abort>(rt: &R, alloc: Global, byte: &[u8]) -> Result<(), Fail> {
+    assert!(rt; ends(alloc, byte)? == Ok((0, 1)));
+    let mut file = opened(alloc, MemDisk::of(alloc, byte)?)?;
+    assert!(rt; append(&mut file, &row_1(alloc)?) == Ok(()));
+    assert!(rt; file.end() == 31);
+    assert!(rt; file.give_back().contents() == row_1(alloc)?.bytes());
+    Ok(())
+}
+
+/// Opening takes so many calls of the disk, and leaves these contents.
+fn check_closed<R: Abort>(
+    rt: &R,
+    alloc: Global,
+    byte: &[u8],
+    calls: u64,
+    contents: &[u8],
+) -> Result<(), Fail> {
+    let disk = FuseDisk::stop_after(MemDisk::of(alloc, byte)?, calls);
+    let disk = opened(alloc, disk)?.give_back().into_inner();
+    assert!(rt; disk.contents() == contents);
+    assert!(rt; disk.is_image(contents));
+    let disk = FuseDisk::stop_after(MemDisk::of(alloc, byte)?, calls.saturating_sub(1));
+    assert!(rt; try_open(alloc, disk).is_none());
+    Ok(())
+}
+
 /// The image that a stop within the first write of an opening may leave.
 #[test]
 fn one_byte_alone_is_a_tail(rt: HostRuntime) -> Result<(), Fail> {
     let alloc = rt.alloc();
     for byte in [b"O", b"\0", b"x"] {
-        assert!(rt; ends(alloc, byte)? == Ok((0, 1)));
-        let mut file = opened(alloc, MemDisk::of(alloc, byte)?)?;
-        assert!(rt; append(&mut file, &row_1(alloc)?) == Ok(()));
-        assert!(rt; file.end() == 31);
-        assert!(rt; file.give_back().contents() == row_1(alloc)?.bytes());
+        check_lone_byte(&rt, alloc, byte)?;
     }
     // An open byte is closed, and a closed one is left.
     for (byte, calls, contents) in [(b"O", 6, b"\0"), (b"x", 4, b"x")] {
-        let disk = FuseDisk::stop_after(MemDisk::of(alloc, byte)?, calls);
-        let disk = opened(alloc, disk)?.give_back().into_inner();
-        assert!(rt; disk.contents() == contents.as_slice());
-        assert!(rt; disk.is_image(contents));
-        let disk = FuseDisk::stop_after(MemDisk::of(alloc, byte)?, calls - 1);
-        assert!(rt; try_open(alloc, disk).is_none());
+        check_closed(&rt, alloc, byte, calls, contents)?;
     }
+    Ok(())
+}
+
+/// These bytes after the first page and a closed byte are a tail, and the next append writes over it.
+fn check_tail<R: Abort>(rt: &R, alloc: Global, closed: u8, over: &[u8]) -> Result<(), Fail> {
+    let mut bytes = overlaid(alloc, &[closed; 123], 0, row_1(alloc)?.page())?;
+    bytes = overlaid(alloc, &bytes, 32, over)?;
+    assert!(rt; ends(alloc, &bytes)? == Ok((31, 92)));
+    let mut file = opened(alloc, MemDisk::of(alloc, &bytes)?)?;
+    assert!(rt; append(&mut file, &row_2(alloc)?) == Ok(()));
+    assert!(rt; ends(alloc, file.give_back().contents())? == Ok((64, 59)));
     Ok(())
 }
 
@@ -63,24 +93,17 @@ fn one_byte_alone_is_a_tail(rt: HostRuntime) -> Result<(), Fail> {
 #[test]
 fn what_follows_a_closed_byte_is_a_tail(rt: HostRuntime) -> Result<(), Fail> {
     let alloc = rt.alloc();
-    let first = row_1(alloc)?;
+    let second = row_2(alloc)?;
     let whole = sealed(alloc)?;
     for closed in [0, 1, b'o', 0xFF] {
         for over in [
-            row_2(alloc)?.page(),
+            second.page(),
             &[0; 60],
             &[b'O'; 60],
             b"OggS",
             whole.as_slice(),
         ] {
-            let mut bytes = overlaid(alloc, &[closed; 123], 0, first.page())?;
-            bytes = overlaid(alloc, &bytes, 32, over)?;
-            assert!(rt; ends(alloc, &bytes)? == Ok((31, 92)));
-
-            // The next append writes over it.
-            let mut file = opened(alloc, MemDisk::of(alloc, &bytes)?)?;
-            assert!(rt; append(&mut file, &row_2(alloc)?) == Ok(()));
-            assert!(rt; ends(alloc, file.give_back().contents())? == Ok((64, 59)));
+            check_tail(&rt, alloc, closed, over)?;
         }
     }
     Ok(())

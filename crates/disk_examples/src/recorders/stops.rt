@@ -1,7 +1,8 @@
 //! Commands stopped after each call of the disk.
 use super::tools::{Answer, ByHand, Given, ROW_1, ends, give, group, joined, opened};
 use chain_rules::Refusal;
-use disk_model::{FuseDisk, MemDisk};
+use disk_model::{Disk, FuseDisk, MemDisk};
+use ogg_recorder::Recorder;
 use std::alloc::Global;
 use std::process::Abort;
 use std::test::Fail;
@@ -65,6 +66,81 @@ fn bytes_of(alloc: Global, stopped: &Stopped) -> Result<Vec<u8>, Fail> {
     Ok(bytes)
 }
 
+/// Runs the commands until the recorder has failed, and returns the last answer.
+fn run<D: Disk>(
+    alloc: Global,
+    recorder: &mut Recorder<D>,
+    commands: &[Given],
+) -> Result<Answer, Fail> {
+    let mut answer = Answer::Refused(Refusal::Failed);
+    for given in commands {
+        if !recorder.is_failed() {
+            answer = give(alloc, recorder, *given)?;
+        }
+    }
+    Ok(answer)
+}
+
+/// After a fault it answers no more, and shows what was kept before.
+fn check_failed<R: Abort, D: Disk>(
+    rt: &R,
+    alloc: Global,
+    recorder: &mut Recorder<D>,
+    before: u64,
+) -> Result<(), Fail> {
+    let answer = give(alloc, recorder, Given::Begin(&[9]))?;
+    assert!(rt; answer == Answer::Refused(Refusal::Failed));
+    assert!(rt; recorder.flush() == Err(Refusal::Failed));
+    assert!(rt; (recorder.held(), recorder.count(), recorder.end()) == (0, 0, before));
+    Ok(())
+}
+
+/// Runs the commands on this disk, whose calls fail from one on if the stop isn't the last, and gives it back.
+fn check_stop<R: Abort, D: Disk + Drop>(
+    rt: &R,
+    alloc: Global,
+    disk: D,
+    stopped: &Stopped,
+    before: u64,
+    end: u64,
+    is_last: bool,
+) -> Result<D, Fail> {
+    let mut recorder = opened(alloc, disk)?;
+    group(&mut recorder, stopped.most);
+    let answer = run(alloc, &mut recorder, stopped.given)?;
+    let whole = Answer::Kept(stopped.given.len() as u64, end);
+    let refused = Answer::Refused(Refusal::Disk);
+    assert!(rt; answer == if is_last { whole } else { refused });
+    assert!(rt; recorder.is_failed() == !is_last);
+    if !is_last {
+        check_failed(rt, alloc, &mut recorder, before)?;
+    }
+    Ok(recorder.give_back())
+}
+
+/// Whatever a stop makes of the commit byte, it is none of the group or all of it.
+fn check_images<R: Abort>(
+    rt: &R,
+    alloc: Global,
+    disk: &MemDisk,
+    before: u64,
+    end: u64,
+) -> Result<(), Fail> {
+    for byte in [0, 1, b'O', 0xFF] {
+        let mut image = disk.contents().to_vec(alloc)?;
+        if let Some(place) = image.get_mut(before as usize) {
+            *place = byte;
+        }
+        if disk.is_image(&image) {
+            match ends(alloc, &image)? {
+                Ok((found, _)) => assert!(rt; found == before || found == before.max(end)),
+                Err(_) => return Err(Fail::from("damaged")),
+            }
+        }
+    }
+    Ok(())
+}
+
 #[test]
 fn groups_are_found_whole_or_not_at_all(rt: HostRuntime) -> Result<(), Fail> {
     let alloc = rt.alloc();
@@ -74,50 +150,25 @@ fn groups_are_found_whole_or_not_at_all(rt: HostRuntime) -> Result<(), Fail> {
         for (calls, end, tail) in stopped.stops {
             let is_last = stopped.stops.last() == Some(&(*calls, *end, *tail));
             let disk = FuseDisk::stop_after(MemDisk::of(alloc, &bytes)?, 4 + calls);
-            let mut recorder = opened(alloc, disk)?;
-            group(&mut recorder, stopped.most);
-            let mut answer = Answer::Refused(Refusal::Failed);
-            for given in stopped.given {
-                if !recorder.is_failed() {
-                    answer = give(alloc, &mut recorder, *given)?;
-                }
-            }
-            let count = stopped.given.len() as u64;
-            let whole = Answer::Kept(count, *end);
-            let refused = Answer::Refused(Refusal::Disk);
-            assert!(rt; answer == if is_last { whole } else { refused });
-            assert!(rt; recorder.is_failed() == !is_last);
-
-            // After a fault it answers no more, and shows what was kept before.
-            if !is_last {
-                assert!(rt;
-                    give(alloc, &mut recorder, Given::Begin(&[9]))?
-                        == Answer::Refused(Refusal::Failed)
-                );
-                assert!(rt; recorder.flush() == Err(Refusal::Failed));
-                assert!(rt; (recorder.held(), recorder.count(), recorder.end()) == (0, 0, before));
-            }
-            let disk = recorder.give_back().into_inner();
+            let disk = check_stop(&rt, alloc, disk, stopped, before, *end, is_last)?.into_inner();
             assert!(rt; ends(alloc, disk.contents())? == Ok((*end, *tail)));
-
-            // Whatever a stop makes of the commit byte, it is none of the group or all of it.
-            for byte in [0, 1, b'O', 0xFF] {
-                let mut image = disk.contents().to_vec(alloc)?;
-                if let Some(place) = image.get_mut(before as usize) {
-                    *place = byte;
-                }
-                if disk.is_image(&image) {
-                    match ends(alloc, &image)? {
-                        Ok((found, _)) => {
-                            assert!(rt; found == before || found == before.max(*end));
-                        }
-                        Err(_) => return Err(Fail::from("damaged")),
-                    }
-                }
-            }
+            check_images(&rt, alloc, &disk, before, *end)?;
         }
     }
     Ok(())
+}
+
+/// Opens the file, and gives it one command: where the opening found the end and how many bytes followed, the answer, and
+/// the disk.
+fn given_to<D: Disk + Drop>(
+    alloc: Global,
+    disk: D,
+    given: Given,
+) -> Result<((u64, u64), Answer, D), Fail> {
+    let mut recorder = opened(alloc, disk)?;
+    let found = (recorder.end(), recorder.tail());
+    let answer = give(alloc, &mut recorder, given)?;
+    Ok((found, answer, recorder.give_back()))
 }
 
 /// The last sync fails once: the answer is a fault, and the command is found.
@@ -126,14 +177,12 @@ fn a_command_in_doubt_may_be_found(rt: HostRuntime) -> Result<(), Fail> {
     let alloc = rt.alloc();
     let mut file = joined(alloc, &[ROW_1])?;
     file.push(0)?;
-    let mut recorder = opened(alloc, FuseDisk::fail_once(MemDisk::of(alloc, &file)?, 8))?;
-    assert!(rt;
-        give(alloc, &mut recorder, Given::Put(&[(1, 5, b"hello")]))?
-            == Answer::Refused(Refusal::Disk)
-    );
-    let mut recorder = opened(alloc, recorder.give_back())?;
-    assert!(rt; recorder.end() == 64);
-    assert!(rt; give(alloc, &mut recorder, Given::End(1))? == Answer::Kept(1, 91));
+    let disk = FuseDisk::fail_once(MemDisk::of(alloc, &file)?, 8);
+    let (_, answer, disk) = given_to(alloc, disk, Given::Put(&[(1, 5, b"hello")]))?;
+    assert!(rt; answer == Answer::Refused(Refusal::Disk));
+    let ((end, _), answer, _) = given_to(alloc, disk, Given::End(1))?;
+    assert!(rt; end == 64);
+    assert!(rt; answer == Answer::Kept(1, 91));
     Ok(())
 }
 
@@ -144,19 +193,14 @@ fn a_tail_is_written_over(rt: HostRuntime) -> Result<(), Fail> {
     let mut file = joined(alloc, &[ROW_1])?;
     file.push(0)?;
     let disk = FuseDisk::stop_after(MemDisk::of(alloc, &file)?, 6);
-    let mut recorder = opened(alloc, disk)?;
-    assert!(rt;
-        give(alloc, &mut recorder, Given::Zeros(60_000))? == Answer::Refused(Refusal::Disk)
-    );
-    let disk = recorder.give_back().into_inner();
+    let (_, answer, disk) = given_to(alloc, disk, Given::Zeros(60_000))?;
+    assert!(rt; answer == Answer::Refused(Refusal::Disk));
+    let disk = disk.into_inner();
     assert!(rt; disk.contents().len() == 60_295);
-    let mut recorder = opened(alloc, disk)?;
-    assert!(rt; (recorder.end(), recorder.tail()) == (31, 60_264));
-    assert!(rt;
-        give(alloc, &mut recorder, Given::Put(&[(1, 5, b"hello")]))? == Answer::Kept(1, 64)
-    );
-    let recorder = opened(alloc, recorder.give_back())?;
-    assert!(rt; (recorder.end(), recorder.tail()) == (64, 60_231));
+    let (found, answer, disk) = given_to(alloc, disk, Given::Put(&[(1, 5, b"hello")]))?;
+    assert!(rt; found == (31, 60_264));
+    assert!(rt; answer == Answer::Kept(1, 64));
+    assert!(rt; ends(alloc, disk.contents())? == Ok((64, 60_231)));
     Ok(())
 }
 
