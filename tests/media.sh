@@ -97,7 +97,10 @@ done
 
 # finished NAME: what is muxed again and then finished is played as the encoder's file is, to the last sample, and ends as oggz
 # wants it. Frames of a film are compared too.
-sounds() { ffmpeg -nostdin -loglevel error -i "$1" -map 0:a -f md5 - && ffmpeg -nostdin -loglevel error -i "$1" -map '0:v?' -map 0:a -f framemd5 - | cut -d , -f 1,6; }
+sounds() {
+    ffmpeg -nostdin -loglevel error -i "$1" -map 0:a -f md5 -
+    ffmpeg -nostdin -loglevel error -i "$1" -map '0:v?' -map 0:a -f framemd5 - | cut -d , -f 1,6
+}
 finished() {
     local name=$1
     "$program" finish "$work/$name.again.ogg" >"$work/$name.finished.ogg"

@@ -176,7 +176,8 @@ for name in hello streams; do
     python3 "$here/finishing.py" all "$work/$name.ogg" >"$work/want"
     becomes "examples/$name.feed" "$work/want" "$work/$name.ogg"
 done
-printf '%s\n' 'skeleton 9 ; 1 audio/vorbis 44100/1 abc def' 'put 1 5 hello' 'put 1 7 hello' 'end 1' 'begin 2 abc' 'end 2' | feed >"$work/feed"
+printf '%s\n' 'skeleton 9 ; 1 audio/vorbis 44100/1 abc def' 'put 1 5 hello' 'put 1 7 hello' 'end 1' 'begin 2 abc' 'end 2' |
+    feed >"$work/feed"
 "$program" mux <"$work/feed" >"$work/told.ogg" 2>"$work/replies"
 python3 "$here/finishing.py" all "$work/told.ogg" >"$work/want"
 becomes "with a Skeleton" "$work/want" "$work/told.ogg"

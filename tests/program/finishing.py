@@ -5,8 +5,8 @@
     finishing.py link FILE NUMBER        what `finish FILE NUMBER` writes
     finishing.py compare PROGRAM         runs the program on many files, made of pages and of feeds, and says where it differs
 
-A stream that has ended, of pages A B C D with D marked: the last page after the first that has lacing values is marked,
-and those after it go, unless one of them tells a position of its own.
+Of a stream that has ended, the last page after its first that has lacing values is marked, and the pages after it go,
+unless one of them tells a position of its own.
 """
 import os
 import random

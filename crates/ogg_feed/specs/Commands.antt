@@ -143,6 +143,7 @@ of_the_whole refusal = of_input refusal && not_for_itself refusal
 -- a command that isn't refused adds its packets to what links hold
 abbrev pub AddsItsPackets : Type 0
 AddsItsPackets =
-    (bytes : List ℕ) (links : List (List Page)) (recording : Recording) (command : Command) (size : ℕ) → IsCommand command → AreLinks bytes links
+    (bytes : List ℕ) (links : List (List Page)) (recording : Recording) (command : Command) (size : ℕ) → IsCommand command
+    → AreLinks bytes links
     → HoldsLinks links recording → decision (chain_state_of links) command ≡ Ok size
     → AreLinks (bytes ++ command_bytes (chain_state_of links) command) (links_after links command) × HoldsLinks (links_after links command) (add recording command)

@@ -14,18 +14,23 @@ use chain_rules::{command_adds_its_packets, commands_add_their_packets};
 
 /// The commands of links add up to the recording that the links hold, whichever packets are headers.
 pub fn commands_of_links_add_up()
-    ensures recording { (headers : List Stream → ℕ → ℕ) (bytes : List ℕ) (links : List (List Page)) (recording : Recording) → AreLinks bytes links → HoldsLinks links recording →
+    ensures recording { (headers : List Stream → ℕ → ℕ) (bytes : List ℕ) (links : List (List Page)) (recording : Recording)
+        → AreLinks bytes links → HoldsLinks links recording →
         after [] (commands_of headers links recording) ≡ recording }
-    ensures commands { (headers : List Stream → ℕ → ℕ) (bytes : List ℕ) (links : List (List Page)) (recording : Recording) → AreLinks bytes links → HoldsLinks links recording →
+    ensures commands { (headers : List Stream → ℕ → ℕ) (bytes : List ℕ) (links : List (List Page)) (recording : Recording)
+        → AreLinks bytes links → HoldsLinks links recording →
         AllByRecursion IsCommand (commands_of headers links recording) }
     // If none of them is refused, the bytes that they make hold just the recording.
-    ensures held { (headers : List Stream → ℕ → ℕ) (bytes : List ℕ) (links : List (List Page)) (recording : Recording) → AreLinks bytes links → HoldsLinks links recording →
+    ensures held { (headers : List Stream → ℕ → ℕ) (bytes : List ℕ) (links : List (List Page)) (recording : Recording)
+        → AreLinks bytes links → HoldsLinks links recording →
         AreKept [] (commands_of headers links recording) → Holds (bytes_of_commands [] (commands_of headers links recording)) recording }
     // Only what the input is can have one refused: none is refused for its place among the others.
-    ensures refused { (headers : List Stream → ℕ → ℕ) (bytes : List ℕ) (links : List (List Page)) (recording : Recording) → AreLinks bytes links → HoldsLinks links recording →
+    ensures refused { (headers : List Stream → ℕ → ℕ) (bytes : List ℕ) (links : List (List Page)) (recording : Recording)
+        → AreLinks bytes links → HoldsLinks links recording →
         RefusedByInput [] (commands_of headers links recording) }
     // Of an input within the limits of one command, only what the whole of it is.
-    ensures whole { (headers : List Stream → ℕ → ℕ) (bytes : List ℕ) (links : List (List Page)) (recording : Recording) → AreLinks bytes links → HoldsLinks links recording →
+    ensures whole { (headers : List Stream → ℕ → ℕ) (bytes : List ℕ) (links : List (List Page)) (recording : Recording)
+        → AreLinks bytes links → HoldsLinks links recording →
         CanBeFed headers links recording → RefusedBy of_the_whole [] (commands_of headers links recording) }
 {
     command_adds_its_packets();
@@ -40,9 +45,9 @@ pub fn packets_of_a_front_come_first()
         (take (length packets) all ≡ packets) × (packets_ended (joined_lacing front) ≡ length packets) }
 {}
 
-/// The commands of a link are known page by page: those of one page more come after those of the pages before, and the
-/// packets that end in a page are what its stream's pages hold so far, without what the pages before it hold. So nothing
-/// has to wait for a later page, but for a link's `Begin`.
+/// The commands of a link are known page by page: those of one page more come after those of the pages before, and
+/// the packets that end in a page are what its stream's pages hold so far, without what the pages before it hold. So
+/// nothing has to wait for a later page, but for a link's `Begin`.
 pub fn commands_come_page_by_page()
     ensures turn { (headers : ℕ → ℕ) (streams : List Stream) (before pages : List Page) (page : Page) →
         pages_commands headers streams before (pages ++ page ∷ [])

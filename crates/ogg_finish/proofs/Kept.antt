@@ -1,5 +1,5 @@
 -- What is left of a source after two calls in turn.
-use Rattle.std.proofs.Common.{◌≡◌, ◌≢◌, ℕ, List, Result, Err, ◌∙◌, subst}
+use Rattle.std.proofs.Common.{◌≡◌, ◌≢◌, ℕ, List, Result, Err, ◌∙◌}
 use Rattle.ogg_split.specs.declared.fault.SplitFault.{SplitFault}
 use Rattle.ogg_split.specs.declared.fault.SplitFault.TheVariants.{NoLink, NoStream, Source, Write}
 use Rattle.ogg_page.specs.Window.{KeepsSource}
@@ -13,11 +13,6 @@ keeps_on bytes honest size only on old mid now a b = record {
   size_same = b.size_same ∙ a.size_same;
   only = on old mid now a.only b.only;
 }
-
--- a call that leaves the source as it is goes before another
-pub keeps_from : {S : Type 0} (bytes : S → List ℕ) (honest : S → Type 0) (size : S → ℕ) (only : S → S → Type 0)
-    → (old mid now : S) → mid ≡ old → KeepsSource bytes honest size only mid now → KeepsSource bytes honest size only old now
-keeps_from bytes honest size only old mid now same kept = subst (λ s. KeepsSource bytes honest size only s now) same kept
 
 -- a fault that is none of these isn't there
 pub none_of : {T : Type 0} (result : Result T SplitFault) (fault : SplitFault) → result ≡ Err fault → result ≢ Err NoLink → result ≢ Err NoStream → result ≢ Err Source

@@ -1,7 +1,6 @@
 //! A link written as players like it.
 ghost use Rattle.std.specs.Prelude.{◌≡◌, ◌≢◌, ◌↔◌, ◌⊎◌, ◌≤◌, ◌<◌, ◌^◌, ◌-◌, List, [], Some, None, Err, OnOk, OnErr, IfOk, IfErr, length, map, slice_get};
 ghost use Rattle.std.specs.Io.KnownBytes.{Appends};
-ghost use Rattle.arrayvec.specs.ArrayVec.{array_vec_len};
 ghost use Rattle.std.specs.List.{flat_map};
 ghost use Rattle.ogg_page.specs.Output.{WritesPrefix};
 ghost use Rattle.ogg_page.specs.Page.{Page as PageValue, bytes_of_pages};
@@ -20,13 +19,13 @@ use ogg_page::{PageBuffer, PageSource, Window};
 use ogg_split::{SplitFault, seek_link};
 use std::io::Write;
 
-/// Writes the link with this number, counted from 0, finished, and gives how many bytes it has then. The source's bytes
-/// begin with those that the index is of. The link is read twice, a page at a time; a page whose mark changes is made anew
-/// in the buffer, and each other is written as it stands. The range of the window is left where the writing ended. No
-/// memory is taken.
+/// Writes the link with this number, counted from 0, finished, and gives how many bytes it has then. The source's
+/// bytes begin with those that the index is of. The link is read twice, a page at a time; a page whose mark changes
+/// is made anew in the buffer, and each other is written as it stands. The range of the window is left where the
+/// writing ended. No memory is taken.
 ///
-/// The faults are `NoLink`, after which nothing is written; `Source`, if a read failed or gave no good page; and `Write`.
-/// After `Source` and `Write` a prefix of the finished pages was written.
+/// The faults are `NoLink`, after which nothing is written; `Source`, if a read failed or gave no good page; and
+/// `Write`. After `Source` and `Write` a prefix of the finished pages was written.
 pub fn finish_link<S: PageSource, W: Write>(
     window: &mut Window<S>,
     index: &Index,
@@ -69,9 +68,11 @@ pub fn finish_file<S: PageSource, W: Write>(
     buffer: &mut PageBuffer,
     out: &mut W,
 ) -> Result<(), SplitFault>
-    ensures written { (links : List (List PageValue)) → S.is_honest window.old.source → AreIndexed links index.now (S.bytes window.old.source)
+    ensures written { (links : List (List PageValue)) → S.is_honest window.old.source
+        → AreIndexed links index.now (S.bytes window.old.source)
         → OnOk result (Appends (W.contents out.old) (W.contents out.new) (flat_map bytes_of_pages (finished_links links))) }
-    ensures prefix { (links : List (List PageValue)) → S.is_honest window.old.source → AreIndexed links index.now (S.bytes window.old.source)
+    ensures prefix { (links : List (List PageValue)) → S.is_honest window.old.source
+        → AreIndexed links index.now (S.bytes window.old.source)
         → OnErr result (WritesPrefix (W.contents out.old) (W.contents out.new) (flat_map bytes_of_pages (finished_links links))) }
 
     // Which fault, and when.

@@ -13,7 +13,8 @@ ghost use Rattle.ogg_finish.specs.Finishing.{finished_links, finished_link, fini
 pub fn finished_links_hold_the_same()
     ensures links { (bytes : List ℕ) (links : List (List Page)) → AreLinks bytes links →
         AreLinks (flat_map bytes_of_pages (finished_links links)) (finished_links links) }
-    ensures holds { (bytes : List ℕ) (links : List (List Page)) (recording : Recording) → AreLinks bytes links → HoldsLinks links recording →
+    ensures holds { (bytes : List ℕ) (links : List (List Page)) (recording : Recording) → AreLinks bytes links
+        → HoldsLinks links recording →
         HoldsLinks (finished_links links) recording }
     // Each stream is finished for itself, in the order that the link has.
     ensures streams { (link : List Page) (serial : ℕ) → pages_with serial (finished_link link) ≡ finished_stream (pages_with serial link) }
@@ -25,8 +26,8 @@ pub fn finished_links_hold_the_same()
         EndsFull (pages_with serial link) (pages_with serial (finished_link link)) }
 {}
 
-/// The first page of a link with more pages than one isn't marked as last (RFC 3533, section 4). So the mark never moves
-/// to a stream's first page, since that may be the link's.
+/// The first page of a link with more pages than one isn't marked as last (RFC 3533, section 4). So the mark never
+/// moves to a stream's first page, since that may be the link's.
 pub fn link_goes_on_after_its_first_page()
     ensures { (page next : Page) (pages : List Page) → IsLink (page ∷ next ∷ pages) → is_last page ≡ false }
 {}

@@ -10,8 +10,8 @@ use ogg_page::{LAST, Page, PageBuffer, PageHead, write_whole};
 use ogg_split::SplitFault;
 use std::io::Write;
 
-/// Writes the page as it is in the finished link, where the mark of its stream is to stand there, and gives how many bytes
-/// were written.
+/// Writes the page as it is in the finished link, where the mark of its stream is to stand there, and gives how many
+/// bytes were written.
 pub fn write_page<W: Write>(
     page: &Page<'_>,
     mark: Option<Mark>,

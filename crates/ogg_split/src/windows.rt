@@ -143,8 +143,8 @@ pub fn parts_of<S: PageSource>(
     }
 }
 
-/// Sets the window's range to the link with this number, so that the window lends the link's pages from the first one on.
-/// The source's bytes begin with those that the index is of. Nothing is read, and no memory is taken.
+/// Sets the window's range to the link with this number, so that the window lends the link's pages from the first one
+/// on. The source's bytes begin with those that the index is of. Nothing is read, and no memory is taken.
 ///
 /// The faults are `NoLink`, and `Source`, which comes only of a source that doesn't go as far as the index does. After
 /// `NoLink` the window is as it was.
@@ -162,7 +162,8 @@ pub fn seek_link<S: PageSource>(
     // Which fault, and when.
     ensures no_link { (result ≡ Err SplitFault.NoLink) ↔ (length index.now.entries ≤ link) }
     ensures no_stream { result ≢ Err SplitFault.NoStream }
-    ensures no_source { (links : List (List PageValue)) → S.is_honest window.old.source → AreIndexed links index.now (S.bytes window.old.source)
+    ensures no_source { (links : List (List PageValue)) → S.is_honest window.old.source
+        → AreIndexed links index.now (S.bytes window.old.source)
         → result ≢ Err SplitFault.Source }
     ensures no_write { result ≢ Err SplitFault.Write }
     ensures source { window.new.source ≡ window.old.source }
