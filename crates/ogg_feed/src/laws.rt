@@ -8,7 +8,8 @@ ghost use Rattle.link_chain.specs.Links.{AreLinks, pages_with};
 ghost use Rattle.chain_rules.specs.Recording.{Recording, Stream, HoldsLinks, Holds, after};
 ghost use Rattle.ogg_command.specs.Command.{IsCommand};
 ghost use Rattle.chain_rules.specs.Commands.{AreKept, bytes_of_commands};
-ghost use Rattle.ogg_feed.specs.Commands.{commands_of, page_commands, page_packets, pages_commands, packets_of, CanBeFed, RefusedBy, RefusedByInput, of_the_whole};
+ghost use Rattle.ogg_feed.specs.Headers.{header_count};
+ghost use Rattle.ogg_feed.specs.Commands.{commands_of, page_commands, page_packets, pages_commands, packets_of, headers_by, CanBeFed, RefusedBy, RefusedByInput, of_the_whole};
 
 use chain_rules::{command_adds_its_packets, commands_add_their_packets};
 
@@ -17,6 +18,9 @@ pub fn commands_of_links_add_up()
     ensures recording { (headers : List Stream → ℕ → ℕ) (bytes : List ℕ) (links : List (List Page)) (recording : Recording)
         → AreLinks bytes links → HoldsLinks links recording →
         after [] (commands_of headers links recording) ≡ recording }
+    // So it is where each stream's first packet tells how many are headers.
+    ensures told { (bytes : List ℕ) (links : List (List Page)) (recording : Recording) → AreLinks bytes links → HoldsLinks links recording →
+        after [] (commands_of (headers_by header_count) links recording) ≡ recording }
     ensures commands { (headers : List Stream → ℕ → ℕ) (bytes : List ℕ) (links : List (List Page)) (recording : Recording)
         → AreLinks bytes links → HoldsLinks links recording →
         AllByRecursion IsCommand (commands_of headers links recording) }

@@ -1,3 +1,5 @@
+use Rattle.ogg_feed.specs.Commands.{headers_by}
+use Rattle.ogg_feed.specs.Headers.{header_count}
 use Rattle.ogg_feed.proofs.AddUp.{add_up}
 use Rattle.ogg_feed.proofs.AreCommands.{are_commands, are_held}
 use Rattle.ogg_feed.proofs.ByInput.{by_input}
@@ -7,4 +9,4 @@ use Rattle.ogg_feed.proofs.laws.commands_of_links_add_up.Goals as goal
 pub returns : goal.returns
 returns c =
     let law = c.command_adds_its_packets.ensures.links in
-    record { recording = add_up; commands = are_commands; held = are_held c.commands_add_their_packets.ensures.holds; refused = by_input law; whole = by_whole law }
+    record { recording = add_up; told = add_up (headers_by header_count); commands = are_commands; held = are_held c.commands_add_their_packets.ensures.holds; refused = by_input law; whole = by_whole law }
