@@ -140,12 +140,15 @@ fn close(hub: Hub<FileDisk>, sealed: bool, met: Option<Fault>) -> Result<(), Fau
         return Err(fault);
     }
     match hub.into_recorder() {
-        Ok(recorder) if sealed && !recorder.is_failed() && recorder.held() == 0 => {
-            match recorder.seal() {
-                Ok(_) => Ok(()),
-                Err(_) => Err(Fault::Seal),
+        Ok(recorder) => {
+            if sealed && !recorder.is_failed() && recorder.held() == 0 {
+                match recorder.seal() {
+                    Ok(_) => {}
+                    Err(_) => return Err(Fault::Seal),
+                }
             }
+            Ok(())
         }
-        _ => Ok(()),
+        Err(_disk) => Ok(()),
     }
 }
