@@ -1,4 +1,5 @@
 //! The commands that serve a file over HTTP.
+ghost use Rattle.std.specs.Prelude.{◌≡◌, IfOk, IfSome, IsSome};
 
 use disk_model::{FileDisk, FileMode};
 use fault_lines::Fault;
@@ -87,8 +88,11 @@ pub fn live(
     close(hub, sealed, met)
 }
 
-/// Opens a file to be served, which is there already.
-fn open_hub(rt: &HostRuntime, file: &str) -> Result<Opened, Fault> {
+/// Opens a file to be served, which is there already. Nothing waits in it.
+fn open_hub(rt: &HostRuntime, file: &str) -> Result<Opened, Fault>
+    ensures file { IfOk result (λ opened. IsSome opened.hub.file) }
+    ensures none { IfOk result (λ opened. IfSome opened.hub.file (λ recorder. recorder.held ≡ 0)) }
+{
     let Ok(disk) = FileDisk::open(rt, file, FileMode::ReadWrite) else {
         return Err(Fault::File);
     };
