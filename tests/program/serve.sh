@@ -88,9 +88,10 @@ came "no such file" 1 '' 'fault file\n'
 check "no such file: none is made" [ ! -e "$work/none.ogg" ]
 run serve "$work" 127.0.0.1:0 1
 came "a folder" 1 '' 'fault file\n'
-printf H | cat "$work/two.ogg" - >"$work/bad.ogg"
+cp "$work/two.ogg" "$work/bad.ogg"
+printf H | dd of="$work/bad.ogg" bs=1 seek=59 conv=notrunc status=none
 run serve "$work/bad.ogg" 127.0.0.1:0 1
-came "damage" 1 '' 'fault open 2 Page 70477 1 Short\n'
+came "damage" 1 '' 'fault open 2 Page 31 4 Checksum\n'
 cp "$work/two.ogg" "$work/served.ogg"
 run serve "$work/served.ogg" nowhere 1
 came "no address" 1 '' 'fault net\n'
