@@ -1,0 +1,60 @@
+// A library that fails device calls of the program that it is loaded into: writes, syncs and cuts of files are counted from 1.
+//
+//     cc -O2 -shared -fPIC -D_GNU_SOURCE -o failing.so failing.c
+//     FAILING_CALL=N FAILING_HOW=io|full|interrupted|short|torn|stop [FAILING_ON=1] FAILING_MET=FILE LD_PRELOAD=./failing.so PROGRAM ..
+//
+// The Nth call, or with FAILING_ON each from the Nth on, fails with EIO, ENOSPC or EINTR and does nothing; moves half of the bytes; writes
+// half of them and fails; or doesn't come about, since the program ends before it. FILE is made once a call has been met.
+#include <dlfcn.h>
+#include <errno.h>
+#include <fcntl.h>
+#include <stdlib.h>
+#include <string.h>
+#include <unistd.h>
+
+static long calls;
+
+// What is to be done with the next call: null if it is an ordinary one.
+static const char *met(void) {
+    const char *at = getenv("FAILING_CALL"), *how = getenv("FAILING_HOW"), *on = getenv("FAILING_ON");
+    if (!at || !how) return NULL;
+    calls++;
+    if (calls != atol(at) && !(on && calls > atol(at))) return NULL;
+    const char *file = getenv("FAILING_MET");
+    if (file) close(open(file, O_CREAT | O_WRONLY, 0600));
+    if (!strcmp(how, "stop")) _exit(9);
+    return how;
+}
+
+static int number_of(const char *how) {
+    return !strcmp(how, "full") ? ENOSPC : !strcmp(how, "interrupted") ? EINTR : EIO;
+}
+
+ssize_t pwrite(int file, const void *bytes, size_t count, off_t at) {
+    static ssize_t (*next)(int, const void *, size_t, off_t);
+    if (!next) next = (ssize_t (*)(int, const void *, size_t, off_t))dlsym(RTLD_NEXT, "pwrite");
+    const char *how = met();
+    if (!how) return next(file, bytes, count, at);
+    if (!strcmp(how, "short")) return next(file, bytes, count > 1 ? count / 2 : count, at);
+    if (!strcmp(how, "torn") && count > 1 && next(file, bytes, count / 2, at) < 0) return -1;
+    errno = number_of(how);
+    return -1;
+}
+
+int fsync(int file) {
+    static int (*next)(int);
+    if (!next) next = (int (*)(int))dlsym(RTLD_NEXT, "fsync");
+    const char *how = met();
+    if (!how || !strcmp(how, "short")) return next(file);
+    errno = number_of(how);
+    return -1;
+}
+
+int ftruncate(int file, off_t size) {
+    static int (*next)(int, off_t);
+    if (!next) next = (int (*)(int, off_t))dlsym(RTLD_NEXT, "ftruncate");
+    const char *how = met();
+    if (!how || !strcmp(how, "short")) return next(file, size);
+    errno = number_of(how);
+    return -1;
+}
