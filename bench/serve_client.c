@@ -1,0 +1,111 @@
+// Asks a server on 127.0.0.1 for ranges of a resource, one connection after the other, and checks the status and the length of
+// each answer. The places are random and the same in each run. Prints the seconds by the clock, the server's CPU seconds in
+// user and system mode in that time, and the most kB of memory that the server has had. A first request, of one byte, is
+// answered before the clock starts, so that the server's own start doesn't count.
+//
+//     cc -O2 -D_GNU_SOURCE -o serve_client serve_client.c && ./serve_client PID PORT TARGET SIZE LENGTH REQUESTS
+//
+// SIZE is how long the resource is; with a LENGTH of 0 all of it is asked for, without a range.
+#include <arpa/inet.h>
+#include <errno.h>
+#include <netinet/in.h>
+#include <stdio.h>
+#include <stdlib.h>
+#include <string.h>
+#include <sys/socket.h>
+#include <time.h>
+#include <unistd.h>
+
+static char piece[1 << 18];
+static const char *pid;
+
+static void fail(const char *why) {
+    fprintf(stderr, "serve_client: %s\n", why);
+    exit(1);
+}
+
+static double clock_seconds(void) {
+    struct timespec now;
+    clock_gettime(CLOCK_MONOTONIC, &now);
+    return now.tv_sec + now.tv_nsec / 1e9;
+}
+
+// The server's CPU seconds: of its threads, without its children.
+static void cpu_seconds(double *user, double *system) {
+    char name[64], text[1024];
+    snprintf(name, sizeof name, "/proc/%s/stat", pid);
+    FILE *from = fopen(name, "r");
+    if (!from || !fgets(text, sizeof text, from)) fail("the server has ended");
+    fclose(from);
+    unsigned long in_user, in_system;
+    if (sscanf(strrchr(text, ')') + 2, "%*c %*d %*d %*d %*d %*d %*u %*u %*u %*u %*u %lu %lu", &in_user, &in_system) != 2) fail("no times");
+    *user = (double)in_user / sysconf(_SC_CLK_TCK);
+    *system = (double)in_system / sysconf(_SC_CLK_TCK);
+}
+
+static long most_memory(void) {
+    char name[64], text[256];
+    long most = 0;
+    snprintf(name, sizeof name, "/proc/%s/status", pid);
+    FILE *from = fopen(name, "r");
+    while (from && fgets(text, sizeof text, from)) sscanf(text, "VmHWM: %ld", &most);
+    if (from) fclose(from);
+    return most;
+}
+
+// One request: a range, or the whole if `length` is 0. While no server listens it is tried again, for `patience` seconds.
+static void ask(int port, const char *target, long long size, long long first, long long length, int patience) {
+    struct sockaddr_in address = {.sin_family = AF_INET, .sin_port = htons(port), .sin_addr.s_addr = htonl(INADDR_LOOPBACK)};
+    double until = clock_seconds() + patience;
+    int to;
+    for (;;) {
+        to = socket(AF_INET, SOCK_STREAM, 0);
+        if (!connect(to, (struct sockaddr *)&address, sizeof address)) break;
+        close(to);
+        if (errno != ECONNREFUSED || clock_seconds() > until) fail("no connection");
+        usleep(10000);
+    }
+    char head[512];
+    int count = snprintf(head, sizeof head, "GET %s HTTP/1.1\r\nHost: 127.0.0.1\r\n", target);
+    if (length) count += snprintf(head + count, sizeof head - count, "Range: bytes=%lld-%lld\r\n", first, first + length - 1);
+    count += snprintf(head + count, sizeof head - count, "\r\n");
+    if (write(to, head, count) != count) fail("the request wasn't sent");
+    // The head of the answer ends within its first 4,096 bytes, which are looked at together.
+    static char front[4097];
+    size_t fronted = 0;
+    long long total = 0;
+    for (;;) {
+        ssize_t have = read(to, piece, sizeof piece);
+        if (have < 0) fail("the answer can't be read");
+        if (have == 0) break;
+        size_t more = 4096 - fronted < (size_t)have ? 4096 - fronted : (size_t)have;
+        memcpy(front + fronted, piece, more);
+        fronted += more;
+        total += have;
+    }
+    close(to);
+    front[fronted] = 0;
+    char *body = memmem(front, fronted, "\r\n\r\n", 4);
+    if (!body || strncmp(front, length ? "HTTP/1.1 206 " : "HTTP/1.1 200 ", 13)) fail("another status");
+    if (total - (body + 4 - front) != (length ? length : size)) fail("another length");
+}
+
+int main(int count, char **words) {
+    if (count != 7) return 2;
+    pid = words[1];
+    int port = atoi(words[2]);
+    long long size = atoll(words[4]), length = atoll(words[5]);
+    long requests = atol(words[6]);
+    unsigned long long random = 1;
+    ask(port, words[3], size, 0, 1, 60);
+    double user, system, user_then, system_then, then = clock_seconds();
+    cpu_seconds(&user_then, &system_then);
+    for (long number = 0; number < requests; number++) {
+        random = random * 6364136223846793005ULL + 1442695040888963407ULL;
+        ask(port, words[3], size, length ? (long long)((random >> 16) % (size - length + 1)) : 0, length, 0);
+    }
+    double took = clock_seconds() - then;
+    cpu_seconds(&user, &system);
+    printf("%.3f %.2f %.2f %ld\n", took, user - user_then, system - system_then, most_memory());
+    return 0;
+}
