@@ -32,6 +32,3 @@ pub use reply::{Kept, Reply, write_reply};
 pub use tally::Tally;
 pub use version::Version;
 pub use writing::{write_command, write_command_2, write_flush, write_version};
-
-#[cfg(test)]
-mod tests;

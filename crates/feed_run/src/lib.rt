@@ -23,6 +23,3 @@ pub use laws::runs_go_on;
 pub use run::FeedRun;
 pub use runner::Runner;
 pub use whole::run_feed;
-
-#[cfg(test)]
-mod tests;

@@ -21,6 +21,3 @@ pub use index::Index;
 pub use info::{LinkInfo, StreamInfo};
 pub use laws::{index_tells_places, links_are_indexed, pieces_give_one_index};
 pub use ogg_page::Memory;
-
-#[cfg(test)]
-mod tests;

@@ -23,6 +23,3 @@ pub use head::{HeadRead, Request, Verb, read_head};
 pub use laws::ranges_lie_inside;
 pub use range::{Ranged, range_of};
 pub use target::Resource;
-
-#[cfg(test)]
-mod tests;

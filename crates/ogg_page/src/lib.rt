@@ -53,6 +53,3 @@ pub use source::{PageSource, Whole};
 pub use std::alloc::AllocError as Memory;
 pub use window::Window;
 pub use writing::{close_page, open_page, write_page};
-
-#[cfg(test)]
-mod tests;

@@ -24,6 +24,3 @@ pub use laws::{good_pages_are_one_list, index_has_the_streams};
 pub use ogg_page::Memory;
 pub use salvaging::{GoodPage, salvage};
 pub use windows::{copy_link_from, copy_stream_from, parts_of, seek_link};
-
-#[cfg(test)]
-mod tests;

@@ -33,6 +33,3 @@ pub use packets::Packets;
 pub use part::Part;
 pub use parts::Parts;
 pub use stream::Stream;
-
-#[cfg(test)]
-mod tests;

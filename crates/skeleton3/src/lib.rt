@@ -28,6 +28,3 @@ pub use laws::{
 pub use message::MessageFields;
 pub use rules::{is_field, is_media_type};
 pub use std::alloc::AllocError as Memory;
-
-#[cfg(test)]
-mod tests;

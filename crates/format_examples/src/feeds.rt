@@ -3,8 +3,8 @@ ghost use Rattle.std.specs.Prelude.{◌≡◌, Some};
 ghost use Rattle.feed_codec.specs.Record.{FitsRecord};
 ghost use Rattle.feed_codec.specs.declared.version.Version.{Version as VersionOf};
 
-use super::*;
-use crate::tests::fakes::{FakeReader, FakeWriter};
+use fakes::{FakeReader, FakeWriter};
+use feed_codec::*;
 use ogg_command::{Command, Memory, Refusal};
 use ogg_page::WriteFault;
 use std::alloc::Global;
@@ -89,9 +89,9 @@ fn read(rt: &impl Abort, alloc: Global, mut reader: FakeReader) -> Result<Outcom
         match feed.next(&mut reader) {
             Ok(None) => assert!(rt; fault.is_none(), "the end stays"),
             Ok(Some(_)) => assert!(rt; false, "a command after the end"),
-            Err(again) => assert_eq!(rt; fault, Some(again), "the fault stays"),
+            Err(again) => assert!(rt; fault == Some(again), "the fault stays"),
         }
-        assert_eq!(rt; reader.calls(), calls, "nothing is read after the end");
+        assert!(rt; reader.calls() == calls, "nothing is read after the end");
         if fault == Some(FeedFault::Memory) {
             return Err(Memory);
         }
@@ -148,8 +148,8 @@ fn a_feed_cut_at_every_byte_ends_inside_a_record_or_between_two(
         } else {
             Some(FeedFault::Truncated)
         };
-        assert_eq!(rt; run.fault, fault, "{length} bytes");
-        assert_eq!(rt; run.commands, whole_records(length), "{length} bytes");
+        assert!(rt; run.fault == fault, "{length} bytes");
+        assert!(rt; run.commands == whole_records(length), "{length} bytes");
         assert!(rt; bytes.starts_with(run.records.as_slice()), "{length} bytes");
     }
     Ok(())
@@ -158,25 +158,25 @@ fn a_feed_cut_at_every_byte_ends_inside_a_record_or_between_two(
 #[test]
 fn what_was_read_is_written_the_same(rt: HostRuntime) -> Result<(), Fail> {
     let all = run(&rt, rt.alloc(), &FEED, 1, 0)?;
-    assert_eq!(rt; all.records.as_slice(), FEED.as_slice());
+    assert!(rt; all.records.as_slice() == FEED.as_slice());
     let skeleton = run(&rt, rt.alloc(), &SKELETON, 7, 0)?;
-    assert_eq!(rt; skeleton.records.as_slice(), SKELETON.as_slice());
+    assert!(rt; skeleton.records.as_slice() == SKELETON.as_slice());
     Ok(())
 }
 
 #[test]
 fn version_2_is_announced_once_and_read_back(rt: HostRuntime) -> Result<(), Fail> {
     let all = run(&rt, rt.alloc(), &FEED_2, 1, 0)?;
-    assert_eq!(rt; (all.commands, all.fault), (2, None));
+    assert!(rt; (all.commands, all.fault) == (2, None));
     let mut written = Vec::new(rt.alloc());
     write_version(&mut written)?;
     written.extend_from_slice(all.records.as_slice())?;
-    assert_eq!(rt; written.as_slice(), FEED_2.as_slice());
+    assert!(rt; written.as_slice() == FEED_2.as_slice());
     for length in 1..77usize {
         let (bytes, _) = FEED_2.split_at(length);
         let run = run(&rt, rt.alloc(), bytes, 64, 0)?;
         let between = length == 6 || length == 72;
-        assert_eq!(rt; run.fault.is_none(), between, "{length} bytes");
+        assert!(rt; run.fault.is_none() == between, "{length} bytes");
     }
     Ok(())
 }
@@ -188,23 +188,14 @@ fn records_of_one_version_are_none_of_the_other(rt: HostRuntime) -> Result<(), F
     write_version(&mut early)?;
     early.extend_from_slice(&FEED[..52])?;
     let run_early = run(&rt, rt.alloc(), early.as_slice(), 64, 0)?;
-    assert_eq!(rt;
-        (run_early.commands, run_early.fault),
-        (0, Some(FeedFault::Form))
-    );
+    assert!(rt; (run_early.commands, run_early.fault) == (0, Some(FeedFault::Form)));
     let mut late = FEED[..52].to_vec(rt.alloc())?;
     write_version(&mut late)?;
     let run_late = run(&rt, rt.alloc(), late.as_slice(), 64, 0)?;
-    assert_eq!(rt;
-        (run_late.commands, run_late.fault),
-        (1, Some(FeedFault::Kind))
-    );
+    assert!(rt; (run_late.commands, run_late.fault) == (1, Some(FeedFault::Kind)));
     // A begin of version 2 with no announcement.
     let run_bare = run(&rt, rt.alloc(), &FEED_2[6..72], 64, 0)?;
-    assert_eq!(rt;
-        (run_bare.commands, run_bare.fault),
-        (0, Some(FeedFault::Form))
-    );
+    assert!(rt; (run_bare.commands, run_bare.fault) == (0, Some(FeedFault::Form)));
     Ok(())
 }
 
@@ -212,68 +203,84 @@ fn records_of_one_version_are_none_of_the_other(rt: HostRuntime) -> Result<(), F
 fn message_fields_are_read(rt: HostRuntime) -> Result<(), Fail> {
     let mut feed = Feed::new(rt.alloc());
     let mut reader = FakeReader::new(&FEED_2, 64, 0);
-    assert_eq!(rt; feed.version(), None);
+    assert!(rt; feed.version() == None);
     match feed.next(&mut reader) {
         Ok(Some(Record::Command(Command::Begin(begin)))) => {
-            assert_eq!(rt; begin.streams.len(), 1);
+            assert!(rt; begin.streams.len() == 1);
             for stream in begin.streams.as_slice() {
-                assert_eq!(rt; stream.fields.len(), 1);
+                assert!(rt; stream.fields.len() == 1);
                 for field in stream.fields.as_slice() {
-                    assert_eq!(rt; field.name(), b"Title".as_slice());
-                    assert_eq!(rt; field.value(), b"One".as_slice());
+                    assert!(rt; field.name() == b"Title".as_slice());
+                    assert!(rt; field.value() == b"One".as_slice());
                 }
             }
         }
         other => assert!(rt; matches!(other, Err(FeedFault::Memory)), "no begin"),
     }
-    assert_eq!(rt; feed.version(), Some(Version::Two));
+    assert!(rt; feed.version() == Some(Version::Two));
     assert!(rt; matches!(feed.next(&mut reader), Ok(Some(Record::Flush))));
     Ok(())
 }
 
+/// The record behind so many of a feed.
+fn record_after(alloc: Global, bytes: &[u8], count: u32) -> Result<Option<Record>, FeedFault> {
+    let mut feed = Feed::new(alloc);
+    let mut reader = FakeReader::new(bytes, 64, 0);
+    for _ in 0..count {
+        feed.next(&mut reader)?;
+    }
+    feed.next(&mut reader)
+}
+
 #[test]
-fn a_record_tells_its_command(rt: HostRuntime) -> Result<(), Fail> {
-    let mut feed = Feed::new(rt.alloc());
-    let mut reader = FakeReader::new(&FEED, 64, 0);
-    match feed.next(&mut reader) {
+fn a_begin_tells_its_streams(rt: HostRuntime) -> Result<(), Fail> {
+    match record_after(rt.alloc(), &FEED, 0) {
         Ok(Some(Record::Command(Command::Begin(begin)))) => {
-            assert_eq!(rt; begin.skeleton, None);
-            assert_eq!(rt; begin.streams.len(), 1);
+            assert!(rt; begin.skeleton == None);
+            assert!(rt; begin.streams.len() == 1);
             for stream in begin.streams.as_slice() {
-                assert_eq!(rt;
-                    (stream.serial, stream.media.len(), stream.shift),
-                    (1, 0, 0)
-                );
+                assert!(rt; (stream.serial, stream.media.len(), stream.shift) == (1, 0, 0));
                 for header in stream.headers.as_slice() {
-                    assert_eq!(rt; header.as_slice(), b"abc".as_slice());
+                    assert!(rt; header.as_slice() == b"abc".as_slice());
                 }
             }
         }
         other => assert!(rt; matches!(other, Err(FeedFault::Memory)), "no begin"),
     }
-    match feed.next(&mut reader) {
+    Ok(())
+}
+
+#[test]
+fn a_put_tells_its_packets(rt: HostRuntime) -> Result<(), Fail> {
+    match record_after(rt.alloc(), &FEED, 1) {
         Ok(Some(Record::Command(Command::Put(put)))) => {
-            assert_eq!(rt; put.entries.len(), 1);
+            assert!(rt; put.entries.len() == 1);
             for entry in put.entries.as_slice() {
-                assert_eq!(rt; (entry.serial, entry.position), (1, 5));
-                assert_eq!(rt; entry.packet.as_slice(), b"hello".as_slice());
+                assert!(rt; (entry.serial, entry.position) == (1, 5));
+                assert!(rt; entry.packet.as_slice() == b"hello".as_slice());
             }
         }
         other => assert!(rt; matches!(other, Err(FeedFault::Memory)), "no put"),
     }
-    match feed.next(&mut reader) {
-        Ok(Some(Record::Command(Command::End(serial)))) => assert_eq!(rt; serial, 1),
+    Ok(())
+}
+
+#[test]
+fn an_end_tells_its_serial(rt: HostRuntime) -> Result<(), Fail> {
+    match record_after(rt.alloc(), &FEED, 2) {
+        Ok(Some(Record::Command(Command::End(serial)))) => assert!(rt; serial == 1),
         other => assert!(rt; matches!(other, Err(FeedFault::Memory)), "no end"),
     }
-    let mut reader = FakeReader::new(&SKELETON, 64, 0);
-    match Feed::new(rt.alloc()).next(&mut reader) {
+    Ok(())
+}
+
+#[test]
+fn a_begin_tells_its_skeleton(rt: HostRuntime) -> Result<(), Fail> {
+    match record_after(rt.alloc(), &SKELETON, 0) {
         Ok(Some(Record::Command(Command::Begin(begin)))) => {
             let head = begin.skeleton.ok_or("no Skeleton")?;
-            assert_eq!(rt;
-                (head.serial, head.presentation, head.base),
-                (7, (1000, -2), (3, 4))
-            );
-            assert_eq!(rt; head.utc, [b'u'; 20]);
+            assert!(rt; (head.serial, head.presentation, head.base) == (7, (1000, -2), (3, 4)));
+            assert!(rt; head.utc == [b'u'; 20]);
         }
         other => assert!(rt; matches!(other, Err(FeedFault::Memory)), "no begin"),
     }
@@ -284,7 +291,10 @@ fn a_record_tells_its_command(rt: HostRuntime) -> Result<(), Fail> {
 fn the_first_fault_is_told(rt: HostRuntime) -> Result<(), Fail> {
     for (bytes, fault) in FAULTY {
         let run = run(&rt, rt.alloc(), bytes, 2, 0)?;
-        assert_eq!(rt; (run.commands, run.fault), (0, Some(fault)), "of {bytes:?}");
+        assert!(rt;
+            (run.commands, run.fault) == (0, Some(fault)),
+            "of {bytes:?}"
+        );
     }
     // The begin, with a byte more than its streams take.
     let mut longer = Vec::from_slice(rt.alloc(), &FEED)?;
@@ -292,7 +302,7 @@ fn the_first_fault_is_told(rt: HostRuntime) -> Result<(), Fail> {
     longer.push(0)?;
     longer[1] = 48;
     let run = run(&rt, rt.alloc(), longer.as_slice(), 64, 0)?;
-    assert_eq!(rt; (run.commands, run.fault), (0, Some(FeedFault::Form)));
+    assert!(rt; (run.commands, run.fault) == (0, Some(FeedFault::Form)));
     Ok(())
 }
 
@@ -300,8 +310,11 @@ fn the_first_fault_is_told(rt: HostRuntime) -> Result<(), Fail> {
 fn a_failing_reader_is_a_fault_that_stays(rt: HostRuntime) -> Result<(), Fail> {
     for bad in 1..=90u64 {
         let run = run(&rt, rt.alloc(), &FEED, 1, bad)?;
-        assert_eq!(rt; run.fault, Some(FeedFault::Read), "call {bad}");
-        assert_eq!(rt; run.commands, whole_records(bad as usize - 1), "call {bad}");
+        assert!(rt; run.fault == Some(FeedFault::Read), "call {bad}");
+        assert!(rt;
+            run.commands == whole_records(bad as usize - 1),
+            "call {bad}"
+        );
     }
     Ok(())
 }
@@ -329,8 +342,8 @@ fn replies_are_lines(rt: HostRuntime) -> Result<(), Fail> {
     for (reply, line) in LINES {
         let mut writer = FakeWriter::new(Vec::with_capacity(rt.alloc(), 64)?, 64, 0);
         write_reply(&reply, &mut writer)?;
-        assert_eq!(rt; writer.written(), line.as_bytes());
-        assert_eq!(rt; writer.calls(), 1, "a line is one write");
+        assert!(rt; writer.written() == line.as_bytes());
+        assert!(rt; writer.calls() == 1, "a line is one write");
     }
     Ok(())
 }
@@ -339,22 +352,19 @@ fn replies_are_lines(rt: HostRuntime) -> Result<(), Fail> {
 fn a_failing_writer_has_a_front_of_the_line(rt: HostRuntime) -> Result<(), Fail> {
     let (reply, _) = LINES[1];
     let mut stuck = FakeWriter::new(Vec::with_capacity(rt.alloc(), 64)?, 0, 0);
-    assert_eq!(rt; write_reply(&reply, &mut stuck), Err(WriteFault));
-    assert_eq!(rt; stuck.written(), b"".as_slice());
+    assert!(rt; write_reply(&reply, &mut stuck) == Err(WriteFault));
+    assert!(rt; stuck.written() == b"".as_slice());
     let mut failing = FakeWriter::new(Vec::with_capacity(rt.alloc(), 64)?, 3, 3);
-    assert_eq!(rt; write_reply(&reply, &mut failing), Err(WriteFault));
-    assert_eq!(rt; failing.written(), b"kept 2".as_slice());
+    assert!(rt; write_reply(&reply, &mut failing) == Err(WriteFault));
+    assert!(rt; failing.written() == b"kept 2".as_slice());
     Ok(())
 }
 
 #[test]
 fn faults_have_numbers_and_names(rt: HostRuntime) {
     let fault = RunFault::Feed(FeedFault::Form);
-    assert_eq!(rt; (fault.code(), fault.name()), (1, "Feed"));
-    assert_eq!(rt;
-        (FeedFault::Memory.code(), FeedFault::Memory.name()),
-        (6, "Memory")
-    );
+    assert!(rt; (fault.code(), fault.name()) == (1, "Feed"));
+    assert!(rt; (FeedFault::Memory.code(), FeedFault::Memory.name()) == (6, "Memory"));
 }
 
 #[test]
@@ -365,5 +375,5 @@ fn a_tally_adds_up(rt: HostRuntime) {
         refused: 1,
         end: 91,
     };
-    assert_eq!(rt; tally.kept + 1, tally.commands);
+    assert!(rt; tally.kept + 1 == tally.commands);
 }

@@ -1,8 +1,8 @@
 //! Runs over feeds by a runner that holds commands in groups.
 ghost use Rattle.std.specs.Prelude.{◌≡◌, length};
 
-use super::*;
 use feed_codec::{FeedFault, Kept, Reply, RunFault};
+use feed_run::*;
 use ogg_command::{Command, Memory, Refusal};
 use ogg_page::WriteFault;
 use std::alloc::Global;
@@ -86,7 +86,7 @@ impl Grouping {
 
 impl Runner for Grouping {
     ghost use Rattle.std.specs.Prelude.{◌≡◌, [], ⊤};
-    ghost use Rattle.feed_run.specs.declared.tests.Grouping.{Grouping as GroupingOf};
+    ghost use Rattle.format_examples.specs.declared.running.Grouping.{Grouping as GroupingOf};
 
     ghost State = { GroupingOf };
 
@@ -231,8 +231,8 @@ fn what_waits_is_kept_by_its_group_or_a_flush_or_at_the_end(rt: HostRuntime) -> 
             Ok(tally) => Ok((tally.commands, tally.kept, tally.refused, tally.end)),
             Err(fault) => Err(fault),
         };
-        assert_eq!(rt; found, came, "{lines}");
-        assert_eq!(rt; replies.as_slice(), lines.as_bytes());
+        assert!(rt; found == came, "{lines}");
+        assert!(rt; replies.as_slice() == lines.as_bytes());
     }
     Ok(())
 }
@@ -254,8 +254,8 @@ fn a_writer_that_fails_ends_the_run_and_nothing_is_flushed(rt: HostRuntime) -> R
         &mut replies,
     );
     assert!(rt; run == Err(RunFault::Write), "the second line is written");
-    assert_eq!(rt; replies.written.as_slice(), b"held 1\n".as_slice());
-    assert_eq!(rt; (runner.held, runner.end), (2, 0));
+    assert!(rt; replies.written.as_slice() == b"held 1\n".as_slice());
+    assert!(rt; (runner.held, runner.end) == (2, 0));
     Ok(())
 }
 
@@ -278,9 +278,6 @@ fn the_step_after_the_flush_is_the_end_and_it_stays(rt: HostRuntime) -> Result<(
         let found = run.step(&mut runner, &mut reader, &mut io::sink(), &mut replies);
         assert!(rt; found == Ok(reply), "a step gives another reply");
     }
-    assert_eq!(rt;
-        replies.as_slice(),
-        b"held 1\nheld 2\nheld 3\nkept 3 91\n".as_slice()
-    );
+    assert!(rt; replies.as_slice() == b"held 1\nheld 2\nheld 3\nkept 3 91\n".as_slice());
     Ok(())
 }

@@ -1,8 +1,8 @@
 //! Packets of pages that are written out byte by byte, with checksums by another program.
 mod streams;
 
-use super::*;
 use ogg_page::{Memory, PageFault, PageHead, write_page};
+use packet_view::*;
 use std::alloc::Global;
 use std::process::Abort;
 use std::test::Fail;
@@ -128,15 +128,15 @@ fn packets_come_up_to_the_first_fault(rt: HostRuntime) -> Result<(), Fail> {
             let packet = packets.next()?;
             assert!(rt; packet.is_some(), "{text:?} is missing");
             if let Some(packet) = packet {
-                assert_eq!(rt; packet.as_slice(), Some(*text));
-                assert_eq!(rt; packet.len(), text.len());
-                assert_eq!(rt; packet.position(), *position);
+                assert!(rt; packet.as_slice() == Some(*text));
+                assert!(rt; packet.len() == text.len());
+                assert!(rt; packet.position() == *position);
             }
         }
         for _ in 0..2 {
             match packets.next() {
                 Ok(packet) => assert!(rt; packet.is_none() && row.fault.is_none()),
-                Err(fault) => assert_eq!(rt; Some(fault), row.fault),
+                Err(fault) => assert!(rt; Some(fault) == row.fault),
             }
         }
     }
@@ -153,16 +153,16 @@ fn faults_have_their_numbers_and_names(rt: HostRuntime) {
         (ViewFault::Unfinished, 5, "Unfinished"),
     ];
     for (fault, code, name) in faults {
-        assert_eq!(rt; fault.code(), code);
-        assert_eq!(rt; fault.name(), name);
+        assert!(rt; fault.code() == code);
+        assert!(rt; fault.name() == name);
     }
     let faults = [
         (StreamFault::Source, 1, "Source"),
         (StreamFault::View(ViewFault::Unfinished), 2, "View"),
     ];
     for (fault, code, name) in faults {
-        assert_eq!(rt; fault.code(), code);
-        assert_eq!(rt; fault.name(), name);
+        assert!(rt; fault.code() == code);
+        assert!(rt; fault.name() == name);
     }
 }
 
@@ -188,12 +188,12 @@ fn sevens_and_x() -> [u8; 256] {
 
 /// Checks that a packet is the one of two parts.
 fn assert_two_parts(rt: &impl Abort, packet: &Packet<'_>) {
-    assert_eq!(rt; packet.len(), 256);
-    assert_eq!(rt; packet.position(), Some(9));
+    assert!(rt; packet.len() == 256);
+    assert!(rt; packet.position() == Some(9));
     assert!(rt; packet.as_slice().is_none());
     let mut parts = packet.parts();
-    assert_eq!(rt; parts.next(), Some([7; 255].as_slice()));
-    assert_eq!(rt; parts.next(), Some(b"x".as_slice()));
+    assert!(rt; parts.next() == Some([7; 255].as_slice()));
+    assert!(rt; parts.next() == Some(b"x".as_slice()));
     assert!(rt; parts.next().is_none());
     assert!(rt; packet.same_as(&sevens_and_x()));
     assert!(rt; !packet.same_as(&[7; 255]));
@@ -221,11 +221,11 @@ fn a_packet_is_written_whole(rt: HostRuntime) -> Result<(), Fail> {
         packet.write_to(&mut out)?;
         for (index, want) in [(0, 7), (254, 7), (255, b'x')] {
             if index < packet.len() {
-                assert_eq!(rt; packet.byte_at(index), want, "at {index}");
+                assert!(rt; packet.byte_at(index) == want, "at {index}");
             }
         }
     }
-    assert_eq!(rt; out.as_slice(), sevens_and_x().as_slice());
+    assert!(rt; out.as_slice() == sevens_and_x().as_slice());
     Ok(())
 }
 
@@ -233,6 +233,6 @@ fn a_packet_is_written_whole(rt: HostRuntime) -> Result<(), Fail> {
 fn an_unfinished_packet_is_a_fault(rt: HostRuntime) -> Result<(), Fail> {
     let bytes = open_page(rt.alloc())?;
     let fault = Packets::of(&bytes, 1).next().err();
-    assert_eq!(rt; fault, Some(ViewFault::Unfinished));
+    assert!(rt; fault == Some(ViewFault::Unfinished));
     Ok(())
 }

@@ -26,7 +26,7 @@ fn assert_parts<S: PageSource>(
             part.last,
             part.position,
         ));
-        assert_eq!(rt; part, Some(*want));
+        assert!(rt; part == Some(*want));
     }
     assert!(rt; stream.next_part()?.is_none());
     assert!(rt; stream.next_part()?.is_none());
@@ -130,9 +130,9 @@ fn parts_are_those_of_the_packets(rt: HostRuntime) -> Result<(), Fail> {
         for (text, position) in row.packets {
             match stream.next_part()? {
                 Some(part) => {
-                    assert_eq!(rt; part.bytes, *text);
+                    assert!(rt; part.bytes == *text);
                     assert!(rt; part.first && part.last);
-                    assert_eq!(rt; part.position, *position);
+                    assert!(rt; part.position == *position);
                 }
                 None => assert!(rt; false, "{text:?} is missing"),
             }
@@ -190,13 +190,13 @@ fn a_read_that_fails_ends_the_stream(rt: HostRuntime) -> Result<(), Fail> {
     let mut stream = Stream::of(window, 1);
     for _ in 0..2 {
         let fault = stream.next_part().err();
-        assert_eq!(rt; fault, Some(StreamFault::Source));
+        assert!(rt; fault == Some(StreamFault::Source));
     }
     // The window keeps its fault, so a stream made of it has that fault from the beginning.
     let mut again = Stream::of(stream.into_window(), 1);
     let fault = again.next_part().err();
-    assert_eq!(rt; fault, Some(StreamFault::Source));
+    assert!(rt; fault == Some(StreamFault::Source));
     let (source, _) = again.into_window().into_parts();
-    assert_eq!(rt; source.failures, 1);
+    assert!(rt; source.failures == 1);
     Ok(())
 }

@@ -1,5 +1,5 @@
 //! Values from outside: the checksum's vectors, and one page byte by byte.
-use super::*;
+use ogg_page::*;
 use std::test::Fail;
 
 mod making;
@@ -18,7 +18,7 @@ const CHECKSUMS: [(&[u8], u32); 6] = [
 #[test]
 fn checksums_are_those_of_the_standard(rt: HostRuntime) {
     for (bytes, want) in CHECKSUMS {
-        assert_eq!(rt; checksum(bytes), want, "of {bytes:?}");
+        assert!(rt; checksum(bytes) == want, "of {bytes:?}");
     }
 }
 
@@ -41,8 +41,8 @@ fn a_page_is_appended_byte_for_byte(rt: HostRuntime) -> Result<(), Fail> {
     let mut out = [7u8].to_vec(rt.alloc())?;
     write_page(&FIRST_HEAD, &[3], b"abc", &mut out)?;
     let (kept, page) = out.as_slice().split_at(1);
-    assert_eq!(rt; kept, [7].as_slice());
-    assert_eq!(rt; page, FIRST_PAGE.as_slice());
+    assert!(rt; kept == [7].as_slice());
+    assert!(rt; page == FIRST_PAGE.as_slice());
     Ok(())
 }
 
@@ -54,8 +54,8 @@ fn a_page_is_closed_behind_its_body(rt: HostRuntime) -> Result<(), Fail> {
     out.extend_from_slice(b"abc")?;
     close_page(1, &mut out);
     let (kept, page) = out.as_slice().split_at(1);
-    assert_eq!(rt; kept, [7].as_slice());
-    assert_eq!(rt; page, FIRST_PAGE.as_slice());
+    assert!(rt; kept == [7].as_slice());
+    assert!(rt; page == FIRST_PAGE.as_slice());
     Ok(())
 }
 
@@ -104,13 +104,13 @@ fn a_page_that_is_cut_is_short(rt: HostRuntime) {
 #[test]
 fn a_page_is_read_part_by_part(rt: HostRuntime) -> Result<(), Fail> {
     let page = read_page(&THREE_PAGES[31..])?;
-    assert_eq!(rt; page.flags(), 0);
-    assert_eq!(rt; page.position(), 5);
-    assert_eq!(rt; page.serial(), 1);
-    assert_eq!(rt; page.sequence(), 1);
-    assert_eq!(rt; page.lacing(), [5].as_slice());
-    assert_eq!(rt; page.body(), b"hello".as_slice());
-    assert_eq!(rt; page.whole(), &THREE_PAGES[31..64]);
+    assert!(rt; page.flags() == 0);
+    assert!(rt; page.position() == 5);
+    assert!(rt; page.serial() == 1);
+    assert!(rt; page.sequence() == 1);
+    assert!(rt; page.lacing() == [5].as_slice());
+    assert!(rt; page.body() == b"hello".as_slice());
+    assert!(rt; page.whole() == &THREE_PAGES[31..64]);
     Ok(())
 }
 
@@ -147,7 +147,7 @@ fn pages_are_found_with_their_offsets(rt: HostRuntime) {
         None,
         None,
     ] {
-        assert_eq!(rt; shown(pages.next()), want);
+        assert!(rt; shown(pages.next()) == want);
     }
 }
 
@@ -157,7 +157,7 @@ fn a_fault_comes_last_and_once(rt: HostRuntime) {
     bytes[59] = b'H';
     let mut pages = Pages::of(&bytes);
     for want in [Some(Ok((0, 0))), Some(Err((31, 4))), None, None] {
-        assert_eq!(rt; shown(pages.next()), want);
+        assert!(rt; shown(pages.next()) == want);
     }
 }
 
@@ -165,7 +165,7 @@ fn a_fault_comes_last_and_once(rt: HostRuntime) {
 fn text_reaches_a_writer_whole(rt: HostRuntime) -> Result<(), Fail> {
     let mut out = Vec::new(rt.alloc());
     write_whole(&mut out, b"OggS")?;
-    assert_eq!(rt; out.as_slice(), b"OggS".as_slice());
+    assert!(rt; out.as_slice() == b"OggS".as_slice());
     Ok(())
 }
 
@@ -178,7 +178,7 @@ fn faults_have_their_numbers_and_names(rt: HostRuntime) {
         (PageFault::Checksum, 4, "Checksum"),
     ];
     for (fault, code, name) in faults {
-        assert_eq!(rt; fault.code(), code);
-        assert_eq!(rt; fault.name(), name);
+        assert!(rt; fault.code() == code);
+        assert!(rt; fault.name() == name);
     }
 }

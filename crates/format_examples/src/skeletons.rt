@@ -1,5 +1,5 @@
 //! Packets written out by hand from the layout of Ogg Skeleton 3.0, and what is read of others.
-use super::*;
+use skeleton3::*;
 use std::alloc::Global;
 use std::test::Fail;
 
@@ -71,38 +71,35 @@ fn with_message(alloc: Global, message: &[u8]) -> Result<Vec<u8>, Memory> {
 fn packets_are_appended_byte_for_byte(rt: HostRuntime) -> Result<(), Fail> {
     let mut out = [7u8].to_vec(rt.alloc())?;
     FISHEAD.write(&mut out)?;
-    assert_eq!(rt; &out[..1], [7].as_slice());
-    assert_eq!(rt; &out[1..], FISHEAD_BYTES.as_slice());
-    assert_eq!(rt; FISHEAD.size(), 64);
+    assert!(rt; &out[..1] == [7].as_slice());
+    assert!(rt; &out[1..] == FISHEAD_BYTES.as_slice());
+    assert!(rt; FISHEAD.size() == 64);
 
     let mut out = [7u8].to_vec(rt.alloc())?;
     FISBONE.write(&mut out)?;
     let packet = with_message(rt.alloc(), b"Content-Type: audio/vorbis\r\n")?;
-    assert_eq!(rt; &out[..1], [7].as_slice());
-    assert_eq!(rt; &out[1..], packet.as_slice());
-    assert_eq!(rt; FISBONE.size(), 80);
+    assert!(rt; &out[..1] == [7].as_slice());
+    assert!(rt; &out[1..] == packet.as_slice());
+    assert!(rt; FISBONE.size() == 80);
     Ok(())
 }
 
 #[test]
 fn fisheads_are_read_whatever_their_minor_version(rt: HostRuntime) {
     let mut packet = FISHEAD_BYTES;
-    assert_eq!(rt; Fishead::read(&packet), Ok(FISHEAD));
+    assert!(rt; Fishead::read(&packet) == Ok(FISHEAD));
     packet[10] = 0xff;
     packet[11] = 0xff;
-    assert_eq!(rt; Fishead::read(&packet), Ok(FISHEAD));
+    assert!(rt; Fishead::read(&packet) == Ok(FISHEAD));
 }
 
 #[test]
 fn fisheads_are_refused_by_their_first_fault(rt: HostRuntime) -> Result<(), Fail> {
-    assert_eq!(rt; Fishead::read(b""), Err(SkeletonFault::Length));
-    assert_eq!(rt;
-        Fishead::read(&FISHEAD_BYTES[..63]),
-        Err(SkeletonFault::Length)
-    );
+    assert!(rt; Fishead::read(b"") == Err(SkeletonFault::Length));
+    assert!(rt; Fishead::read(&FISHEAD_BYTES[..63]) == Err(SkeletonFault::Length));
     let mut longer = FISHEAD_BYTES.to_vec(rt.alloc())?;
     longer.push(0)?;
-    assert_eq!(rt; Fishead::read(&longer), Err(SkeletonFault::Length));
+    assert!(rt; Fishead::read(&longer) == Err(SkeletonFault::Length));
     for (at, byte, fault) in [
         (0, b'F', SkeletonFault::Name),
         (7, 1, SkeletonFault::Name),
@@ -112,9 +109,9 @@ fn fisheads_are_refused_by_their_first_fault(rt: HostRuntime) -> Result<(), Fail
     ] {
         let mut packet = FISHEAD_BYTES;
         packet[at] = byte;
-        assert_eq!(rt; Fishead::read(&packet), Err(fault), "at {at}");
+        assert!(rt; Fishead::read(&packet) == Err(fault), "at {at}");
         packet[0] = b'X';
-        assert_eq!(rt; Fishead::read(&packet), Err(SkeletonFault::Name));
+        assert!(rt; Fishead::read(&packet) == Err(SkeletonFault::Name));
     }
     Ok(())
 }
@@ -124,13 +121,12 @@ fn media_types_are_found_among_the_message_fields(rt: HostRuntime) -> Result<(),
     for (message, media) in MESSAGES {
         let packet = with_message(rt.alloc(), message)?;
         let want = Fisbone { media, ..FISBONE };
-        assert_eq!(rt; Fisbone::read(&packet), Ok(want), "in {message:?}");
+        assert!(rt; Fisbone::read(&packet) == Ok(want), "in {message:?}");
     }
     for message in NO_MESSAGES {
         let packet = with_message(rt.alloc(), message)?;
-        assert_eq!(rt;
-            Fisbone::read(&packet),
-            Err(SkeletonFault::Fields),
+        assert!(rt;
+            Fisbone::read(&packet) == Err(SkeletonFault::Fields),
             "in {message:?}"
         );
     }
@@ -150,9 +146,9 @@ fn message_fields_follow_the_media_type(rt: HostRuntime) -> Result<(), Fail> {
     FISBONE.write_with(&fields, &mut out)?;
     let message = b"Content-Type: audio/vorbis\r\nTitle: One\r\nRole: audio/main: a\r\n";
     let packet = with_message(rt.alloc(), message)?;
-    assert_eq!(rt; &out[..1], [7].as_slice());
-    assert_eq!(rt; &out[1..], packet.as_slice());
-    assert_eq!(rt; Fisbone::read(&packet), Ok(FISBONE));
+    assert!(rt; &out[..1] == [7].as_slice());
+    assert!(rt; &out[1..] == packet.as_slice());
+    assert!(rt; Fisbone::read(&packet) == Ok(FISBONE));
     Ok(())
 }
 
@@ -162,7 +158,7 @@ fn one_more_field_makes_a_packet_of_92_bytes(rt: HostRuntime) -> Result<(), Fail
     fields.push(field(rt.alloc(), b"Title", b"One")?)?;
     let mut out = Vec::new(rt.alloc());
     FISBONE.write_with(&fields, &mut out)?;
-    assert_eq!(rt; out.len(), 92);
+    assert!(rt; out.len() == 92);
     Ok(())
 }
 
@@ -178,10 +174,10 @@ fn message_fields_are_lent_in_order(rt: HostRuntime) -> Result<(), Fail> {
     ];
     let mut fields = Fisbone::message(&packet)?;
     for want in wanted {
-        assert_eq!(rt; fields.next(), Some(want));
+        assert!(rt; fields.next() == Some(want));
     }
-    assert_eq!(rt; fields.next(), None);
-    assert_eq!(rt; fields.next(), None);
+    assert!(rt; fields.next() == None);
+    assert!(rt; fields.next() == None);
     Ok(())
 }
 
@@ -189,45 +185,33 @@ fn message_fields_are_lent_in_order(rt: HostRuntime) -> Result<(), Fail> {
 fn message_fields_are_refused_as_the_packet_is(rt: HostRuntime) -> Result<(), Fail> {
     for message in NO_MESSAGES {
         let packet = with_message(rt.alloc(), message)?;
-        assert_eq!(rt;
-            Fisbone::message(&packet).err(),
-            Some(SkeletonFault::Fields)
-        );
+        assert!(rt; Fisbone::message(&packet).err() == Some(SkeletonFault::Fields));
     }
-    assert_eq!(rt;
-        Fisbone::message(&FIXED_PART[..51]).err(),
-        Some(SkeletonFault::Length)
-    );
-    assert_eq!(rt;
-        Fisbone::message(&FISHEAD_BYTES).err(),
-        Some(SkeletonFault::Name)
-    );
+    assert!(rt; Fisbone::message(&FIXED_PART[..51]).err() == Some(SkeletonFault::Length));
+    assert!(rt; Fisbone::message(&FISHEAD_BYTES).err() == Some(SkeletonFault::Name));
     Ok(())
 }
 
 #[test]
 fn fisbones_are_read_whatever_their_offset_and_padding(rt: HostRuntime) -> Result<(), Fail> {
     let mut packet = with_message(rt.alloc(), b"Content-Type: audio/vorbis\r\n")?;
-    assert_eq!(rt; Fisbone::read(&packet), Ok(FISBONE));
+    assert!(rt; Fisbone::read(&packet) == Ok(FISBONE));
     for at in [8, 11, 49, 50, 51] {
         packet[at] = 45;
-        assert_eq!(rt; Fisbone::read(&packet), Ok(FISBONE), "at {at}");
+        assert!(rt; Fisbone::read(&packet) == Ok(FISBONE), "at {at}");
     }
     Ok(())
 }
 
 #[test]
 fn fisbones_are_refused_by_their_first_fault(rt: HostRuntime) {
-    assert_eq!(rt; Fisbone::read(b""), Err(SkeletonFault::Length));
-    assert_eq!(rt;
-        Fisbone::read(&FIXED_PART[..51]),
-        Err(SkeletonFault::Length)
-    );
-    assert_eq!(rt; Fisbone::read(&FIXED_PART), Err(SkeletonFault::Fields));
+    assert!(rt; Fisbone::read(b"") == Err(SkeletonFault::Length));
+    assert!(rt; Fisbone::read(&FIXED_PART[..51]) == Err(SkeletonFault::Length));
+    assert!(rt; Fisbone::read(&FIXED_PART) == Err(SkeletonFault::Fields));
     let mut packet = FIXED_PART;
     packet[7] = b'0';
-    assert_eq!(rt; Fisbone::read(&packet), Err(SkeletonFault::Name));
-    assert_eq!(rt; Fisbone::read(&packet[..51]), Err(SkeletonFault::Length));
+    assert!(rt; Fisbone::read(&packet) == Err(SkeletonFault::Name));
+    assert!(rt; Fisbone::read(&packet[..51]) == Err(SkeletonFault::Length));
 }
 
 #[test]
@@ -239,7 +223,7 @@ fn faults_have_their_numbers_and_names(rt: HostRuntime) {
         (SkeletonFault::Fields, 4, "Fields"),
     ];
     for (fault, code, name) in faults {
-        assert_eq!(rt; fault.code(), code);
-        assert_eq!(rt; fault.name(), name);
+        assert!(rt; fault.code() == code);
+        assert!(rt; fault.name() == name);
     }
 }

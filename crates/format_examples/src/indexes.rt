@@ -1,6 +1,6 @@
 //! Listings and faults of small files, with sizes counted by hand from RFC 3533, section 6.
-use super::*;
 use link_chain::ChainFault;
+use link_index::*;
 use ogg_page::{FIRST, LAST, PageFault, PageHead, write_page};
 use std::alloc::Global;
 use std::test::Fail;
@@ -95,8 +95,8 @@ fn a_file_is_listed_by_its_links_and_streams(rt: HostRuntime) -> Result<(), Fail
         let bytes = file_of(rt.alloc(), pages)?;
         let index = Index::scan(rt.alloc(), bytes.as_slice())?;
         let text = listing_of(rt.alloc(), &index)?;
-        assert_eq!(rt; text.as_slice(), want.as_bytes());
-        assert_eq!(rt; index.end(), bytes.len() as u64);
+        assert!(rt; text.as_slice() == want.as_bytes());
+        assert!(rt; index.end() == bytes.len() as u64);
     }
     Ok(())
 }
@@ -111,9 +111,8 @@ fn pieces_give_the_listing_of_the_whole(rt: HostRuntime) -> Result<(), Fail> {
         add_small(&mut index, piece)?;
     }
     let text = listing_of(rt.alloc(), &index)?;
-    assert_eq!(rt;
-        text.as_slice(),
-        b"committed 91\nlink 0 0 91 1\nstream 1 91 3 ended\n".as_slice()
+    assert!(rt;
+        text.as_slice() == b"committed 91\nlink 0 0 91 1\nstream 1 91 3 ended\n".as_slice()
     );
     Ok(())
 }
@@ -133,11 +132,11 @@ fn a_link_is_told_by_its_number(rt: HostRuntime) -> Result<(), Fail> {
         pages: 2,
         ended: false,
     }];
-    assert_eq!(rt; index.links(), 2);
-    assert_eq!(rt; index.link(1), Some(second));
-    assert_eq!(rt; index.streams(1), Some(streams.as_slice()));
-    assert_eq!(rt; index.link(2), None);
-    assert_eq!(rt; index.streams(2), None);
+    assert!(rt; index.links() == 2);
+    assert!(rt; index.link(1) == Some(second));
+    assert!(rt; index.streams(1) == Some(streams.as_slice()));
+    assert!(rt; index.link(2) == None);
+    assert!(rt; index.streams(2) == None);
     Ok(())
 }
 
@@ -149,15 +148,12 @@ fn a_fault_leaves_the_pages_before_it(rt: HostRuntime) -> Result<(), Fail> {
     }
     let mut index = Index::new(rt.alloc());
     let fault = add_small(&mut index, bytes.as_slice());
-    assert_eq!(rt; fault, Err(IndexFault::Page(31, PageFault::Checksum)));
-    assert_eq!(rt; index.end(), 31);
+    assert!(rt; fault == Err(IndexFault::Page(31, PageFault::Checksum)));
+    assert!(rt; index.end() == 31);
     let skipped = file_of(rt.alloc(), &[(0, 1, 2, Some(b"x"))])?;
     let fault = add_small(&mut index, skipped.as_slice());
-    assert_eq!(rt; fault, Err(IndexFault::Chain(31, ChainFault::Sequence)));
+    assert!(rt; fault == Err(IndexFault::Chain(31, ChainFault::Sequence)));
     let text = listing_of(rt.alloc(), &index)?;
-    assert_eq!(rt;
-        text.as_slice(),
-        b"committed 31\nlink 0 0 31 1\nstream 1 31 1 open\n".as_slice()
-    );
+    assert!(rt; text.as_slice() == b"committed 31\nlink 0 0 31 1\nstream 1 31 1 open\n".as_slice());
     Ok(())
 }

@@ -1,6 +1,6 @@
 //! Pages made piece by piece.
 use super::THREE_PAGES;
-use crate::{PageBuffer, PageHead};
+use ogg_page::{PageBuffer, PageHead};
 use std::test::Fail;
 
 #[test]
@@ -16,10 +16,10 @@ fn a_page_is_made_piece_by_piece(rt: HostRuntime) -> Result<(), Fail> {
         serial: 1,
         sequence: 1,
     });
-    assert_eq!(rt; buffer.bytes(), &THREE_PAGES[31..64]);
+    assert!(rt; buffer.bytes() == &THREE_PAGES[31..64]);
     let mut closed = THREE_PAGES[31..64].to_vec(rt.alloc())?;
     closed.push(0)?;
-    assert_eq!(rt; buffer.closed(), closed.as_slice());
+    assert!(rt; buffer.closed() == closed.as_slice());
 
     buffer.start(&[]);
     buffer.finish(&PageHead {
@@ -28,6 +28,6 @@ fn a_page_is_made_piece_by_piece(rt: HostRuntime) -> Result<(), Fail> {
         serial: 1,
         sequence: 2,
     });
-    assert_eq!(rt; buffer.bytes(), &THREE_PAGES[64..]);
+    assert!(rt; buffer.bytes() == &THREE_PAGES[64..]);
     Ok(())
 }

@@ -1,10 +1,10 @@
 //! Values from RFC 9110 and by hand; and that a call succeeds where there is memory.
 ghost use Rattle.ogg_http.specs.Answer.{AnswerFits};
 
-use crate::{
+use arrayvec::ArrayVec;
+use ogg_http::{
     Answer, HeadRead, Memory, Ranged, Request, Resource, Verb, range_of, read_head, response_head,
 };
-use arrayvec::ArrayVec;
 use std::alloc::Global;
 use std::test::Fail;
 
@@ -85,7 +85,7 @@ const HEADS: [(&[u8], Verb, &[u8], bool, u32, Option<&[u8]>); 10] = [
 fn reads_whole_heads_and_awaits_their_prefixes(rt: HostRuntime) {
     for (text, verb, target, http11, hosts, range) in HEADS {
         for end in 0..text.len() {
-            assert_eq!(rt; read_head(&text[..end]), HeadRead::Partial, "at {end}");
+            assert!(rt; read_head(&text[..end]) == HeadRead::Partial, "at {end}");
         }
         let used = text.len();
         let want = HeadRead::Whole(Request {
@@ -96,14 +96,14 @@ fn reads_whole_heads_and_awaits_their_prefixes(rt: HostRuntime) {
             range,
             used,
         });
-        assert_eq!(rt; read_head(text), want);
+        assert!(rt; read_head(text) == want);
         let mut more = Bytes::new();
         assert!(rt; more.try_extend_from_slice(text).is_ok());
         assert!(rt;
             more.try_extend_from_slice(b"GET /more HTTP/1.1\r\n\r\n")
                 .is_ok()
         );
-        assert_eq!(rt; read_head(more.as_slice()), want);
+        assert!(rt; read_head(more.as_slice()) == want);
     }
 }
 
@@ -119,9 +119,9 @@ fn finds_hopeless_heads_bad(rt: HostRuntime) {
         [b'a'; 8192].as_slice(),
         [b'a'; 8193].as_slice(),
     ] {
-        assert_eq!(rt; read_head(text), HeadRead::Bad);
+        assert!(rt; read_head(text) == HeadRead::Bad);
     }
-    assert_eq!(rt; read_head(&[b'a'; 8191]), HeadRead::Partial);
+    assert!(rt; read_head(&[b'a'; 8191]) == HeadRead::Partial);
 }
 
 #[test]
@@ -137,7 +137,7 @@ fn reads_8192_bytes_and_no_more(rt: HostRuntime) {
             assert!(rt; head.try_push(b'/').is_ok());
         }
         assert!(rt; head.try_extend_from_slice(b" HTTP/1.1\r\n\r\n").is_ok());
-        assert_eq!(rt; head.len(), len);
+        assert!(rt; head.len() == len);
         match read_head(head.as_slice()) {
             HeadRead::Whole(request) => assert!(rt; is_whole && request.used == len),
             read => assert!(rt; !is_whole && read == HeadRead::Bad),
@@ -155,7 +155,7 @@ fn reads_64_fields_and_no_more(rt: HostRuntime) {
         }
         assert!(rt; head.try_extend_from_slice(b"\r\n").is_ok());
         match read_head(head.as_slice()) {
-            HeadRead::Whole(request) => assert_eq!(rt; Some(request.hosts), hosts),
+            HeadRead::Whole(request) => assert!(rt; Some(request.hosts) == hosts),
             read => assert!(rt; hosts.is_none() && read == HeadRead::Bad),
         }
     }
@@ -209,7 +209,7 @@ fn names_resources(rt: HostRuntime) {
         (b"http:/all".as_slice(), None),
         (b" /all".as_slice(), None),
     ] {
-        assert_eq!(rt; Resource::of(target), want);
+        assert!(rt; Resource::of(target) == want);
     }
 }
 
@@ -269,21 +269,15 @@ const EDGES: [(&[u8], Ranged); 31] = [
 #[test]
 fn takes_ranges(rt: HostRuntime) {
     for (text, want) in EXAMPLES {
-        assert_eq!(rt; range_of(text, 10_000), want);
+        assert!(rt; range_of(text, 10_000) == want);
     }
     for (text, want) in EDGES {
-        assert_eq!(rt; range_of(text, 91), want);
-        assert_eq!(rt; range_of(text, 0), Ranged::Whole);
+        assert!(rt; range_of(text, 91) == want);
+        assert!(rt; range_of(text, 0) == Ranged::Whole);
     }
     let last = u64::MAX - 1;
-    assert_eq!(rt;
-        range_of(b"bytes=18446744073709551614-", u64::MAX),
-        Ranged::Part(last, last)
-    );
-    assert_eq!(rt;
-        range_of(b"bytes=18446744073709551615-", u64::MAX),
-        Ranged::Unsatisfiable
-    );
+    assert!(rt; range_of(b"bytes=18446744073709551614-", u64::MAX) == Ranged::Part(last, last));
+    assert!(rt; range_of(b"bytes=18446744073709551615-", u64::MAX) == Ranged::Unsatisfiable);
 }
 
 /// The head, written behind what was there. Where memory is refused the call is made again.
@@ -307,43 +301,43 @@ fn head_of(alloc: Global, answer: Answer) -> Result<Vec<u8>, Memory>
 #[test]
 fn writes_heads(rt: HostRuntime) -> Result<(), Fail> {
     let alloc = rt.alloc();
-    assert_eq!(rt;
-        head_of(alloc, Answer::Full(91))?.as_slice(),
-        b"HTTP/1.1 200 OK\r\nContent-Type: application/ogg\r\nContent-Length: 91\r\nAccept-Ranges: bytes\r\nConnection: close\r\n\r\n".as_slice()
+    assert!(rt;
+        head_of(alloc, Answer::Full(91))?.as_slice()
+            == b"HTTP/1.1 200 OK\r\nContent-Type: application/ogg\r\nContent-Length: 91\r\nAccept-Ranges: bytes\r\nConnection: close\r\n\r\n".as_slice()
     );
-    assert_eq!(rt;
-        head_of(alloc, Answer::Part(0, 30, 91))?.as_slice(),
-        b"HTTP/1.1 206 Partial Content\r\nContent-Type: application/ogg\r\nContent-Length: 31\r\nContent-Range: bytes 0-30/91\r\nAccept-Ranges: bytes\r\nConnection: close\r\n\r\n".as_slice()
+    assert!(rt;
+        head_of(alloc, Answer::Part(0, 30, 91))?.as_slice()
+            == b"HTTP/1.1 206 Partial Content\r\nContent-Type: application/ogg\r\nContent-Length: 31\r\nContent-Range: bytes 0-30/91\r\nAccept-Ranges: bytes\r\nConnection: close\r\n\r\n".as_slice()
     );
-    assert_eq!(rt;
-        head_of(alloc, Answer::Part(0, u64::MAX - 1, u64::MAX))?.as_slice(),
-        b"HTTP/1.1 206 Partial Content\r\nContent-Type: application/ogg\r\nContent-Length: 18446744073709551615\r\nContent-Range: bytes 0-18446744073709551614/18446744073709551615\r\nAccept-Ranges: bytes\r\nConnection: close\r\n\r\n".as_slice()
+    assert!(rt;
+        head_of(alloc, Answer::Part(0, u64::MAX - 1, u64::MAX))?.as_slice()
+            == b"HTTP/1.1 206 Partial Content\r\nContent-Type: application/ogg\r\nContent-Length: 18446744073709551615\r\nContent-Range: bytes 0-18446744073709551614/18446744073709551615\r\nAccept-Ranges: bytes\r\nConnection: close\r\n\r\n".as_slice()
     );
-    assert_eq!(rt;
-        head_of(alloc, Answer::Unsatisfiable(91))?.as_slice(),
-        b"HTTP/1.1 416 Range Not Satisfiable\r\nContent-Length: 0\r\nContent-Range: bytes */91\r\nAccept-Ranges: bytes\r\nConnection: close\r\n\r\n".as_slice()
+    assert!(rt;
+        head_of(alloc, Answer::Unsatisfiable(91))?.as_slice()
+            == b"HTTP/1.1 416 Range Not Satisfiable\r\nContent-Length: 0\r\nContent-Range: bytes */91\r\nAccept-Ranges: bytes\r\nConnection: close\r\n\r\n".as_slice()
     );
-    assert_eq!(rt;
-        head_of(alloc, Answer::Listing(0))?.as_slice(),
-        b"HTTP/1.1 200 OK\r\nContent-Type: text/plain\r\nContent-Length: 0\r\nConnection: close\r\n\r\n".as_slice()
+    assert!(rt;
+        head_of(alloc, Answer::Listing(0))?.as_slice()
+            == b"HTTP/1.1 200 OK\r\nContent-Type: text/plain\r\nContent-Length: 0\r\nConnection: close\r\n\r\n".as_slice()
     );
-    assert_eq!(rt;
-        head_of(alloc, Answer::BadRequest)?.as_slice(),
-        b"HTTP/1.1 400 Bad Request\r\nContent-Length: 0\r\nConnection: close\r\n\r\n".as_slice()
+    assert!(rt;
+        head_of(alloc, Answer::BadRequest)?.as_slice()
+            == b"HTTP/1.1 400 Bad Request\r\nContent-Length: 0\r\nConnection: close\r\n\r\n".as_slice()
     );
-    assert_eq!(rt;
-        head_of(alloc, Answer::NotFound)?.as_slice(),
-        b"HTTP/1.1 404 Not Found\r\nContent-Length: 0\r\nConnection: close\r\n\r\n".as_slice()
+    assert!(rt;
+        head_of(alloc, Answer::NotFound)?.as_slice()
+            == b"HTTP/1.1 404 Not Found\r\nContent-Length: 0\r\nConnection: close\r\n\r\n".as_slice()
     );
-    assert_eq!(rt;
-        head_of(alloc, Answer::NotAllowed)?.as_slice(),
-        b"HTTP/1.1 405 Method Not Allowed\r\nContent-Length: 0\r\nAllow: GET, HEAD\r\nConnection: close\r\n\r\n".as_slice()
+    assert!(rt;
+        head_of(alloc, Answer::NotAllowed)?.as_slice()
+            == b"HTTP/1.1 405 Method Not Allowed\r\nContent-Length: 0\r\nAllow: GET, HEAD\r\nConnection: close\r\n\r\n".as_slice()
     );
     let mut out = head_of(alloc, Answer::NotFound)?;
     append(Answer::BadRequest, &mut out)?;
-    assert_eq!(rt;
-        out.as_slice(),
-        b"HTTP/1.1 404 Not Found\r\nContent-Length: 0\r\nConnection: close\r\n\r\nHTTP/1.1 400 Bad Request\r\nContent-Length: 0\r\nConnection: close\r\n\r\n".as_slice()
+    assert!(rt;
+        out.as_slice()
+            == b"HTTP/1.1 404 Not Found\r\nContent-Length: 0\r\nConnection: close\r\n\r\nHTTP/1.1 400 Bad Request\r\nContent-Length: 0\r\nConnection: close\r\n\r\n".as_slice()
     );
     Ok(())
 }
