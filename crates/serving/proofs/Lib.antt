@@ -1,3 +1,4 @@
+mod Faults
 mod Moves
 mod Received
 mod Sent

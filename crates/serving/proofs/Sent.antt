@@ -89,7 +89,7 @@ pub by_fault : (id : ℕ) (coming left : Option (List ℕ)) (old mid new : Optio
     → (s : IsSending id coming left old mid before now) → HasSent mid new id s.rest after (Err fault)
     → Gets coming left old new before.committed (Err fault)
 by_fault id coming left old mid new before now after fault s sent =
-    subst (λ (o : Option (List ℕ)). GetsFront coming left old o before.committed) (sym sent) (stopped id coming left old mid before now s)
+    (sent.0, subst (λ (o : Option (List ℕ)). GetsFront coming left old o before.committed) (sym sent.1) (stopped id coming left old mid before now s))
 
 -- an answer as it was told
 pub read_as : (coming left : Option (List ℕ)) (id : ℕ) (committed : List ℕ) (after : HubState) (some other : Option Served) → some ≡ other

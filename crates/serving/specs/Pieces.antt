@@ -5,7 +5,7 @@ use Rattle.ogg_page.specs.Output.{WritesPrefix}
 use Rattle.responses.specs.Response.{IsResponse}
 use Rattle.sessions.specs.declared.fault.HubFault.{HubFault}
 use Rattle.sessions.specs.Hub.{HubState, Sending, phase_of}
-use Rattle.serving.specs.Serving.{HasNoHead}
+use Rattle.serving.specs.Serving.{HasNoHead, MayMeet}
 use Rattle.serving.specs.declared.pieces.Served.{Served}
 use Rattle.serving.specs.declared.pieces.Served.TheVariants.{Whole, NoHead, Cut}
 
@@ -39,7 +39,7 @@ module _ (coming left : Option (List ℕ)) where
   HasRead id committed after (Ok (Some Whole)) = ⊥
   HasRead id committed after (Ok (Some NoHead)) = HasEnded
   HasRead id committed after (Ok (Some Cut)) = HasReadSome
-  HasRead id committed after (Err fault) = HasReadSome
+  HasRead id committed after (Err fault) = MayMeet fault × HasReadSome
 
 -- `old` and `new` are the bytes that the writer tells before and after. Of what was left of the response a piece was
 -- written, or all of it, or a front of it.
@@ -48,4 +48,4 @@ HasSent old new id rest after (Ok None) = Appends old new (take piece rest) × (
 HasSent old new id rest after (Ok (Some Whole)) = Appends old new rest
 HasSent old new id rest after (Ok (Some NoHead)) = ⊥
 HasSent old new id rest after (Ok (Some Cut)) = WritesPrefix old new rest
-HasSent old new id rest after (Err fault) = new ≡ old
+HasSent old new id rest after (Err fault) = MayMeet fault × (new ≡ old)

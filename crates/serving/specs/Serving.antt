@@ -1,14 +1,21 @@
 -- What one connection gets. Ours.
-use Rattle.std.specs.Prelude.{◌≡◌, ◌⊎◌, ℕ, Option, Result, Ok, Err, List, []}
+use Rattle.std.specs.Prelude.{◌≡◌, ◌⊎◌, ℕ, ⊤, Option, Result, Ok, Err, List, []}
 use Rattle.std.specs.Io.KnownBytes.{Appends, Consumes, IsAtEnd}
 use Rattle.ogg_http.specs.Head.{IsAwaited}
 use Rattle.ogg_page.specs.Output.{WritesPrefix}
 use Rattle.responses.specs.Response.{IsResponse}
 use Rattle.sessions.specs.declared.fault.HubFault.{HubFault}
+use Rattle.sessions.specs.declared.fault.HubFault.TheVariants.{NoSession, SessionsFull}
 use Rattle.serving.specs.declared.pieces.Served.{Served}
 use Rattle.serving.specs.declared.pieces.Served.TheVariants.{Whole, NoHead, Cut}
 
 -- ---- what is read and written
+-- a fault that a session that is there may get
+abbrev pub MayMeet : HubFault → Type 0
+MayMeet NoSession = ⊥
+MayMeet SessionsFull = ⊥
+MayMeet fault = ⊤
+
 -- no head was complete: nothing came, or more of it has to come
 abbrev pub HasNoHead : List ℕ → Type 0
 HasNoHead received = (received ≡ []) ⊎ IsAwaited received
@@ -42,4 +49,4 @@ module _ (coming left : Option (List ℕ)) (old new : Option (List ℕ)) where
   Gets committed (Ok Whole) = GetsWhole committed
   Gets committed (Ok NoHead) = GetsNothing
   Gets committed (Ok Cut) = GetsFront committed
-  Gets committed (Err fault) = GetsFront committed
+  Gets committed (Err fault) = MayMeet fault × GetsFront committed

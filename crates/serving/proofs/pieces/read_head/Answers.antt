@@ -1,6 +1,7 @@
 use Rattle.std.proofs.Common.{Ok, Err, refl}
 use Rattle.sessions.specs.declared.answers.Progress.TheVariants.{More, Ready}
-use Rattle.sessions.specs.Hub.{Receive}
+use Rattle.sessions.specs.Hub.{Receive, Reading}
+use Rattle.serving.proofs.Faults.{receives as met}
 use Rattle.serving.proofs.Moves.{only_serves, both}
 use Rattle.serving.proofs.Received.{more, ready, some_read, taken}
 use Rattle.serving.proofs.pieces.read_head.Goals as goal
@@ -18,7 +19,7 @@ returns-in-Err-receive g c = λ before shown phase.
     let (now, shows, r) = c.loop.invariant before shown phase in
     let s = c.in-Err-receive.ensures.step now shows in
     let only = only_serves c.other_sessions_stay.ensures c.calls_move_their_session.ensures.file c.sessions_are_numbered.ensures.kept now s.0 (Receive c.args.id _ (Err c.in-Err-receive.fault)) c.args.id s.2 refl in
-    (s.0, s.1, both c.args.id before now s.0 r.only only, some_read c.args.id _ _ _ before now _ r c.in-Ok.ensures.bytes.0)
+    (s.0, s.1, both c.args.id before now s.0 r.only only, (met now s.0 c.args.id (Reading r.received) _ c.in-Err-receive.fault r.phase s.2, some_read c.args.id _ _ _ before now _ r c.in-Ok.ensures.bytes.0))
 
 pub loop-preserved : goal.loop-preserved
 loop-preserved g c = λ before shown phase.

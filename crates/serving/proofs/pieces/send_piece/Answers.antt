@@ -1,8 +1,9 @@
 use Rattle.std.proofs.Common.{Ok, Err, refl, subst}
 use Rattle.sessions.specs.Calls.{given_in}
-use Rattle.sessions.specs.Hub.{Pull}
+use Rattle.sessions.specs.Hub.{Pull, Sending}
 use Rattle.serving.specs.Pieces.{piece}
 use Rattle.std.specs.Io.KnownBytes.{Appends}
+use Rattle.serving.proofs.Faults.{pulls as met}
 use Rattle.serving.proofs.Moves.{only_serves}
 use Rattle.serving.proofs.Written.{all_given, prefix_of_all}
 use Rattle.serving.proofs.pieces.send_piece.Goals as goal
@@ -41,4 +42,4 @@ returns-in-Err-write_whole g c = λ before rest shown sending.
 pub returns-in-Err : goal.returns-in-Err
 returns-in-Err g c = λ before rest shown sending.
     let s = c.in-Err.ensures.step before shown in
-    (s.0, s.1, only_serves c.other_sessions_stay.ensures c.calls_move_their_session.ensures.file c.sessions_are_numbered.ensures.kept before s.0 (Pull c.args.id piece (Err c.in-Err.fault)) c.args.id s.2 refl, refl)
+    (s.0, s.1, only_serves c.other_sessions_stay.ensures c.calls_move_their_session.ensures.file c.sessions_are_numbered.ensures.kept before s.0 (Pull c.args.id piece (Err c.in-Err.fault)) c.args.id s.2 refl, (met before s.0 c.args.id (Sending rest) piece c.in-Err.fault sending s.2, refl))
