@@ -8,7 +8,7 @@ use ogg_split::{SplitFault, copy_link_from, copy_stream_from};
 use std::io::{BufWriter, Write};
 
 /// How many bytes of a copy are written at once.
-const TOGETHER: usize = 65536;
+const TOGETHER: usize = 32768;
 
 /// Writes the listing of the file to standard output.
 pub fn links(rt: &HostRuntime, file: &str) -> Result<(), Fault> {

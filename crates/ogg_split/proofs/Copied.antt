@@ -1,5 +1,5 @@
 -- Pages are copied one after the other.
-use Rattle.std.proofs.Common.{◌≡◌, ◌≢◌, ◌≤◌, ℕ, suc, ◌+◌, Bool, true, false, Option, None, Err, Result, List, ◌⊎◌, inl, inr, ◌<◌, [], ◌∷◌, ◌++◌, length, take, refl, sym, ◌∙◌, ap, subst, arith, append_assoc, append-nil, length-append}
+use Rattle.std.proofs.Common.{◌≡◌, ◌≢◌, ◌≤◌, ℕ, suc, ◌+◌, Bool, true, false, nat_eq, Option, Err, Result, List, ◌⊎◌, inl, inr, ◌<◌, [], ◌∷◌, ◌++◌, length, take, refl, sym, ◌∙◌, ap, subst, arith, append_assoc, append-nil, length-append}
 use Rattle.std.specs.Prelude.{if◌then◌else◌}
 use Rattle.std.specs.List.{AllByRecursion}
 use Rattle.std.specs.Io.KnownBytes.{Appends}
@@ -15,22 +15,22 @@ use Rattle.ogg_page.specs.declared.fault.WindowFault.{WindowFault}
 use Rattle.ogg_page.specs.declared.fault.WindowFault.TheVariants.{Source, Page as PageAt}
 use Rattle.ogg_page.specs.Pages.{PagesLeft}
 use Rattle.ogg_page.specs.Window.{LentAt, NextLent}
-use Rattle.ogg_split.specs.Asked.{is_asked, pages_asked}
-use Rattle.ogg_split.specs.Copying.{asked_bytes}
+use Rattle.link_chain.specs.Links.{pages_with}
+use Rattle.ogg_split.specs.Copying.{stream_bytes}
 
 -- Of these pages, what is asked for of those so far was written; the rest are left.
-pub record InWork (only : Option ℕ) (pages : List Page) (left : List ℕ) (old now : Option (List ℕ)) (count : ℕ) : Type 0 where
+pub record InWork (serial : ℕ) (pages : List Page) (left : List ℕ) (old now : Option (List ℕ)) (count : ℕ) : Type 0 where
   pub written : List ℕ
   pub more : List Page
   pub are_pages : AllByRecursion IsPage more
   pub left_is : left ≡ bytes_of_pages more
-  pub whole : bytes_of_pages (pages_asked only pages) ≡ written ++ bytes_of_pages (pages_asked only more)
+  pub whole : bytes_of_pages (pages_with serial pages) ≡ written ++ bytes_of_pages (pages_with serial more)
   pub appended : Appends old now written
   pub counted : count ≡ length written
 
-pub begun : (only : Option ℕ) (pages : List Page) (left : List ℕ) (old : Option (List ℕ)) → AllByRecursion IsPage pages → left ≡ bytes_of_pages pages
-    → InWork only pages left old old 0
-begun only pages left old are is =
+pub begun : (serial : ℕ) (pages : List Page) (left : List ℕ) (old : Option (List ℕ)) → AllByRecursion IsPage pages → left ≡ bytes_of_pages pages
+    → InWork serial pages left old old 0
+begun serial pages left old are is =
     record { written = []; more = pages; are_pages = are; left_is = is; whole = refl; appended = Appends-nil old; counted = refl }
 
 -- ---- the first of pages
@@ -62,9 +62,9 @@ first_of : (b : Bool) (page : Page) (rest : List Page) →
 first_of true page rest = refl
 first_of false page rest = refl
 
-asked_first : (only : Option ℕ) (page : Page) (pages : List Page) →
-    bytes_of_pages (pages_asked only (page ∷ pages)) ≡ asked_bytes only page ++ bytes_of_pages (pages_asked only pages)
-asked_first only page pages = first_of (is_asked only page) page (pages_asked only pages)
+stream_first : (serial : ℕ) (page : Page) (pages : List Page) →
+    bytes_of_pages (pages_with serial (page ∷ pages)) ≡ stream_bytes serial page ++ bytes_of_pages (pages_with serial pages)
+stream_first serial page pages = first_of (nat_eq page.serial serial) page (pages_with serial pages)
 
 -- ---- prefixes
 front_of : (written more : List ℕ) (n : ℕ) → take (length written + n) (written ++ more) ≡ written ++ take n more
@@ -73,7 +73,7 @@ front_of (byte ∷ written) more n =
     let one : length (byte ∷ written) + n ≡ suc (length written + n) = omega arith in
     ap (λ k. take k (byte ∷ written ++ more)) one ∙ ap (λ l. byte ∷ l) (front_of written more n)
 
-prefix_on : (old mid now : Option (List ℕ)) (text written part rest : List ℕ) → text ≡ written ++ (part ++ rest) → Appends old mid written → WritesPrefix mid now part
+pub prefix_on : (old mid now : Option (List ℕ)) (text written part rest : List ℕ) → text ≡ written ++ (part ++ rest) → Appends old mid written → WritesPrefix mid now part
     → WritesPrefix old now text
 prefix_on old mid now text written part rest e before (n, le, more) =
     let front : take (length written + n) text ≡ written ++ take n part =
@@ -85,51 +85,51 @@ prefix_on old mid now text written part rest e before (n, le, more) =
 
 -- ---- steps
 -- the page in front was passed, and was written if it is asked for
-pub passed : (only : Option ℕ) (pages : List Page) (left rest : List ℕ) (old mid now : Option (List ℕ)) (count size : ℕ) (page : Page)
-    → InWork only pages left old mid count → IsPage page → left ≡ page_bytes page ++ rest → Appends mid now (asked_bytes only page) → size ≡ length (asked_bytes only page)
-    → InWork only pages rest old now (count + size)
-passed only pages left rest old mid now count size page w is split wrote sized =
+pub passed : (serial : ℕ) (pages : List Page) (left rest : List ℕ) (old mid now : Option (List ℕ)) (count size : ℕ) (page : Page)
+    → InWork serial pages left old mid count → IsPage page → left ≡ page_bytes page ++ rest → Appends mid now (stream_bytes serial page) → size ≡ length (stream_bytes serial page)
+    → InWork serial pages rest old now (count + size)
+passed serial pages left rest old mid now count size page w is split wrote sized =
     let f : Follows page rest w.more = follows w.more page rest w.are_pages is (sym w.left_is ∙ split) in
-    let own : List ℕ = asked_bytes only page in
-    let behind : List ℕ = bytes_of_pages (pages_asked only f.more) in
+    let own : List ℕ = stream_bytes serial page in
+    let behind : List ℕ = bytes_of_pages (pages_with serial f.more) in
     record {
       written = w.written ++ own;
       more = f.more;
       are_pages = f.are;
       left_is = f.rest_is;
-      whole = w.whole ∙ ap (λ (l : List Page). w.written ++ bytes_of_pages (pages_asked only l)) f.is ∙ ap (λ (l : List ℕ). w.written ++ l) (asked_first only page f.more)
+      whole = w.whole ∙ ap (λ (l : List Page). w.written ++ bytes_of_pages (pages_with serial l)) f.is ∙ ap (λ (l : List ℕ). w.written ++ l) (stream_first serial page f.more)
           ∙ sym (append_assoc w.written own behind);
       appended = Appends-trans old mid now w.written own w.appended wrote;
       counted = omega (arith, w.counted, sized, length-append w.written own);
     }
 
 -- the page in front wasn't written as a whole
-pub cut_within : (only : Option ℕ) (pages : List Page) (left rest : List ℕ) (old mid now : Option (List ℕ)) (count : ℕ) (page : Page)
-    → InWork only pages left old mid count → IsPage page → left ≡ page_bytes page ++ rest → WritesPrefix mid now (asked_bytes only page)
-    → WritesPrefix old now (bytes_of_pages (pages_asked only pages))
-cut_within only pages left rest old mid now count page w is split wrote =
+pub cut_within : (serial : ℕ) (pages : List Page) (left rest : List ℕ) (old mid now : Option (List ℕ)) (count : ℕ) (page : Page)
+    → InWork serial pages left old mid count → IsPage page → left ≡ page_bytes page ++ rest → WritesPrefix mid now (stream_bytes serial page)
+    → WritesPrefix old now (bytes_of_pages (pages_with serial pages))
+cut_within serial pages left rest old mid now count page w is split wrote =
     let f : Follows page rest w.more = follows w.more page rest w.are_pages is (sym w.left_is ∙ split) in
-    prefix_on old mid now (bytes_of_pages (pages_asked only pages)) w.written (asked_bytes only page) (bytes_of_pages (pages_asked only f.more))
-    (w.whole ∙ ap (λ (l : List Page). w.written ++ bytes_of_pages (pages_asked only l)) f.is ∙ ap (λ (l : List ℕ). w.written ++ l) (asked_first only page f.more))
+    prefix_on old mid now (bytes_of_pages (pages_with serial pages)) w.written (stream_bytes serial page) (bytes_of_pages (pages_with serial f.more))
+    (w.whole ∙ ap (λ (l : List Page). w.written ++ bytes_of_pages (pages_with serial l)) f.is ∙ ap (λ (l : List ℕ). w.written ++ l) (stream_first serial page f.more))
     w.appended wrote
 
 -- no page follows
-pub cut : (only : Option ℕ) (pages : List Page) (left : List ℕ) (old now : Option (List ℕ)) (count : ℕ) → InWork only pages left old now count
-    → WritesPrefix old now (bytes_of_pages (pages_asked only pages))
-cut only pages left old now count w =
-    prefix_on old now now (bytes_of_pages (pages_asked only pages)) w.written [] (bytes_of_pages (pages_asked only w.more)) w.whole w.appended (0, omega arith, Appends-nil now)
+pub cut : (serial : ℕ) (pages : List Page) (left : List ℕ) (old now : Option (List ℕ)) (count : ℕ) → InWork serial pages left old now count
+    → WritesPrefix old now (bytes_of_pages (pages_with serial pages))
+cut serial pages left old now count w =
+    prefix_on old now now (bytes_of_pages (pages_with serial pages)) w.written [] (bytes_of_pages (pages_with serial w.more)) w.whole w.appended (0, omega arith, Appends-nil now)
 
-pub finished : (only : Option ℕ) (pages : List Page) (left : List ℕ) (old now : Option (List ℕ)) (count : ℕ) → InWork only pages left old now count → left ≡ []
-    → (count ≡ length (bytes_of_pages (pages_asked only pages))) × Appends old now (bytes_of_pages (pages_asked only pages))
-finished only pages left old now count w none =
-    let all : bytes_of_pages (pages_asked only pages) ≡ w.written =
-    w.whole ∙ ap (λ (l : List Page). w.written ++ bytes_of_pages (pages_asked only l)) (none_left w.more (sym w.left_is ∙ none)) ∙ append-nil w.written in
+pub finished : (serial : ℕ) (pages : List Page) (left : List ℕ) (old now : Option (List ℕ)) (count : ℕ) → InWork serial pages left old now count → left ≡ []
+    → (count ≡ length (bytes_of_pages (pages_with serial pages))) × Appends old now (bytes_of_pages (pages_with serial pages))
+finished serial pages left old now count w none =
+    let all : bytes_of_pages (pages_with serial pages) ≡ w.written =
+    w.whole ∙ ap (λ (l : List Page). w.written ++ bytes_of_pages (pages_with serial l)) (none_left w.more (sym w.left_is ∙ none)) ∙ append-nil w.written in
     (w.counted ∙ ap length (sym all), subst (Appends old now) (sym all) w.appended)
 
 -- of joined pages some page stands in front
-pub no_fault : (only : Option ℕ) (pages : List Page) (left : List ℕ) (old now : Option (List ℕ)) (count : ℕ) (fault : PageFault) → InWork only pages left old now count
+pub no_fault : (serial : ℕ) (pages : List Page) (left : List ℕ) (old now : Option (List ℕ)) (count : ℕ) (fault : PageFault) → InWork serial pages left old now count
     → left ≢ [] → page_at left ≡ Err fault → ⊥
-no_fault only pages left old now count fault w some read = stuck w.more w.are_pages w.left_is
+no_fault serial pages left old now count fault w some read = stuck w.more w.are_pages w.left_is
   where
     stuck : (more : List Page) → AllByRecursion IsPage more → left ≡ bytes_of_pages more → ⊥
     stuck [] are is = some is
@@ -137,18 +137,13 @@ no_fault only pages left old now count fault w some read = stuck w.more w.are_pa
 
 -- ---- a window's fault
 -- over joined pages it is the source's
-pub source_only : (result : Result (Option LentAt) WindowFault) (fault : WindowFault) (only : Option ℕ) (pages : List Page) (left right : PagesLeft)
-    (old now : Option (List ℕ)) (count : ℕ) (C : Type 0) → result ≡ Err fault → InWork only pages left.bytes old now count → NextLent left (Err fault) right
+pub source_only : (result : Result (Option LentAt) WindowFault) (fault : WindowFault) (serial : ℕ) (pages : List Page) (left right : PagesLeft)
+    (old now : Option (List ℕ)) (count : ℕ) (C : Type 0) → result ≡ Err fault → InWork serial pages left.bytes old now count → NextLent left (Err fault) right
     → (result ≡ Err Source → C) → C
-source_only result Source only pages left right old now count C is w next cause = cause is
-source_only result (PageAt offset fault) only pages left right old now count C is w next cause =
-    absurd (no_fault only pages left.bytes old now count fault w next.1 next.2)
+source_only result Source serial pages left right old now count C is w next cause = cause is
+source_only result (PageAt offset fault) serial pages left right old now count C is w next cause =
+    absurd (no_fault serial pages left.bytes old now count fault w next.1 next.2)
 
 pub later_cause : (first before now top : ℕ) → first ≤ before → (before < now) ⊎ (now ≡ top) → (first < now) ⊎ (now ≡ top)
 later_cause first before now top le (inl rose) = inl (omega arith)
 later_cause first before now top le (inr at) = inr at
-
--- ---- all pages
-pub all_asked : (pages : List Page) → pages_asked None pages ≡ pages
-all_asked [] = refl
-all_asked (page ∷ pages) = ap (λ (l : List Page). page ∷ l) (all_asked pages)

@@ -1,5 +1,6 @@
 mod Copied
 mod Parted
+mod Pieced
 mod Placed
 mod Salvaged
 mod Unfinished

@@ -1,5 +1,5 @@
 -- What may be asked for out of a file by its index: a link, or one of its streams (RFC 3533, section 4).
-use Rattle.std.specs.Prelude.{◌≡◌, ◌≤◌, ℕ, Bool, true, false, nat_eq, Option, Some, None, List, ◌++◌, length, filter, slice_get}
+use Rattle.std.specs.Prelude.{◌≡◌, ◌≤◌, ℕ, Bool, false, nat_eq, Some, List, ◌++◌, length, slice_get}
 use Rattle.std.specs.List.{list_any, AllByRecursion}
 use Rattle.ogg_page.specs.Page.{Page, IsPage, bytes_of_pages}
 use Rattle.link_chain.specs.Links.{AreLinks}
@@ -32,14 +32,6 @@ IsMissing entries link serial NoLink = length entries ≤ link
 IsMissing entries link serial NoStream = LacksStream entries link serial
 IsMissing entries link serial Source = ⊥
 IsMissing entries link serial Write = ⊥
-
--- whether the page is asked for: each is, or those of the stream with this serial
-abbrev pub is_asked : Option ℕ → Page → Bool
-is_asked None page = true
-is_asked (Some serial) page = nat_eq page.serial serial
-
-abbrev pub pages_asked : Option ℕ → List Page → List Page
-pages_asked only pages = filter (is_asked only) pages
 
 -- Of these bytes the link is these pages.
 pub record StandsIn (bytes : List ℕ) (link : LinkInfo) (pages : List Page) : Type 0 where

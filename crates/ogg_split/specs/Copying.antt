@@ -1,9 +1,8 @@
 -- What comes of copying. Ours.
-use Rattle.std.specs.Prelude.{◌≡◌, ◌≢◌, ℕ, if◌then◌else◌, Option, Result, Ok, Err, List, [], length}
+use Rattle.std.specs.Prelude.{◌≡◌, ◌≢◌, ℕ, nat_eq, if◌then◌else◌, Option, Result, Ok, Err, List, [], length}
 use Rattle.std.specs.Io.KnownBytes.{Appends}
 use Rattle.ogg_page.specs.Output.{WritesPrefix}
 use Rattle.ogg_page.specs.Page.{Page, page_bytes}
-use Rattle.ogg_split.specs.Asked.{is_asked}
 use Rattle.ogg_split.specs.declared.fault.SplitFault.{SplitFault}
 use Rattle.ogg_split.specs.declared.fault.SplitFault.TheVariants.{NoLink, NoStream}
 
@@ -12,9 +11,9 @@ abbrev pub IsCopy : Option (List ℕ) → Option (List ℕ) → List ℕ → Res
 IsCopy old new text (Ok count) = (count ≡ length text) × Appends old new text
 IsCopy old new text (Err fault) = WritesPrefix old new text
 
--- the page's bytes, if it is asked for
-abbrev pub asked_bytes : Option ℕ → Page → List ℕ
-asked_bytes only page = if is_asked only page then page_bytes page else []
+-- the page's bytes, if it has the serial
+abbrev pub stream_bytes : ℕ → Page → List ℕ
+stream_bytes serial page = if nat_eq page.serial serial then page_bytes page else []
 
 -- what is asked for is there
 pub record IsThere {T : Type 0} (result : Result T SplitFault) : Type 0 where

@@ -72,7 +72,7 @@ pub fn copy_stream<W: Write>(
 {
     match find_stream(index, link, serial) {
         Ok(found) => match bytes_of_link(bytes, found) {
-            Ok(own) => copy_pages(own, Some(serial), out),
+            Ok(own) => copy_pages(own, serial, out),
             Err(fault) => Err(fault),
         },
         Err(fault) => Err(fault),

@@ -14,6 +14,7 @@ mod copying;
 mod fault;
 mod finding;
 mod laws;
+mod piecewise;
 mod salvaging;
 mod walking;
 mod windows;

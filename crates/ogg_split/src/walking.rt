@@ -1,19 +1,19 @@
-//! Pages written one after the other, all of them or those of one stream.
+//! The pages of one stream written one after the other.
 ghost use Rattle.std.specs.Prelude.{◌≡◌, ◌≢◌, ◌⊎◌, ◌≤◌, ◌<◌, ◌^◌, ◌-◌, List, None, Err, IfOk, OnErr, length};
 ghost use Rattle.std.specs.List.{AllByRecursion};
 ghost use Rattle.ogg_page.specs.Page.{Page as PageValue, IsPage, bytes_of_pages, page_size};
 ghost use Rattle.ogg_page.specs.Window.{KeepsSource, left_of};
-ghost use Rattle.ogg_split.specs.Asked.{is_asked, pages_asked};
-ghost use Rattle.ogg_split.specs.Copying.{IsCopy, IsThere, asked_bytes};
+ghost use Rattle.link_chain.specs.Links.{pages_with};
+ghost use Rattle.ogg_split.specs.Copying.{IsCopy, IsThere, stream_bytes};
 
 use crate::fault::SplitFault;
 use ogg_page::{Page, PageSource, Window, split_page, write_whole};
 use std::io::Write;
 
-/// Writes those of the pages that are asked for. The bytes are joined pages.
-pub fn copy_pages<W: Write>(bytes: &[u8], only: Option<u32>, out: &mut W) -> Result<u64, SplitFault>
+/// Writes those of the pages that have the serial. The bytes are joined pages.
+pub fn copy_pages<W: Write>(bytes: &[u8], serial: u32, out: &mut W) -> Result<u64, SplitFault>
     ensures copied { (pages : List PageValue) → AllByRecursion IsPage pages → bytes.now ≡ bytes_of_pages pages
-        → IsCopy (W.contents out.old) (W.contents out.new) (bytes_of_pages (pages_asked only pages)) result }
+        → IsCopy (W.contents out.old) (W.contents out.new) (bytes_of_pages (pages_with serial pages)) result }
     ensures sound { (pages : List PageValue) → AllByRecursion IsPage pages → bytes.now ≡ bytes_of_pages pages
         → result ≢ Err SplitFault.Source }
     ensures there { IsThere result }
@@ -25,7 +25,7 @@ pub fn copy_pages<W: Write>(bytes: &[u8], only: Option<u32>, out: &mut W) -> Res
             Ok(split) => split,
             Err(_) => return Err(SplitFault::Source),
         };
-        match copy_page(&page, only, out) {
+        match copy_page(&page, serial, out) {
             Ok(size) => count += size,
             Err(fault) => return Err(fault),
         }
@@ -34,10 +34,10 @@ pub fn copy_pages<W: Write>(bytes: &[u8], only: Option<u32>, out: &mut W) -> Res
     Ok(count)
 }
 
-/// Writes those of the window's pages that are asked for.
+/// Writes those of the window's pages that have the serial.
 pub fn copy_lent<S: PageSource, W: Write>(
     window: &mut Window<S>,
-    only: Option<u32>,
+    serial: u32,
     out: &mut W,
 ) -> Result<u64, SplitFault>
     requires fresh { window.old.fault ≡ None }
@@ -45,7 +45,7 @@ pub fn copy_lent<S: PageSource, W: Write>(
     requires short { window.old.to < 2 ^ 64 }
     ensures copied { (pages : List PageValue) → S.is_honest window.old.source → AllByRecursion IsPage pages
         → (left_of S.bytes window.old).bytes ≡ bytes_of_pages pages
-        → IsCopy (W.contents out.old) (W.contents out.new) (bytes_of_pages (pages_asked only pages)) result }
+        → IsCopy (W.contents out.old) (W.contents out.new) (bytes_of_pages (pages_with serial pages)) result }
     ensures cause { (pages : List PageValue) → S.is_honest window.old.source → AllByRecursion IsPage pages
         → (left_of S.bytes window.old).bytes ≡ bytes_of_pages pages → result ≡ Err SplitFault.Source
         → (S.failures window.old.source < S.failures window.new.source) ⊎ (S.failures window.new.source ≡ 2 ^ 64 - 1) }
@@ -57,7 +57,7 @@ pub fn copy_lent<S: PageSource, W: Write>(
     'pages: loop {
         match window.advance() {
             Ok(()) => match window.lent() {
-                Some((_, page)) => match copy_page(&page, only, out) {
+                Some((_, page)) => match copy_page(&page, serial, out) {
                     Ok(size) => count += size,
                     Err(fault) => return Err(fault),
                 },
@@ -68,27 +68,17 @@ pub fn copy_lent<S: PageSource, W: Write>(
     }
 }
 
-/// Writes the page, if it is asked for.
-fn copy_page<W: Write>(page: &Page<'_>, only: Option<u32>, out: &mut W) -> Result<u64, SplitFault>
-    ensures copied { IsCopy (W.contents out.old) (W.contents out.new) (asked_bytes only page.now) result }
+/// Writes the page, if it has the serial.
+fn copy_page<W: Write>(page: &Page<'_>, serial: u32, out: &mut W) -> Result<u64, SplitFault>
+    ensures copied { IsCopy (W.contents out.old) (W.contents out.new) (stream_bytes serial page.now) result }
     ensures bound { IfOk result (λ size. size ≤ page_size page.now) }
     ensures err { OnErr result (result ≡ Err SplitFault.Write) }
 {
-    if !is_asked(only, page) {
+    if page.serial() != serial {
         return Ok(0);
     }
     match write_whole(out, page.whole()) {
         Ok(()) => Ok(page.whole().len() as u64),
         Err(_) => Err(SplitFault::Write),
-    }
-}
-
-/// Whether the page is asked for: each is, or those of the stream with this serial.
-fn is_asked(only: Option<u32>, page: &Page<'_>) -> bool
-    ensures { result ≡ is_asked only page.now }
-{
-    match only {
-        Some(serial) => page.serial() == serial,
-        None => true,
     }
 }

@@ -11,13 +11,14 @@ ghost use Rattle.link_index.specs.Index.{LinkEntry};
 ghost use Rattle.packet_view.specs.Packets.{packets_of};
 ghost use Rattle.packet_view.specs.Stream.{parts_left, stream};
 ghost use Rattle.packet_view.specs.StreamParts.{AreTheirParts, at_start, parts_from};
-ghost use Rattle.ogg_split.specs.Asked.{AreIndexed, LacksStream, StandsIn, pages_asked};
+ghost use Rattle.ogg_split.specs.Asked.{AreIndexed, LacksStream, StandsIn};
 ghost use Rattle.ogg_split.specs.Copying.{IsCopy, IsThere};
 ghost use Rattle.ogg_split.specs.LinkParts.{answer_of, window_of_link};
 ghost use Rattle.ogg_split.specs.Unfinished.{IsUnfinishedAtMost};
 
 use crate::fault::SplitFault;
 use crate::finding::{find_link, find_stream};
+use crate::piecewise::copy_bytes_of;
 use crate::walking::copy_lent;
 use link_index::{Index, LinkInfo};
 use ogg_page::{PageSource, Window};
@@ -25,12 +26,11 @@ use packet_view::{Stream, packets_are_held, parts_are_of_the_packets};
 use std::io::Write;
 
 /// Writes the pages of the link with this number, counted from 0, as they stand in the window's source, and gives how
-/// many bytes they have. The source's bytes begin with those that the index is of. Each page is written by itself,
-/// out of the window's room; the range of the window is set to the link's, and is left where the copy ended. No
-/// memory is taken.
+/// many bytes they have. The source's bytes begin with those that the index is of, so no page of them is checked again.
+/// The range of the window is left empty. No memory is taken.
 ///
-/// The faults are `NoLink`, after which nothing is written; `Source`, if a read failed or gave no good page; and
-/// `Write`. After `Source` and `Write` a prefix of the pages was written.
+/// The faults are `NoLink`, after which nothing is written; `Source`, if a read failed or the source doesn't go as far
+/// as the index does; and `Write`. After `Source` and `Write` a prefix of the pages was written.
 pub fn copy_link_from<S: PageSource, W: Write>(
     window: &mut Window<S>,
     index: &Index,
@@ -54,7 +54,7 @@ pub fn copy_link_from<S: PageSource, W: Write>(
     ensures source { KeepsSource S.bytes S.is_honest S.size S.only_reads window.old.source window.new.source }
 {
     match find_link(index, link) {
-        Ok(found) => copy_range(window, found, None, out),
+        Ok(found) => copy_whole(window, found, out),
         Err(fault) => Err(fault),
     }
 }
@@ -86,7 +86,7 @@ pub fn copy_stream_from<S: PageSource, W: Write>(
     ensures source { KeepsSource S.bytes S.is_honest S.size S.only_reads window.old.source window.new.source }
 {
     match find_stream(index, link, serial) {
-        Ok(found) => copy_range(window, found, Some(serial), out),
+        Ok(found) => copy_stream_of(window, found, serial, out),
         Err(fault) => Err(fault),
     }
 }
@@ -177,15 +177,14 @@ pub fn seek_link<S: PageSource>(
     }
 }
 
-/// Writes those of the link's pages that are asked for.
-fn copy_range<S: PageSource, W: Write>(
+/// Writes the link's bytes.
+fn copy_whole<S: PageSource, W: Write>(
     window: &mut Window<S>,
     link: LinkInfo,
-    only: Option<u32>,
     out: &mut W,
 ) -> Result<u64, SplitFault>
     ensures copied { (pages : List PageValue) → S.is_honest window.old.source → StandsIn (S.bytes window.old.source) link pages
-        → IsCopy (W.contents out.old) (W.contents out.new) (bytes_of_pages (pages_asked only pages)) result }
+        → IsCopy (W.contents out.old) (W.contents out.new) (bytes_of_pages pages) result }
     ensures cause { (pages : List PageValue) → S.is_honest window.old.source → StandsIn (S.bytes window.old.source) link pages
         → result ≡ Err SplitFault.Source
         → (S.failures window.old.source < S.failures window.new.source) ⊎ (S.failures window.new.source ≡ 2 ^ 64 - 1) }
@@ -194,7 +193,29 @@ fn copy_range<S: PageSource, W: Write>(
     ensures there { IsThere result }
 {
     match set_range(window, link) {
-        Ok(()) => copy_lent(window, only, out),
+        Ok(()) => copy_bytes_of(window.source_mut(), link.start, link.length, out),
+        Err(fault) => Err(fault),
+    }
+}
+
+/// Writes those of the link's pages that have the serial.
+fn copy_stream_of<S: PageSource, W: Write>(
+    window: &mut Window<S>,
+    link: LinkInfo,
+    serial: u32,
+    out: &mut W,
+) -> Result<u64, SplitFault>
+    ensures copied { (pages : List PageValue) → S.is_honest window.old.source → StandsIn (S.bytes window.old.source) link pages
+        → IsCopy (W.contents out.old) (W.contents out.new) (bytes_of_pages (pages_with serial pages)) result }
+    ensures cause { (pages : List PageValue) → S.is_honest window.old.source → StandsIn (S.bytes window.old.source) link pages
+        → result ≡ Err SplitFault.Source
+        → (S.failures window.old.source < S.failures window.new.source) ⊎ (S.failures window.new.source ≡ 2 ^ 64 - 1) }
+    ensures later { S.failures window.old.source ≤ S.failures window.new.source }
+    ensures source { KeepsSource S.bytes S.is_honest S.size S.only_reads window.old.source window.new.source }
+    ensures there { IsThere result }
+{
+    match set_range(window, link) {
+        Ok(()) => copy_lent(window, serial, out),
         Err(fault) => Err(fault),
     }
 }
@@ -203,6 +224,7 @@ fn copy_range<S: PageSource, W: Write>(
 fn set_range<S: PageSource>(window: &mut Window<S>, link: LinkInfo) -> Result<(), SplitFault>
     ensures ok { OnOk result (window.new ≡ window_of_link window.old.source link) }
     ensures short { OnOk result (link.start + link.length < 2 ^ 64) }
+    ensures inside { OnOk result (link.start + link.length ≤ S.size window.old.source) }
     ensures there { (pages : List PageValue) → S.is_honest window.old.source → StandsIn (S.bytes window.old.source) link pages
         → IsOk result }
     ensures err { IfErr result (λ fault. fault ≡ SplitFault.Source) }

@@ -13,7 +13,7 @@ pages-init g c =
       small = omega arith;
       source = record { bytes_same = λ sure. refl; honest_same = ((λ h. h), (λ h. h)); size_same = refl; only = g.met.S.PageSource.reads_nothing c.args.window.now.source };
       later = omega arith;
-      copied = λ pages sure are is. begun c.args.only pages _ _ are is;
+      copied = λ pages sure are is. begun c.args.serial pages _ _ are is;
     }
 
 pub pages-preserved : goal.pages-preserved
@@ -36,7 +36,7 @@ pages-preserved g c =
         only = g.met.S.PageSource.reads_on _ _ _ inv.source.only moved.source.only;
       };
       later = omega (arith, inv.later, (moved.cause inv.fresh).0);
-      copied = λ pages sure are is. passed c.args.only pages _ _ _ _ _ c.pages.count c.in-Ok-copy_page.size c.in-Some.page (inv.copied pages sure are is) passes.is_page
+      copied = λ pages sure are is. passed c.args.serial pages _ _ _ _ _ c.pages.count c.in-Ok-copy_page.size c.in-Some.page (inv.copied pages sure are is) passes.is_page
           (moved.lent (inv.source.honest_same.0 sure) inv.fresh).2 wrote.1 wrote.0;
     }
 
@@ -47,7 +47,7 @@ returns-in-Err-copy_page-clause-copied g c pages sure are is =
     let got : answer c.advance.result c.advance.new.self.lent ≡ Ok (Some (c.in-Some.field-0-0, c.in-Some.page)) = (λ i. answer (c.in-Ok.is i) ((sym c.lent.ensures ∙ c.in-Some.is) i)) in
     let moved = subst (λ r. HasMoved s.bytes s.is_honest s.size s.failures s.only_reads c.pages.window r c.advance.new.self) got c.advance.ensures in
     let next = moved.lent (inv.source.honest_same.0 sure) inv.fresh in
-    cut_within c.args.only pages _ _ _ _ _ c.pages.count c.in-Some.page (inv.copied pages sure are is) next.1 next.2 c.in-Err-copy_page.ensures.copied
+    cut_within c.args.serial pages _ _ _ _ _ c.pages.count c.in-Some.page (inv.copied pages sure are is) next.1 next.2 c.in-Err-copy_page.ensures.copied
 
 pub returns-in-None-clause-copied : goal.returns-in-None-clause-copied
 returns-in-None-clause-copied g c pages sure are is =
@@ -55,7 +55,7 @@ returns-in-None-clause-copied g c pages sure are is =
     let inv = c.pages.invariant in
     let got : answer c.advance.result c.advance.new.self.lent ≡ Ok None = (λ i. answer (c.in-Ok.is i) ((sym c.lent.ensures ∙ c.in-None.is) i)) in
     let moved = subst (λ r. HasMoved s.bytes s.is_honest s.size s.failures s.only_reads c.pages.window r c.advance.new.self) got c.advance.ensures in
-    finished c.args.only pages _ _ _ c.pages.count (inv.copied pages sure are is) (moved.lent (inv.source.honest_same.0 sure) inv.fresh).0
+    finished c.args.serial pages _ _ _ c.pages.count (inv.copied pages sure are is) (moved.lent (inv.source.honest_same.0 sure) inv.fresh).0
 
 pub returns-in-Err-clause-cause : goal.returns-in-Err-clause-cause
 returns-in-Err-clause-cause g c pages sure are is why =
@@ -64,5 +64,5 @@ returns-in-Err-clause-cause g c pages sure are is why =
     let got : answer c.advance.result c.advance.new.self.lent ≡ Err c.in-Err.field-0 = (λ i. answer (c.in-Err.is i) c.advance.new.self.lent) in
     let moved = subst (λ r. HasMoved s.bytes s.is_honest s.size s.failures s.only_reads c.pages.window r c.advance.new.self) got c.advance.ensures in
     later_cause _ _ _ _ inv.later
-    (source_only (Err c.in-Err.field-0) c.in-Err.field-0 c.args.only pages _ _ _ _ c.pages.count _ refl (inv.copied pages sure are is) (moved.lent (inv.source.honest_same.0 sure) inv.fresh)
+    (source_only (Err c.in-Err.field-0) c.in-Err.field-0 c.args.serial pages _ _ _ _ c.pages.count _ refl (inv.copied pages sure are is) (moved.lent (inv.source.honest_same.0 sure) inv.fresh)
     (moved.cause inv.fresh).1)

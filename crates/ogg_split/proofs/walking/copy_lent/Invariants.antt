@@ -17,7 +17,7 @@ invariant-pages g l =
       source : KeepsSource s.bytes s.is_honest s.size s.only_reads old.source l.window.source;
       later : s.failures old.source ≤ s.failures l.window.source;
       copied : (pages : List Page) → s.is_honest old.source → AllByRecursion IsPage pages → (left_of s.bytes old).bytes ≡ bytes_of_pages pages
-          → InWork l.only pages (left_of s.bytes l.window).bytes (g.W.Write.contents l.fn.out) (g.W.Write.contents l.out) l.count;
+          → InWork l.serial pages (left_of s.bytes l.window).bytes (g.W.Write.contents l.fn.out) (g.W.Write.contents l.out) l.count;
     }
 
 abbrev pub decreases-pages : goal.decreases-pages

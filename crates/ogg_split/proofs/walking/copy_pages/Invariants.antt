@@ -8,7 +8,7 @@ abbrev pub invariant-loop-rest : goal.invariant-loop-rest
 invariant-loop-rest g l = record {
   small : l.count + length l.rest ≤ length l.fn.bytes;
   copied : (pages : List Page) → AllByRecursion IsPage pages → l.fn.bytes ≡ bytes_of_pages pages
-      → InWork l.only pages l.rest (g.W.Write.contents l.fn.out) (g.W.Write.contents l.out) l.count;
+      → InWork l.serial pages l.rest (g.W.Write.contents l.fn.out) (g.W.Write.contents l.out) l.count;
 }
 
 abbrev pub decreases-loop-rest : goal.decreases-loop-rest

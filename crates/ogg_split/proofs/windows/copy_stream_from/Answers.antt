@@ -5,23 +5,23 @@ use Rattle.ogg_split.proofs.windows.copy_stream_from.Goals as goal
 pub returns-in-Ok-clause-copied : goal.returns-in-Ok-clause-copied
 returns-in-Ok-clause-copied g c links pages sure are e =
     let (entry, there, is, has) = c.in-Ok.ensures.ok in
-    c.copy_range.ensures.copied pages sure (rw is (stands_in links c.args.index.now _ c.args.link pages entry are e there))
+    c.copy_stream_of.ensures.copied pages sure (rw is (stands_in links c.args.index.now _ c.args.link pages entry are e there))
 
 pub returns-in-Ok-clause-no_link : goal.returns-in-Ok-clause-no_link
 returns-in-Ok-clause-no_link g c =
     let (entry, there, is, has) = c.in-Ok.ensures.ok in
-    link_is_there c.copy_range.result c.args.index.now.entries c.args.link entry c.copy_range.ensures.there there
+    link_is_there c.copy_stream_of.result c.args.index.now.entries c.args.link entry c.copy_stream_of.ensures.there there
 
 pub returns-in-Ok-clause-no_stream : goal.returns-in-Ok-clause-no_stream
 returns-in-Ok-clause-no_stream g c =
     let (entry, there, is, has) = c.in-Ok.ensures.ok in
-    stream_is_there c.copy_range.result c.args.index.now.entries c.args.link c.args.serial entry c.copy_range.ensures.there there has
+    stream_is_there c.copy_stream_of.result c.args.index.now.entries c.args.link c.args.serial entry c.copy_stream_of.ensures.there there has
 
 pub returns-in-Ok-clause-cause : goal.returns-in-Ok-clause-cause
 returns-in-Ok-clause-cause g c links sure are why =
     let (entry, there, is, has) = c.in-Ok.ensures.ok in
     let (pages, stands) = some_link links c.args.index.now _ c.args.link entry are there in
-    c.copy_range.ensures.cause pages sure (rw is stands) why
+    c.copy_stream_of.ensures.cause pages sure (rw is stands) why
 
 pub returns-in-Err-clause-no_link : goal.returns-in-Err-clause-no_link
 returns-in-Err-clause-no_link g c =
