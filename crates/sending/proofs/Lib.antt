@@ -1,5 +1,6 @@
 mod Ahead
 mod Answered
+mod Heads
 mod Joined
 mod Located
 mod Pulled

@@ -1,8 +1,11 @@
 -- How far a pull of a stream's rest has come.
-use Rattle.std.proofs.Common.{◌≡◌, ℕ, ◌+◌, ◌-◌, ◌≤◌, List, ◌++◌, length, take, drop, refl, sym, ◌∙◌, ap, subst, arith, drop-drop, length-take}
+use Rattle.std.proofs.Common.{◌≡◌, ℕ, ◌+◌, ◌≤◌, List, ◌++◌, length, take, drop, sym, ◌∙◌, ap, subst, arith, drop-drop, length-take, length-drop}
+use Rattle.std.proofs.lemmas.List.{take-append-le, drop-append-le}
 use Rattle.std.proofs.Math.Seq.{take-append_seam, take-append-add, take-add}
+use Rattle.ogg_page.specs.Page.{Page, page_bytes}
 use Rattle.sessions.specs.Places.{part_at, IsStreamRest}
-use Rattle.sending.specs.Walking.{IsPulled}
+use Rattle.sending.specs.Extent.{Stands}
+use Rattle.sending.specs.Walking.{IsGivenOf, IsPulled}
 use Rattle.sending.specs.declared.walking.StreamLeft.{StreamLeft}
 
 front_two : (a b c : List ℕ) (g n : ℕ) → length a ≡ g → length b ≡ n → take (g + n) (a ++ (b ++ c)) ≡ a ++ b
@@ -13,39 +16,37 @@ front_two a b c g n la lb =
 length_front : (n : ℕ) (l : List ℕ) → n ≤ length l → length (take n l) ≡ n
 length_front n l le = grind (arith, length-take)
 
--- the next bytes of the rest were given
-pub given_on : (committed rest : List ℕ) (serial : ℕ) (left after : StreamLeft) (given n : ℕ) (before own now : List ℕ)
-    → IsPulled committed rest serial left given before → given ≤ length before → n ≤ length own → n ≤ left.count
-    → now ≡ take given before ++ (take n own ++ drop (given + n) before) → take n (drop given rest) ≡ take n own → after.count ≡ left.count - n
-    → IsStreamRest committed serial after.place after.skip after.count (drop n (drop given rest)) → IsPulled committed rest serial after (given + n) now
-given_on committed rest serial left after given n before own now b room some few copied same count r =
-    record {
-      taken = ap (take (given + n)) copied
-          ∙ front_two (take given before) (take n own) (drop (given + n) before) given n (length_front given before room) (length_front n own some)
-          ∙ ap (λ l. l ++ take n own) b.taken ∙ ap (λ l. take given rest ++ l) (sym same) ∙ sym (take-add given n rest);
-      total = omega (arith, b.total, few, count);
-      is_rest = subst (IsStreamRest committed serial after.place after.skip after.count) (drop-drop n given rest) r;
-    }
+-- a part of a page stands where the page does
+pub part_of_page : (bytes : List ℕ) (page : Page) (place skip n : ℕ) → Stands (drop place bytes) page → skip + n ≤ length (page_bytes page)
+    → part_at (place + skip) n bytes ≡ part_at skip n (page_bytes page)
+part_of_page bytes page place skip n s le =
+    ap (take n) (sym (drop-drop skip place bytes) ∙ ap (drop skip) s.spelled ∙ drop-append-le skip (page_bytes page) s.tail (omega arith))
+    ∙ take-append-le n (drop skip (page_bytes page)) s.tail (let len = length-drop skip (page_bytes page) in omega (arith, len))
 
--- the next bytes of a page were given, and the page isn't passed
-pub page_given : (committed rest : List ℕ) (serial : ℕ) (left : StreamLeft) (given n : ℕ) (before whole own now : List ℕ)
-    → IsPulled committed rest serial left given before → given ≤ length before → n ≤ length own → n ≤ left.count → own ≡ drop left.skip whole
-    → now ≡ take given before ++ (take n own ++ drop (given + n) before)
-    → (take n (drop given rest) ≡ part_at left.skip n whole) × IsStreamRest committed serial left.place (left.skip + n) (left.count - n) (drop n (drop given rest))
-    → IsPulled committed rest serial (record { place = left.place; skip = left.skip + n; count = left.count - n }) (given + n) now
-page_given committed rest serial left given n before whole own now b room some few is copied g =
-    given_on committed rest serial left (record { place = left.place; skip = left.skip + n; count = left.count - n }) given n before own now b room some few copied
-    (g.0 ∙ ap (take n) (sym is)) refl g.1
-
--- and it is passed
-pub page_passed : (committed rest : List ℕ) (serial : ℕ) (left after : StreamLeft) (given size : ℕ) (now : List ℕ)
-    → IsPulled committed rest serial left given now → left.skip ≡ size → after.count ≡ left.count
-    → (IsStreamRest committed serial left.place (size + 0) left.count (drop given rest) → IsStreamRest committed serial after.place after.skip left.count (drop given rest))
-    → IsPulled committed rest serial after given now
-page_passed committed rest serial left after given size now b full same on =
+-- nothing of a page was given, and it was passed
+pub none_given : (committed rest : List ℕ) (serial : ℕ) (left after : StreamLeft) (given n : ℕ) (now : List ℕ) (page : Page)
+    → IsPulled committed rest serial left given now → n ≡ 0 → after.count ≡ left.count
+    → IsGivenOf page committed (drop given rest) serial left n after → IsPulled committed rest serial after given now
+none_given committed rest serial left after given n now page b none count g =
     record {
       taken = b.taken;
-      total = omega (arith, b.total, same);
-      is_rest = subst (λ k. IsStreamRest committed serial after.place after.skip k (drop given rest)) (sym same)
-          (on (subst (λ k. IsStreamRest committed serial left.place k left.count (drop given rest)) (let e : left.skip ≡ size + 0 = omega (arith, full) in e) b.is_rest));
+      total = omega (arith, b.total, count);
+      is_rest = subst (λ k. IsStreamRest committed serial after.place after.skip after.count (drop k (drop given rest))) none g.is_rest;
+    }
+
+-- the next bytes of the page were given
+pub some_given : (committed rest : List ℕ) (serial : ℕ) (left after : StreamLeft) (given n : ℕ) (before part now : List ℕ) (page : Page)
+    → IsPulled committed rest serial left given before → given ≤ length before → n + after.count ≡ left.count
+    → now ≡ take given before ++ (part ++ drop (given + n) before) → part ≡ part_at left.skip n (page_bytes page)
+    → IsGivenOf page committed (drop given rest) serial left n after → IsPulled committed rest serial after (given + n) now
+some_given committed rest serial left after given n before part now page b room count copied is g =
+    let own : take n (drop given rest) ≡ part = g.given ∙ sym is in
+    let some : n ≤ length (drop given rest) = let len = length-drop given rest in omega (arith, len, b.total, count) in
+    let size : length part ≡ n = ap length (sym own) ∙ length_front n (drop given rest) some in
+    record {
+      taken = ap (take (given + n)) copied
+          ∙ front_two (take given before) part (drop (given + n) before) given n (length_front given before room) size
+          ∙ ap (λ l. l ++ part) b.taken ∙ ap (λ l. take given rest ++ l) (sym own) ∙ sym (take-add given n rest);
+      total = omega (arith, b.total, count);
+      is_rest = subst (IsStreamRest committed serial after.place after.skip after.count) (drop-drop n given rest) g.is_rest;
     }

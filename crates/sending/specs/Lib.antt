@@ -1,3 +1,4 @@
 pub mod Answering
+pub mod Extent
 pub mod Sending
 pub mod Walking

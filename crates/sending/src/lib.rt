@@ -9,6 +9,7 @@
 
 mod answering;
 mod body;
+mod extent;
 mod finding;
 mod laws;
 mod pulling;

@@ -105,7 +105,8 @@ pub fn pull_body<S: PageSource>(
             Err(fault) => Err(fault),
         },
         Body::Stream(serial, place, skip, count) => {
-            match pull_stream(window, serial, StreamLeft { place, skip, count }, buffer) {
+            let start = StreamLeft { place, skip, count };
+            match pull_stream(window.source_mut(), serial, start, buffer) {
                 Ok((n, left)) => Ok((n, Body::Stream(serial, left.place, left.skip, left.count))),
                 Err(fault) => Err(fault),
             }

@@ -1,12 +1,18 @@
 //! A buffer is filled with what is left of a stream, page by page.
-ghost use Rattle.std.specs.Prelude.{◌≡◌, ◌+◌, ◌^◌, ◌<◌, ◌≤◌, ℕ, List, ◌++◌, length, take, drop, IfOk, IsErr};
-ghost use Rattle.ogg_page.specs.Page.{page_bytes};
+//!
+//! Of each page the head is read, and of the stream's own pages what goes into the buffer. No checksum is computed: pages
+//! are checked when they are found, and this reads what was found.
+ghost use Rattle.std.specs.Prelude.{◌≡◌, ◌+◌, ◌^◌, ◌<◌, ◌≤◌, ℕ, List, ◌++◌, length, take, drop, IfOk, IsErr, OnOk};
+ghost use Rattle.ogg_page.specs.Page.{Page};
 ghost use Rattle.ogg_page.specs.Window.{KeepsSource};
-ghost use Rattle.sessions.specs.Places.{IsStreamRest};
+ghost use Rattle.ogg_page.specs.Source.{HasCause};
+ghost use Rattle.sessions.specs.Places.{IsStreamRest, part_at};
+ghost use Rattle.sending.specs.Extent.{Stands, extent_of};
 ghost use Rattle.sending.specs.Sending.{HasFailed};
-ghost use Rattle.sending.specs.Walking.{IsOver, IsPulled};
+ghost use Rattle.sending.specs.Walking.{IsFurther, IsGivenOf, IsOver, IsPulled};
 
-use ogg_page::{Page, PageSource, SourceFault, Window};
+use crate::extent::{Extent, read_extent};
+use ogg_page::{PageSource, SourceFault};
 use sessions::stream_rests_are_places;
 
 /// What is left of a stream. A page begins at the place; of the stream's pages from there on some bytes are passed
@@ -18,41 +24,26 @@ pub struct StreamLeft {
     pub count: u64,
 }
 
-/// Copies the first `count` bytes of the source into the buffer after those that were given.
-fn copy_on(source: &[u8], count: usize, given: usize, buffer: &mut [u8])
-    requires room { given + count ≤ length buffer.old }
-    requires some { count ≤ length source.now }
-    ensures { buffer.new ≡ take given buffer.old ++ (take count source.now ++ drop (given + count) buffer.old) }
-{
-    let (_, free) = buffer.split_at_mut(given);
-    let (front, _) = free.split_at_mut(count);
-    front.copy_from_slice(&source[..count]);
-}
-
-/// Copies what is left of the stream in the page into the buffer, as far as it goes in, after the bytes that were
-/// given. It gives the count of all these and what is left then.
-fn pull_page(
-    page: &Page<'_>,
-    serial: u32,
-    left: StreamLeft,
-    given: usize,
-    buffer: &mut [u8],
-) -> (usize, StreamLeft)
-    requires room { given < length buffer.old }
+/// How many bytes of the page at the place are given into this much room, and what is left then.
+fn next_of_page(extent: Extent, serial: u32, left: StreamLeft, room: u64) -> (u64, StreamLeft)
     requires some { 0 < left.count }
-    requires end { left.place + length (page_bytes page.now) < 2 ^ 64 }
-    ensures pulled { (committed more rest : List ℕ) → drop left.place committed ≡ page_bytes page.now ++ more
-        → IsPulled committed rest serial left given buffer.old → IsPulled committed rest serial result.1 result.0 buffer.new }
-    ensures moved { result.0 < length buffer.old → 0 < result.1.count → result.1.place ≡ left.place + length (page_bytes page.now) }
-    ensures within { result.0 ≤ length buffer.old }
-    ensures whole { length buffer.new ≡ length buffer.old }
+    requires room { 0 < room }
+    requires page { 0 < extent.size }
+    requires end { left.place + extent.size < 2 ^ 64 }
+    ensures given { (committed rest : List ℕ) (page : Page) → Stands (drop left.place committed) page → extent ≡ extent_of page
+        → IsStreamRest committed serial left.place left.skip left.count rest
+        → IsGivenOf page committed rest serial left result.0 result.1 }
+    ensures total { result.0 + result.1.count ≡ left.count }
+    ensures room { result.0 ≤ room }
+    ensures inside { 0 < result.0 → left.skip + result.0 ≤ extent.size }
+    ensures place { (left.place ≤ result.1.place) × (result.1.place ≤ left.place + extent.size) }
+    ensures further { left.place < result.1.place + result.0 }
 {
     stream_rests_are_places();
-    let size = page.whole().len() as u64;
-    let next = left.place + size;
-    if page.serial() != serial {
+    let next = left.place + extent.size;
+    if extent.serial != serial {
         return (
-            given,
+            0,
             StreamLeft {
                 place: next,
                 skip: left.skip,
@@ -60,25 +51,23 @@ fn pull_page(
             },
         );
     }
-    if left.skip >= size {
+    if left.skip >= extent.size {
         return (
-            given,
+            0,
             StreamLeft {
                 place: next,
-                skip: left.skip - size,
+                skip: left.skip - extent.size,
                 count: left.count,
             },
         );
     }
-    let (_, own) = page.whole().split_at(left.skip as usize);
-    let room = own.len().min(buffer.len() - given);
-    let taken = left.count.min(room as u64);
-    copy_on(own, taken as usize, given, buffer);
+    let own = extent.size - left.skip;
+    let taken = own.min(left.count).min(room);
     let skip = left.skip + taken;
     let count = left.count - taken;
-    if skip == size && count > 0 {
+    if skip == extent.size && count > 0 {
         return (
-            given + taken as usize,
+            taken,
             StreamLeft {
                 place: next,
                 skip: 0,
@@ -87,7 +76,7 @@ fn pull_page(
         );
     }
     (
-        given + taken as usize,
+        taken,
         StreamLeft {
             place: left.place,
             skip,
@@ -96,42 +85,91 @@ fn pull_page(
     )
 }
 
+/// Reads `count` bytes at the place into the buffer, after those that were given.
+fn read_on<S: PageSource>(
+    source: &mut S,
+    place: u64,
+    count: usize,
+    given: usize,
+    buffer: &mut [u8],
+) -> Result<(), SourceFault>
+    requires inside { place + count ≤ S.size source.old }
+    requires room { given + count ≤ length buffer.old }
+    ensures read { OnOk result (S.is_honest source.old
+        → buffer.new ≡ take given buffer.old ++ (part_at place count (S.bytes source.old) ++ drop (given + count) buffer.old)) }
+    ensures cause { HasCause (S.failures source.old) (S.failures source.new) result }
+    ensures source { KeepsSource S.bytes S.is_honest S.size S.only_reads source.old source.new }
+{
+    let (_, free) = buffer.split_at_mut(given);
+    let (front, _) = free.split_at_mut(count);
+    source.read_at(place, front)
+}
+
+/// Reads what is left of the stream in the page at the place into the buffer, as far as it goes in, after the bytes that
+/// were given. It gives the count of all these and what is left then.
+fn pull_page<S: PageSource>(
+    source: &mut S,
+    serial: u32,
+    left: StreamLeft,
+    given: usize,
+    buffer: &mut [u8],
+) -> Result<(usize, StreamLeft), SourceFault>
+    requires room { given < length buffer.old }
+    requires some { 0 < left.count }
+    ensures pulled { (committed more rest : List ℕ) → S.is_honest source.old → S.bytes source.old ≡ committed ++ more
+        → IsPulled committed rest serial left given buffer.old
+        → IfOk result (λ p. IsPulled committed rest serial p.1 p.0 buffer.new) }
+    ensures cause { (committed more rest : List ℕ) → S.is_honest source.old → S.bytes source.old ≡ committed ++ more
+        → IsPulled committed rest serial left given buffer.old → IsErr result
+        → HasFailed (S.failures source.old) (S.failures source.new) }
+    ensures further { IfOk result (λ p. IsFurther (S.size source.old) (length buffer.old) left given p.1 p.0) }
+    ensures later { S.failures source.old ≤ S.failures source.new }
+    ensures source { KeepsSource S.bytes S.is_honest S.size S.only_reads source.old source.new }
+{
+    match read_extent(source, left.place) {
+        Ok(extent) => {
+            let room = (buffer.len() - given) as u64;
+            let (count, after) = next_of_page(extent, serial, left, room);
+            if count == 0 {
+                return Ok((given, after));
+            }
+            let taken = count as usize;
+            match read_on(source, left.place + left.skip, taken, given, buffer) {
+                Ok(()) => Ok((given + taken, after)),
+                Err(fault) => Err(fault),
+            }
+        }
+        Err(fault) => Err(fault),
+    }
+}
+
 /// Reads the first bytes of what is left of a stream into the buffer, as many as it holds. It gives their count and
 /// what is left then.
 pub fn pull_stream<S: PageSource>(
-    window: &mut Window<S>,
+    source: &mut S,
     serial: u32,
     start: StreamLeft,
     buffer: &mut [u8],
 ) -> Result<(usize, StreamLeft), SourceFault>
-    ensures read { (committed more rest : List ℕ) → S.is_honest window.old.source → S.bytes window.old.source ≡ committed ++ more
+    ensures read { (committed more rest : List ℕ) → S.is_honest source.old → S.bytes source.old ≡ committed ++ more
         → IsStreamRest committed serial start.place start.skip start.count rest
         → IfOk result (λ p. IsPulled committed rest serial p.1 p.0 buffer.new × IsOver (length buffer.old) p.0 p.1) }
-    ensures cause { (committed more rest : List ℕ) → S.is_honest window.old.source → S.bytes window.old.source ≡ committed ++ more
+    ensures cause { (committed more rest : List ℕ) → S.is_honest source.old → S.bytes source.old ≡ committed ++ more
         → IsStreamRest committed serial start.place start.skip start.count rest → IsErr result
-        → HasFailed (S.failures window.old.source) (S.failures window.new.source) }
+        → HasFailed (S.failures source.old) (S.failures source.new) }
     ensures within { IfOk result (λ p. p.0 ≤ length buffer.old) }
-    ensures later { S.failures window.old.source ≤ S.failures window.new.source }
-    ensures source { KeepsSource S.bytes S.is_honest S.size S.only_reads window.old.source window.new.source }
+    ensures later { S.failures source.old ≤ S.failures source.new }
+    ensures source { KeepsSource S.bytes S.is_honest S.size S.only_reads source.old source.new }
 {
-    let end = window.source_mut().end();
-    if start.place > end {
-        return Err(SourceFault);
-    }
-    window.set(start.place, end);
     let mut given = 0;
     let mut left = start;
     'pages: while given < buffer.len() && left.count > 0 {
-        match window.advance() {
-            Ok(()) => match window.lent() {
-                Some((_, page)) => {
-                    let (count, after) = pull_page(&page, serial, left, given, buffer);
-                    given = count;
-                    left = after;
-                }
-                None => return Err(SourceFault),
-            },
-            Err(_) => return Err(SourceFault),
+        match pull_page(source, serial, left, given, buffer) {
+            Ok((count, after)) => {
+                given = count;
+                left = after;
+            }
+            Err(fault) => return Err(fault),
         }
     }
     Ok((given, left))

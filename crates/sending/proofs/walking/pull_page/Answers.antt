@@ -1,48 +1,41 @@
-use Rattle.std.proofs.Common.{◌≡◌, ◌+◌, ◌<◌, ◌≤◌, length, drop, ◌-◌, sym, ◌∙◌, ap, subst, arith, refl}
+use Rattle.std.proofs.Common.{◌+◌, ◌≤◌, ◌<◌, length, drop, ◌∙◌, ap, arith}
 use Rattle.ogg_page.specs.Page.{page_bytes}
-use Rattle.sessions.specs.Places.{IsStreamRest}
-use Rattle.sending.proofs.Pulled.{page_given, page_passed}
+use Rattle.ogg_page.specs.PageLaws.{length-page_bytes}
+use Rattle.sessions.specs.Places.{part_at}
+use Rattle.sending.proofs.Ahead.{ahead}
+use Rattle.sending.proofs.Pulled.{none_given, some_given, part_of_page}
 use Rattle.sending.proofs.walking.pull_page.Goals as goal
 
-pub returns-then-count-gt0-clause-pulled : goal.returns-then-count-gt0-clause-pulled
-returns-then-count-gt0-clause-pulled c committed more rest at b =
+pub returns-then-count-eq0-clause-pulled : goal.returns-then-count-eq0-clause-pulled
+returns-then-count-eq0-clause-pulled g c committed more rest sure is b =
+    let bytes = g.S.PageSource.bytes c.args.source.now in
     let left = c.args.left in
-    let n = c.min-taken.result in
-    let cut = c.split_at.ensures in
-    let len = ap length c.whole.ensures.bytes in
-    let len2 = ap length c.whole-2.ensures.bytes in
-    let few : n ≤ left.count = grind (arith, c.min-taken.ensures) in
-    let some : n ≤ length c.split_at.result.1.now = grind (arith, c.min-taken.ensures, c.min-room.ensures) in
-    let parts : left.count ≡ n + (left.count - n) = omega (arith, few) in
-    let some_left : 0 < n + (left.count - n) = omega (arith, parts, c.requires.some) in
-    let fits : left.skip + n ≤ length (page_bytes c.args.page.now) = omega (arith, some, cut.back_len, len2) in
-    let same = sym c.serial.ensures ∙ c.if-serial.false in
-    let law = c.stream_rests_are_places.ensures in
-    let rest_from = drop c.args.given rest in
-    let g = law.given committed c.args.serial left.place left.skip n (left.count - n) rest_from c.args.page.now more
-    (subst (λ k. IsStreamRest committed c.args.serial left.place left.skip k rest_from) parts b.is_rest) some_left c.whole.ensures.is_page at same fits in
-    let on = page_given committed rest c.args.serial left c.args.given n c.args.buffer.now (page_bytes c.args.page.now) c.split_at.result.1.now c.copy_on.new.buffer
-    b (omega (arith, c.requires.room)) some few (cut.back ∙ ap (drop left.skip) c.whole-2.ensures.bytes) c.copy_on.ensures g in
-    page_passed committed rest c.args.serial (record { place = left.place; skip = left.skip + n; count = left.count - n })
-    (record { place = left.place + length c.whole.result.now; skip = 0; count = left.count - n }) (c.args.given + n) (length (page_bytes c.args.page.now)) c.copy_on.new.buffer on
-    (c.if-skip-size.true ∙ len) refl
-    (λ r. subst (λ k. IsStreamRest committed c.args.serial (left.place + k) 0 (left.count - n) (drop (c.args.given + n) rest)) (sym len)
-    (law.passed committed c.args.serial left.place 0 (left.count - n) (drop (c.args.given + n) rest) c.args.page.now more r c.if-count-gt0.true c.whole.ensures.is_page at same))
+    let next = c.next_of_page-count in
+    let h = ahead bytes committed more c.args.serial left.place left.skip left.count _ is b.is_rest c.requires.some in
+    let given = next.ensures.given committed (drop c.args.given rest) h.page h.stands (c.in-Ok.ensures.read h.page sure h.in_all) b.is_rest in
+    none_given committed rest c.args.serial left next.result.1 c.args.given next.result.0 c.args.buffer.now h.page b c.if-count-eq0.true
+    (omega (arith, next.ensures.total, c.if-count-eq0.true)) given
 
-pub returns-clause-pulled : goal.returns-clause-pulled
-returns-clause-pulled c committed more rest at b =
+pub returns-in-Ok-read_on-clause-pulled : goal.returns-in-Ok-read_on-clause-pulled
+returns-in-Ok-read_on-clause-pulled g c committed more rest sure is b =
+    let s = g.S.PageSource in
+    let bytes = s.bytes c.args.source.now in
     let left = c.args.left in
-    let n = c.min-taken.result in
-    let cut = c.split_at.ensures in
-    let len2 = ap length c.whole-2.ensures.bytes in
-    let few : n ≤ left.count = grind (arith, c.min-taken.ensures) in
-    let some : n ≤ length c.split_at.result.1.now = grind (arith, c.min-taken.ensures, c.min-room.ensures) in
-    let parts : left.count ≡ n + (left.count - n) = omega (arith, few) in
-    let some_left : 0 < n + (left.count - n) = omega (arith, parts, c.requires.some) in
-    let fits : left.skip + n ≤ length (page_bytes c.args.page.now) = omega (arith, some, cut.back_len, len2) in
-    let same = sym c.serial.ensures ∙ c.if-serial.false in
-    let rest_from = drop c.args.given rest in
-    let g = c.stream_rests_are_places.ensures.given committed c.args.serial left.place left.skip n (left.count - n) rest_from c.args.page.now more
-    (subst (λ k. IsStreamRest committed c.args.serial left.place left.skip k rest_from) parts b.is_rest) some_left c.whole.ensures.is_page at same fits in
-    page_given committed rest c.args.serial left c.args.given n c.args.buffer.now (page_bytes c.args.page.now) c.split_at.result.1.now c.copy_on.new.buffer
-    b (omega (arith, c.requires.room)) some few (cut.back ∙ ap (drop left.skip) c.whole-2.ensures.bytes) c.copy_on.ensures g
+    let next = c.next_of_page-count in
+    let n = next.result.0 in
+    let h = ahead bytes committed more c.args.serial left.place left.skip left.count _ is b.is_rest c.requires.some in
+    let extent = c.in-Ok.ensures.read h.page sure h.in_all in
+    let given = next.ensures.given committed (drop c.args.given rest) h.page h.stands extent b.is_rest in
+    let inside = next.ensures.inside (let k : 0 < n = omega (arith, c.if-count-eq0.false) in k) in
+    let fits : left.skip + n ≤ length (page_bytes h.page) = omega (arith, inside, ap (λ x. x.size) extent, length-page_bytes h.page) in
+    let same = c.read_extent.ensures.source.bytes_same sure in
+    let copied = c.in-Ok-read_on.ensures.read (c.read_extent.ensures.source.honest_same.0 sure) in
+    let part = ap (part_at (left.place + left.skip) n) same ∙ part_of_page bytes h.page left.place left.skip n h.in_all fits in
+    some_given committed rest c.args.serial left next.result.1 c.args.given n c.args.buffer.now (part_at (left.place + left.skip) n (s.bytes c.read_extent.new.source))
+    c.read_on.new.buffer h.page b (omega (arith, c.requires.room)) next.ensures.total copied part given
+
+pub returns-in-Err-clause-cause : goal.returns-in-Err-clause-cause
+returns-in-Err-clause-cause g c committed more rest sure is b err =
+    let left = c.args.left in
+    let h = ahead (g.S.PageSource.bytes c.args.source.now) committed more c.args.serial left.place left.skip left.count _ is b.is_rest c.requires.some in
+    c.in-Err.ensures.cause h.page sure h.in_all err
