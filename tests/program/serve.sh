@@ -74,6 +74,8 @@ came "pestered" 0 '' ''
 # Answers are those of a plain program.
 check "answers" timeout 200 python3 "$here/serving.py" "$program" "$work" 3
 
+check "answers while a feed is recorded" timeout 200 python3 "$here/pestering.py" "$program" "$work"
+
 # A tail stays open, and is no part of what is served.
 printf '\0' | cat "$work/two.ogg" - >"$work/tail.ogg"
 up serve "$work/tail.ogg" 1
