@@ -1,0 +1,3 @@
+pub mod Definite
+pub mod InRoom
+pub mod Run

@@ -1,0 +1,3 @@
+pub mod PageReaderFault
+pub mod Reader
+pub mod Room

@@ -1,0 +1,63 @@
+-- What a page reader holds in its room. Ours.
+use Rattle.std.specs.Prelude.{◌≡◌, ℕ, ◌+◌, ◌-◌, ◌≤◌, Option, Some, None, Result, Ok, Err, List, [], ◌++◌, length, take, drop, ⊤}
+use Rattle.std.specs.Io.KnownBytes.{Consumes, IsAtEnd}
+use Rattle.ogg_page.specs.Page.{Page as PageValue, IsPage, AreBytes, page_size}
+use Rattle.ogg_page.specs.Reading.{page_at, fields_at, size_at}
+use Rattle.ogg_page.specs.Window.{LentAt}
+use Rattle.page_reader.specs.Reader.{HasFault}
+use Rattle.page_reader.specs.declared.held.Held.{Held}
+use Rattle.page_reader.specs.declared.held.Lent.{Lent}
+use Rattle.page_reader.specs.declared.fault.PageReaderFault.{PageReaderFault}
+
+-- of the room the bytes that are held
+abbrev pub held_of : List ℕ → Held → List ℕ
+held_of room held = take (held.end - held.start) (drop held.start room)
+
+pub record IsHeld (room : List ℕ) (held : Held) : Type 0 where
+  pub whole : length room ≡ 65307
+  pub ordered : held.start ≤ held.end
+  pub fits : held.end ≤ 65307
+
+-- These bytes begin with a page of this size.
+pub record BeginsWithPage (bytes : List ℕ) (size : ℕ) : Type 0 where
+  pub page : PageValue
+  pub is : IsPage page
+  pub read : page_at bytes ≡ Ok page
+  pub whole : size ≡ page_size page
+  pub fits : size ≤ length bytes
+  pub small : AreBytes bytes
+
+-- one read added this many bytes to those that were held, none only at the end of the input
+pub record ReadsMore (before : List ℕ) (from : Option (List ℕ)) (count : ℕ) (now : List ℕ) (left : Option (List ℕ)) : Type 0 where
+  pub taken : List ℕ
+  pub consumed : Consumes from left taken
+  pub all : now ≡ before ++ taken
+  pub counted : length taken ≡ count
+  pub at_end : count ≡ 0 → IsAtEnd left
+
+-- what the bytes that are held show
+abbrev pub Shows : List ℕ → Option (List ℕ) → Result (Option ℕ) PageReaderFault → Type 0
+Shows now left (Ok (Some size)) = BeginsWithPage now size
+Shows now left (Ok None) = (now ≡ []) × IsAtEnd left
+Shows now left (Err fault) = HasFault now left fault
+
+-- reads added bytes to those that were held, until they show this
+pub record Finds (before : List ℕ) (from : Option (List ℕ)) (result : Result (Option ℕ) PageReaderFault) (now : List ℕ)
+    (left : Option (List ℕ)) : Type 0 where
+  pub taken : List ℕ
+  pub consumed : Consumes from left taken
+  pub all : now ≡ before ++ taken
+  pub shows : Shows now left result
+
+-- the bytes of the page that is lent, and the page
+abbrev pub lent_bytes : List ℕ → Lent → List ℕ
+lent_bytes room lent = take (lent.end - lent.start) (drop lent.start room)
+
+abbrev pub lent_of : List ℕ → Option Lent → Option LentAt
+lent_of room None = None
+lent_of room (Some lent) = Some (lent.offset, fields_at (lent_bytes room lent))
+
+abbrev pub IsLent : List ℕ → Option Lent → Type 0
+IsLent room None = ⊤
+IsLent room (Some lent) =
+    (lent.start ≤ lent.end) × (lent.end ≤ 65307) × (page_at (lent_bytes room lent) ≡ Ok (fields_at (lent_bytes room lent)))

@@ -1,0 +1,39 @@
+//! Why no further page is given.
+ghost use Rattle.std.specs.Prelude.{◌≡◌};
+ghost use Rattle.page_reader.specs.PageReaderFault.{code_of, name_of};
+
+use ogg_page::PageFault;
+use thiserror::Error;
+
+/// Why a page reader gives no further page.
+#[derive(Clone, Copy, Debug, PartialEq, Eq, Error)]
+pub enum PageReaderFault {
+    /// No page begins where the pages that were given end, and what is wrong there.
+    #[error("{0}")]
+    Page(PageFault),
+    /// The reader failed.
+    #[error("reading failed")]
+    Read,
+}
+
+impl PageReaderFault {
+    /// The fault's number.
+    pub fn code(self) -> u8
+        ensures { result ≡ code_of self }
+    {
+        match self {
+            PageReaderFault::Page(_) => 1,
+            PageReaderFault::Read => 2,
+        }
+    }
+
+    /// The fault's name.
+    pub fn name(self) -> &'static str
+        ensures { result.now ≡ name_of self }
+    {
+        match self {
+            PageReaderFault::Page(_) => "Page",
+            PageReaderFault::Read => "Read",
+        }
+    }
+}

@@ -1,0 +1,71 @@
+//! Bytes of the reader into the room.
+ghost use Rattle.std.specs.Prelude.{◌≡◌, ◌<◌, ◌-◌, IfOk, OnErr};
+ghost use Rattle.std.specs.Io.KnownBytes.{Keeps};
+ghost use Rattle.page_reader.specs.Room.{IsHeld, ReadsMore, held_of};
+
+use crate::fault::PageReaderFault;
+use crate::held::Held;
+use std::io::Read;
+
+/// No page has more bytes.
+pub(crate) const LONGEST: usize = 65_307;
+
+/// Moves what is held to the front of the room if no byte behind it is free. What is held then is the beginning of
+/// one page, which fits from there on: so no byte is moved twice.
+fn make_room(room: &mut [u8], held: &mut Held)
+    requires held { IsHeld room.old held.old }
+    requires part { held.old.end - held.old.start < 65307 }
+    ensures held { IsHeld room.new held.new }
+    ensures free { held.new.end < 65307 }
+    ensures same { held_of room.new held.new ≡ held_of room.old held.old }
+{
+    if held.end == LONGEST {
+        room.copy_within(held.start..held.end, 0);
+        *held = Held {
+            start: 0,
+            end: held.end - held.start,
+        };
+    }
+}
+
+/// Reads once, as many bytes as come, behind what is held. An error of any kind is `Read` and isn't tried again.
+fn read_behind<R: Read + Drop>(
+    reader: &mut R,
+    room: &mut [u8],
+    held: &mut Held,
+) -> Result<usize, PageReaderFault>
+    requires held { IsHeld room.old held.old }
+    requires free { held.old.end < 65307 }
+    ensures held { IsHeld room.new held.new }
+    ensures ok { IfOk result (λ count. ReadsMore (held_of room.old held.old) (R.remaining reader.old) count
+        (held_of room.new held.new) (R.remaining reader.new)) }
+    ensures err { OnErr result ((result ≡ Err PageReaderFault.Read) × (held_of room.new held.new ≡ held_of room.old held.old)
+        × Keeps (R.remaining reader.old) (R.remaining reader.new)) }
+{
+    let (_, free) = room.split_at_mut(held.end);
+    match reader.read(free) {
+        Ok(count) => {
+            held.end += count;
+            Ok(count)
+        }
+        Err(_) => Err(PageReaderFault::Read),
+    }
+}
+
+/// Reads once, as many bytes as come, behind what is held.
+pub(crate) fn read_more<R: Read + Drop>(
+    reader: &mut R,
+    room: &mut [u8],
+    held: &mut Held,
+) -> Result<usize, PageReaderFault>
+    requires held { IsHeld room.old held.old }
+    requires part { held.old.end - held.old.start < 65307 }
+    ensures held { IsHeld room.new held.new }
+    ensures ok { IfOk result (λ count. ReadsMore (held_of room.old held.old) (R.remaining reader.old) count
+        (held_of room.new held.new) (R.remaining reader.new)) }
+    ensures err { OnErr result ((result ≡ Err PageReaderFault.Read) × (held_of room.new held.new ≡ held_of room.old held.old)
+        × Keeps (R.remaining reader.old) (R.remaining reader.new)) }
+{
+    make_room(room, held);
+    read_behind(reader, room, held)
+}

@@ -1,0 +1,109 @@
+//! Pages of a reader, lent one at a time.
+ghost use Rattle.std.specs.Prelude.{◌≡◌, ◌≢◌, [], None, Err, IfOk, IfSome};
+ghost use Rattle.ogg_page.specs.Reading.{page_at};
+ghost use Rattle.page_reader.specs.Reader.{HasAdvanced, started};
+
+use crate::Memory;
+use crate::fault::PageReaderFault;
+use crate::filling::LONGEST;
+use crate::finding::find;
+use crate::front::known_page;
+use crate::held::{Held, Lent};
+use ogg_page::{Page, PageFault};
+use std::alloc::Global;
+use std::io::Read;
+use std::marker::Model;
+
+/// Pages of a stream of bytes, one after the other, in the memory of one page. What a contract sees of it is the
+/// bytes that were read and are of no page that was given, their offset in the input, the page that is lent, and how
+/// the input has ended, if it has.
+#[derive(Drop)]
+pub struct PageReader {
+    room: Vec<u8>,
+    held: Held,
+    offset: u64,
+    lent: Option<Lent>,
+    outcome: Option<Result<(), PageReaderFault>>,
+}
+
+impl Model for PageReader {
+    ghost use Rattle.page_reader.specs.Reader.{ReaderState};
+    ghost use Rattle.page_reader.specs.Room.{IsHeld, IsLent, held_of, lent_of};
+
+    ghost Value = { ReaderState };
+
+    ghost view = { λ r. record { unread = held_of r.room.items r.held; offset = r.offset; lent = lent_of r.room.items r.lent; outcome = r.outcome } };
+
+    ghost invariant = { λ r. IsHeld r.room.items r.held × IsLent r.room.items r.lent };
+}
+
+impl PageReader {
+    /// Makes the room, of 65,307 bytes. No other call takes memory.
+    pub fn new(alloc: Global) -> Result<PageReader, Memory>
+        ensures { IfOk result (λ reader. reader ≡ started) }
+    {
+        let mut room = Vec::with_capacity(alloc, LONGEST)?;
+        room.resize(LONGEST, 0)?;
+        Ok(PageReader {
+            room,
+            held: Held { start: 0, end: 0 },
+            offset: 0,
+            lent: None,
+            outcome: None,
+        })
+    }
+
+    /// Passes on to the next page, which is lent from then on; none at the end of the input. It reads only while no
+    /// whole page is held, and each time as many bytes as come at once. The end and a fault stay.
+    pub fn advance<R: Read + Drop>(&mut self, reader: &mut R) -> Result<(), PageReaderFault>
+        ensures gives { self.old.outcome ≡ None
+            → HasAdvanced self.old (R.remaining reader.old) result self.new (R.remaining reader.new) }
+        // A page that was read already, or a fault, is given without the reader.
+        ensures prompt { page_at self.old.unread ≢ Err PageFault.Short → reader.new ≡ reader.old }
+        ensures stays { IfSome self.old.outcome (λ outcome. (result ≡ outcome) × (self.new ≡ self.old) × (reader.new ≡ reader.old)) }
+    {
+        if let Some(outcome) = self.outcome {
+            return outcome;
+        }
+        self.lent = None;
+        match find(reader, &mut self.room, &mut self.held) {
+            Ok(Some(size)) => {
+                let start = self.held.start;
+                self.lent = Some(Lent {
+                    offset: self.offset,
+                    start,
+                    end: start + size,
+                });
+                self.held.start = start + size;
+                self.offset = self.offset.saturating_add(size as u64);
+                Ok(())
+            }
+            Ok(None) => {
+                self.outcome = Some(Ok(()));
+                Ok(())
+            }
+            Err(fault) => {
+                self.outcome = Some(Err(fault));
+                Err(fault)
+            }
+        }
+    }
+
+    /// The page that is lent, and its offset in the input.
+    pub fn lent(&self) -> Option<(u64, Page<'_>)>
+        ensures { result ≡ self.now.lent }
+    {
+        match self.lent {
+            Some(lent) => Some((lent.offset, known_page(&self.room[lent.start..lent.end]))),
+            None => None,
+        }
+    }
+
+    /// The offset in the input of the first byte of which no page was given. It is where a fault stands. Beyond
+    /// the largest `u64` it stays there.
+    pub fn offset(&self) -> u64
+        ensures { result ≡ self.now.offset }
+    {
+        self.offset
+    }
+}
