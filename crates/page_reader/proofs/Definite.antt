@@ -1,9 +1,9 @@
 -- What is wrong with bytes and isn't want of bytes stays wrong, whatever follows.
-use Rattle.std.proofs.Common.{◌≡◌, ◌≢◌, ℕ, ◌+◌, ◌-◌, ◌*◌, ◌<◌, ◌≤◌, Bool, true, false, not, List, [], ◌∷◌, ◌++◌, length, take, drop, sum, refl, sym, ◌∙◌, ap, arith, length-append, length-take, min, Result, Ok, Err}
+use Rattle.std.proofs.Common.{◌≡◌, ◌≢◌, ℕ, ◌+◌, ◌-◌, ◌*◌, ◌<◌, ◌≤◌, Bool, true, false, not, List, [], ◌∷◌, ◌++◌, length, take, drop, sum, refl, sym, ◌∙◌, ap, arith, length-append, length-take, Result, Ok, Err}
 use Rattle.std.specs.Prelude.{nat_eq, nat_lt, if◌then◌else◌, codes, slice_index}
 use Rattle.std.specs.List.{starts_with}
 use Rattle.std.proofs.lemmas.Bool.{le-ltb, ltb-true, ltb-false}
-use Rattle.std.proofs.lemmas.List.{length-take-le, length-drop, take-append-le, drop-append-le, get_or_append_left}
+use Rattle.std.proofs.lemmas.List.{length-drop, take-append-le, drop-append-le, get_or_append_left}
 use Rattle.byteorder.specs.Endian.{little_number}
 use Rattle.ogg_page.specs.Checksum.{checksum_of}
 use Rattle.ogg_page.specs.Page.{Page, AreBytes}

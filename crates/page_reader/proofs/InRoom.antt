@@ -10,7 +10,7 @@ use Rattle.page_reader.proofs.Definite.{fault_stays, short_is_small}
 use Rattle.ogg_page.specs.Reading.{page_at, fields_at}
 use Rattle.ogg_page.specs.Laws.ReadAgain.{read_is_page, page_is_read, length-page_bytes, passed}
 use Rattle.page_reader.specs.declared.held.Held.{Held}
-use Rattle.std.specs.Io.KnownBytes.{Consumes, IsAtEnd}
+use Rattle.std.specs.Io.KnownBytes.{Consumes}
 use Rattle.std.proofs.KnownBytes.{Consumes-nil, Consumes-trans}
 use Rattle.ogg_page.specs.Window.{LentAt}
 use Rattle.page_reader.specs.declared.fault.PageReaderFault.{PageReaderFault}

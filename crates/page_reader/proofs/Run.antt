@@ -11,7 +11,7 @@ use Rattle.ogg_page.specs.declared.fault.PageFault.{PageFault}
 use Rattle.ogg_page.specs.declared.fault.PageFault.TheVariants.{Short, Pattern, Version, Checksum}
 use Rattle.page_reader.specs.declared.fault.PageReaderFault.{PageReaderFault}
 use Rattle.page_reader.specs.declared.fault.PageReaderFault.TheVariants.{Page, Read}
-use Rattle.page_reader.specs.Reader.{AreAll, Gives, GivesPage, HasAdvanced, IsFaultOf, IsRun, ReaderState}
+use Rattle.page_reader.specs.Reader.{AreAll, Gives, GivesPage, IsFaultOf, IsRun, ReaderState}
 
 abbrev page_found : ℕ → PageValue → FoundPage
 page_found offset page = Ok (offset, page)

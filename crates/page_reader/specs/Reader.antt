@@ -1,7 +1,7 @@
 -- What a page reader gives of bytes that can be read once only. Ours.
 use Rattle.std.specs.Prelude.{◌≡◌, ◌≢◌, ℕ, ◌+◌, ◌-◌, ◌^◌, min, Option, Some, None, Result, Ok, Err, List, [], ◌∷◌, ◌++◌, map, ⊤}
 use Rattle.std.specs.Io.KnownBytes.{Consumes, IsAtEnd}
-use Rattle.ogg_page.specs.Page.{Page as PageValue, IsPage, page_bytes, page_size}
+use Rattle.ogg_page.specs.Page.{IsPage, page_bytes, page_size}
 use Rattle.ogg_page.specs.Reading.{page_at}
 use Rattle.ogg_page.specs.Pages.{FoundPage}
 use Rattle.ogg_page.specs.Window.{LentAt, found}

@@ -1,8 +1,8 @@
 -- What a page reader holds in its room. Ours.
-use Rattle.std.specs.Prelude.{◌≡◌, ℕ, ◌+◌, ◌-◌, ◌≤◌, Option, Some, None, Result, Ok, Err, List, [], ◌++◌, length, take, drop, ⊤}
+use Rattle.std.specs.Prelude.{◌≡◌, ℕ, ◌-◌, ◌≤◌, Option, Some, None, Result, Ok, Err, List, [], ◌++◌, length, take, drop, ⊤}
 use Rattle.std.specs.Io.KnownBytes.{Consumes, IsAtEnd}
 use Rattle.ogg_page.specs.Page.{Page as PageValue, IsPage, AreBytes, page_size}
-use Rattle.ogg_page.specs.Reading.{page_at, fields_at, size_at}
+use Rattle.ogg_page.specs.Reading.{page_at, fields_at}
 use Rattle.ogg_page.specs.Window.{LentAt}
 use Rattle.page_reader.specs.Reader.{HasFault}
 use Rattle.page_reader.specs.declared.held.Held.{Held}

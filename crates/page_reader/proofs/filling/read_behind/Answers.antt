@@ -1,4 +1,4 @@
-use Rattle.std.proofs.Common.{arith, take, sym, length-take}
+use Rattle.std.proofs.Common.{arith, take, sym}
 use Rattle.page_reader.proofs.InRoom.{read_behind_held}
 use Rattle.page_reader.proofs.filling.read_behind.Goals as goal
 

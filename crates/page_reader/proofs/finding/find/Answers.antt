@@ -1,4 +1,4 @@
-use Rattle.std.proofs.Common.{◌++◌, [], append-nil, sym, ◌∙◌, ap, refl, Err, arith}
+use Rattle.std.proofs.Common.{[], append-nil, sym, ◌∙◌, ap, refl, Err, arith}
 use Rattle.std.proofs.KnownBytes.{Consumes-nil}
 use Rattle.page_reader.specs.Room.{held_of}
 use Rattle.page_reader.proofs.Definite.{short_is_small}

@@ -1,4 +1,4 @@
-use Rattle.std.proofs.Common.{◌≡◌, ◌∙◌, length, take, drop, List, ℕ, ◌++◌, arith, ap}
+use Rattle.std.proofs.Common.{◌≡◌, ◌∙◌, length, take, drop, List, ℕ, ◌++◌, ap}
 use Rattle.std.proofs.lemmas.List.{take_at}
 use Rattle.page_reader.specs.Room.{held_of, lent_of}
 use Rattle.page_reader.proofs.InRoom.{Stands, finds_from, finds_page, moved, stands, still}
