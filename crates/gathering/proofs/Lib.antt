@@ -1,0 +1,9 @@
+pub mod Cuts
+pub mod Others
+pub mod Issued
+pub mod Pages
+pub mod First
+pub mod Steps
+pub mod Onward
+pub mod Whole
+pub mod Gathering

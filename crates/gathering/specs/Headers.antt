@@ -1,0 +1,21 @@
+-- Which packets are kept as headers until their link begins. Ours.
+use Rattle.std.specs.Prelude.{ℕ, ◌-◌, ◌++◌, min, Bool, if◌then◌else◌, List, [], ◌∷◌, length, codes}
+use Rattle.ogg_feed.specs.Headers.{begins, header_count}
+use Rattle.ogg_feed.specs.Commands.{first_of}
+use Rattle.gathering.specs.Limits.{most_headers}
+
+-- the first packet of a Skeleton: all packets of such a stream are headers
+abbrev pub is_skeleton : List ℕ → Bool
+is_skeleton first = begins (codes "fishead" ++ 0 ∷ []) first
+
+-- how many packets of a stream are kept as headers, told by the first
+unfoldable pub wanted_by : List ℕ → ℕ
+wanted_by first = if is_skeleton first then most_headers else min (header_count first) most_headers
+
+-- a stream with these packets wants so many
+abbrev pub wanted : List (List ℕ) → ℕ
+wanted headers = wanted_by (first_of headers)
+
+-- and so many more
+abbrev pub lacking : List (List ℕ) → ℕ
+lacking headers = wanted headers - length headers
