@@ -3,11 +3,13 @@ use Rattle.std.specs.Prelude.{◌≡◌, ℕ, ◌+◌, ◌≤◌, ◌<◌, Bool,
 use Rattle.std.specs.List.{AllByRecursion, AllZip, list_any}
 use Rattle.ogg_page.specs.Page.{Page}
 use Rattle.ogg_page.specs.LogicalStream.{HoldsPackets}
-use Rattle.link_chain.specs.ChainState.{ChainState, chain_state_of, last_link}
+use Rattle.link_chain.specs.ChainState.{ChainState, chain_state_of, last_link, is_open}
+use Rattle.link_chain.specs.Taking.{links_with}
 use Rattle.link_chain.specs.Links.{AreLinks, pages_with, serials_of, has_ended}
 use Rattle.chain_rules.specs.Recording.{Stream, Recording, HoldsLinks, after}
 use Rattle.ogg_command.specs.declared.command.Command.{Command}
 use Rattle.gathering.specs.Headers.{wanted}
+use Rattle.gathering.specs.Giving.{TakesOn}
 use Rattle.gathering.specs.Kept.{KeptStream, KeptLink, has_some, is_ready}
 
 pub record Gathered : Type 0 where
@@ -66,3 +68,8 @@ pub record HasGathered (links : List (List Page)) (gathered : Gathered) (given :
 -- No link was begun by force, as `end` does: pages may be taken.
 abbrev pub CanGoOn : Gathered → Type 0
 CanGoOn gathered = gathered.link.begun ≡ true → gathered.chain.has_data ≡ true
+
+-- These commands come of the page: they are those that it completes, and with them the promise holds of the links with the page.
+pub record GathersPage (page : Page) (old new : Gathered) (more : List Command) : Type 0 where
+  pub takes : TakesOn page (is_open old.chain) old.link new.link more
+  pub goes_on : (links : List (List Page)) (given : List Command) → HasGathered links old given → CanGoOn old → HasGathered (links_with links page) new (given ++ more) × CanGoOn new

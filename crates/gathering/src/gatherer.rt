@@ -1,8 +1,7 @@
 //! Pages become commands, one page after the other.
 ghost use Rattle.std.specs.Prelude.{◌≡◌, ◌≢◌, ◌+◌, ◌<◌, ◌^◌, ◌++◌, [], ℕ, true, false, List, Some, None, OnOk, OnErr, Err};
 ghost use Rattle.ogg_page.specs.Page.{Page as PageValue, page_size};
-ghost use Rattle.link_chain.specs.ChainState.{chain_state_of};
-ghost use Rattle.link_chain.specs.Taking.{fault_of_page, links_with, unfinished_stream};
+ghost use Rattle.link_chain.specs.Taking.{fault_of_page, unfinished_stream};
 ghost use Rattle.link_chain.specs.declared.chain_fault.ChainFault.{ChainFault as ChainFaultOf};
 ghost use Rattle.ogg_command.specs.declared.command.Command.{Command as CommandOf};
 
@@ -31,8 +30,8 @@ impl Model for Gatherer {
 
 impl Gatherer {
     ghost use Rattle.gathering.specs.Kept.{is_too_long, waits};
-    ghost use Rattle.gathering.specs.Giving.{TakesOn, begin_if, begun_if};
-    ghost use Rattle.gathering.specs.Gathered.{HasGathered, CanGoOn};
+    ghost use Rattle.gathering.specs.Giving.{begin_if};
+    ghost use Rattle.gathering.specs.Gathered.{HasGathered, GathersPage, CanGoOn};
 
     /// No pages. It takes no memory.
     pub fn new(alloc: Global) -> Gatherer
@@ -55,8 +54,7 @@ impl Gatherer {
     ) -> Result<(), GatherFault>
         requires { self.old.chain.length_of + page_size page.now < 2 ^ 63 }
         ensures gathered { OnOk result ((more : List CommandOf) × (commands.new.items ≡ commands.old.items ++ more)
-            × ((links : List (List PageValue)) (given : List CommandOf) → HasGathered links self.old given → CanGoOn self.old →
-            HasGathered (links_with links page.now) self.new (given ++ more) × CanGoOn self.new)) }
+            × GathersPage page.now self.old self.new more) }
         ensures chain { (fault : ChainFaultOf) → fault_of_page self.old.chain page.now ≡ Some fault → result ≡ Err (GatherFault.Chain fault) }
         ensures long { fault_of_page self.old.chain page.now ≡ None → is_too_long self.old.link page.now ≡ true → result ≡ Err GatherFault.PacketTooLong }
         ensures memory { fault_of_page self.old.chain page.now ≡ None → is_too_long self.old.link page.now ≡ false → OnErr result (result ≡ Err GatherFault.Memory) }
@@ -83,8 +81,7 @@ impl Gatherer {
         requires fits { fault_of_page self.old.chain page.now ≡ None }
         requires long { self.old.chain.length_of + page_size page.now < 2 ^ 63 }
         ensures gathered { OnOk result ((more : List CommandOf) × (commands.new.items ≡ commands.old.items ++ more)
-            × ((links : List (List PageValue)) (given : List CommandOf) → HasGathered links self.old given → CanGoOn self.old →
-            HasGathered (links_with links page.now) self.new (given ++ more) × CanGoOn self.new)) }
+            × GathersPage page.now self.old self.new more) }
         ensures grows { OnOk result (self.new.chain.length_of ≡ self.old.chain.length_of + page_size page.now) }
         ensures more { (given : List CommandOf) × (commands.new.items ≡ commands.old.items ++ given) }
     {
@@ -100,11 +97,13 @@ impl Gatherer {
     /// Appends the commands that still wait: at the end of the input, or at its fault. No page is taken any more. After
     /// `Memory`, its one fault, the commands are as they were.
     pub fn end(&mut self, commands: &mut Vec<Command>) -> Result<(), GatherFault>
-        ensures gathered { OnOk result ((more : List CommandOf) × (commands.new.items ≡ commands.old.items ++ more)
-            × ((links : List (List PageValue)) (given : List CommandOf) → HasGathered links self.old given → HasGathered links self.new (given ++ more))) }
+        ensures commands { OnOk result (commands.new.items ≡ commands.old.items ++ begin_if (waits self.old.link) self.old.link) }
+        ensures gathered { OnOk result ((links : List (List PageValue)) (given : List CommandOf) → HasGathered links self.old given →
+            HasGathered links self.new (given ++ begin_if (waits self.old.link) self.old.link)) }
+        ensures pages { OnOk result (self.new.chain ≡ self.old.chain) }
         ensures waits { OnOk result (waits self.new.link ≡ false) }
         ensures memory { OnErr result ((result ≡ Err GatherFault.Memory) × (waits self.old.link ≡ true)) }
-        ensures commands { OnErr result (commands.new.items ≡ commands.old.items) }
+        ensures same { OnErr result (commands.new.items ≡ commands.old.items) }
     {
         let len = commands.len();
         if let Err(_) = self.link.give_waiting(commands) {

@@ -17,11 +17,15 @@ pub returns-clause-gathered : goal.returns-clause-gathered
 returns-clause-gathered c =
     let t = c.in_ok-take_page.ensures.ok in
     let seen : Gathered = record { chain = c.self.inside.chain.chain; link = c.self.inside.link } in
-    let opened : c.is_open-open.result ≡ is_open seen.chain = c.is_open-open.ensures ∙ ap (λ s. is_open (record seen.chain { streams = s })) c.streams.ensures.value in (
+    let opened : c.is_open-open.result ≡ is_open seen.chain = c.is_open-open.ensures ∙ ap (λ s. is_open (record seen.chain { streams = s })) c.streams.ensures.value in
+    let on : TakesOn c.args.page.now (is_open c.args.self.now.chain) c.args.self.now.link c.take_page.new.self t.0 =
+    takes_on c.args.page.now seen c.args.self.now c.is_open-open.result c.take_page.new.self t.0 c.self.view_is opened t.2 in (
       t.0,
       t.1,
-      λ links given h goes_on.
-          takes links c.args.self.now given c.args.page.now c.take_page.new.self c.take_page-2.new.self.chain t.0 c.whole-bytes.ensures.is_page c.requires.fits h goes_on
-          (takes_on c.args.page.now seen c.args.self.now c.is_open-open.result c.take_page.new.self t.0 c.self.view_is opened t.2)
-          (c.in_default.ensures.links links (ap (λ (g : Gathered). g.chain) c.self.view_is ∙ h.chain)),
+      record {
+        takes = on;
+        goes_on = λ links given h goes_on.
+            takes links c.args.self.now given c.args.page.now c.take_page.new.self c.take_page-2.new.self.chain t.0 c.whole-bytes.ensures.is_page c.requires.fits h goes_on on
+            (c.in_default.ensures.links links (ap (λ (g : Gathered). g.chain) c.self.view_is ∙ h.chain));
+      },
     )
