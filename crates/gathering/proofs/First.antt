@@ -1,13 +1,13 @@
 -- A stream's first page.
-use Rattle.std.proofs.Common.{◌≡◌, ℕ, suc, ◌+◌, ◌<◌, ◌≤◌, Bool, true, false, cond, List, [], ◌∷◌, ◌++◌, length, refl, sym, ◌∙◌, ap, subst, arith, append-nil, sum}
-use Rattle.std.specs.Prelude.{nat_eq, nat_lt, not, ◌&&◌, ◌||◌, min}
+use Rattle.std.proofs.Common.{◌≡◌, ℕ, ◌+◌, ◌≤◌, Bool, true, false, cond, List, [], ◌∷◌, ◌++◌, refl, sym, ◌∙◌, ap, subst, arith, append-nil, sum}
+use Rattle.std.specs.Prelude.{nat_eq, not, ◌&&◌, ◌||◌, min}
 use Rattle.std.specs.List.{list_any}
-use Rattle.std.proofs.lemmas.Bool.{eqb-true, ltb-true, eq-eqb}
+use Rattle.std.proofs.lemmas.Bool.{eqb-true, ltb-true}
 use Rattle.std.proofs.lemmas.List.Sums.{sum_by-cons}
 use Rattle.ogg_page.specs.Page.{Page, IsPage}
 use Rattle.ogg_page.specs.Lacing.{lace, lacing_of}
 use Rattle.ogg_page.specs.LogicalStream.{HoldsPackets, is_last, is_continued}
-use Rattle.link_chain.specs.Links.{pages_with, has_ended}
+use Rattle.link_chain.specs.Links.{pages_with}
 use Rattle.link_chain.specs.Recording.{Stream}
 use Rattle.link_chain.specs.Taking.{is_one_packet, is_whole_packet}
 use Rattle.link_chain.specs.Laws.Grow.{with_own, or_false}
@@ -15,7 +15,7 @@ use Rattle.link_chain.specs.Laws.TakenLinks.{more_lacing, one_lacing}
 use Rattle.ogg_feed.specs.Headers.{header_count, is_vorbis, is_theora, is_opus, is_flac, is_speex, flac_headers, speex_headers}
 use Rattle.gathering.specs.Headers.{is_skeleton, wanted_by}
 use Rattle.gathering.specs.Limits.{most_headers}
-use Rattle.gathering.specs.Kept.{KeptStream, entered}
+use Rattle.gathering.specs.Kept.{entered}
 use Rattle.gathering.specs.Gathered.{KeepsUp}
 use Rattle.gathering.proofs.Issued.{stream_of}
 

@@ -1,12 +1,12 @@
 -- The promise, from page to page.
-use Rattle.std.proofs.Common.{◌≡◌, ◌≢◌, ℕ, Bool, true, false, cond, List, [], ◌∷◌, ◌++◌, refl, sym, ◌∙◌, ap, subst, arith, append-nil, inl, inr, None}
-use Rattle.std.specs.Prelude.{nat_eq, not, ◌&&◌, ◌||◌}
-use Rattle.std.specs.List.{AllByRecursion, IsDistinct, list_any}
-use Rattle.std.proofs.lemmas.Bool.{cases_Bool, cond-true, cond-false, false≢true}
+use Rattle.std.proofs.Common.{◌≡◌, ◌≢◌, ℕ, Bool, true, false, List, [], ◌∷◌, ◌++◌, refl, sym, ◌∙◌, ap, subst, arith, append-nil, inl, inr, None}
+use Rattle.std.specs.Prelude.{nat_eq, not, ◌||◌}
+use Rattle.std.specs.List.{list_any}
+use Rattle.std.proofs.lemmas.Bool.{cases_Bool, false≢true}
 use Rattle.std.proofs.lemmas.List.Folds.{list_any-append}
 use Rattle.ogg_page.specs.Page.{Page, IsPage, page_bytes}
 use Rattle.ogg_page.specs.LogicalStream.{is_first}
-use Rattle.link_chain.specs.Links.{AreLinks, with_pages, serials_of, has_stream}
+use Rattle.link_chain.specs.Links.{AreLinks, with_pages, has_stream}
 use Rattle.link_chain.specs.ChainState.{ChainState, chain_state_of, last_link, is_open}
 use Rattle.link_chain.specs.Taking.{fault_of_page, links_with, later_rules, joining_rules, opening_rules, is_whole_packet}
 use Rattle.link_chain.specs.LinkLaws.{one_recording}
@@ -18,10 +18,10 @@ use Rattle.link_chain.specs.Laws.StateBehind.{last_with, data_with, last_is}
 use Rattle.link_chain.specs.Laws.TakenLinks.{page_is_taken}
 use Rattle.chain_rules.specs.Recording.{Recording, HoldsLinks, after}
 use Rattle.ogg_command.specs.declared.command.Command.{Command}
-use Rattle.gathering.specs.Kept.{KeptLink, has_some, has_kept, no_link, waits}
+use Rattle.gathering.specs.Kept.{KeptLink, has_kept, no_link, waits}
 use Rattle.gathering.specs.Giving.{Follows, TakesOn, begun_if, begin_if, with_first}
 use Rattle.gathering.specs.Gathered.{Gathered, HoldsSoFar, HasGathered, CanGoOn, before_last}
-use Rattle.gathering.proofs.Others.{Others, absent_all, has_from}
+use Rattle.gathering.proofs.Others.{absent_all, has_from}
 use Rattle.gathering.proofs.Steps.{before_with, before_new}
 use Rattle.gathering.proofs.Onward.{state, follows_on, joins_on, no_pages_yet, gives_on}
 use Rattle.gathering.proofs.Whole.{closed_where_ended, closed_where_held, whole_held}

@@ -6,7 +6,6 @@ use Rattle.std.proofs.lemmas.Bool.{cases_Bool, cond-true, cond-false}
 use Rattle.std.proofs.lemmas.List.Sums.{fold-append}
 use Rattle.ogg_page.specs.Page.{Page}
 use Rattle.ogg_page.specs.LogicalStream.{is_last}
-use Rattle.ogg_command.specs.declared.command.Command.{Command}
 use Rattle.ogg_command.specs.declared.command.Command.TheVariants.{End as EndOf}
 use Rattle.ogg_command.specs.declared.command.Entry.{Entry}
 use Rattle.chain_rules.specs.Recording.{Stream, Recording, with_packet, with_end, change_last, add, after, begun}

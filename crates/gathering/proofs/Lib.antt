@@ -7,3 +7,4 @@ pub mod Steps
 pub mod Onward
 pub mod Whole
 pub mod Gathering
+pub mod Short

@@ -1,13 +1,13 @@
 -- What the commands hold so far, behind a page more.
-use Rattle.std.proofs.Common.{◌≡◌, ℕ, suc, Bool, true, false, cond, List, [], ◌∷◌, ◌++◌, length, map, drop, refl, sym, ◌∙◌, ap, subst, append-nil, inl, inr, arith, ◌<◌}
+use Rattle.std.proofs.Common.{◌≡◌, ℕ, Bool, true, false, cond, List, [], ◌∷◌, ◌++◌, length, map, drop, refl, sym, ◌∙◌, ap, subst, append-nil, inl, inr, arith, ◌<◌}
 use Rattle.std.specs.Prelude.{nat_eq, not, ◌&&◌, ◌||◌}
-use Rattle.std.specs.List.{AllByRecursion, AllZip, IsDistinct, list_any}
+use Rattle.std.specs.List.{AllByRecursion, AllZip, IsDistinct}
 use Rattle.std.proofs.lemmas.Bool.{cases_Bool, ne_eqb, false≢true}
-use Rattle.std.proofs.lemmas.List.{length-map, map-append}
+use Rattle.std.proofs.lemmas.List.{map-append}
 use Rattle.std.proofs.lemmas.List.Sums.{fold-append}
 use Rattle.ogg_page.specs.Page.{Page, IsPage}
 use Rattle.ogg_page.specs.LogicalStream.{is_first, is_last}
-use Rattle.link_chain.specs.Links.{pages_with, serials_of, has_ended}
+use Rattle.link_chain.specs.Links.{pages_with, serials_of}
 use Rattle.link_chain.specs.ChainState.{ChainState}
 use Rattle.link_chain.specs.Taking.{is_whole_packet}
 use Rattle.link_chain.specs.Laws.PageState.{one_serial, serials_both}
@@ -17,7 +17,7 @@ use Rattle.ogg_command.specs.declared.command.Command.{Command}
 use Rattle.ogg_feed.specs.Commands.{entry_of, put_of, end_of}
 use Rattle.gathering.specs.Headers.{lacking}
 use Rattle.gathering.specs.Kept.{KeptStream, KeptLink, TakenBy, has_some, is_ready, waits, no_link, entered, ends_by}
-use Rattle.gathering.specs.Giving.{Follows, PassesOn, bare, begun_link, begun_if, begin_if, begins_now, link_begin, marked, page_end, with_first}
+use Rattle.gathering.specs.Giving.{Follows, bare, begun_link, begun_if, begin_if, begins_now, link_begin, marked, page_end, with_first}
 use Rattle.gathering.specs.Gathered.{Gathered, KeepsUp, AreWanted, Waits, HoldsSoFar, held_back}
 use Rattle.gathering.proofs.Others.{serials, Others, apart, zip_push, zip_weaker, zip_all, map_each, map_twice}
 use Rattle.gathering.proofs.Issued.{stream_of, grows, begun_as, after_page, after_begin}

@@ -1,9 +1,9 @@
 -- What the pages of a link hold, with a page more.
-use Rattle.std.proofs.Common.{◌≡◌, ℕ, zero, suc, ◌*◌, ◌<◌, Bool, true, false, cond, List, [], ◌∷◌, ◌++◌, length, map, replicate, refl, sym, ◌∙◌, ap, subst, arith, append_assoc, append-nil, inl, inr}
+use Rattle.std.proofs.Common.{◌≡◌, ℕ, zero, suc, Bool, true, false, List, [], ◌∷◌, ◌++◌, length, replicate, refl, sym, ◌∙◌, ap, subst, arith, append_assoc, append-nil}
 use Rattle.std.specs.Prelude.{nat_eq, ◌||◌}
-use Rattle.std.specs.List.{AllByRecursion, AllZip, flat_map, concat, list_any}
+use Rattle.std.specs.List.{flat_map, concat, list_any}
 use Rattle.std.proofs.lemmas.List.Concat.{flat_map-append}
-use Rattle.std.proofs.lemmas.Bool.{ne_eqb, eqb-true, eqb-false, eq-eqb, cases_eq, false≢true}
+use Rattle.std.proofs.lemmas.Bool.{eqb-false, eq-eqb, false≢true}
 use Rattle.ogg_page.specs.Page.{Page}
 use Rattle.ogg_page.specs.Lacing.{lace, ends_open}
 use Rattle.ogg_page.specs.LogicalStream.{HoldsPackets, joined_lacing, joined_bodies, is_last}

@@ -1,34 +1,21 @@
 -- The commands given so far, with a page more.
-use Rattle.std.proofs.Common.{◌≡◌, ◌≢◌, ℕ, zero, suc, ◌+◌, ◌-◌, ◌<◌, ◌≤◌, Bool, true, false, cond, List, [], ◌∷◌, ◌++◌, length, map, take, drop, refl, sym, ◌∙◌, ap, subst, arith, append_assoc, append-nil, inl, inr, None, length-append, take-append-drop, fold}
-use Rattle.std.specs.Prelude.{nat_eq, nat_lt, not, ◌&&◌, ◌||◌}
-use Rattle.std.specs.List.{AllByRecursion, AllZip, IsDistinct, list_any}
-use Rattle.std.proofs.lemmas.Bool.{ne_eqb, eqb-true, eqb-false, eq-eqb, cases_Bool, cond-true, cond-false, false≢true}
-use Rattle.std.proofs.lemmas.List.{length-map, map-append}
+use Rattle.std.proofs.Common.{◌≡◌, ◌≢◌, ℕ, zero, suc, ◌≤◌, Bool, true, false, cond, List, [], ◌∷◌, ◌++◌, length, map, take, drop, refl, sym, ◌∙◌, ap, subst, arith, append_assoc, append-nil, inl, inr, length-append, take-append-drop}
+use Rattle.std.specs.Prelude.{nat_eq, ◌||◌}
+use Rattle.std.specs.List.{AllByRecursion, AllZip, list_any}
+use Rattle.std.proofs.lemmas.Bool.{ne_eqb, eqb-true, eqb-false, eq-eqb, cases_Bool}
 use Rattle.std.proofs.lemmas.List.Folds.{list_any-append}
-use Rattle.std.proofs.lemmas.List.Sums.{fold-append}
-use Rattle.ogg_page.specs.Page.{Page, IsPage, page_bytes}
-use Rattle.ogg_page.specs.LogicalStream.{is_first, is_last}
-use Rattle.link_chain.specs.Links.{IsLink, AreLinks, pages_with, with_pages, serials_of, has_stream, has_ended}
-use Rattle.link_chain.specs.ChainState.{ChainState, chain_state_of, last_link, is_open}
-use Rattle.link_chain.specs.Taking.{fault_of_page, links_with, later_rules, joining_rules, opening_rules, is_whole_packet}
-use Rattle.link_chain.specs.Laws.Rules.{NoneBroken}
-use Rattle.link_chain.specs.Laws.PageRules.{later_kept, joining_kept, opening_kept}
-use Rattle.link_chain.specs.Laws.PageState.{begins_here, goes_on_open, goes_on_later, not_zero, one_serial, serials_both, absent, no_pages}
-use Rattle.link_chain.specs.Laws.LastLink.{known_stream, last_is_link, not_false, open_some, any_map}
-use Rattle.link_chain.specs.Laws.StateBehind.{last_with, data_with, last_is}
-use Rattle.link_chain.specs.Laws.Grow.{serials_same, ended_both, or_false, all_both}
-use Rattle.link_chain.specs.Laws.TakenLinks.{page_is_taken}
-use Rattle.chain_rules.specs.Recording.{Stream, Recording, HoldsLinks, add, after}
-use Rattle.ogg_command.specs.declared.command.Command.{Command}
-use Rattle.ogg_feed.specs.Commands.{entry_of, put_of, end_of}
-use Rattle.gathering.specs.Headers.{wanted, wanted_by, lacking}
-use Rattle.gathering.specs.Kept.{KeptStream, KeptLink, TakesPage, TakenBy, has_some, has_kept, is_ready, waits, no_link, entered, ends_by, room_of}
-use Rattle.gathering.specs.Giving.{Follows, PassesOn, bare, begun_link, begun_if, begin_if, begins_now, link_begin, marked, page_end, with_first}
-use Rattle.gathering.specs.Gathered.{Gathered, KeepsUp, AreWanted, Waits, HasGathered, CanGoOn, before_last, held_back}
-use Rattle.gathering.proofs.Others.{serials, Others, apart, absent_all, has_from, map_step, all_step, zip_step, zip_push, zip_weaker, zip_all, map_each, map_twice}
-use Rattle.gathering.proofs.Issued.{stream_of, grown, grows, grows_own, grows_other, begun_as, after_page, after_begin}
-use Rattle.gathering.proofs.Pages.{keeps_other, keeps_grown, keeps_beside, keeps_bare}
-use Rattle.gathering.proofs.First.{keeps_first, begun_by, one_wanted}
+use Rattle.ogg_page.specs.Page.{Page}
+use Rattle.ogg_page.specs.LogicalStream.{is_last}
+use Rattle.link_chain.specs.Links.{with_pages, has_ended}
+use Rattle.link_chain.specs.ChainState.{last_link}
+use Rattle.link_chain.specs.Laws.Grow.{ended_both, or_false}
+use Rattle.chain_rules.specs.Recording.{Stream}
+use Rattle.gathering.specs.Headers.{lacking}
+use Rattle.gathering.specs.Kept.{KeptStream, KeptLink, TakenBy, ends_by, room_of}
+use Rattle.gathering.specs.Gathered.{KeepsUp, AreWanted, before_last, held_back}
+use Rattle.gathering.proofs.Others.{serials, Others, map_step, all_step, zip_step, zip_all, map_twice}
+use Rattle.gathering.proofs.Issued.{stream_of, grows, grows_own, grows_other, begun_as}
+use Rattle.gathering.proofs.Pages.{keeps_grown, keeps_beside}
 
 -- ---- the last link
 pub before_with : (links : List (List Page)) (pages : List Page) → before_last (with_pages links pages) ≡ before_last links

@@ -1,6 +1,6 @@
 -- Where nothing waits and no packet is unfinished, the commands hold all links.
 use Rattle.std.proofs.Common.{◌≡◌, ◌≢◌, ℕ, ◌<◌, Bool, true, false, cond, List, [], ◌∷◌, ◌++◌, length, map, refl, sym, ◌∙◌, ap, subst, arith, append_assoc, append-nil, inl, inr}
-use Rattle.std.specs.Prelude.{nat_eq, not, ◌&&◌, ◌||◌, IsTrue}
+use Rattle.std.specs.Prelude.{not, ◌&&◌, ◌||◌, IsTrue}
 use Rattle.std.specs.List.{AllByRecursion, AllZip, list_any, filter}
 use Rattle.std.proofs.lemmas.Bool.{cases_Bool, cond-true, false≢true}
 use Rattle.std.proofs.lemmas.List.Folds.{list_any-append}

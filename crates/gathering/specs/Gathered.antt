@@ -1,5 +1,5 @@
 -- What the commands given so far have to do with the pages taken so far. Ours.
-use Rattle.std.specs.Prelude.{◌≡◌, ℕ, ◌+◌, ◌≤◌, ◌<◌, Bool, true, false, not, ◌&&◌, nat_eq, nat_lt, if◌then◌else◌, List, [], ◌∷◌, ◌++◌, length, map}
+use Rattle.std.specs.Prelude.{◌≡◌, ℕ, ◌≤◌, ◌<◌, true, false, nat_eq, if◌then◌else◌, List, [], ◌∷◌, ◌++◌, length, map}
 use Rattle.std.specs.List.{AllByRecursion, AllZip, list_any}
 use Rattle.ogg_page.specs.Page.{Page}
 use Rattle.ogg_page.specs.LogicalStream.{HoldsPackets}
@@ -46,8 +46,8 @@ before_last [] = []
 before_last (link ∷ []) = []
 before_last (link ∷ next ∷ links) = link ∷ before_last (next ∷ links)
 
--- The commands given so far hold `done`, which the links before the last one hold, and then `held`, the whole packets of
--- the last one so far, whose pages these are. A link that waits isn't among them: it is kept.
+-- The commands given so far hold `done`, which the links before the last one hold, and then `held`, the whole packets
+-- of the last one so far, whose pages these are. A link that waits isn't among them: it is kept.
 pub record HoldsSoFar (front : List (List Page)) (pages : List Page) (gathered : Gathered) (given : List Command) : Type 0 where
   pub done : Recording
   pub before : HoldsLinks front done
@@ -69,7 +69,9 @@ pub record HasGathered (links : List (List Page)) (gathered : Gathered) (given :
 abbrev pub CanGoOn : Gathered → Type 0
 CanGoOn gathered = gathered.link.begun ≡ true → gathered.chain.has_data ≡ true
 
--- These commands come of the page: they are those that it completes, and with them the promise holds of the links with the page.
+-- These commands come of the page: they are those that it completes, and with them the promise holds of the links with
+-- the page.
 pub record GathersPage (page : Page) (old new : Gathered) (more : List Command) : Type 0 where
   pub takes : TakesOn page (is_open old.chain) old.link new.link more
-  pub goes_on : (links : List (List Page)) (given : List Command) → HasGathered links old given → CanGoOn old → HasGathered (links_with links page) new (given ++ more) × CanGoOn new
+  pub goes_on : (links : List (List Page)) (given : List Command) → HasGathered links old given → CanGoOn old
+      → HasGathered (links_with links page) new (given ++ more) × CanGoOn new

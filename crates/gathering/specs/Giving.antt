@@ -55,7 +55,8 @@ begins_now link later = not link.begun && (has_some later || is_ready link.strea
 pub record PassesOn (page : Page) (link new : KeptLink) (later : List (List ℕ)) (given : List Command) : Type 0 where
   pub stays : new ≡ marked page (begun_if (begins_now link later) link)
   pub commands : given
-      ≡ begin_if (begins_now link later) link ++ (put_of (map (entry_of page) later) ++ page_end page (begun_if (begins_now link later) link))
+      ≡ begin_if (begins_now link later) link
+      ++ (put_of (map (entry_of page) later) ++ page_end page (begun_if (begins_now link later) link))
 
 pub record Follows (page : Page) (old new : KeptLink) (given : List Command) : Type 0 where
   pub streams : List KeptStream

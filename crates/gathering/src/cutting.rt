@@ -75,7 +75,7 @@ fn first_size_of(lacing: &[u8]) -> usize
     let mut size = 0;
     for value in lacing {
         size += usize::from(*value);
-        if *value < 255 {
+        if *value < u8::MAX {
             break;
         }
     }

@@ -44,9 +44,9 @@ impl Gatherer {
         }
     }
 
-    /// Takes the next page. The commands that it completes are appended. `Chain` says that it may not follow,
-    /// `PacketTooLong` that a packet is too long with it; after these nothing has changed. After `Memory` the commands are
-    /// as they were, but what is kept of the streams may be lost, so no page may be taken any more.
+    /// Takes the next page, and appends the commands that it completes. `Chain` says that the page may not follow,
+    /// `PacketTooLong` that a packet is too long with it; after these nothing has changed. After `Memory` the commands
+    /// and the chain are as they were, but what is kept of the streams may be lost: take no page any more.
     pub fn take_page(
         &mut self,
         page: &Page<'_>,
@@ -55,12 +55,16 @@ impl Gatherer {
         requires { self.old.chain.length_of + page_size page.now < 2 ^ 63 }
         ensures gathered { OnOk result ((more : List CommandOf) × (commands.new.items ≡ commands.old.items ++ more)
             × GathersPage page.now self.old self.new more) }
-        ensures chain { (fault : ChainFaultOf) → fault_of_page self.old.chain page.now ≡ Some fault → result ≡ Err (GatherFault.Chain fault) }
-        ensures long { fault_of_page self.old.chain page.now ≡ None → is_too_long self.old.link page.now ≡ true → result ≡ Err GatherFault.PacketTooLong }
-        ensures memory { fault_of_page self.old.chain page.now ≡ None → is_too_long self.old.link page.now ≡ false → OnErr result (result ≡ Err GatherFault.Memory) }
+        ensures chain { (fault : ChainFaultOf) → fault_of_page self.old.chain page.now ≡ Some fault
+            → result ≡ Err (GatherFault.Chain fault) }
+        ensures long { fault_of_page self.old.chain page.now ≡ None → is_too_long self.old.link page.now ≡ true
+            → result ≡ Err GatherFault.PacketTooLong }
+        ensures memory { fault_of_page self.old.chain page.now ≡ None → is_too_long self.old.link page.now ≡ false
+            → OnErr result (result ≡ Err GatherFault.Memory) }
         ensures grows { OnOk result (self.new.chain.length_of ≡ self.old.chain.length_of + page_size page.now) }
         ensures same { OnErr result (result ≢ Err GatherFault.Memory → self.new ≡ self.old) }
         ensures commands { OnErr result (commands.new.items ≡ commands.old.items) }
+        ensures pages { OnErr result (self.new.chain ≡ self.old.chain) }
     {
         if let Some(fault) = self.chain.fault_of(page) {
             return Err(GatherFault::Chain(fault));
@@ -84,6 +88,7 @@ impl Gatherer {
             × GathersPage page.now self.old self.new more) }
         ensures grows { OnOk result (self.new.chain.length_of ≡ self.old.chain.length_of + page_size page.now) }
         ensures more { (given : List CommandOf) × (commands.new.items ≡ commands.old.items ++ given) }
+        ensures pages { OnErr result (self.new.chain ≡ self.old.chain) }
     {
         let _bytes = page.whole();
         let open = is_open(self.chain.streams());

@@ -45,7 +45,8 @@ pub fn push_begin(
     streams: &mut [Kept],
     commands: &mut Vec<Command>,
 ) -> Result<(), Memory>
-    ensures ok { OnOk result (commands.new.items ≡ commands.old.items ++ CommandOf.Begin (record { skeleton = None; streams = map new_stream streams.old }) ∷ []) }
+    ensures ok { OnOk result (commands.new.items
+        ≡ commands.old.items ++ CommandOf.Begin (record { skeleton = None; streams = map new_stream streams.old }) ∷ []) }
     ensures bare { OnOk result (streams.new ≡ map bare streams.old) }
     ensures same { OnErr result (commands.new.items ≡ commands.old.items) }
 {

@@ -30,8 +30,8 @@ pub fn wanted(headers: &[Listed<u8>]) -> usize
     }
 }
 
-/// Appends packets to the headers, as many as are lacking, and gives back the others. After `Memory` some of the packets
-/// are lost.
+/// Appends packets to the headers, as many as are lacking, and gives back the others. After `Memory` some of the
+/// packets are lost.
 pub fn keep_headers(
     alloc: Global,
     headers: &mut Vec<Listed<u8>>,

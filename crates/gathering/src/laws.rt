@@ -1,9 +1,12 @@
 //! What always holds of the commands that pages are gathered into.
-ghost use Rattle.std.specs.Prelude.{◌≡◌, [], ℕ, false, List};
-ghost use Rattle.ogg_page.specs.Page.{Page};
+ghost use Rattle.std.specs.Prelude.{◌≡◌, ◌≤◌, ◌+◌, ◌*◌, ◌++◌, ◌∷◌, [], ℕ, false, List, length};
+ghost use Rattle.std.specs.List.{AllByRecursion};
+ghost use Rattle.ogg_page.specs.Page.{Page, IsPage};
 ghost use Rattle.link_chain.specs.Links.{AreLinks};
 ghost use Rattle.chain_rules.specs.Recording.{Recording, HoldsLinks, after};
 ghost use Rattle.ogg_command.specs.declared.command.Command.{Command};
+ghost use Rattle.gathering.specs.Limits.{longest_packet};
+ghost use Rattle.gathering.specs.Cutting.{EndIn, first_size};
 ghost use Rattle.gathering.specs.Kept.{waits};
 ghost use Rattle.gathering.specs.Gathered.{Gathered, HasGathered};
 
@@ -12,4 +15,13 @@ pub fn gathered_commands_hold_the_recording()
     ensures { (bytes : List ℕ) (links : List (List Page)) (gathered : Gathered) (given : List Command) (recording : Recording)
         → AreLinks bytes links → HasGathered links gathered given → waits gathered.link ≡ false → HoldsLinks links recording →
         after [] given ≡ recording }
+{}
+
+/// With a page that isn't too long no packet is longer than the longest that there may be: neither one that ends in the
+/// page, nor the one that goes on after it.
+pub fn packets_are_short()
+    ensures { (rest : List ℕ) (segments : ℕ) (page : Page) (packets : List (List ℕ)) (left : List ℕ)
+        → IsPage page → length rest ≡ 255 * segments → EndIn rest page packets left
+        → length rest + first_size page.lacing ≤ longest_packet →
+        AllByRecursion (λ packet. length packet ≤ longest_packet) (packets ++ left ∷ []) }
 {}

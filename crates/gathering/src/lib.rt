@@ -20,4 +20,4 @@ mod streams;
 
 pub use fault::GatherFault;
 pub use gatherer::Gatherer;
-pub use laws::gathered_commands_hold_the_recording;
+pub use laws::{gathered_commands_hold_the_recording, packets_are_short};

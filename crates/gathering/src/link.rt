@@ -98,15 +98,16 @@ impl LastLink {
         push_serial(page, &mut self.ends)
     }
 
-    /// Takes a page, where the last link is open or not, and appends the commands that it completes. After `Memory` what is kept
-    /// may be lost, and some of the commands may stand there.
+    /// Takes a page, if the last link is open or not, and appends the commands that it completes. After `Memory` what
+    /// is kept may be lost, and some of the commands may stand there.
     pub fn take_page(
         &mut self,
         page: &Page<'_>,
         is_open: bool,
         commands: &mut Vec<Command>,
     ) -> Result<(), Memory>
-        ensures ok { OnOk result ((given : List CommandOf) × (commands.new.items ≡ commands.old.items ++ given) × TakesOn page.now is_open self.old self.new given) }
+        ensures ok { OnOk result ((given : List CommandOf) × (commands.new.items ≡ commands.old.items ++ given)
+            × TakesOn page.now is_open self.old self.new given) }
         ensures more { (given : List CommandOf) × (commands.new.items ≡ commands.old.items ++ given) }
     {
         if !page.is_first() {
@@ -139,7 +140,8 @@ impl LastLink {
         later: Vec<Listed<u8>>,
         commands: &mut Vec<Command>,
     ) -> Result<(), Memory>
-        ensures ok { OnOk result ((given : List CommandOf) × (commands.new.items ≡ commands.old.items ++ given) × PassesOn page.now self.old self.new later.items given) }
+        ensures ok { OnOk result ((given : List CommandOf) × (commands.new.items ≡ commands.old.items ++ given)
+            × PassesOn page.now self.old self.new later.items given) }
         ensures more { (given : List CommandOf) × (commands.new.items ≡ commands.old.items ++ given) }
     {
         if !self.begun && (!later.is_empty() || is_ready(self.streams.as_slice())) {

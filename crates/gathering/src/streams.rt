@@ -36,7 +36,8 @@ pub fn take_page(
     page: &Page<'_>,
     begun: bool,
 ) -> Result<Vec<Listed<u8>>, Memory>
-    ensures { IfOk result (λ later. has_kept page.now.serial streams.old ≡ true → TakenBy begun page.now streams.old streams.new later.items) }
+    ensures { IfOk result (λ later. has_kept page.now.serial streams.old ≡ true
+        → TakenBy begun page.now streams.old streams.new later.items) }
 {
     match place_of(streams, page.serial()) {
         Some(place) => {

@@ -1,6 +1,5 @@
-use Rattle.std.proofs.Common.{◌≡◌, ◌<◌, ◌≤◌, ◌+◌, ◌*◌, ◌++◌, [], ◌∷◌, ℕ, List, length, take, drop, get_or, sym, ◌∙◌, ap, subst, arith, refl, sum, take-append-drop, take_all, Vec, Global, Bor}
+use Rattle.std.proofs.Common.{◌≡◌, ◌+◌, ◌++◌, [], ◌∷◌, ℕ, List, length, take, drop, get_or, sym, ◌∙◌, ap, subst, arith, refl, sum, take-append-drop, take_all, Vec, Global, Bor}
 use Rattle.std.proofs.lemmas.List.{take_more}
-use Rattle.gathering.specs.Cutting.{CutsInto}
 use Rattle.gathering.proofs.Cuts.{CutSoFar, cut_same, cut_full, cut_end, cut_all, whole_on, nothing_left}
 use Rattle.gathering.proofs.cutting.cut.Goals as goal
 use Rattle.gathering.proofs.cutting.cut.Goals.{then-value-lt255+in_ok-end_packet, else-value-lt255}

@@ -1,5 +1,5 @@
-use Rattle.std.proofs.Common.{◌≡◌, ◌<◌, ◌≤◌, ◌+◌, ◌++◌, ◌∷◌, [], ℕ, suc, List, Bool, true, false, cond, length, take, drop, get_or, Option, Some, None, refl, sym, ◌∙◌, ap, arith, inl, inr, take-append-drop, drop-cons}
-use Rattle.std.specs.Prelude.{nat_eq, nat_lt, slice_set, slice_get, ◌||◌}
+use Rattle.std.proofs.Common.{◌≡◌, ◌++◌, ◌∷◌, [], ℕ, suc, List, Bool, true, false, cond, length, take, drop, get_or, Option, Some, None, sym, ◌∙◌, ap, inl, inr, take-append-drop, drop-cons}
+use Rattle.std.specs.Prelude.{nat_eq, nat_lt, slice_set, ◌||◌}
 use Rattle.std.specs.List.{list_any, position, position_or_len, find}
 use Rattle.std.proofs.lemmas.Bool.{cases_Bool, cond-true, eqb-true, ltb-false}
 use Rattle.std.proofs.lemmas.Option.{slice_get_past}
@@ -7,7 +7,7 @@ use Rattle.std.proofs.lemmas.List.{set_split}
 use Rattle.std.proofs.lemmas.List.Folds.{find_at}
 use Rattle.std.proofs.lemmas.List.Quantifiers.{position-Some}
 use Rattle.ogg_page.specs.Page.{Page}
-use Rattle.gathering.specs.Kept.{KeptStream, TakesPage, TakenBy, has_kept}
+use Rattle.gathering.specs.Kept.{KeptStream, TakesPage, TakenBy}
 use Rattle.gathering.proofs.streams.take_page.Goals as goal
 
 abbrev has : ℕ → KeptStream → Bool

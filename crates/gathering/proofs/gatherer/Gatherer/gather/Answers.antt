@@ -1,6 +1,6 @@
-use Rattle.std.proofs.Common.{◌≡◌, List, Bool, ◌++◌, sym, ◌∙◌, ap, subst}
+use Rattle.std.proofs.Common.{◌≡◌, List, Bool, ◌∙◌, ap, subst}
 use Rattle.ogg_page.specs.Page.{Page}
-use Rattle.link_chain.specs.ChainState.{ChainState, is_open}
+use Rattle.link_chain.specs.ChainState.{is_open}
 use Rattle.ogg_command.specs.declared.command.Command.{Command}
 use Rattle.gathering.specs.Kept.{KeptLink}
 use Rattle.gathering.specs.Giving.{TakesOn}

@@ -1,4 +1,4 @@
-use Rattle.std.proofs.Common.{◌≡◌, ◌++◌, ◌+◌, ℕ, List, Bool, true, length, drop, take, sym, ◌∙◌, ap, subst, vec_len}
+use Rattle.std.proofs.Common.{◌≡◌, ◌++◌, ℕ, List, Bool, true, length, drop, take, sym, ◌∙◌, ap, subst, vec_len}
 use Rattle.std.proofs.Math.Seq.{take-append_seam}
 use Rattle.ogg_page.specs.Page.{Page}
 use Rattle.ogg_command.specs.declared.command.Command.{Command}

@@ -1,4 +1,4 @@
-use Rattle.std.proofs.Common.{◌≡◌, true, false, ◌++◌, List, sym, ◌∙◌}
+use Rattle.std.proofs.Common.{◌≡◌, false, sym, ◌∙◌}
 use Rattle.std.proofs.lemmas.Bool.{false≢true}
 use Rattle.ogg_page.specs.LogicalStream.{is_first}
 use Rattle.gathering.proofs.link.LastLink.take_page.Goals as goal
