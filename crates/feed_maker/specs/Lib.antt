@@ -1,0 +1,4 @@
+pub mod Feed
+pub mod Making
+pub mod MakingFault
+pub mod Turn

@@ -1,0 +1,111 @@
+-- What was written of what was read. Ours.
+use Rattle.std.specs.Prelude.{◌≡◌, ℕ, ◌+◌, ◌-◌, ◌^◌, ◌≤◌, ◌<◌, min, true, false, Option, Some, None, Result, Ok, Err, List, [], ◌++◌, length, ⊤}
+use Rattle.std.specs.List.{AllByRecursion}
+use Rattle.std.specs.Io.KnownBytes.{Appends, Consumes, IsAtEnd}
+use Rattle.ogg_page.specs.Output.{WritesPrefix}
+use Rattle.ogg_page.specs.Page.{Page as PageValue, IsPage, page_bytes, page_size}
+use Rattle.page_reader.specs.Reader.{IsFaultOf}
+use Rattle.link_chain.specs.Links.{AreLinks, flattened}
+use Rattle.link_chain.specs.ChainState.{chain_state_of}
+use Rattle.link_chain.specs.Taking.{fault_of_page, unfinished_stream}
+use Rattle.chain_rules.specs.Recording.{Recording, HoldsLinks, after}
+use Rattle.ogg_command.specs.declared.command.Command.{Command}
+use Rattle.gathering.specs.Kept.{is_too_long, waits}
+use Rattle.gathering.specs.Gathered.{Gathered, HasGathered}
+use Rattle.feed_maker.specs.Feed.{Fits, feed_of}
+use Rattle.feed_maker.specs.declared.made.Made.{Made}
+use Rattle.feed_maker.specs.declared.fault.MakingFault.{MakingFault}
+use Rattle.feed_maker.specs.declared.fault.MakingFault.TheVariants.{Page, Chain, PacketTooLong, Unfinished, TooLong, Read, Limit, Write, Memory}
+
+-- Of the input these links were taken, which end at this offset, and then bytes of no page of them were read.
+pub record HasTaken (from left : Option (List ℕ)) (links : List (List PageValue)) (offset : ℕ) (rest : List ℕ) : Type 0 where
+  pub bytes : List ℕ
+  pub are : AreLinks bytes links
+  pub consumed : Consumes from left (bytes ++ rest)
+  pub offset_is : offset ≡ length bytes
+
+-- These commands are those of the links, as far as they are given, and the announcement and their records are written.
+pub record HasGiven (before now : Option (List ℕ)) (links : List (List PageValue)) (gathered : Gathered) (given : List Command) : Type 0 where
+  pub gathers : HasGathered links gathered given
+  pub fits : AllByRecursion Fits given
+  pub written : Appends before now (feed_of given)
+
+-- nothing waits: all whole packets of the links are written
+pub record HasGivenAll (before now : Option (List ℕ)) (links : List (List PageValue)) : Type 0 where
+  pub gathered : Gathered
+  pub given : List Command
+  pub all : HasGiven before now links gathered given
+  pub none_waits : waits gathered.link ≡ false
+
+-- the commands, where one was too long for a record, the writer failed or memory was refused: their feed was written in part
+pub record HasBroken (before now : Option (List ℕ)) (links : List (List PageValue)) : Type 0 where
+  pub gathered : Gathered
+  pub given : List Command
+  pub gathers : HasGathered links gathered given
+  pub written : WritesPrefix before now (feed_of given)
+
+-- the input ended, and this is what was made of it: links with no packet unfinished, of which all is written
+pub record MakesFeed (from left before now : Option (List ℕ)) (made : Made) : Type 0 where
+  pub links : List (List PageValue)
+  pub offset : ℕ
+  pub taken : HasTaken from left links offset []
+  pub at_end : IsAtEnd left
+  pub whole : unfinished_stream (chain_state_of links) ≡ None
+  pub given : List Command
+  pub fits : AllByRecursion Fits given
+  pub written : Appends before now (feed_of given)
+  -- the commands add up to what the links hold
+  pub held : (recording : Recording) → HoldsLinks links recording → after [] given ≡ recording
+  pub pages : made.pages ≡ length (flattened links)
+  pub counted : made.commands ≡ min (length given) (2 ^ 64 - 1)
+
+-- this page stands at the front of what follows
+pub record BeginsWith (rest : List ℕ) (page : PageValue) : Type 0 where
+  pub is_page : IsPage page
+  pub more : List ℕ
+  pub joined : rest ≡ page_bytes page ++ more
+
+-- With this page a packet is longer than a packet may be.
+pub record IsPacketTooLong (links : List (List PageValue)) (page : PageValue) : Type 0 where
+  pub follows : fault_of_page (chain_state_of links) page ≡ None
+  pub gathered : Gathered
+  pub given : List Command
+  pub gathers : HasGathered links gathered given
+  pub long : is_too_long gathered.link page ≡ true
+
+-- why no further page is taken behind these links, of the input
+abbrev pub IsFaultOfInput : MakingFault → List (List PageValue) → ℕ → List ℕ → Option (List ℕ) → Type 0
+IsFaultOfInput (Page at fault) links offset rest left = (at ≡ offset) × IsFaultOf rest left fault
+IsFaultOfInput (Chain at fault) links offset rest left =
+    (at ≡ offset) × (page : PageValue) × BeginsWith rest page × (fault_of_page (chain_state_of links) page ≡ Some fault)
+IsFaultOfInput (PacketTooLong at) links offset rest left = (at ≡ offset) × (page : PageValue) × BeginsWith rest page × IsPacketTooLong links page
+IsFaultOfInput (Unfinished at serial) links offset rest left =
+    (at ≡ offset) × (rest ≡ []) × IsAtEnd left × (unfinished_stream (chain_state_of links) ≡ Some serial)
+IsFaultOfInput (TooLong at) links offset rest left = (at ≡ offset) × (page : PageValue) × BeginsWith rest page × (2 ^ 63 ≤ offset + page_size page)
+IsFaultOfInput (Read at) links offset rest left = at ≡ offset
+IsFaultOfInput Limit links offset rest left = ⊥
+IsFaultOfInput Write links offset rest left = ⊥
+IsFaultOfInput Memory links offset rest left = ⊥
+
+-- where the input has a fault, all that was taken before it is written
+pub record StopsAtFault (from left before now : Option (List ℕ)) (fault : MakingFault) : Type 0 where
+  pub links : List (List PageValue)
+  pub offset : ℕ
+  pub rest : List ℕ
+  pub taken : HasTaken from left links offset rest
+  pub fault_is : IsFaultOfInput fault links offset rest left
+  pub all : HasGivenAll before now links
+
+pub record Breaks (from left before now : Option (List ℕ)) : Type 0 where
+  pub links : List (List PageValue)
+  pub offset : ℕ
+  pub rest : List ℕ
+  pub taken : HasTaken from left links offset rest
+  pub broken : HasBroken before now links
+
+-- why a feed ended before its input did, and what was written
+abbrev pub Stops : MakingFault → Option (List ℕ) → Option (List ℕ) → Option (List ℕ) → Option (List ℕ) → Type 0
+Stops Limit from left before now = Breaks from left before now
+Stops Write from left before now = Breaks from left before now
+Stops Memory from left before now = Breaks from left before now
+Stops fault from left before now = StopsAtFault from left before now fault

@@ -1,0 +1,20 @@
+//! The feed of an Ogg bitstream that is read once, as an encoder's that comes through a pipe.
+//!
+//! `make_feed` reads pages, gathers them into commands, and writes these as the records of a feed of version 2. What a page
+//! completes is written before the next read, and before a fault is reported.
+//!
+//! Start at `specs/Making.antt`, which says what was written of what was read.
+#![tactic(auto)]
+
+mod fault;
+mod fits;
+mod giving;
+mod made;
+mod maker;
+mod making;
+
+pub use fault::MakingFault;
+pub use fits::fits_record;
+pub use made::Made;
+pub use making::make_feed;
+pub use ogg_page::Memory;

@@ -1,0 +1,10 @@
+//! What a feed was made of.
+
+/// What a feed was made of.
+#[derive(Clone, Copy, Debug, PartialEq, Eq)]
+pub struct Made {
+    /// The pages that were taken.
+    pub pages: u64,
+    /// The commands that were written. Beyond the largest `u64` the count stays there.
+    pub commands: u64,
+}
