@@ -99,8 +99,8 @@ impl Gatherer {
         Ok(())
     }
 
-    /// Appends the commands that still wait: at the end of the input, or at its fault. No page is taken any more. After
-    /// `Memory`, its one fault, the commands are as they were.
+    /// Appends the commands that still wait: at the end of the input, or at its fault. Take no page any more. After
+    /// `Memory`, its one fault, the commands are as they were, but what waited may be lost.
     pub fn end(&mut self, commands: &mut Vec<Command>) -> Result<(), GatherFault>
         ensures commands { OnOk result (commands.new.items ≡ commands.old.items ++ begin_if (waits self.old.link) self.old.link) }
         ensures gathered { OnOk result ((links : List (List PageValue)) (given : List CommandOf) → HasGathered links self.old given →

@@ -98,8 +98,8 @@ impl LastLink {
         push_serial(page, &mut self.ends)
     }
 
-    /// Takes a page, if the last link is open or not, and appends the commands that it completes. After `Memory` what
-    /// is kept may be lost, and some of the commands may stand there.
+    /// Takes a page, and appends the commands that it completes; `is_open` says whether the last link is open. After
+    /// `Memory` what is kept may be lost, and some of the commands may stand there.
     pub fn take_page(
         &mut self,
         page: &Page<'_>,
