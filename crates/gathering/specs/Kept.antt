@@ -82,7 +82,7 @@ kept_bytes streams = sum_by (λ (stream : KeptStream). sum_by length stream.head
 abbrev pub is_ready : List KeptStream → Bool
 is_ready streams = not (list_any is_waiting streams) || nat_lt most_kept (kept_bytes streams)
 
--- A first page has one packet, which lies whole in it. Another may continue a packet of its stream, up to the longest that
--- there may be.
+-- A first page has one packet, which lies whole in it. Another may continue a packet of its stream, up to the longest
+-- that there may be.
 abbrev pub is_too_long : KeptLink → Page → Bool
 is_too_long link page = not (is_first page) && nat_lt longest_packet (length (rest_of page.serial link.streams) + first_size page.lacing)
