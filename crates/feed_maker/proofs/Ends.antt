@@ -13,13 +13,13 @@ use Rattle.ogg_command.specs.declared.command.Command.{Command}
 use Rattle.gathering.specs.Kept.{waits}
 use Rattle.gathering.specs.Gathered.{CanGoOn, Gathered, HasGathered}
 use Rattle.feed_codec.specs.Record.{announcement}
-use Rattle.feed_maker.specs.Feed.{Fits, GivesNot, feed_of, records_of}
+use Rattle.feed_maker.specs.Feed.{Fits, GivesNot, HasTooLong, feed_of, records_of}
 use Rattle.feed_maker.specs.Making.{Breaks, HasGiven, HasGivenAll, HasTaken, IsFaultOfInput, MakesFeed, Stops, StopsAtFault}
 use Rattle.feed_maker.specs.Turn.{EndsAt, EndsWell, GivesRest, GivesRestNot, GoesOn, HasMade, IsStarted, StillMakes, TakesAll, Turns, of_input}
 use Rattle.feed_maker.specs.declared.maker.Maker.{Maker}
 use Rattle.feed_maker.specs.declared.fault.MakingFault.{MakingFault}
 use Rattle.feed_maker.specs.declared.fault.MakingFault.TheVariants.{Page, Chain, PacketTooLong, Unfinished, TooLong, Read, Limit, Write, Memory}
-use Rattle.feed_maker.proofs.Lists.{both}
+use Rattle.feed_maker.proofs.Lists.{both, later_of}
 use Rattle.feed_maker.proofs.Turns.{not_given, prefix_written, written_more}
 
 -- what waited is written
@@ -43,27 +43,29 @@ rest_breaks fault from left before now0 now1 old links given offset rest taken w
     gathered = not.new;
     given = given ++ not.more;
     gathers = not.gathers links given was.gathers;
-    written = prefix_written before now0 now1 given not.more was.written (not_given now0 now1 (records_of not.more) fault not.not);
+    written = prefix_written before now0 now1 given not.more was.written (not_given now0 now1 (records_of not.more) not.more fault not.not);
   };
 }
 
-pub own_stops : (fault : MakingFault) (a b : Option (List ℕ)) (bytes : List ℕ) (from left before now : Option (List ℕ)) → GivesNot a b bytes fault →
-    Breaks from left before now → Stops fault from left before now
-own_stops Limit a b bytes from left before now is breaks = breaks
-own_stops Write a b bytes from left before now is breaks = breaks
-own_stops Memory a b bytes from left before now is breaks = breaks
-own_stops (Page at fault) a b bytes from left before now never breaks = absurd never
-own_stops (Chain at fault) a b bytes from left before now never breaks = absurd never
-own_stops (PacketTooLong at) a b bytes from left before now never breaks = absurd never
-own_stops (Unfinished at serial) a b bytes from left before now never breaks = absurd never
-own_stops (TooLong at) a b bytes from left before now never breaks = absurd never
-own_stops (Read at) a b bytes from left before now never breaks = absurd never
+pub own_stops : (fault : MakingFault) (a b : Option (List ℕ)) (bytes : List ℕ) (commands : List Command) (from left before now : Option (List ℕ)) → GivesNot a b bytes commands fault →
+    (breaks : Breaks from left before now) → (HasTooLong commands → HasTooLong breaks.broken.given) → Stops fault from left before now
+own_stops Limit a b bytes commands from left before now is breaks long = (breaks, long is.1)
+own_stops Write a b bytes commands from left before now is breaks long = breaks
+own_stops Memory a b bytes commands from left before now is breaks long = breaks
+own_stops (Page at fault) a b bytes commands from left before now never breaks long = absurd never
+own_stops (Chain at fault) a b bytes commands from left before now never breaks long = absurd never
+own_stops (PacketTooLong at) a b bytes commands from left before now never breaks long = absurd never
+own_stops (Unfinished at serial) a b bytes commands from left before now never breaks long = absurd never
+own_stops (TooLong at) a b bytes commands from left before now never breaks long = absurd never
+own_stops (Read at) a b bytes commands from left before now never breaks long = absurd never
 
 pub rest_stops : (fault : MakingFault) (from left before now0 now1 : Option (List ℕ)) (old : Maker) (links : List (List PageValue)) (given : List Command) (offset : ℕ) (rest : List ℕ) →
     HasTaken from left links offset rest → HasGiven before now0 links old.gatherer given → GivesRestNot fault old now0 now1 → Stops fault from left before now1
+unfolding rest_breaks
 rest_stops fault from left before now0 now1 old links given offset rest taken was not =
-    own_stops fault now0 now1 (records_of not.more) from left before now1 not.not
+    own_stops fault now0 now1 (records_of not.more) not.more from left before now1 not.not
     (rest_breaks fault from left before now0 now1 old links given offset rest taken was not)
+    (λ long all. long (later_of Fits given not.more all))
 
 -- a fault of the input
 pub ends_of_input : (fault : MakingFault) (from left before now : Option (List ℕ)) (maker : Maker) → of_input fault ≡ true →
@@ -206,3 +208,9 @@ breaks_first from before now gathered gathers written = record {
     written = subst (WritesPrefix before now) (sym (append-nil announcement)) written;
   };
 }
+
+pub first_stops : (fault : MakingFault) (from before now : Option (List ℕ)) (gathered : Gathered) → HasGathered [] gathered [] → GivesNot before now announcement [] fault →
+    Stops fault from from before now
+unfolding breaks_first
+first_stops fault from before now gathered gathers not =
+    own_stops fault before now announcement [] from from before now not (breaks_first from before now gathered gathers (not_given before now announcement [] fault not)) (λ long. long)

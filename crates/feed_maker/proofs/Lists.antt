@@ -28,3 +28,7 @@ each_of P (y ∷ xs) (suc i) x h is all = each_of P xs i x (omega arith) is all.
 
 pub length-flat_map-more : {X : Type 0} (f : X → List ℕ) (xs : List X) (i : ℕ) (x : X) → i < length xs → x ≡ get_or xs i x → length (flat_map f (take (i + 1) xs)) ≡ length (flat_map f (take i xs)) + length (f x)
 length-flat_map-more f xs i x h is = ap length (flat_map-more f xs i x h is) ∙ length-append (flat_map f (take i xs)) (f x)
+
+pub later_of : {X : Type 0} (P : X → Type 0) (xs ys : List X) → AllByRecursion P (xs ++ ys) → AllByRecursion P ys
+later_of P [] ys all = all
+later_of P (x ∷ xs) ys all = later_of P xs ys all.1

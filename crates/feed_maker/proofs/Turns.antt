@@ -16,13 +16,13 @@ use Rattle.link_chain.specs.Laws.TakenLinks.{page_is_taken}
 use Rattle.ogg_command.specs.declared.command.Command.{Command}
 use Rattle.gathering.specs.Gathered.{CanGoOn, Gathered, HasGathered}
 use Rattle.feed_codec.specs.Record.{announcement}
-use Rattle.feed_maker.specs.Feed.{Fits, GivesNot, feed_of, record_bytes, records_of}
+use Rattle.feed_maker.specs.Feed.{Fits, GivesNot, HasTooLong, feed_of, record_bytes, records_of}
 use Rattle.feed_maker.specs.Making.{Breaks, HasBroken, HasGiven, HasTaken, IsFaultOfInput, Stops, StopsAtFault}
 use Rattle.feed_maker.specs.Turn.{EndsAt, Gives, GivesNoFurther, GoesOn, HasMade, IsFaultBehind, IsStarted, MeetsFault, NextOf, StillMakes, TakesPage, Turns, of_input}
 use Rattle.feed_maker.specs.declared.maker.Maker.{Maker}
 use Rattle.feed_maker.specs.declared.fault.MakingFault.{MakingFault}
 use Rattle.feed_maker.specs.declared.fault.MakingFault.TheVariants.{Page, Chain, PacketTooLong, Unfinished, TooLong, Read, Limit, Write, Memory}
-use Rattle.feed_maker.proofs.Lists.{both}
+use Rattle.feed_maker.proofs.Lists.{both, later_of}
 
 -- ---- bytes read and written
 pub read_on : (from left now : Option (List ℕ)) (links : List (List PageValue)) (offset : ℕ) (rest taken : List ℕ) →
@@ -48,16 +48,16 @@ pub none_prefix : (a b : Option (List ℕ)) (xs : List ℕ) → b ≡ a → Writ
 none_prefix a b xs same = (0, omega arith, subst (λ w. Appends a w []) (sym same) (Appends-nil a))
 
 -- what isn't given is written in part, or not at all
-pub not_given : (a b : Option (List ℕ)) (bytes : List ℕ) (fault : MakingFault) → GivesNot a b bytes fault → WritesPrefix a b bytes
-not_given a b bytes Limit same = none_prefix a b bytes same
-not_given a b bytes Write prefix = prefix
-not_given a b bytes Memory same = none_prefix a b bytes same
-not_given a b bytes (Page at fault) never = absurd never
-not_given a b bytes (Chain at fault) never = absurd never
-not_given a b bytes (PacketTooLong at) never = absurd never
-not_given a b bytes (Unfinished at serial) never = absurd never
-not_given a b bytes (TooLong at) never = absurd never
-not_given a b bytes (Read at) never = absurd never
+pub not_given : (a b : Option (List ℕ)) (bytes : List ℕ) (commands : List Command) (fault : MakingFault) → GivesNot a b bytes commands fault → WritesPrefix a b bytes
+not_given a b bytes commands Limit (same, long) = none_prefix a b bytes same
+not_given a b bytes commands Write prefix = prefix
+not_given a b bytes commands Memory same = none_prefix a b bytes same
+not_given a b bytes commands (Page at fault) never = absurd never
+not_given a b bytes commands (Chain at fault) never = absurd never
+not_given a b bytes commands (PacketTooLong at) never = absurd never
+not_given a b bytes commands (Unfinished at serial) never = absurd never
+not_given a b bytes commands (TooLong at) never = absurd never
+not_given a b bytes commands (Read at) never = absurd never
 
 pub feed_more : (given more : List Command) → feed_of (given ++ more) ≡ feed_of given ++ records_of more
 feed_more given more =
@@ -245,17 +245,17 @@ turn_fails Memory from left0 left1 before now old mid links given was meets = re
 }
 
 -- a fault that isn't the input's
-own_fault : (fault : MakingFault) (a b : Option (List ℕ)) (bytes : List ℕ) (from left before now : Option (List ℕ)) (maker : Maker) → GivesNot a b bytes fault →
-    Breaks from left before now → Turns (Err fault) from left before now maker
-own_fault Limit a b bytes from left before now maker is breaks = breaks
-own_fault Write a b bytes from left before now maker is breaks = breaks
-own_fault Memory a b bytes from left before now maker is breaks = breaks
-own_fault (Page at fault) a b bytes from left before now maker never breaks = absurd never
-own_fault (Chain at fault) a b bytes from left before now maker never breaks = absurd never
-own_fault (PacketTooLong at) a b bytes from left before now maker never breaks = absurd never
-own_fault (Unfinished at serial) a b bytes from left before now maker never breaks = absurd never
-own_fault (TooLong at) a b bytes from left before now maker never breaks = absurd never
-own_fault (Read at) a b bytes from left before now maker never breaks = absurd never
+own_fault : (fault : MakingFault) (a b : Option (List ℕ)) (bytes : List ℕ) (commands : List Command) (from left before now : Option (List ℕ)) (maker : Maker) → GivesNot a b bytes commands fault →
+    (breaks : Breaks from left before now) → (HasTooLong commands → HasTooLong breaks.broken.given) → Turns (Err fault) from left before now maker
+own_fault Limit a b bytes commands from left before now maker is breaks long = (breaks, long is.1)
+own_fault Write a b bytes commands from left before now maker is breaks long = breaks
+own_fault Memory a b bytes commands from left before now maker is breaks long = breaks
+own_fault (Page at fault) a b bytes commands from left before now maker never breaks long = absurd never
+own_fault (Chain at fault) a b bytes commands from left before now maker never breaks long = absurd never
+own_fault (PacketTooLong at) a b bytes commands from left before now maker never breaks long = absurd never
+own_fault (Unfinished at serial) a b bytes commands from left before now maker never breaks long = absurd never
+own_fault (TooLong at) a b bytes commands from left before now maker never breaks long = absurd never
+own_fault (Read at) a b bytes commands from left before now maker never breaks long = absurd never
 
 -- a page was taken, and its commands weren't written as a whole
 pub turn_breaks : (fault : MakingFault) (from left0 left1 before now0 now1 : Option (List ℕ)) (old mid after : Maker) (links : List (List PageValue)) (given : List Command) →
@@ -264,8 +264,8 @@ pub turn_breaks : (fault : MakingFault) (from left0 left1 before now0 now1 : Opt
 turn_breaks fault from left0 left1 before now0 now1 old mid after links given was t g =
     let more : List Command = t.gathers.more in
     let prefix : WritesPrefix now0 now1 (records_of more) =
-    subst (λ (l : List Command). WritesPrefix now0 now1 (records_of l)) t.gathers.appended (not_given now0 now1 (records_of mid.commands.items) fault g.not) in
-    own_fault fault now0 now1 (records_of mid.commands.items) from left1 before now1 after g.not (record {
+    subst (λ (l : List Command). WritesPrefix now0 now1 (records_of l)) t.gathers.appended (not_given now0 now1 (records_of mid.commands.items) mid.commands.items fault g.not) in
+    own_fault fault now0 now1 (records_of mid.commands.items) mid.commands.items from left1 before now1 after g.not (record {
       links = links_with links t.page;
       offset = mid.pages.offset;
       rest = mid.pages.unread;
@@ -277,3 +277,4 @@ turn_breaks fault from left0 left1 before now0 now1 old mid after links given wa
         written = prefix_written before now0 now1 given more was.all.written prefix;
       };
     })
+    (λ long all. long (subst (AllByRecursion Fits) (sym t.gathers.appended) (later_of Fits given more all)))

@@ -26,18 +26,22 @@ records_of commands = flat_map record_bytes commands
 abbrev pub feed_of : List Command → List ℕ
 feed_of commands = announcement ++ records_of commands
 
--- too long for a record, or want of memory
-abbrev pub IsOwnFault : MakingFault → Type 0
-IsOwnFault Limit = ⊤
-IsOwnFault Memory = ⊤
-IsOwnFault fault = ⊥
+-- one of the commands is too long for a record
+abbrev pub HasTooLong : List Command → Type 0
+HasTooLong commands = AllByRecursion Fits commands → ⊥
 
--- why bytes aren't written, and what is: a prefix if the writer failed, and else nothing
-abbrev pub GivesNot : Option (List ℕ) → Option (List ℕ) → List ℕ → MakingFault → Type 0
-GivesNot before now bytes Write = WritesPrefix before now bytes
-GivesNot before now bytes Limit = now ≡ before
-GivesNot before now bytes Memory = now ≡ before
-GivesNot before now bytes fault = ⊥
+-- why records aren't made
+abbrev pub IsOwnFault : List Command → MakingFault → Type 0
+IsOwnFault commands Limit = HasTooLong commands
+IsOwnFault commands Memory = ⊤
+IsOwnFault commands fault = ⊥
+
+-- why these bytes of commands aren't written, and what is: a prefix if the writer failed, and else nothing
+abbrev pub GivesNot : Option (List ℕ) → Option (List ℕ) → List ℕ → List Command → MakingFault → Type 0
+GivesNot before now bytes commands Write = WritesPrefix before now bytes
+GivesNot before now bytes commands Limit = (now ≡ before) × HasTooLong commands
+GivesNot before now bytes commands Memory = now ≡ before
+GivesNot before now bytes commands fault = ⊥
 
 -- a stream that has few enough headers and message fields, and whose media type and fields are short enough
 pub record HasFewParts (stream : NewStream) : Type 0 where

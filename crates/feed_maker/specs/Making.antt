@@ -12,7 +12,7 @@ use Rattle.chain_rules.specs.Recording.{Recording, HoldsLinks, after}
 use Rattle.ogg_command.specs.declared.command.Command.{Command}
 use Rattle.gathering.specs.Kept.{is_too_long, waits}
 use Rattle.gathering.specs.Gathered.{Gathered, HasGathered}
-use Rattle.feed_maker.specs.Feed.{Fits, feed_of}
+use Rattle.feed_maker.specs.Feed.{Fits, HasTooLong, feed_of}
 use Rattle.feed_maker.specs.declared.made.Made.{Made}
 use Rattle.feed_maker.specs.declared.fault.MakingFault.{MakingFault}
 use Rattle.feed_maker.specs.declared.fault.MakingFault.TheVariants.{Page, Chain, PacketTooLong, Unfinished, TooLong, Read, Limit, Write, Memory}
@@ -103,9 +103,13 @@ pub record Breaks (from left before now : Option (List ℕ)) : Type 0 where
   pub taken : HasTaken from left links offset rest
   pub broken : HasBroken before now links
 
+-- and one of these commands is too long for a record
+abbrev pub BreaksAtLimit : Option (List ℕ) → Option (List ℕ) → Option (List ℕ) → Option (List ℕ) → Type 0
+BreaksAtLimit from left before now = (breaks : Breaks from left before now) × HasTooLong breaks.broken.given
+
 -- why a feed ended before its input did, and what was written
 abbrev pub Stops : MakingFault → Option (List ℕ) → Option (List ℕ) → Option (List ℕ) → Option (List ℕ) → Type 0
-Stops Limit from left before now = Breaks from left before now
+Stops Limit from left before now = BreaksAtLimit from left before now
 Stops Write from left before now = Breaks from left before now
 Stops Memory from left before now = Breaks from left before now
 Stops fault from left before now = StopsAtFault from left before now fault

@@ -12,7 +12,7 @@ use Rattle.ogg_command.specs.declared.command.Command.{Command}
 use Rattle.gathering.specs.Kept.{is_too_long, waits}
 use Rattle.gathering.specs.Gathered.{CanGoOn, Gathered, HasGathered}
 use Rattle.feed_maker.specs.Feed.{Fits, GivesNot, records_of}
-use Rattle.feed_maker.specs.Making.{BeginsWith, Breaks, HasGiven, HasTaken, IsFaultOfInput, MakesFeed, Stops}
+use Rattle.feed_maker.specs.Making.{BeginsWith, Breaks, BreaksAtLimit, HasGiven, HasTaken, IsFaultOfInput, MakesFeed, Stops}
 use Rattle.feed_maker.specs.declared.made.Made.{Made}
 use Rattle.feed_maker.specs.declared.maker.Maker.{Maker}
 use Rattle.feed_maker.specs.declared.fault.MakingFault.{MakingFault}
@@ -124,7 +124,7 @@ pub record Gives (old new : Maker) (before now : Option (List ℕ)) : Type 0 whe
   pub counted : new.made.commands ≡ min (old.made.commands + length old.commands.items) (2 ^ 64 - 1)
 
 pub record GivesNoFurther (old new : Maker) (before now : Option (List ℕ)) (fault : MakingFault) : Type 0 where
-  pub not : GivesNot before now (records_of old.commands.items) fault
+  pub not : GivesNot before now (records_of old.commands.items) old.commands.items fault
   pub gatherer : new.gatherer ≡ old.gatherer
 
 -- ---- a turn, and all turns
@@ -154,7 +154,7 @@ pub record StillMakes (from left before now : Option (List ℕ)) (maker : Maker)
 abbrev pub Turns : Result Bool MakingFault → Option (List ℕ) → Option (List ℕ) → Option (List ℕ) → Option (List ℕ) → Maker → Type 0
 Turns (Ok true) from left before now maker = StillMakes from left before now maker
 Turns (Ok false) from left before now maker = EndsWell from left before now maker
-Turns (Err Limit) from left before now maker = Breaks from left before now
+Turns (Err Limit) from left before now maker = BreaksAtLimit from left before now
 Turns (Err Write) from left before now maker = Breaks from left before now
 Turns (Err Memory) from left before now maker = Breaks from left before now
 Turns (Err fault) from left before now maker = EndsAt fault from left before now maker
@@ -179,7 +179,7 @@ pub record GivesRestNot (fault : MakingFault) (old : Maker) (before now : Option
   pub more : List Command
   pub new : Gathered
   pub gathers : (links : List (List PageValue)) (given : List Command) → HasGathered links old.gatherer given → HasGathered links new (given ++ more)
-  pub not : GivesNot before now (records_of more) fault
+  pub not : GivesNot before now (records_of more) more fault
 
 abbrev pub Closes : Result (Unit {0}) MakingFault → Maker → Maker → Option (List ℕ) → Option (List ℕ) → Type 0
 Closes (Ok done) old new before now = GivesRest old new before now

@@ -1,5 +1,5 @@
 //! Commands written as records.
-ghost use Rattle.std.specs.Prelude.{◌≡◌, ◌≢◌, [], ◌++◌, IfErr, OnOk, OnErr};
+ghost use Rattle.std.specs.Prelude.{◌≡◌, [], ◌++◌, IfErr, OnOk, OnErr};
 ghost use Rattle.std.specs.List.{AllByRecursion};
 ghost use Rattle.std.specs.Io.KnownBytes.{Appends, Keeps};
 ghost use Rattle.ogg_page.specs.Output.{WritesPrefix};
@@ -16,7 +16,7 @@ use std::io::Write;
 /// Appends the record of each command. After a fault those of some may stand there.
 fn put_records(commands: &[Command], bytes: &mut Vec<u8>) -> Result<(), MakingFault>
     ensures ok { OnOk result ((bytes.new.items ≡ bytes.old.items ++ records_of commands.now) × AllByRecursion Fits commands.now) }
-    ensures err { IfErr result IsOwnFault }
+    ensures err { IfErr result (IsOwnFault commands.now) }
 {
     for command in commands {
         if !fits_record(command) {
@@ -48,7 +48,7 @@ fn write_out<W: Write>(bytes: &[u8], writer: &mut W) -> Result<(), MakingFault>
 /// Writes the announcement of version 2.
 pub(crate) fn announce<W: Write>(bytes: &mut Vec<u8>, writer: &mut W) -> Result<(), MakingFault>
     ensures ok { OnOk result (Appends (W.contents writer.old) (W.contents writer.new) announcement) }
-    ensures err { IfErr result (GivesNot (W.contents writer.old) (W.contents writer.new) announcement) }
+    ensures err { IfErr result (GivesNot (W.contents writer.old) (W.contents writer.new) announcement []) }
 {
     bytes.clear();
     match write_version(bytes) {
@@ -66,7 +66,7 @@ pub(crate) fn give<W: Write>(
 ) -> Result<(), MakingFault>
     ensures ok { OnOk result (AllByRecursion Fits commands.now
         × Appends (W.contents writer.old) (W.contents writer.new) (records_of commands.now)) }
-    ensures err { IfErr result (GivesNot (W.contents writer.old) (W.contents writer.new) (records_of commands.now)) }
+    ensures err { IfErr result (GivesNot (W.contents writer.old) (W.contents writer.new) (records_of commands.now) commands.now) }
 {
     if commands.is_empty() {
         return Ok(());

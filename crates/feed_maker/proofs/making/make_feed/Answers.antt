@@ -1,7 +1,7 @@
 use Rattle.std.proofs.Common.{refl}
 use Rattle.feed_codec.specs.Record.{announcement}
-use Rattle.feed_maker.proofs.Ends.{breaks_first, own_stops}
-use Rattle.feed_maker.proofs.Turns.{none_prefix, not_given}
+use Rattle.feed_maker.proofs.Ends.{breaks_first, first_stops}
+use Rattle.feed_maker.proofs.Turns.{none_prefix}
 use Rattle.feed_maker.proofs.making.make_feed.Goals as goal
 
 pub returns-in-Err-clause-stopped : goal.returns-in-Err-clause-stopped
@@ -11,5 +11,4 @@ returns-in-Err-clause-stopped g c =
 
 pub returns-in-Err-announce-clause-stopped : goal.returns-in-Err-announce-clause-stopped
 returns-in-Err-announce-clause-stopped g c =
-    own_stops c.in-Err-announce.fault _ _ announcement _ _ _ _ c.in-Err-announce.ensures.err
-    (breaks_first _ _ _ c.in-Ok.maker.gatherer c.in-Ok.ensures.ok.gathers (not_given _ _ announcement c.in-Err-announce.fault c.in-Err-announce.ensures.err))
+    first_stops c.in-Err-announce.fault _ _ _ c.in-Ok.maker.gatherer c.in-Ok.ensures.ok.gathers c.in-Err-announce.ensures.err

@@ -24,6 +24,6 @@ returns-in-Err-give g c =
       new = c.end.new.self;
       gathers = c.in-Ok.ensures.gathered;
       not = subst
-          (λ (l : List Command). GivesNot (g.W.Write.contents c.args.writer.now) (g.W.Write.contents c.give.new.writer) (records_of l) c.in-Err-give.fault)
+          (λ (l : List Command). GivesNot (g.W.Write.contents c.args.writer.now) (g.W.Write.contents c.give.new.writer) (records_of l) l c.in-Err-give.fault)
           commands c.in-Err-give.ensures.err.not;
     }
