@@ -1,0 +1,137 @@
+//! Sessions of a hub, whose file is recorded meanwhile.
+use crate::tools::{GET_ALL, OF_THREE, OF_TWO, TWO, ask, gives, hub_over};
+use chain_rules::{Command, Refusal};
+use disk_model::{Disk, FuseDisk, MemDisk};
+use ogg_recorder::Kept;
+use ogg_serve::{Hub, HubFault, OpenFault, Outcome, Progress};
+use std::process::Abort;
+use std::test::Fail;
+
+/// Whether one command was kept, and with it the whole file.
+fn is_whole(kept: Kept) -> bool {
+    kept.count == 1 && kept.end == 91
+}
+
+/// Whether the stream's end is kept at once.
+fn ends<D: Disk + Drop>(hub: &mut Hub<D>) -> bool {
+    match hub.command(&Command::End(1)) {
+        Ok(Outcome::Kept(kept)) => is_whole(kept),
+        _ => false,
+    }
+}
+
+/// Whether a session gets what was committed when its head was complete, and the next one what is committed then.
+fn keeps_its_answer<D: Disk + Drop>(hub: &mut Hub<D>) -> bool {
+    let (one, rest) = OF_TWO.split_at(1);
+    let Some(first) = ask(hub) else {
+        return false;
+    };
+    if !gives(hub, first, 1, one) || !ends(hub) || !gives(hub, first, 300, rest) {
+        return false;
+    }
+    match ask(hub) {
+        Some(second) => gives(hub, second, 300, OF_THREE),
+        None => false,
+    }
+}
+
+#[test]
+fn a_session_gets_what_was_committed_when_its_head_was_complete(
+    rt: HostRuntime,
+) -> Result<(), Fail> {
+    let mut hub = hub_over(rt.alloc(), MemDisk::of(rt.alloc(), TWO)?, 1)?;
+    assert!(rt; keeps_its_answer(&mut hub));
+    Ok(())
+}
+
+/// Whether the stream's end waits for a flush.
+fn waits<D: Disk + Drop>(hub: &mut Hub<D>) -> bool {
+    hub.command(&Command::End(1)) == Ok(Outcome::Held(1))
+}
+
+fn flushes<D: Disk + Drop>(hub: &mut Hub<D>) -> bool {
+    match hub.flush() {
+        Ok(kept) => is_whole(kept),
+        Err(_) => false,
+    }
+}
+
+/// Whether what waits is in no answer until it is flushed.
+fn answers_as_flushed<D: Disk + Drop>(hub: &mut Hub<D>) -> bool {
+    if !waits(hub) {
+        return false;
+    }
+    let first = ask(hub);
+    if !flushes(hub) {
+        return false;
+    }
+    match (first, ask(hub)) {
+        (Some(first), Some(second)) => {
+            gives(hub, first, 300, OF_TWO) && gives(hub, second, 300, OF_THREE)
+        }
+        _ => false,
+    }
+}
+
+#[test]
+fn what_waits_is_in_no_answer_until_a_flush(rt: HostRuntime) -> Result<(), Fail> {
+    let mut hub = hub_over(rt.alloc(), MemDisk::of(rt.alloc(), TWO)?, 8)?;
+    assert!(rt; answers_as_flushed(&mut hub));
+    Ok(())
+}
+
+/// How many sessions can be begun, at most 100, and the fault of the next one.
+fn connected<D: Disk + Drop>(hub: &mut Hub<D>) -> (u64, Option<HubFault>) {
+    for count in 0..100 {
+        match hub.connect() {
+            Ok(_) => {}
+            Err(fault) => return (count, Some(fault)),
+        }
+    }
+    (100, None)
+}
+
+/// Whether the head of a request is complete with its last byte, and not before.
+fn is_ready_at_the_end<D: Disk + Drop>(hub: &mut Hub<D>, id: u64) -> bool {
+    let (front, last) = GET_ALL.split_at(GET_ALL.len() - 1);
+    for byte in front {
+        if hub.receive(id, &[*byte]) != Ok(Progress::More) {
+            return false;
+        }
+    }
+    hub.receive(id, last) == Ok(Progress::Ready)
+}
+
+#[test]
+fn sessions_are_64_and_heads_come_byte_by_byte(rt: HostRuntime) -> Result<(), Fail> {
+    let mut hub = hub_over(rt.alloc(), MemDisk::of(rt.alloc(), TWO)?, 1)?;
+    assert!(rt; connected(&mut hub) == (64, Some(HubFault::SessionsFull)));
+    assert!(rt; hub.pull(64, &mut [0; 1]) == Err(HubFault::NoSession));
+    assert!(rt; is_ready_at_the_end(&mut hub, 63));
+    Ok(())
+}
+
+/// Whether a session outlives a commit that fails at its last sync, and a reopening that fails.
+fn outlives<D: Disk + Drop>(hub: &mut Hub<D>) -> bool {
+    let (one, rest) = OF_TWO.split_at(1);
+    let Some(id) = ask(hub) else {
+        return false;
+    };
+    gives(hub, id, 1, one)
+        && hub.command(&Command::End(1)) == Err(Refusal::Disk)
+        && hub.reopen() == Err(OpenFault::Disk)
+        && hub.pull(id, &mut [0; 1]) == Err(HubFault::NoFile)
+        && hub.reopen() == Ok(())
+        && hub.end() == 91
+        && gives(hub, id, 300, rest)
+}
+
+#[test]
+fn sessions_outlive_a_disk_that_fails(rt: HostRuntime) -> Result<(), Fail> {
+    // The opening makes five calls of the disk, the request's head one, the command four, of which the last is a sync; the
+    // reopening begins with one.
+    let inner = FuseDisk::fail_once(MemDisk::of(rt.alloc(), TWO)?, 10);
+    let mut hub = hub_over(rt.alloc(), FuseDisk::fail_once(inner, 11), 1)?;
+    assert!(rt; outlives(&mut hub));
+    Ok(())
+}

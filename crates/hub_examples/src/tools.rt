@@ -1,0 +1,73 @@
+//! Hubs and sessions for the tests.
+use disk_model::Disk;
+use ogg_recorder::Recorder;
+use ogg_serve::{Hub, Progress};
+use std::alloc::Global;
+use std::test::Fail;
+
+/// The pages of the header `abc` and of the packet `hello` at position 5.
+pub(super) const TWO: &[u8] =
+    b"OggS\0\x02\0\0\0\0\0\0\0\0\x01\0\0\0\0\0\0\0\x92\xdd\xf6\x15\x01\x03abc\
+    OggS\0\0\x05\0\0\0\0\0\0\0\x01\0\0\0\x01\0\0\0\xbb\xfev\xea\x01\x05hello";
+
+/// And of the stream's end.
+pub(super) const THREE: &[u8] =
+    b"OggS\0\x02\0\0\0\0\0\0\0\0\x01\0\0\0\0\0\0\0\x92\xdd\xf6\x15\x01\x03abc\
+    OggS\0\0\x05\0\0\0\0\0\0\0\x01\0\0\0\x01\0\0\0\xbb\xfev\xea\x01\x05hello\
+    OggS\0\x04\x05\0\0\0\0\0\0\0\x01\0\0\0\x02\0\0\0\xdb\x9d\x91\x8b\0";
+
+pub(super) const GET_ALL: &[u8] = b"GET /all HTTP/1.1\r\nHost: a\r\n\r\n";
+
+/// What it gets of these two pages, and of them and the page of the stream's end.
+pub(super) const OF_TWO: &[u8] =
+    b"HTTP/1.1 200 OK\r\nContent-Type: application/ogg\r\nContent-Length: 64\r\n\
+    Accept-Ranges: bytes\r\nConnection: close\r\n\r\n\
+    OggS\0\x02\0\0\0\0\0\0\0\0\x01\0\0\0\0\0\0\0\x92\xdd\xf6\x15\x01\x03abc\
+    OggS\0\0\x05\0\0\0\0\0\0\0\x01\0\0\0\x01\0\0\0\xbb\xfev\xea\x01\x05hello";
+
+pub(super) const OF_THREE: &[u8] =
+    b"HTTP/1.1 200 OK\r\nContent-Type: application/ogg\r\nContent-Length: 91\r\n\
+    Accept-Ranges: bytes\r\nConnection: close\r\n\r\n\
+    OggS\0\x02\0\0\0\0\0\0\0\0\x01\0\0\0\0\0\0\0\x92\xdd\xf6\x15\x01\x03abc\
+    OggS\0\0\x05\0\0\0\0\0\0\0\x01\0\0\0\x01\0\0\0\xbb\xfev\xea\x01\x05hello\
+    OggS\0\x04\x05\0\0\0\0\0\0\0\x01\0\0\0\x02\0\0\0\xdb\x9d\x91\x8b\0";
+
+/// A hub over this disk, whose commands share commits in groups of `most`.
+pub(super) fn hub_over<D: Disk + Drop>(alloc: Global, disk: D, most: u32) -> Result<Hub<D>, Fail> {
+    match Recorder::open(alloc, disk) {
+        Ok(mut recorder) => {
+            if most > 0 && most <= 1024 && recorder.held() == 0 {
+                recorder.group(most);
+            }
+            match Hub::new(alloc, recorder) {
+                Ok(hub) => Ok(hub),
+                Err(_) => Err(Fail::from("no hub")),
+            }
+        }
+        Err(_) => Err(Fail::from("not opened")),
+    }
+}
+
+/// A session of the hub that asks for all of the file.
+pub(super) fn ask<D: Disk + Drop>(hub: &mut Hub<D>) -> Option<u64> {
+    match hub.connect() {
+        Ok(id) => match hub.receive(id, GET_ALL) {
+            Ok(Progress::Ready) => Some(id),
+            _ => None,
+        },
+        Err(_) => None,
+    }
+}
+
+/// Whether a pull gives just these bytes, in a buffer of at most 300.
+pub(super) fn gives<D: Disk + Drop>(hub: &mut Hub<D>, id: u64, size: usize, want: &[u8]) -> bool {
+    let mut buffer = [0; 300];
+    let (room, _) = buffer.split_at_mut(size.min(300));
+    match hub.pull(id, room) {
+        Ok(pulled) => {
+            let (given, _) = room.split_at(pulled.count);
+            *given == *want
+        }
+        Err(_) => false,
+    }
+}
