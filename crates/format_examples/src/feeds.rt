@@ -11,7 +11,7 @@ use std::alloc::Global;
 use std::process::Abort;
 use std::test::Fail;
 
-mod fakes;
+pub(crate) mod fakes;
 
 /// A begin of a stream with serial 1 and the header `abc`, the packet `hello` at position 5, and the
 /// stream's end: 52, 28 and 9 bytes.

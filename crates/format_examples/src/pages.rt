@@ -3,6 +3,7 @@ use ogg_page::*;
 use std::test::Fail;
 
 mod making;
+mod piped;
 mod windows;
 
 /// Bytes and their checksum, as libogg has it.

@@ -1,0 +1,88 @@
+//! Pages that come through a pipe, and the feed that is made of them.
+use super::THREE_PAGES;
+use crate::feeds::fakes::{FakeReader, FakeWriter};
+use feed_maker::{Made, MakingFault, make_feed};
+use page_reader::{PageReader, PageReaderFault};
+use std::test::Fail;
+
+/// How many bytes a read gives, and how often the reader was called when each of the three pages was given: as soon as
+/// its last byte was there.
+const CALLS: [(usize, [u64; 3]); 5] = [
+    (1, [31, 64, 91]),
+    (31, [1, 3, 3]),
+    (40, [1, 2, 3]),
+    (64, [1, 1, 2]),
+    (1000, [1, 1, 1]),
+];
+
+#[test]
+fn a_page_is_given_with_its_last_byte(rt: HostRuntime) -> Result<(), Fail> {
+    for (step, calls) in CALLS {
+        let mut reader = FakeReader::new(&THREE_PAGES, step, 0);
+        let mut pages = PageReader::new(rt.alloc())?;
+        for want in calls {
+            pages.advance(&mut reader)?;
+            assert!(rt; pages.lent().is_some());
+            assert!(rt; reader.calls() == want, "of {step}: {}", reader.calls());
+        }
+        pages.advance(&mut reader)?;
+        assert!(rt; pages.lent().is_none());
+        assert!(rt; pages.offset() == 91);
+    }
+    Ok(())
+}
+
+#[test]
+fn a_failing_read_stays_a_fault(rt: HostRuntime) -> Result<(), Fail> {
+    let mut reader = FakeReader::new(&THREE_PAGES, 40, 2);
+    let mut pages = PageReader::new(rt.alloc())?;
+    pages.advance(&mut reader)?;
+    for _ in 0..2 {
+        let failed = pages.advance(&mut reader);
+        assert!(rt; failed.is_err_and(|fault| fault == PageReaderFault::Read));
+        assert!(rt; pages.lent().is_none());
+        assert!(rt; pages.offset() == 31);
+    }
+    assert!(rt; reader.calls() == 2);
+    Ok(())
+}
+
+/// The announcement, a begin of stream 1 with the header `abc`, the packet `hello` at position 5, and the stream's end.
+const FEED: [u8; 97] = *b"\0\x01\0\0\0\x02\
+    \x01\x31\0\0\0\0\x01\0\x01\0\0\0\x01\0\x03\0\0\0abc\0\0\
+    \0\0\0\0\0\0\0\0\0\0\0\0\0\0\0\0\0\0\0\0\0\0\0\0\0\0\0\0\0\0\0\
+    \x02\x17\0\0\0\x01\0\x01\0\0\0\x05\0\0\0\0\0\0\0\x05\0\0\0hello\
+    \x03\x04\0\0\0\x01\0\0\0";
+
+#[test]
+fn a_feed_is_made_of_three_pages(rt: HostRuntime) -> Result<(), Fail> {
+    for step in [1, 40, 1000] {
+        let mut reader = FakeReader::new(&THREE_PAGES, step, 0);
+        let mut writer = FakeWriter::new(Vec::new(rt.alloc()), step, 0);
+        let made = make_feed(rt.alloc(), &mut reader, &mut writer)?;
+        assert!(rt;
+            made == Made {
+                pages: 3,
+                commands: 3
+            }
+        );
+        assert!(rt; writer.written() == FEED.as_slice());
+    }
+    Ok(())
+}
+
+#[test]
+fn what_is_whole_is_written_before_a_fault_is_told(rt: HostRuntime) -> Result<(), Fail> {
+    // The first page alone, whose stream's begin waits; and the first two.
+    for (front, written, want) in [
+        (&THREE_PAGES[..31], &FEED[..60], MakingFault::Read(31)),
+        (&THREE_PAGES[..64], &FEED[..88], MakingFault::Read(64)),
+    ] {
+        let mut reader = FakeReader::new(front, 100, 2);
+        let mut writer = FakeWriter::new(Vec::new(rt.alloc()), 1000, 0);
+        let failed = make_feed(rt.alloc(), &mut reader, &mut writer);
+        assert!(rt; failed.is_err_and(|fault| fault == want));
+        assert!(rt; writer.written() == written);
+    }
+    Ok(())
+}
