@@ -50,6 +50,33 @@ down
 came "served" 0 '' ''
 check "served: the file is as it was" cmp "$work/served.ogg" "$work/two.ogg"
 
+# Ranges of a file of 91 bytes: the Range field, the status, the Content-Range field, and where the part begins and ends.
+pages "02 0 1 0 3 abc" "00 5 1 1 5 hello" "04 5 1 2 - -" >"$work/three.ogg"
+cp "$work/three.ogg" "$work/ranged.ogg"
+up serve "$work/ranged.ogg" 6
+for row in 'bytes=0-30|206|bytes 0-30/91|0|31' 'bytes=-27|206|bytes 64-90/91|64|91' 'bytes=91-|416|bytes */91|0|0' 'bytes=5-4|200||0|91' \
+    'bytes=0-0,2-2|200||0|91'; do
+    IFS='|' read -r range status field from to <<<"$row"
+    timeout 20 curl -s -H "Range: $range" -D "$work/head" -o "$work/body" "http://127.0.0.1:$port/link/0"
+    [ -e "$work/body" ] || : >"$work/body"
+    head -c "$to" "$work/three.ogg" | tail -c +"$((from + 1))" >"$work/piece"
+    check "$range: the part" cmp "$work/body" "$work/piece"
+    check "$range: its status" grep -q "^HTTP/1.1 $status " "$work/head"
+    check "$range: its field" [ "$(sed -n 's/^Content-Range: \(.*\)\r$/\1/p' "$work/head")" = "$field" ]
+    rm -f "$work/body"
+done
+timeout 20 curl -s -I -H 'Range: bytes=0-30' -o "$work/head" "http://127.0.0.1:$port/link/0"
+check "a head alone has no range" is_text "$work/head" 'HTTP/1.1 200 OK\r\nContent-Type: application/ogg\r\nContent-Length: 91\r\nAccept-Ranges: bytes\r\nConnection: close\r\n\r\n'
+down
+came "ranged" 0 '' ''
+
+# Of an empty file a range is the whole.
+: >"$work/empty.ogg"
+up serve "$work/empty.ogg" 1
+timeout 20 curl -s -H 'Range: bytes=0-' -D "$work/head" -o "$work/body" "http://127.0.0.1:$port/all"
+check "an empty file" is_text "$work/head" 'HTTP/1.1 200 OK\r\nContent-Type: application/ogg\r\nContent-Length: 0\r\nAccept-Ranges: bytes\r\nConnection: close\r\n\r\n'
+down
+
 # Clients that go away, that send no head, too much, or more than a head: the next one is served.
 up serve "$work/served.ogg" 8
 asking ask "$port" --shut >"$work/got"

@@ -128,8 +128,8 @@ fn outlives<D: Disk + Drop>(hub: &mut Hub<D>) -> bool {
 
 #[test]
 fn sessions_outlive_a_disk_that_fails(rt: HostRuntime) -> Result<(), Fail> {
-    // The opening makes five calls of the disk, the request's head one, the command four, of which the last is a sync; the
-    // reopening begins with one.
+    // The opening makes five calls of the disk, the request's head one, the command four, of which the last is a sync;
+    // the reopening begins with one.
     let inner = FuseDisk::fail_once(MemDisk::of(rt.alloc(), TWO)?, 10);
     let mut hub = hub_over(rt.alloc(), FuseDisk::fail_once(inner, 11), 1)?;
     assert!(rt; outlives(&mut hub));

@@ -10,12 +10,6 @@ pub(super) const TWO: &[u8] =
     b"OggS\0\x02\0\0\0\0\0\0\0\0\x01\0\0\0\0\0\0\0\x92\xdd\xf6\x15\x01\x03abc\
     OggS\0\0\x05\0\0\0\0\0\0\0\x01\0\0\0\x01\0\0\0\xbb\xfev\xea\x01\x05hello";
 
-/// And of the stream's end.
-pub(super) const THREE: &[u8] =
-    b"OggS\0\x02\0\0\0\0\0\0\0\0\x01\0\0\0\0\0\0\0\x92\xdd\xf6\x15\x01\x03abc\
-    OggS\0\0\x05\0\0\0\0\0\0\0\x01\0\0\0\x01\0\0\0\xbb\xfev\xea\x01\x05hello\
-    OggS\0\x04\x05\0\0\0\0\0\0\0\x01\0\0\0\x02\0\0\0\xdb\x9d\x91\x8b\0";
-
 pub(super) const GET_ALL: &[u8] = b"GET /all HTTP/1.1\r\nHost: a\r\n\r\n";
 
 /// What it gets of these two pages, and of them and the page of the stream's end.

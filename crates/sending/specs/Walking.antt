@@ -11,7 +11,8 @@ pub record IsPulled (committed rest : List ℕ) (serial : ℕ) (left : StreamLef
   pub is_rest : IsStreamRest committed serial left.place left.skip left.count (drop given rest)
 
 -- the first `count` bytes of the rest are the next ones of the page, and this is left after them
-pub record IsGivenOf (page : Page) (committed rest : List ℕ) (serial : ℕ) (left : StreamLeft) (count : ℕ) (after : StreamLeft) : Type 0 where
+pub record IsGivenOf (page : Page) (committed rest : List ℕ) (serial : ℕ) (left : StreamLeft) (count : ℕ)
+    (after : StreamLeft) : Type 0 where
   pub given : take count rest ≡ part_at left.skip count (page_bytes page)
   pub is_rest : IsStreamRest committed serial after.place after.skip after.count (drop count rest)
 

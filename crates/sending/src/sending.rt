@@ -79,8 +79,8 @@ impl Sending {
     /// taken, and the window's source is only read: of a stream's pages their heads and what is given, so that a page
     /// costs little even if it goes out in many pieces.
     ///
-    /// `SourceFault` is the answer if a read failed or gave no page's head. The response is left as it was then, and the
-    /// buffer may hold anything.
+    /// `SourceFault` is the answer if a read failed or gave no page's head. The response is left as it was then, and
+    /// the buffer may hold anything.
     pub fn pull<S: PageSource>(
         &mut self,
         window: &mut Window<S>,

@@ -1,7 +1,7 @@
 //! A buffer is filled with what is left of a stream, page by page.
 //!
-//! Of each page the head is read, and of the stream's own pages what goes into the buffer. No checksum is computed: pages
-//! are checked when they are found, and this reads what was found.
+//! Of each page the head is read, and of the stream's own pages what goes into the buffer. No checksum is computed:
+//! pages are checked when they are found, and this reads what was found.
 ghost use Rattle.std.specs.Prelude.{◌≡◌, ◌+◌, ◌^◌, ◌<◌, ◌≤◌, ℕ, List, ◌++◌, length, take, drop, IfOk, IsErr, OnOk};
 ghost use Rattle.ogg_page.specs.Page.{Page};
 ghost use Rattle.ogg_page.specs.Window.{KeepsSource};
@@ -105,8 +105,8 @@ fn read_on<S: PageSource>(
     source.read_at(place, front)
 }
 
-/// Reads what is left of the stream in the page at the place into the buffer, as far as it goes in, after the bytes that
-/// were given. It gives the count of all these and what is left then.
+/// Reads what is left of the stream in the page at the place into the buffer, as far as it goes in, after the bytes
+/// that were given. It gives the count of all these and what is left then.
 fn pull_page<S: PageSource>(
     source: &mut S,
     serial: u32,
