@@ -16,7 +16,7 @@ use Rattle.feed_codec.specs.declared.fault.RunFault.TheVariants.{Feed as RunFeed
 use Rattle.ogg_split.specs.SplitFault as S
 use Rattle.sessions.specs.HubFault as H
 use Rattle.fault_lines.specs.declared.fault.Fault.{Fault}
-use Rattle.fault_lines.specs.declared.fault.Fault.TheVariants.{File, Memory, Open, Feed, Write, TooMany, Index, Split, Finish, Net, Serve, Failed, Seal}
+use Rattle.fault_lines.specs.declared.fault.Fault.TheVariants.{File, Memory, Open, Feed, Write, TooMany, Index, Split, Finish, Net, Serve, Failed, Refused, Seal}
 
 -- a number and a name, and then this
 abbrev pub coded : ℕ → List ℕ → List ℕ → List ℕ
@@ -53,6 +53,7 @@ fault_line (Finish fault) = codes "fault finish " ++ coded (S.code_of fault) (S.
 fault_line Net = codes "fault net" ++ line_end
 fault_line (Serve fault) = codes "fault serve " ++ coded (H.code_of fault) (H.name_of fault) line_end
 fault_line Failed = codes "fault failed" ++ line_end
+fault_line Refused = codes "fault refused" ++ line_end
 fault_line Seal = codes "fault seal" ++ line_end
 
 -- the fault that the program reports if a run over a feed ended with one

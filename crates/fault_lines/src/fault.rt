@@ -54,6 +54,9 @@ pub enum Fault {
     /// The disk has failed while it recorded.
     #[error("the disk has failed")]
     Failed,
+    /// A command was refused, in a run that ends at the first refusal.
+    #[error("a command was refused")]
+    Refused,
     /// A file wasn't cut to its committed bytes.
     #[error("the file wasn't sealed")]
     Seal,
@@ -126,6 +129,7 @@ fn line_of(fault: Fault) -> Line
             line
         }
         Fault::Failed => words(b"fault failed"),
+        Fault::Refused => words(b"fault refused"),
         Fault::Seal => words(b"fault seal"),
     }
 }

@@ -10,6 +10,7 @@ mod indexing;
 mod salvaging;
 mod server;
 mod streams;
+mod watching;
 mod words;
 
 use crate::words::{Action, action_of, words};
@@ -44,8 +45,13 @@ fn show(rt: &HostRuntime, error: &Error) -> ExitCode {
 /// Does what the command line asks for.
 fn run(rt: &HostRuntime, action: Action<'_>) -> Result<(), Fault> {
     match action {
-        Action::Mux { check } => streams::mux(rt, check),
-        Action::Record { file, seal, most } => streams::record(rt, file, seal, most),
+        Action::Mux { check, strict } => streams::mux(rt, check, strict),
+        Action::Record {
+            file,
+            seal,
+            most,
+            strict,
+        } => streams::record(rt, file, seal, most, strict),
         Action::Links { file } => files::links(rt, file),
         Action::Split { file, link, serial } => files::split(rt, file, link, serial),
         Action::Finish { file, link } => finishing::finish(rt, file, link),

@@ -1,34 +1,53 @@
 //! The commands that read a feed from standard input.
 
+use crate::watching::{Watch, WatchedFeed, WatchedReplies};
 use disk_model::{FileDisk, FileMode};
 use fault_lines::Fault;
-use feed_codec::FeedFault;
+use feed_codec::{FeedFault, Tally};
 use feed_recorder::record_feed;
+use ogg_page::write_whole;
 use ogg_recorder::Recorder;
-use std::io::{self, BufReader};
+use std::io::{self, BufReader, IsTerminal};
+use text_line::Line;
 
 /// How many bytes of the feed are read at once.
 const AHEAD: usize = 65536;
 
 /// Writes the pages of the feed on standard input to standard output, and the replies to standard
-/// error. A check writes no pages, and the replies to standard output.
-pub fn mux(rt: &HostRuntime, check: bool) -> Result<(), Fault> {
+/// error. A check writes no pages, and the replies to standard output. If `strict` says so, the feed ends after the first
+/// refusal.
+pub fn mux(rt: &HostRuntime, check: bool, strict: bool) -> Result<(), Fault> {
     let alloc = rt.alloc();
-    let Ok(mut feed) = BufReader::with_capacity(alloc, AHEAD, rt.stdin()) else {
+    let watch = Watch::new(strict);
+    let Ok(input) = BufReader::with_capacity(alloc, AHEAD, rt.stdin()) else {
         return Err(Fault::Feed(FeedFault::Memory));
     };
+    let mut feed = WatchedFeed::new(input, &watch);
     // The standard streams keep no bytes back, so what is written is out.
-    if check {
-        multiplexer::mux(alloc, &mut feed, &mut io::sink(), &mut rt.stdout())?;
+    let tally = if check {
+        let mut replies = WatchedReplies::new(rt.stdout(), &watch);
+        multiplexer::mux(alloc, &mut feed, &mut io::sink(), &mut replies)?
     } else {
-        multiplexer::mux(alloc, &mut feed, &mut rt.stdout(), &mut rt.stderr())?;
+        let mut replies = WatchedReplies::new(rt.stderr(), &watch);
+        multiplexer::mux(alloc, &mut feed, &mut rt.stdout(), &mut replies)?
+    };
+    sum_up(rt, tally);
+    if watch.has_refused() {
+        return Err(Fault::Refused);
     }
     Ok(())
 }
 
 /// Records the feed on standard input into the file, which is made if there is none, and writes the replies to standard
-/// output. At the end the file is sealed if `seal` says so; after a fault it isn't.
-pub fn record(rt: &HostRuntime, file: &str, seal: bool, most: u32) -> Result<(), Fault> {
+/// output. `most` commands share a commit. If `strict` says so, the feed ends after the first refusal. At its end the file
+/// is sealed if `seal` says so; after a fault it isn't.
+pub fn record(
+    rt: &HostRuntime,
+    file: &str,
+    seal: bool,
+    most: u32,
+    strict: bool,
+) -> Result<(), Fault> {
     let alloc = rt.alloc();
     let Ok(disk) = FileDisk::open(rt, file, FileMode::Create) else {
         return Err(Fault::File);
@@ -39,12 +58,19 @@ pub fn record(rt: &HostRuntime, file: &str, seal: bool, most: u32) -> Result<(),
     };
     // `clap` has seen to it that it lies there.
     recorder.group(most.clamp(1, 1024));
-    let Ok(mut feed) = BufReader::with_capacity(alloc, AHEAD, rt.stdin()) else {
+    let watch = Watch::new(strict);
+    let Ok(input) = BufReader::with_capacity(alloc, AHEAD, rt.stdin()) else {
         return Err(Fault::Feed(FeedFault::Memory));
     };
-    record_feed(alloc, &mut feed, &mut rt.stdout(), &mut recorder)?;
+    let mut feed = WatchedFeed::new(input, &watch);
+    let mut replies = WatchedReplies::new(rt.stdout(), &watch);
+    let tally = record_feed(alloc, &mut feed, &mut replies, &mut recorder)?;
+    sum_up(rt, tally);
     if recorder.is_failed() {
         return Err(Fault::Failed);
+    }
+    if watch.has_refused() {
+        return Err(Fault::Refused);
     }
     // After a run to the feed's end nothing waits.
     if seal && recorder.held() == 0 {
@@ -54,4 +80,20 @@ pub fn record(rt: &HostRuntime, file: &str, seal: bool, most: u32) -> Result<(),
         }
     }
     Ok(())
+}
+
+/// Tells whoever sits at the terminal what the run came to.
+fn sum_up(rt: &HostRuntime, tally: Tally) {
+    let mut errors = rt.stderr();
+    if errors.is_terminal() {
+        let mut line = Line::new();
+        line.put_text(b" refused");
+        line.put_number(tally.refused);
+        line.put_text(b" kept, ");
+        line.put_number(tally.kept);
+        line.put_text(b" commands, ");
+        line.put_number(tally.commands);
+        // Nobody is told of a terminal that is gone.
+        let _ = write_whole(&mut errors, line.as_slice());
+    }
 }

@@ -8,15 +8,18 @@ use std::{env, io};
 /// What the command line asks for.
 #[derive(Clone, Copy, Debug, PartialEq, Eq)]
 pub enum Action<'a> {
-    /// The pages of the feed on standard input, or with `check` its replies alone.
+    /// The pages of the feed on standard input, or with `check` its replies alone, with `strict` up to the first refusal.
     Mux {
         check: bool,
+        strict: bool,
     },
-    /// The feed on standard input into the file, `most` commands to a commit, which is sealed at the end if `seal` says so.
+    /// The feed on standard input into the file, `most` commands to a commit, with `strict` up to the first refusal. The
+    /// file is sealed at the end if `seal` says so.
     Record {
         file: &'a str,
         seal: bool,
         most: u32,
+        strict: bool,
     },
     /// The listing of the file.
     Links {
@@ -133,7 +136,8 @@ fn mux<'a>(alloc: Global) -> Result<Command<'a>, AllocError> {
     Command::new(alloc, "mux")
         .about("Writes the pages of the feed on standard input")
         .after_help(MUX_HELP)
-        .arg(check)
+        .arg(check)?
+        .arg(strict(alloc))
 }
 
 const MUX_HELP: &str = "\
@@ -144,13 +148,24 @@ The pages go to standard output, and for each command a line of reply to standar
   refused CODE NAME    it breaks a rule, and nothing of it is written; the feed goes on
 
 Each command's pages and then its reply are out before the next record is read. Refusals are no
-fault: the status is 0 if the feed came to its end.
+fault: the status is 0 if the feed came to its end. With `--strict` the first one ends the run, by the
+line `fault refused` and status 1. If standard error is a terminal, a line at the end tells how many
+commands there were, and how many of them were kept and refused.
 ";
 
 fn mux_of<'a>(words: &ArgMatches<'a>) -> Action<'a> {
     Action::Mux {
         check: words.get_flag("check"),
+        strict: words.get_flag("strict"),
     }
+}
+
+/// Whether a refusal ends the run.
+fn strict<'a>(alloc: Global) -> Arg<'a> {
+    Arg::new(alloc, "strict")
+        .long("strict")
+        .help("The first refusal ends the run, with status 1")
+        .action(ArgAction::SetTrue)
 }
 
 /// How many commands share one commit.
@@ -176,7 +191,8 @@ fn record<'a>(alloc: Global) -> Result<Command<'a>, AllocError> {
             "The file; it is made if there is none, and continued if there is one",
         ))?
         .arg(seal)?
-        .arg(group(alloc))
+        .arg(group(alloc))?
+        .arg(strict(alloc))
 }
 
 const RECORD_HELP: &str = "\
@@ -188,6 +204,11 @@ For each command a line of reply goes to standard output:
   refused CODE NAME    it breaks a rule, and nothing of it is recorded; the feed goes on
   refused 21 Disk      the disk failed; every command after it is refused as `1 Failed`, and the next
                        `record` finds what was kept, without the last group or with all of it
+
+Refusals are no fault: the status is 0 if the feed came to its end. With `--strict` the first one ends
+the run: what waits is kept, then come the line `fault refused` and status 1, and the file isn't sealed.
+If standard error is a terminal, a line at the end tells how many commands there were, and how many of
+them were kept and refused.
 
 Whatever stops the program or the machine, the next `record` of the same file finds all that was
 kept, and goes on from there:
@@ -204,6 +225,7 @@ fn record_of<'a>(words: &ArgMatches<'a>) -> Option<Action<'a>> {
         file: words.get_str("FILE")?,
         seal: words.get_flag("seal"),
         most: words.get_one::<u32>("group")?,
+        strict: words.get_flag("strict"),
     })
 }
 
