@@ -1,21 +1,19 @@
 -- The end of a feed.
-use Rattle.std.proofs.Common.{◌≡◌, ℕ, ◌+◌, ◌-◌, ◌^◌, min, Bool, true, false, Option, Some, None, Result, Ok, Err, List, [], ◌∷◌, ◌++◌, length, refl, sym, ◌∙◌, ap, subst, arith, append-nil, length-append}
-use Rattle.std.specs.List.{AllByRecursion, flat_map}
-use Rattle.std.specs.Io.KnownBytes.{Appends, Consumes, IsAtEnd}
+use Rattle.std.proofs.Common.{◌≡◌, ℕ, Bool, true, false, Option, Some, None, Ok, Err, List, [], ◌++◌, refl, sym, ◌∙◌, ap, subst, arith, append-nil, length-append}
+use Rattle.std.specs.Io.KnownBytes.{Appends, Consumes}
 use Rattle.std.proofs.KnownBytes.{Consumes-nil}
 use Rattle.ogg_page.specs.Output.{WritesPrefix}
 use Rattle.ogg_page.specs.Page.{Page as PageValue}
-use Rattle.link_chain.specs.Links.{AreLinks, flattened}
-use Rattle.link_chain.specs.ChainState.{chain_state_of}
+use Rattle.link_chain.specs.Links.{AreLinks}
 use Rattle.link_chain.specs.Taking.{unfinished_stream}
 use Rattle.chain_rules.specs.Recording.{Recording, HoldsLinks, after}
 use Rattle.ogg_command.specs.declared.command.Command.{Command}
 use Rattle.gathering.specs.Kept.{waits}
-use Rattle.gathering.specs.Gathered.{CanGoOn, Gathered, HasGathered}
+use Rattle.gathering.specs.Gathered.{Gathered, HasGathered}
 use Rattle.feed_codec.specs.Record.{announcement}
-use Rattle.feed_maker.specs.Feed.{Fits, GivesNot, HasTooLong, feed_of, records_of}
-use Rattle.feed_maker.specs.Making.{Breaks, HasGiven, HasGivenAll, HasTaken, IsFaultOfInput, MakesFeed, Stops, StopsAtFault}
-use Rattle.feed_maker.specs.Turn.{EndsAt, EndsWell, GivesRest, GivesRestNot, GoesOn, HasMade, IsStarted, StillMakes, TakesAll, Turns, of_input}
+use Rattle.feed_maker.specs.Feed.{Fits, GivesNot, HasTooLong, records_of}
+use Rattle.feed_maker.specs.Making.{Breaks, HasGiven, HasTaken, MakesFeed, Stops, StopsAtFault}
+use Rattle.feed_maker.specs.Turn.{EndsAt, EndsWell, GivesRest, GivesRestNot, GoesOn, IsStarted, StillMakes, TakesAll, Turns, of_input}
 use Rattle.feed_maker.specs.declared.maker.Maker.{Maker}
 use Rattle.feed_maker.specs.declared.fault.MakingFault.{MakingFault}
 use Rattle.feed_maker.specs.declared.fault.MakingFault.TheVariants.{Page, Chain, PacketTooLong, Unfinished, TooLong, Read, Limit, Write, Memory}

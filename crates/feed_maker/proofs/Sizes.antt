@@ -1,5 +1,5 @@
 -- How long records are, and which commands fit one.
-use Rattle.std.proofs.Common.{◌≡◌, ℕ, ◌+◌, ◌-◌, ◌^◌, ◌<◌, ◌≤◌, List, [], ◌∷◌, ◌++◌, length, sym, ap, ◌∙◌, arith, length-append}
+use Rattle.std.proofs.Common.{◌≡◌, ℕ, ◌+◌, ◌^◌, ◌<◌, List, [], ◌∷◌, ◌++◌, length, arith, length-append}
 use Rattle.std.specs.Prelude.{ℤ, Some}
 use Rattle.std.specs.List.{AllByRecursion, flat_map}
 use Rattle.ogg_command.specs.declared.command.Begin.{Begin}

@@ -1,8 +1,8 @@
 -- What each turn leaves.
-use Rattle.std.proofs.Common.{◌≡◌, ◌≢◌, ℕ, ◌+◌, ◌-◌, ◌^◌, ◌≤◌, ◌<◌, min, Bool, true, false, if◌then◌else◌, Option, Some, None, Result, Ok, Err, List, [], ◌∷◌, ◌++◌, length, take, refl, sym, ◌∙◌, ap, subst, arith, append_assoc, append-nil, length-append}
-use Rattle.std.specs.List.{AllByRecursion, flat_map}
+use Rattle.std.proofs.Common.{◌≡◌, ◌≢◌, ℕ, ◌+◌, ◌<◌, Bool, true, false, if◌then◌else◌, Option, Some, None, Ok, Err, List, [], ◌∷◌, ◌++◌, length, take, refl, sym, ◌∙◌, ap, subst, arith, append_assoc, length-append}
+use Rattle.std.specs.List.{AllByRecursion}
 use Rattle.std.specs.Io.KnownBytes.{Appends, Consumes}
-use Rattle.std.proofs.KnownBytes.{Appends-nil, Appends-trans, Consumes-nil, Consumes-trans}
+use Rattle.std.proofs.KnownBytes.{Appends-nil, Appends-trans, Consumes-trans}
 use Rattle.std.proofs.Math.Seq.{take-append-add}
 use Rattle.std.proofs.lemmas.List.{take_all}
 use Rattle.std.proofs.lemmas.List.Concat.{flat_map-append}
@@ -17,8 +17,8 @@ use Rattle.ogg_command.specs.declared.command.Command.{Command}
 use Rattle.gathering.specs.Gathered.{CanGoOn, Gathered, HasGathered}
 use Rattle.feed_codec.specs.Record.{announcement}
 use Rattle.feed_maker.specs.Feed.{Fits, GivesNot, HasTooLong, feed_of, record_bytes, records_of}
-use Rattle.feed_maker.specs.Making.{Breaks, HasBroken, HasGiven, HasTaken, IsFaultOfInput, Stops, StopsAtFault}
-use Rattle.feed_maker.specs.Turn.{EndsAt, Gives, GivesNoFurther, GoesOn, HasMade, IsFaultBehind, IsStarted, MeetsFault, NextOf, StillMakes, TakesPage, Turns, of_input}
+use Rattle.feed_maker.specs.Making.{Breaks, HasGiven, HasTaken, IsFaultOfInput}
+use Rattle.feed_maker.specs.Turn.{EndsAt, Gives, GivesNoFurther, GoesOn, HasMade, IsFaultBehind, MeetsFault, NextOf, StillMakes, TakesPage, Turns}
 use Rattle.feed_maker.specs.declared.maker.Maker.{Maker}
 use Rattle.feed_maker.specs.declared.fault.MakingFault.{MakingFault}
 use Rattle.feed_maker.specs.declared.fault.MakingFault.TheVariants.{Page, Chain, PacketTooLong, Unfinished, TooLong, Read, Limit, Write, Memory}

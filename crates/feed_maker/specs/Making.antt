@@ -1,5 +1,5 @@
 -- What was written of what was read. Ours.
-use Rattle.std.specs.Prelude.{◌≡◌, ℕ, ◌+◌, ◌-◌, ◌^◌, ◌≤◌, ◌<◌, min, true, false, Option, Some, None, Result, Ok, Err, List, [], ◌++◌, length, ⊤}
+use Rattle.std.specs.Prelude.{◌≡◌, ℕ, ◌+◌, ◌-◌, ◌^◌, ◌≤◌, min, true, false, Option, Some, None, List, [], ◌++◌, length}
 use Rattle.std.specs.List.{AllByRecursion}
 use Rattle.std.specs.Io.KnownBytes.{Appends, Consumes, IsAtEnd}
 use Rattle.ogg_page.specs.Output.{WritesPrefix}
@@ -37,7 +37,7 @@ pub record HasGivenAll (before now : Option (List ℕ)) (links : List (List Page
   pub all : HasGiven before now links gathered given
   pub none_waits : waits gathered.link ≡ false
 
--- the commands, where one was too long for a record, the writer failed or memory was refused: their feed was written in part
+-- Where a command was too long for a record, the writer failed or memory was refused, the feed was written in part.
 pub record HasBroken (before now : Option (List ℕ)) (links : List (List PageValue)) : Type 0 where
   pub gathered : Gathered
   pub given : List Command

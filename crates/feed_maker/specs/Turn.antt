@@ -3,7 +3,7 @@ use Rattle.std.specs.Prelude.{◌≡◌, ℕ, ◌+◌, ◌-◌, ◌^◌, ◌≤�
 use Rattle.std.specs.List.{AllByRecursion}
 use Rattle.std.specs.Io.KnownBytes.{Appends, Consumes, IsAtEnd}
 use Rattle.ogg_page.specs.Page.{Page as PageValue, IsPage, page_bytes, page_size}
-use Rattle.page_reader.specs.Reader.{IsFaultOf, ReaderState, started}
+use Rattle.page_reader.specs.Reader.{IsFaultOf, started}
 use Rattle.page_reader.specs.declared.fault.PageReaderFault.{PageReaderFault}
 use Rattle.page_reader.specs.declared.fault.PageReaderFault.TheVariants.{Page as PageOf, Read as ReadOf}
 use Rattle.link_chain.specs.Links.{flattened}

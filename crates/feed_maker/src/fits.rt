@@ -83,8 +83,8 @@ fn are_short(fields: &[Field]) -> bool
     true
 }
 
-/// How long the spelling of a Skeleton's head is, or of that there is none. Beyond the largest `usize` it stays there, as
-/// the other sizes do.
+/// How long the spelling of a Skeleton's head is, or of that there is none. Beyond the largest `usize` it stays there,
+/// as the other sizes do.
 fn skeleton_size(skeleton: &Option<SkeletonHead>) -> usize
     ensures { result ≡ capped (length (skeleton_bytes skeleton.now)) }
 {

@@ -57,7 +57,7 @@ pub(crate) fn announce<W: Write>(bytes: &mut Vec<u8>, writer: &mut W) -> Result<
     }
 }
 
-/// Writes the records of the commands. Where there are none, the writer isn't used. `Memory` and `Limit`, which says that
+/// Writes the records of the commands. If there are none, the writer isn't used. `Memory` and `Limit`, which says that
 /// a command is too long for a record, come before anything is written.
 pub(crate) fn give<W: Write>(
     commands: &[Command],

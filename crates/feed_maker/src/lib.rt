@@ -1,7 +1,7 @@
 //! The feed of an Ogg bitstream that is read once, as an encoder's that comes through a pipe.
 //!
-//! `make_feed` reads pages, gathers them into commands, and writes these as the records of a feed of version 2. What a page
-//! completes is written before the next read, and before a fault is reported.
+//! `make_feed` reads pages, gathers them into commands, and writes these as the records of a feed of version 2. What a
+//! page completes is written before the next read, and before a fault is reported.
 //!
 //! Start at `specs/Making.antt`, which says what was written of what was read.
 #![tactic(auto)]

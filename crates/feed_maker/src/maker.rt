@@ -127,8 +127,8 @@ impl Maker {
     }
 }
 
-/// Takes a page that begins at `at` and ends at `behind`. The commands that it completes are appended. After `Memory` what is
-/// gathered is lost.
+/// Takes a page that begins at `at` and ends at `behind`. The commands that it completes are appended. After `Memory`
+/// what is gathered is lost.
 fn take_page(
     gatherer: &mut Gatherer,
     page: &Page<'_>,

@@ -13,10 +13,10 @@ use gathering::gathered_commands_hold_the_recording;
 use std::alloc::Global;
 use std::io::{Read, Write};
 
-/// Writes the feed of an Ogg bitstream: the announcement of version 2, and then the records of the commands that add up to
-/// what the input holds. What a page completes is written, and the writer flushed, before the next read. At the end of the
-/// input or at its fault the commands that still wait are written first. `Limit`, `Write` and `Memory` are the exceptions:
-/// after these nothing more is written.
+/// Writes the feed of an Ogg bitstream: the announcement of version 2, and then the records of the commands that add up
+/// to what the input holds. What a page completes is written, and the writer flushed, before the next read. At the end
+/// of the input or at its fault the commands that still wait are written first. `Limit`, `Write` and `Memory` are the
+/// exceptions: after these nothing more is written.
 pub fn make_feed<R: Read + Drop, W: Write>(
     alloc: Global,
     reader: &mut R,

@@ -10,8 +10,8 @@ use Rattle.ogg_page.specs.declared.fault.PageFault.TheVariants.{Short}
 use Rattle.page_reader.specs.declared.fault.PageReaderFault.{PageReaderFault}
 use Rattle.page_reader.specs.declared.fault.PageReaderFault.TheVariants.{Page, Read}
 
--- the bytes that were read and are of no page that was given, the offset of the first of them in the input, the page that
--- is lent, and how the input has ended, if it has
+-- the bytes that were read and are of no page that was given, the offset of the first of them in the input, the page
+-- that is lent, and how the input has ended, if it has
 pub record ReaderState : Type 0 where
   pub unread : List ℕ
   pub offset : ℕ
@@ -21,8 +21,8 @@ pub record ReaderState : Type 0 where
 abbrev pub started : ReaderState
 started = record { unread = []; offset = 0; lent = None; outcome = None }
 
--- These bytes are no page's beginning, and this is the first thing that is wrong with them: for want of further bytes only
--- if there are none, and else whatever follows.
+-- These bytes are no page's beginning, and this is the first thing that is wrong with them: for want of further bytes
+-- only if there are none, and else whatever follows.
 pub record IsFaultOf (bytes : List ℕ) (left : Option (List ℕ)) (fault : PageFault) : Type 0 where
   pub some : bytes ≢ []
   pub read : page_at bytes ≡ Err fault
@@ -64,20 +64,20 @@ Gives bytes left offset (Ok done) (Some lent) new = GivesPage bytes offset lent 
 Gives bytes left offset (Ok done) None new = GivesEnd bytes left offset new
 Gives bytes left offset (Err fault) lent new = GivesFault bytes left offset fault new
 
--- what a call leaves: the bytes that it gives from are those that were unread, and then those that it took of the reader
+-- what a call leaves: it gives from the bytes that were unread, and then those that it took of the reader
 pub record HasAdvanced (old : ReaderState) (from : Option (List ℕ)) (result : Result (Unit {0}) PageReaderFault) (new : ReaderState)
     (left : Option (List ℕ)) : Type 0 where
   pub taken : List ℕ
   pub consumed : Consumes from left taken
   pub gives : Gives (old.unread ++ taken) left old.offset result new.lent new
 
--- the reader, of which these bytes are left, gives these pages, one call after the other, and then ends so, and is left so
+-- the reader, of which these bytes are left, gives these pages, one call after the other, then ends so, and is left so
 abbrev pub IsRun : ReaderState → Option (List ℕ) → List LentAt → Result (Unit {0}) PageReaderFault → ReaderState → Type 0
 IsRun state from [] end last = (left : Option (List ℕ)) × HasAdvanced state from end last left × (last.lent ≡ None)
 IsRun state from (lent ∷ more) end last =
     (new : ReaderState) × (left : Option (List ℕ)) × HasAdvanced state from (Ok tt) new left × (new.lent ≡ Some lent) × IsRun new left more end last
 
--- These pages and then this end at this offset are all that is found. Where the reader fails, they are what is found first.
+-- These pages and then this end at this offset are all that is found. If the reader fails, they are found first.
 abbrev pub AreAll : List FoundPage → List LentAt → Result (Unit {0}) PageReaderFault → ℕ → Type 0
 AreAll all lent (Ok done) offset = all ≡ map found lent
 AreAll all lent (Err (Page fault)) offset = all ≡ map found lent ++ Err (offset, fault) ∷ []

@@ -11,7 +11,8 @@ use ogg_page::PageFault;
 
 /// What is wrong with bytes that are long enough to show it stays wrong, whatever follows them.
 pub fn definite_faults_stay()
-    ensures { (bytes more : List ℕ) (fault : Fault) → fault ≢ PageFault.Short → page_at bytes ≡ Err fault → page_at (bytes ++ more) ≡ Err fault }
+    ensures { (bytes more : List ℕ) (fault : Fault) → fault ≢ PageFault.Short → page_at bytes ≡ Err fault
+        → page_at (bytes ++ more) ≡ Err fault }
 {}
 
 /// What a page reader gives, call by call up to its end or its first fault, is what is found in the reader's bytes

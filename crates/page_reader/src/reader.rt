@@ -32,7 +32,12 @@ impl Model for PageReader {
 
     ghost Value = { ReaderState };
 
-    ghost view = { λ r. record { unread = held_of r.room.items r.held; offset = r.offset; lent = lent_of r.room.items r.lent; outcome = r.outcome } };
+    ghost view = { λ r. record {
+      unread = held_of r.room.items r.held;
+      offset = r.offset;
+      lent = lent_of r.room.items r.lent;
+      outcome = r.outcome;
+    } };
 
     ghost invariant = { λ r. IsHeld r.room.items r.held × IsLent r.room.items r.lent };
 }

@@ -1,4 +1,4 @@
-use Rattle.std.proofs.Common.{arith, ap, length}
+use Rattle.std.proofs.Common.{arith}
 use Rattle.feed_codec.specs.Record.{entry_bytes}
 use Rattle.feed_maker.proofs.Lists.{length-flat_map-more}
 use Rattle.feed_maker.proofs.Sizes.{length-entry_bytes}

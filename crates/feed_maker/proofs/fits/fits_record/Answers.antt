@@ -1,5 +1,4 @@
 use Rattle.std.proofs.Common.{sym, subst, refl}
-use Rattle.std.specs.Bool.{IsTrue}
 use Rattle.feed_maker.specs.Feed.{Fits}
 use Rattle.feed_maker.proofs.Sizes.{begin_fits, begin_of_fits, end_fits, put_fits, put_of_fits}
 use Rattle.feed_maker.proofs.fits.fits_record.Goals as goal

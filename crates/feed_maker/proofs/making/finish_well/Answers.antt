@@ -1,4 +1,4 @@
-use Rattle.std.proofs.Common.{sym, ◌∙◌}
+use Rattle.std.proofs.Common.{sym}
 use Rattle.feed_maker.proofs.Ends.{ends_unfinished, ends_whole, rest_stops}
 use Rattle.feed_maker.proofs.making.finish_well.Goals as goal
 
