@@ -13,10 +13,13 @@ use Rattle.feed_codec.specs.Reply.{line_end}
 use Rattle.feed_codec.specs.FeedFault as F
 use Rattle.feed_codec.specs.declared.fault.RunFault.{RunFault}
 use Rattle.feed_codec.specs.declared.fault.RunFault.TheVariants.{Feed as RunFeed, Write as RunWrite, TooMany as RunTooMany}
+use Rattle.feed_maker.specs.MakingFault as M
+use Rattle.feed_maker.specs.declared.fault.MakingFault.{MakingFault}
+use Rattle.feed_maker.specs.declared.fault.MakingFault.TheVariants.{Page as MakePage, Chain as MakeChain, PacketTooLong, Unfinished as MakeUnfinished, TooLong, Read as MakeRead, Limit, Write as MakeWrite, Memory as MakeMemory}
 use Rattle.ogg_split.specs.SplitFault as S
 use Rattle.sessions.specs.HubFault as H
 use Rattle.fault_lines.specs.declared.fault.Fault.{Fault}
-use Rattle.fault_lines.specs.declared.fault.Fault.TheVariants.{File, Memory, Open, Feed, Write, TooMany, Index, Split, Finish, Net, Serve, Failed, Refused, Seal}
+use Rattle.fault_lines.specs.declared.fault.Fault.TheVariants.{File, Memory, Open, Feed, Write, TooMany, Index, Split, Finish, Make, Net, Serve, Failed, Refused, Seal}
 
 -- a number and a name, and then this
 abbrev pub coded : ℕ → List ℕ → List ℕ → List ℕ
@@ -26,19 +29,35 @@ coded code name rest = decimal code ++ (codes " " ++ (name ++ rest))
 abbrev pub place : ℕ → ℕ → List ℕ → List ℕ
 place offset code name = codes " " ++ (decimal offset ++ (codes " " ++ coded code name line_end))
 
+-- a number, and then this
+abbrev pub numbered : ℕ → List ℕ → List ℕ
+numbered value rest = codes " " ++ (decimal value ++ rest)
+
 -- what follows the name of a fault of opening
 abbrev pub open_rest : OpenFault → List ℕ
 open_rest Disk = line_end
 open_rest (OpenPage offset fault) = place offset (P.code_of fault) (P.name_of fault)
 open_rest OpenMemory = line_end
 open_rest (OpenChain offset fault) = place offset (C.code_of fault) (C.name_of fault)
-open_rest (Unfinished serial) = codes " " ++ (decimal serial ++ line_end)
+open_rest (Unfinished serial) = numbered serial line_end
 
 -- what follows the name of a fault of indexing
 abbrev pub index_rest : IndexFault → List ℕ
 index_rest (IndexPage offset fault) = place offset (P.code_of fault) (P.name_of fault)
 index_rest (IndexChain offset fault) = place offset (C.code_of fault) (C.name_of fault)
 index_rest IndexMemory = line_end
+
+-- what follows the name of a fault of making a feed: the offset in the input, if it has one
+abbrev pub make_rest : MakingFault → List ℕ
+make_rest (MakePage offset fault) = place offset (P.code_of fault) (P.name_of fault)
+make_rest (MakeChain offset fault) = place offset (C.code_of fault) (C.name_of fault)
+make_rest (PacketTooLong offset) = numbered offset line_end
+make_rest (MakeUnfinished offset serial) = numbered offset (numbered serial line_end)
+make_rest (TooLong offset) = numbered offset line_end
+make_rest (MakeRead offset) = numbered offset line_end
+make_rest Limit = line_end
+make_rest MakeWrite = line_end
+make_rest MakeMemory = line_end
 
 abbrev pub fault_line : Fault → List ℕ
 fault_line File = codes "fault file" ++ line_end
@@ -50,6 +69,7 @@ fault_line TooMany = codes "fault run 3 TooMany" ++ line_end
 fault_line (Index fault) = codes "fault index " ++ coded (I.code_of fault) (I.name_of fault) (index_rest fault)
 fault_line (Split fault) = codes "fault split " ++ coded (S.code_of fault) (S.name_of fault) line_end
 fault_line (Finish fault) = codes "fault finish " ++ coded (S.code_of fault) (S.name_of fault) line_end
+fault_line (Make fault) = codes "fault make " ++ coded (M.code_of fault) (M.name_of fault) (make_rest fault)
 fault_line Net = codes "fault net" ++ line_end
 fault_line (Serve fault) = codes "fault serve " ++ coded (H.code_of fault) (H.name_of fault) line_end
 fault_line Failed = codes "fault failed" ++ line_end

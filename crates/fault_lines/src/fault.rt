@@ -3,9 +3,10 @@ ghost use Rattle.std.specs.Prelude.{◌≡◌, ◌≤◌, ◌+◌, ◌++◌, OnO
 ghost use Rattle.std.specs.Io.KnownBytes.{Appends};
 ghost use Rattle.ogg_page.specs.Output.{WritesPrefix};
 ghost use Rattle.feed_codec.specs.Reply.{line_end};
-ghost use Rattle.fault_lines.specs.Fault.{IsOfRun, coded, fault_line, index_rest, open_rest, place};
+ghost use Rattle.fault_lines.specs.Fault.{IsOfRun, coded, fault_line, index_rest, make_rest, numbered, open_rest, place};
 
 use feed_codec::{FeedFault, RunFault};
+use feed_maker::MakingFault;
 use gate_file::OpenFault;
 use link_index::IndexFault;
 use ogg_page::{WriteFault, write_whole};
@@ -45,6 +46,9 @@ pub enum Fault {
     /// A link wasn't written finished as a whole.
     #[error("{0}")]
     Finish(SplitFault),
+    /// No feed was made of the whole input.
+    #[error("{0}")]
+    Make(MakingFault),
     /// The address can't be listened to.
     #[error("the address can't be listened to")]
     Net,
@@ -121,6 +125,12 @@ fn line_of(fault: Fault) -> Line
             line.put_text(b"fault finish ");
             line
         }
+        Fault::Make(fault) => {
+            let mut line = make_rest(fault);
+            put_coded(&mut line, fault.code(), fault.name());
+            line.put_text(b"fault make ");
+            line
+        }
         Fault::Net => words(b"fault net"),
         Fault::Serve(fault) => {
             let mut line = Line::new();
@@ -152,12 +162,7 @@ fn open_rest(fault: OpenFault) -> Line
     match fault {
         OpenFault::Page(offset, fault) => place(offset, fault.code(), fault.name()),
         OpenFault::Chain(offset, fault) => place(offset, fault.code(), fault.name()),
-        OpenFault::Unfinished(serial) => {
-            let mut line = Line::new();
-            line.put_number(u64::from(serial));
-            line.put_text(b" ");
-            line
-        }
+        OpenFault::Unfinished(serial) => number(u64::from(serial)),
         OpenFault::Disk | OpenFault::Memory => Line::new(),
     }
 }
@@ -172,6 +177,38 @@ fn index_rest(fault: IndexFault) -> Line
         IndexFault::Chain(offset, fault) => place(offset, fault.code(), fault.name()),
         IndexFault::Memory => Line::new(),
     }
+}
+
+/// What follows the name of a fault of making a feed.
+fn make_rest(fault: MakingFault) -> Line
+    ensures text { result.text ≡ make_rest fault }
+    ensures room { 60 ≤ result.room }
+{
+    match fault {
+        MakingFault::Page(offset, fault) => place(offset, fault.code(), fault.name()),
+        MakingFault::Chain(offset, fault) => place(offset, fault.code(), fault.name()),
+        MakingFault::PacketTooLong(offset)
+        | MakingFault::TooLong(offset)
+        | MakingFault::Read(offset) => number(offset),
+        MakingFault::Unfinished(offset, serial) => {
+            let mut line = number(u64::from(serial));
+            line.put_number(offset);
+            line.put_text(b" ");
+            line
+        }
+        MakingFault::Limit | MakingFault::Write | MakingFault::Memory => Line::new(),
+    }
+}
+
+/// A number at the end of a line.
+fn number(value: u64) -> Line
+    ensures text { result.text ≡ numbered value line_end }
+    ensures room { 100 ≤ result.room }
+{
+    let mut line = Line::new();
+    line.put_number(value);
+    line.put_text(b" ");
+    line
 }
 
 /// A page's offset, and the number and the name of what is wrong with it.

@@ -8,6 +8,8 @@ use std::{env, io};
 /// What the command line asks for.
 #[derive(Clone, Copy, Debug, PartialEq, Eq)]
 pub enum Action<'a> {
+    /// The feed of the Ogg bitstream on standard input.
+    Feed,
     /// The pages of the feed on standard input, or with `check` its replies alone, with `strict` up to the first refusal.
     Mux {
         check: bool,
@@ -70,6 +72,7 @@ pub fn words(rt: &HostRuntime) -> Result<Vec<String>, Error> {
 pub fn action_of<'a>(alloc: Global, words: &'a [String]) -> Result<Action<'a>, Error> {
     let matches = program(alloc)?.try_get_matches_from(words)?;
     let action = match matches.subcommand() {
+        Some(("feed", _)) => Some(Action::Feed),
         Some(("mux", words)) => Some(mux_of(words)),
         Some(("record", words)) => record_of(words),
         Some(("links", words)) => links_of(words),
@@ -100,6 +103,7 @@ fn program<'a>(alloc: Global) -> Result<Command<'a>, AllocError> {
         .after_help(PROGRAM_HELP)
         .subcommand_required(true)
         .arg_required_else_help(true)
+        .subcommand(feed(alloc)?)?
         .subcommand(mux(alloc)?)?
         .subcommand(record(alloc)?)?
         .subcommand(links(alloc)?)?
@@ -111,13 +115,16 @@ fn program<'a>(alloc: Global) -> Result<Command<'a>, AllocError> {
 }
 
 const PROGRAM_HELP: &str = "\
-Packets come as a feed: records that begin streams, put packets into them and end them.
-docs/FORMATS.md describes it, and examples/ has some. A first try:
+From an encoder to an archive to a player:
+
+  ffmpeg -i INPUT -f ogg - | kudzuturret feed | kudzuturret record radio.ogg
+  kudzuturret finish radio.ogg > radio-to-play.ogg
+  kudzuturret serve radio.ogg 127.0.0.1:8000 10
+
+Between them packets come as a feed: records that begin streams, put packets into them and end them.
+docs/FORMATS.md describes it, and examples/ has some:
 
   kudzuturret mux < examples/hello.feed > hello.ogg
-  kudzuturret record hello.ogg --seal < examples/hello.feed
-  kudzuturret links hello.ogg
-  kudzuturret serve hello.ogg 127.0.0.1:8000 10
 
 Status: 0 done; 1 a fault, whose line `fault ..` is the last on standard error; 2 help, the version,
 or a command line that can't be read.
@@ -127,6 +134,33 @@ or a command line that can't be read.
 fn file<'a>(alloc: Global, help: &'a str) -> Arg<'a> {
     Arg::new(alloc, "FILE").required(true).help(help)
 }
+
+fn feed<'a>(alloc: Global) -> Result<Command<'a>, AllocError> {
+    Ok(
+        Command::new(alloc, "feed")
+            .about("Makes a feed of the Ogg stream on standard input, as an encoder writes it")
+            .after_help(FEED_HELP),
+    )
+}
+
+const FEED_HELP: &str = "\
+The feed goes to standard output, page by page: a page's packets are out as soon as the page is
+complete, so an encoder's output is recorded while it is made:
+
+  ffmpeg -i INPUT -f ogg - | kudzuturret feed | kudzuturret record radio.ogg
+  kudzuturret feed < song.ogg | kudzuturret mux > again.ogg
+
+A link begins once the headers of all its streams have come; Vorbis, Theora, Opus, FLAC and Speex are
+known, and of another codec the first packet is the header. Chains go on link by link, and a Skeleton is
+a stream like the others. Each packet gets the position of the page that it ends in.
+
+What can't be taken ends the feed by a fault with its offset, after everything before it is out:
+
+  fault make 1 Page OFFSET CODE NAME       no good page begins at this byte
+  fault make 2 Chain OFFSET CODE NAME      the page there doesn't belong after those before it
+  fault make 3 PacketTooLong OFFSET        a packet has more than 8,388,608 bytes
+  fault make 4 Unfinished OFFSET SERIAL    the input ends within a packet of this stream
+";
 
 fn mux<'a>(alloc: Global) -> Result<Command<'a>, AllocError> {
     let check = Arg::new(alloc, "check")

@@ -1,0 +1,75 @@
+#!/usr/bin/env bash
+# Ogg files made into feeds: what `feed` writes holds what it read, whatever comes in which pieces.
+. "$(dirname "$0")/common.bash"
+
+feeding() { timeout 200 python3 "$here/feeding.py" "$@"; }
+
+# again NAME PAGE ..: a file of these pages, through `feed` and `mux`.
+again() {
+    local name=$1
+    shift
+    pages "$@" >"$work/in.ogg"
+    run feed <"$work/in.ogg"
+    check "$name: status $status" [ "$status" -eq 0 ]
+    check "$name: no fault" is_text "$work/err" ''
+    cp "$work/out" "$work/feed"
+    run mux --strict <"$work/feed"
+    check "$name: every command is kept" [ "$status" -eq 0 ]
+    cp "$work/out" "$work/again.ogg"
+    check "$name: the same streams and packets" feeding same "$work/in.ogg" "$work/again.ogg"
+}
+again "one stream" "02 0 1 0 3 abc" "00 5 1 1 5 hello" "04 9 1 2 1 x"
+again "an end on a page of its own" "02 0 1 0 3 abc" "00 5 1 1 5 hello" "04 5 1 2 - -"
+again "two streams in turn, and a packet over two pages" "02 0 1 0 3 abc" "02 0 2 0 3 abc" "00 -1 1 1 255*255 y*65025" "00 7 2 1 1 x" \
+    "05 9 1 2 255*19,130 y*4975" "04 7 2 2 - -"
+again "a chain" "06 0 1 0 3 abc" "02 0 2 0 2 de" "04 7 2 1 1 x" "02 0 3 0 1 f"
+again "headers alone" "02 0 1 0 3 abc" "02 0 2 0 3 abc"
+again "several packets on a page" "02 0 1 0 3 abc" "00 7 1 1 1,0,2 xyz" "04 9 1 2 0,1 a"
+
+# Vorbis has three headers: no packet is put before its link has begun with all of them.
+python3 - "$here" >"$work/vorbis.ogg" <<'END'
+import sys
+sys.path.insert(0, sys.argv[1])
+from pages import page
+first = b"\x01vorbis"
+sys.stdout.buffer.write(page(2, 0, 1, 0, [7], first) + page(2, 0, 2, 0, [3], b"abc") + page(0, 0, 1, 1, [2, 3, 2], b"cocodex")
+                        + page(0, 4, 2, 1, [1], b"y") + page(4, 4, 2, 2, [], b"") + page(4, 9, 1, 2, [1], b"z"))
+END
+run feed <"$work/vorbis.ogg"
+cp "$work/out" "$work/feed"
+run mux --check --strict <"$work/feed"
+check "three headers: a Begin, two Puts and an End with each stream: status $status" [ "$(grep -c kept "$work/out")" -eq 6 ]
+check "three headers: begun with them" grep -q '^kept 1 ' "$work/out"
+
+# Faults of the input are told with their offsets, after what comes before them.
+pages "02 0 1 0 3 abc" "00 5 1 1 5 hello" "00 6 1 2 1 x" >"$work/in.ogg"
+faulty() {
+    local name=$1 line=$2
+    run feed <"$work/in.ogg"
+    check "$name: status $status" [ "$status" -eq 1 ]
+    check "$name: the fault" is_text "$work/err" "$line"
+    cp "$work/out" "$work/feed"
+    run mux --check --strict <"$work/feed"
+    check "$name: what comes before it is kept" grep -q '^kept 2 64' "$work/out"
+}
+cp "$work/in.ogg" "$work/whole.ogg"
+printf H | dd of="$work/in.ogg" bs=1 seek=92 conv=notrunc status=none
+faulty "damage" 'fault make 1 Page 64 4 Checksum\n'
+head -c 80 "$work/whole.ogg" >"$work/in.ogg"
+faulty "a cut" 'fault make 1 Page 64 1 Short\n'
+{ head -c 64 "$work/whole.ogg"; printf 'OggZ and so on, which is no page'; } >"$work/in.ogg"
+faulty "no page" 'fault make 1 Page 64 2 Pattern\n'
+pages "02 0 1 0 3 abc" "00 5 1 1 5 hello" "00 6 1 3 1 x" >"$work/in.ogg"
+faulty "a gap" 'fault make 2 Chain 64 1 Sequence\n'
+pages "02 0 1 0 3 abc" "00 5 1 1 5 hello" "00 -1 1 2 255 y*255" >"$work/in.ogg"
+faulty "an unfinished packet" 'fault make 4 Unfinished 347 1\n'
+run feed </dev/null
+check "no input: status $status" [ "$status" -eq 0 ]
+check "no input: an announcement" [ "$(wc -c <"$work/out")" -eq 6 ]
+timeout 20 "$program" feed <"$work/whole.ogg" >/dev/full 2>"$work/err"
+check "a full device" is_text "$work/err" 'fault make 8 Write\n'
+
+check "random files, whole, in pieces, cut and changed" feeding compare "$program"
+check "a page at a time" feeding live "$program"
+
+finish

@@ -1,0 +1,191 @@
+#!/usr/bin/env python3
+"""What `feed` makes of Ogg files, by what is in them before and after.
+
+    feeding.py same FILE OTHER        whether both hold the same streams, packets, positions and ends
+    feeding.py compare PROGRAM        random files through `feed` and `mux`, whole, in pieces, cut, and with a byte changed
+    feeding.py live PROGRAM           a page at a time through a pipe: its record is out before the next page comes
+
+A position is compared where a page of the first file ends by the end of a packet: the packet has it in the other file too.
+"""
+import os
+import random
+import select
+import struct
+import subprocess
+import sys
+
+sys.path.insert(0, os.path.dirname(os.path.abspath(__file__)))
+from finishing import links_of
+from model import mux, random_feed
+from pages import page
+from reading import chain_of, found
+
+LAST, NO_POSITION = 4, 2**64 - 1
+
+
+def pages_of(data):
+    """The pages up to the first fault, and whether there was one."""
+    pages = []
+    for at, one, fault in found(data):
+        if fault:
+            return pages, True
+        pages.append(list(one[:6]) + [data[at:one[6]]])
+    return pages, False
+
+
+def streams_of(pages):
+    """For each link its streams in order: serial, whole packets, whether it has ended, and the positions that its pages tell."""
+    told = []
+    for link in links_of(pages):
+        streams = {}
+        for flags, position, serial, _, lacing, body, _ in link:
+            stream = streams.setdefault(serial, {"packets": [], "open": b"", "ended": False, "positions": {}})
+            at = 0
+            for value in lacing:
+                stream["open"] += body[at:at + value]
+                at += value
+                if value < 255:
+                    stream["packets"].append(stream["open"])
+                    stream["open"] = b""
+            if lacing and lacing[-1] < 255 and position != NO_POSITION:
+                stream["positions"][len(stream["packets"])] = position
+            stream["ended"] |= bool(flags & LAST)
+        told.append(streams)
+    return told
+
+
+def differ(name, data, other):
+    """How the second bytes differ from the whole packets of the first ones, as a line, or nothing."""
+    one, two = streams_of(pages_of(data)[0]), streams_of(pages_of(other)[0])
+    if [list(link) for link in one] != [list(link) for link in two]:
+        return "%s: links %r and not %r" % (name, [list(link) for link in two], [list(link) for link in one])
+    for number, (link, made) in enumerate(zip(one, two)):
+        for serial, stream in link.items():
+            again = made[serial]
+            if again["packets"] != stream["packets"]:
+                return "%s: link %d, stream %d: %d packets and not %d, or others" % (name, number, serial, len(again["packets"]), len(stream["packets"]))
+            if again["ended"] != stream["ended"]:
+                return "%s: link %d, stream %d: another end" % (name, number, serial)
+            for count, position in stream["positions"].items():
+                # The headers of a link have no position of their own.
+                if again["positions"].get(count, position if count <= HEADERS else None) not in (position, 0 if count <= HEADERS else position):
+                    return "%s: link %d, stream %d: packet %d at %r and not at %d" % (name, number, serial, count, again["positions"].get(count), position)
+    return None
+
+
+HEADERS = 3
+
+
+def run(words, given):
+    return subprocess.run(words, input=given, stdout=subprocess.PIPE, stderr=subprocess.PIPE, timeout=20)
+
+
+def in_pieces(program, data, source):
+    """What `feed` writes if its input comes in pieces."""
+    process = subprocess.Popen([program, "feed"], stdin=subprocess.PIPE, stdout=subprocess.PIPE, stderr=subprocess.PIPE)
+    os.set_blocking(process.stdout.fileno(), False)
+    got, at = b"", 0
+    while at < len(data):
+        size = source.choice([1, 2, 26, 27, 100, 5000])
+        try:
+            process.stdin.write(data[at:at + size])
+            process.stdin.flush()
+        except BrokenPipeError:
+            break
+        at += size
+        got += process.stdout.read() or b""
+    os.set_blocking(process.stdout.fileno(), True)
+    out, err = process.communicate(timeout=20)
+    return got + out, err, process.returncode
+
+
+def fault_of(data):
+    """The fault line that an input has, or nothing."""
+    at, text = 0, b""
+    for at, one, fault in found(data):
+        if fault:
+            return b"fault make 1 Page %d %d %s\n" % (at, fault[0], fault[1].encode())
+    return text
+
+
+def check(program, name, data, source):
+    told, fault = streams_of(pages_of(data)[0]), fault_of(data)
+    made = run([program, "feed"], data)
+    again = run([program, "mux", "--strict"], made.stdout)
+    open_packet = any(stream["open"] for link in told for stream in link.values())
+    wrong = []
+    if again.returncode:
+        wrong.append("%s: a command is refused: %r" % (name, again.stderr[-100:]))
+    difference = differ(name, data, again.stdout)
+    if difference:
+        wrong.append(difference)
+    if fault and (made.returncode, made.stderr) != (1, fault):
+        wrong.append("%s: %r and not %r" % (name, made.stderr, fault))
+    if not fault and not open_packet and (made.returncode, made.stderr) != (0, b""):
+        wrong.append("%s: %r" % (name, made.stderr))
+    if not fault and open_packet and not made.stderr.startswith(b"fault make 4 Unfinished %d " % len(data)):
+        wrong.append("%s: %r for an open packet" % (name, made.stderr))
+    if in_pieces(program, data, source) != (made.stdout, made.stderr, made.returncode):
+        wrong.append("%s: another feed if the input comes in pieces" % name)
+    for line in wrong[:1]:
+        print(line)
+    return len(wrong)
+
+
+def compare(program):
+    files = wrong = 0
+    for n in range(60):
+        source = random.Random(n)
+        data = mux(random_feed(random.Random(5000 + n)))[0]
+        if not data:
+            continue
+        cases = [("file %d" % n, data)]
+        cut = source.randrange(len(data))
+        cases.append(("file %d, %d bytes of it" % (n, cut), data[:cut]))
+        place = source.randrange(len(data))
+        cases.append(("file %d, byte %d changed" % (n, place), data[:place] + bytes([data[place] ^ 1 << source.randrange(8)]) + data[place + 1:]))
+        for name, bytes_of in cases:
+            files += 1
+            wrong += check(program, name, bytes_of, source)
+    print("%d files, %d differ" % (files, wrong))
+    return 1 if wrong or files < 90 else 0
+
+
+def live(program):
+    """Pages of one stream through a pipe, each followed by nothing until its record has come."""
+    process = subprocess.Popen([program, "feed"], stdin=subprocess.PIPE, stdout=subprocess.PIPE)
+    steps = [(page(2, 0, 1, 0, [3], b"abc"), 6), (page(0, 5, 1, 1, [5], b"hello"), 6 + 54 + 28), (page(4, 9, 1, 2, [1], b"x"), 6 + 54 + 28 + 24 + 9)]
+    got = b""
+    for number, (one, size) in enumerate(steps):
+        half = len(one) // 2
+        for part in (one[:half], one[half:]):
+            process.stdin.write(part)
+            process.stdin.flush()
+        while len(got) < size:
+            if not select.select([process.stdout], [], [], 10)[0]:
+                print("page %d: %d bytes and not %d" % (number, len(got), size))
+                process.kill()
+                return 1
+            got += os.read(process.stdout.fileno(), 65536)
+    process.stdin.close()
+    rest = process.stdout.read()
+    status = process.wait(timeout=10)
+    kinds = [got[0], got[6]]
+    if rest or status or len(got) != steps[-1][1] or kinds != [0, 1]:
+        print("status %d, %d bytes and %d" % (status, len(got), len(rest)))
+        return 1
+    return 0
+
+
+def main():
+    if sys.argv[1] == "same":
+        data, other = (open(path, "rb").read() for path in sys.argv[2:4])
+        difference = differ(sys.argv[2], data, other)
+        if difference:
+            print(difference)
+        return 1 if difference else 0
+    return {"compare": compare, "live": live}[sys.argv[1]](sys.argv[2])
+
+
+if __name__ == "__main__":
+    sys.exit(main())
