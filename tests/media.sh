@@ -1,14 +1,15 @@
 #!/usr/bin/env bash
-# Real media through `mux`, looked at with independent tools: an encoder's packets are taken out of its file, muxed again,
-# and must come back the same. Not part of the tests that ./check runs, since it installs packages.
+# Real media through `feed` and `mux`, looked at with independent tools: an encoder's packets are taken out of its file, muxed
+# again, and must come back the same. Not part of the tests that ./check runs, since it installs packages.
 #
 #     tests/media.sh            the last line is 'N passed, M failed'
 . "$(dirname "$0")/program/common.bash"
 reader=${READ_OGG:-$top/crates/read_ogg/out/read_ogg}
 
-for tool in ffmpeg ffprobe ogginfo oggz; do
+for tool in ffmpeg ffprobe ogginfo oggz oggenc opusenc flac speexenc gst-launch-1.0; do
     if ! command -v "$tool" >"$work/which"; then
-        apt-get update && apt-get install -y ffmpeg vorbis-tools oggz-tools || exit 1
+        apt-get update && apt-get install -y ffmpeg vorbis-tools oggz-tools opus-tools flac speex \
+            gstreamer1.0-tools gstreamer1.0-plugins-base gstreamer1.0-plugins-good || exit 1
         break
     fi
 done >"$work/install" 2>&1 || { tail -n 5 "$work/install"; exit 1; }
@@ -43,7 +44,7 @@ replies_keep() { [ -s "$1" ] && ! grep -v '^kept ' "$1"; }
 # again NAME: the packets of NAME.ogg, muxed again, are the same.
 again() {
     local name=$1
-    python3 "$top/examples/from_ogg.py" <"$work/$name.ogg" >"$work/$name.feed"
+    "$program" feed <"$work/$name.ogg" >"$work/$name.feed"
     "$program" mux <"$work/$name.feed" >"$work/$name.again.ogg" 2>"$work/$name.replies"
     check "$name: status" [ $? -eq 0 ]
     check "$name: every command is kept" replies_keep "$work/$name.replies"
@@ -157,7 +158,7 @@ check "a recording: its pages" cmp "$work/want" "$work/recorded.ogg"
 # With a Skeleton the packets are the same, and other programs know what it is. (ffprobe doesn't read on where a chain's next
 # link begins with a Skeleton, so the chain isn't asked for its packets.)
 for name in vorbis opus flac theora chain; do
-    python3 "$top/examples/from_ogg.py" --skeleton 5000 <"$work/$name.ogg" >"$work/$name.feed"
+    "$program" feed <"$work/$name.ogg" | python3 "$top/tests/described_feed.py" 5000 >"$work/$name.feed"
     "$program" mux <"$work/$name.feed" >"$work/$name.described.ogg" 2>"$work/$name.replies"
     check "$name with a Skeleton: every command is kept" replies_keep "$work/$name.replies"
     check "$name with a Skeleton: ogginfo finds it" grep -q -i skeleton <(ogginfo "$work/$name.described.ogg")
@@ -169,5 +170,59 @@ for name in vorbis opus flac theora chain; do
     cut -f 2 "$work/$name.want" | sort >"$work/$name.sorted"
     check "$name with a Skeleton: the packets are the same" cmp "$work/$name.sorted" "$work/$name.found"
 done
+
+# Other encoders. What is recorded of them and finished is what they wrote, byte for byte; of `flac`, whose headers have a page
+# each, the packets and the sound are the same.
+encode "${tone[@]}" -c:a pcm_s16le -bitexact "$work/tone.wav"
+oggenc -Q -o "$work/oggenc.ogg" "$work/tone.wav"
+opusenc --quiet "$work/tone.wav" "$work/opusenc.ogg"
+flac --silent --ogg -o "$work/flac-tool.ogg" "$work/tone.wav"
+speexenc "$work/tone.wav" "$work/speexenc.ogg" >"$work/told" 2>&1
+gst-launch-1.0 -q filesrc location="$work/tone.wav" ! wavparse ! audioconvert ! vorbisenc ! oggmux ! filesink location="$work/oggmux.ogg"
+recorded() {
+    "$program" feed <"$work/$1.ogg" | "$program" record "$work/$1.recorded.ogg" --strict >"$work/replies"
+    check "$1: recorded" [ "${PIPESTATUS[*]}" = "0 0" ]
+    "$program" finish "$work/$1.recorded.ogg" >"$work/$1.finished.ogg"
+}
+for name in oggenc opusenc speexenc oggmux; do
+    recorded "$name"
+    check "$name: something was encoded" [ -s "$work/$name.ogg" ]
+    check "$name, recorded and finished: the encoder's file" cmp "$work/$name.ogg" "$work/$name.finished.ogg"
+done
+recorded flac-tool
+packets "$work/flac-tool.ogg" >"$work/want"
+packets "$work/flac-tool.finished.ogg" >"$work/found"
+check "flac: something was encoded" [ -s "$work/want" ]
+check "flac: the packets are the same" cmp "$work/want" "$work/found"
+played() {
+    gst-launch-1.0 -q filesrc location="$1" ! oggdemux ! flacparse ! flacdec ! filesink location="$work/sound"
+    md5sum <"$work/sound"
+}
+check "flac: GStreamer plays the same" [ "$(played "$work/flac-tool.ogg")" = "$(played "$work/flac-tool.finished.ogg")" ]
+
+# An encoder that works in real time is recorded while it works.
+(ffmpeg -nostdin -loglevel error -re "${tone[@]}" -c:a libvorbis -page_duration 200000 -f ogg - |
+    "$program" feed | "$program" record "$work/live.ogg" >"$work/live.replies") &
+live=$!
+seen=0
+for _ in $(seq 100); do
+    sleep 0.1
+    kept=$(grep -c '^kept' "$work/live.replies")
+    kill -0 "$live" 2>"$work/gone" || break
+    [ "$kept" -le 3 ] || seen=$kept
+done
+wait "$live"
+check "live: $seen commands were kept while the encoder worked" [ "$seen" -gt 3 ]
+"$program" finish "$work/live.ogg" >"$work/live.finished.ogg"
+check "live: all of it is there" [ "$(sounds "$work/live.finished.ogg" | head -n 1)" = "$(sounds "$work/vorbis.ogg" | head -n 1)" ]
+
+# An encoder that is killed: what was whole is there.
+encode "${tone[@]}" -c:a libvorbis -page_duration 200000 "$work/paged.ogg"
+head -c 6000 "$work/paged.ogg" | "$program" feed 2>"$work/err" | "$program" record "$work/killed.ogg" >"$work/replies"
+check "killed: the torn page is told" grep -q '^fault make 1 Page [0-9]* 1 Short$' "$work/err"
+"$program" finish "$work/killed.ogg" >"$work/killed.finished.ogg"
+packets "$work/killed.finished.ogg" >"$work/found"
+check "killed: something is there" [ -s "$work/found" ]
+check "killed: the first packets" cmp "$work/found" <(head -n "$(wc -l <"$work/found")" "$work/vorbis.want")
 
 finish
