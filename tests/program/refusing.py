@@ -2,7 +2,7 @@
 """Runs the program with its first request for memory refused, then with the second, up to a run that meets none: once, and from
 then on. refusing.py PROGRAM LIBRARY WORK
 
-Feeds go through `mux` and `record`, in groups; files are listed, split, finished, salvaged and served. A run
+Feeds go through `mux` and `record`, in groups; files are made into feeds, listed, split, finished, salvaged and served. A run
 may end by a fault, whose status is 1, or by a text in place of the work, whose status is 2. What it wrote is that of a run that
 is refused nothing over the commands that it said it took, or the front of it. Prints a line for each run that differs; the
 status is 1 if there was one.
@@ -33,7 +33,7 @@ FEEDS = {
 
 
 # A fault for want of memory, or the text of a command line that couldn't be read for it.
-TOLD = re.compile(rb"^(fault (memory|(feed 6|open 3|index 3|serve [0-9]+) Memory)|error: out of memory)$", re.MULTILINE)
+TOLD = re.compile(rb"^(fault (memory|(feed 6|make 9|open 3|index 3|serve [0-9]+) Memory)|error: out of memory)$", re.MULTILINE)
 
 
 def run(words, given=b"", **more):
@@ -133,6 +133,18 @@ def check_file(refusals, program, words, path):
                          % (words[1], call, ran.returncode, len(ran.stdout), len(whole), ran.stderr[-200:]))
 
 
+def check_made(refusals, program, path):
+    """The feed of a file: what was written before memory was refused is the front of it."""
+    with open(path, "rb") as file:
+        data = file.read()
+    whole = run([program, "feed"], data).stdout
+    for refusing, call in refusals.each("feed"):
+        ran = run([program, "feed"], data, **refusing)
+        done = ran.returncode == 0 and ran.stdout == whole
+        if not done and not (refusals.tells(ran) and whole.startswith(ran.stdout)):
+            refusals.say("feed, request %d: status %d, %d bytes of %d, %r" % (call, ran.returncode, len(ran.stdout), len(whole), ran.stderr[-200:]))
+
+
 def asked(port, target, server):
     """The answer of the server, or nothing if it has ended before."""
     for _ in range(400):
@@ -192,6 +204,7 @@ def main():
     path = os.path.join(work, "row.ogg")
     for words in (["links"], ["split", "0"], ["split", "0", "1"], ["finish"], ["finish", "0"], ["salvage"]):
         check_file(refusals, program, words, path)
+    check_made(refusals, program, path)
     for target in (b"/", b"/all", b"/link/0", b"/link/0/2"):
         check_served(refusals, program, path, target)
     print("%d runs, %d wrong" % (refusals.runs, refusals.wrong))
