@@ -16,24 +16,32 @@ sys.path.insert(0, os.path.dirname(os.path.abspath(__file__)))
 from reading import found
 from records import begin, put
 
-RUNS = 30
-AHEAD = 4000
+RUNS = 150
+AHEAD = 1000
 
 
 def text_of(number):
-    return b"packet %d " % number * (1 + number % 50)
+    return b"packet %d " % number * (1 + number % 7)
 
 
-def packets_of(path):
-    """The packets in the file's pages, each of which ends where its page ends."""
-    with open(path, "rb") as file:
-        data = file.read()
-    packets = []
-    for _, one, fault in found(data):
-        if fault:
-            break
-        packets.append(bytes(one[5]))
-    return packets
+class File:
+    """The packets in a file's pages, each of which ends where its page ends. What was read before must stand there still."""
+
+    def __init__(self, path):
+        self.path, self.read, self.packets = path, b"", []
+
+    def look(self):
+        with open(self.path, "rb") as file:
+            data = file.read()
+        assert data.startswith(self.read), "what was kept has changed"
+        at = end = len(self.read)
+        for _, one, fault in found(data[at:]):
+            if fault:
+                break
+            self.packets.append(bytes(one[5]))
+            end = at + one[6]
+        self.read = data[:end]
+        return self.packets
 
 
 def feed(run, number):
@@ -73,13 +81,14 @@ def main():
         path = os.path.join(folder, "killed.ogg")
         made = subprocess.run([program, "record", path], input=begin([1]), stdout=subprocess.PIPE, timeout=20)
         assert made.stdout == b"kept 1 31\n", made.stdout
+        file = File(path)
         number, unseen = 0, 0
         for _ in range(RUNS):
             kept = record(program, path, most, number, chance.uniform(0.005, 0.08))
             opened = subprocess.run([program, "record", path], input=b"", stdout=subprocess.PIPE, timeout=20)
             assert opened.returncode == 0, opened.returncode
-            packets = packets_of(path)[1:]
-            assert packets == [text_of(n) for n in range(len(packets))], "not the first packets"
+            packets = file.look()[1:]
+            assert packets[number:] == [text_of(n) for n in range(number, len(packets))], "not the first packets"
             assert len(packets) >= number + kept, (len(packets), number, kept)
             assert len(packets) <= number + kept + most, (len(packets), number, kept)
             unseen += len(packets) - number - kept
