@@ -1,0 +1,4 @@
+pub mod Names
+pub mod Renumbers
+pub mod Links
+pub mod Steps

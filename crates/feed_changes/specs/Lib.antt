@@ -1,0 +1,4 @@
+pub mod Changed
+pub mod Naming
+pub mod Renumbered
+pub mod Steps
