@@ -8,3 +8,4 @@ pub mod Onward
 pub mod Whole
 pub mod Gathering
 pub mod Short
+pub mod Plain

@@ -1,9 +1,9 @@
 -- The commands that a page completes, and what stays.
-use Rattle.std.specs.Prelude.{◌≡◌, ℕ, Bool, true, false, not, ◌||◌, ◌&&◌, if◌then◌else◌, None, pos, List, [], ◌∷◌, ◌++◌, map}
+use Rattle.std.specs.Prelude.{◌≡◌, ℕ, Bool, true, false, not, ◌||◌, ◌&&◌, if◌then◌else◌, None, pos, List, [], ◌∷◌, ◌++◌, map, ⊤}
 use Rattle.ogg_page.specs.Page.{Page}
 use Rattle.ogg_page.specs.LogicalStream.{is_first}
 use Rattle.ogg_command.specs.declared.command.Command.{Command}
-use Rattle.ogg_command.specs.declared.command.Command.TheVariants.{Begin as BeginOf, End as EndOf}
+use Rattle.ogg_command.specs.declared.command.Command.TheVariants.{Begin as BeginOf, Put as PutOf, End as EndOf}
 use Rattle.ogg_command.specs.declared.command.NewStream.{NewStream}
 use Rattle.ogg_feed.specs.Commands.{entry_of, put_of, end_of}
 use Rattle.gathering.specs.Kept.{KeptStream, KeptLink, TakenBy, has_some, has_kept, is_ready, no_link, waits, entered, ends_by}
@@ -73,3 +73,9 @@ pub record TakesOn (page : Page) (is_open : Bool) (old new : KeptLink) (given : 
   pub opens : is_first page ≡ true → is_open ≡ false → (new ≡ with_first page no_link) × (given ≡ begin_if (waits old) old)
   pub joins : is_first page ≡ true → is_open ≡ true → (new ≡ with_first page old) × (given ≡ [])
   pub follows : is_first page ≡ false → has_kept page.serial old.streams ≡ true → Follows page old new given
+
+-- ---- the links are begun without a Skeleton
+abbrev pub IsPlain : Command → Type 0
+IsPlain (BeginOf begin) = begin.skeleton ≡ None
+IsPlain (PutOf put) = ⊤
+IsPlain (EndOf serial) = ⊤

@@ -1,5 +1,5 @@
 //! What always holds of the commands that pages are gathered into.
-ghost use Rattle.std.specs.Prelude.{◌≡◌, ◌≤◌, ◌+◌, ◌*◌, ◌++◌, ◌∷◌, [], ℕ, false, List, length};
+ghost use Rattle.std.specs.Prelude.{◌≡◌, ◌≤◌, ◌+◌, ◌*◌, ◌++◌, ◌∷◌, [], ℕ, false, List, None, length};
 ghost use Rattle.std.specs.List.{AllByRecursion};
 ghost use Rattle.ogg_page.specs.Page.{Page, IsPage};
 ghost use Rattle.link_chain.specs.Links.{AreLinks};
@@ -7,7 +7,10 @@ ghost use Rattle.chain_rules.specs.Recording.{Recording, HoldsLinks, after};
 ghost use Rattle.ogg_command.specs.declared.command.Command.{Command};
 ghost use Rattle.gathering.specs.Limits.{longest_packet};
 ghost use Rattle.gathering.specs.Cutting.{EndIn, first_size};
-ghost use Rattle.gathering.specs.Kept.{waits};
+ghost use Rattle.link_chain.specs.ChainState.{is_open};
+ghost use Rattle.link_chain.specs.Taking.{fault_of_page};
+ghost use Rattle.gathering.specs.Giving.{IsPlain, TakesOn, begin_if};
+ghost use Rattle.gathering.specs.Kept.{KeptLink, waits};
 ghost use Rattle.gathering.specs.Gathered.{Gathered, HasGathered};
 
 /// Once no link waits, the commands given hold the recording that the pages hold.
@@ -24,4 +27,13 @@ pub fn packets_are_short()
         → IsPage page → length rest ≡ 255 * segments → EndIn rest page packets left
         → length rest + first_size page.lacing ≤ longest_packet →
         AllByRecursion (λ packet. length packet ≤ longest_packet) (packets ++ left ∷ []) }
+{}
+
+/// The links are begun without a Skeleton, whether by a page or at the end: one that the pages hold is a stream of its
+/// link as others are.
+pub fn links_are_begun_without_a_skeleton()
+    ensures page { (links : List (List Page)) (gathered : Gathered) (given : List Command) (page : Page) (new : KeptLink) (more : List Command)
+        → fault_of_page gathered.chain page ≡ None → HasGathered links gathered given → TakesOn page (is_open gathered.chain) gathered.link new more →
+        AllByRecursion IsPlain more }
+    ensures end { (link : KeptLink) → AllByRecursion IsPlain (begin_if (waits link) link) }
 {}

@@ -20,4 +20,6 @@ mod streams;
 
 pub use fault::GatherFault;
 pub use gatherer::Gatherer;
-pub use laws::{gathered_commands_hold_the_recording, packets_are_short};
+pub use laws::{
+    gathered_commands_hold_the_recording, links_are_begun_without_a_skeleton, packets_are_short,
+};
