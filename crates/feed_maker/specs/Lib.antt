@@ -2,3 +2,4 @@ pub mod Feed
 pub mod Making
 pub mod MakingFault
 pub mod Turn
+pub mod Source

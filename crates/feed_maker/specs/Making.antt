@@ -1,5 +1,5 @@
 -- What was written of what was read. Ours.
-use Rattle.std.specs.Prelude.{◌≡◌, ℕ, ◌+◌, ◌-◌, ◌^◌, ◌≤◌, min, true, false, Option, Some, None, List, [], ◌++◌, length}
+use Rattle.std.specs.Prelude.{Bool, ◌≡◌, ℕ, ◌+◌, ◌-◌, ◌^◌, ◌≤◌, min, true, false, Option, Some, None, List, [], ◌++◌, length}
 use Rattle.std.specs.List.{AllByRecursion}
 use Rattle.std.specs.Io.KnownBytes.{Appends, Consumes, IsAtEnd}
 use Rattle.ogg_page.specs.Output.{WritesPrefix}
@@ -12,6 +12,8 @@ use Rattle.chain_rules.specs.Recording.{Recording, HoldsLinks, after}
 use Rattle.ogg_command.specs.declared.command.Command.{Command}
 use Rattle.gathering.specs.Kept.{is_too_long, waits}
 use Rattle.gathering.specs.Gathered.{Gathered, HasGathered}
+use Rattle.feed_changes.specs.Changed.{IsChanged}
+use Rattle.feed_maker.specs.Source.{HasSourced, Sourced}
 use Rattle.feed_maker.specs.Feed.{Fits, HasTooLong, feed_of}
 use Rattle.feed_maker.specs.declared.made.Made.{Made}
 use Rattle.feed_maker.specs.declared.fault.MakingFault.{MakingFault}
@@ -24,28 +26,28 @@ pub record HasTaken (from left : Option (List ℕ)) (links : List (List PageValu
   pub consumed : Consumes from left (bytes ++ rest)
   pub offset_is : offset ≡ length bytes
 
--- These commands are those of the links, as far as they are given, and the announcement and their records are written.
-pub record HasGiven (before now : Option (List ℕ)) (links : List (List PageValue)) (gathered : Gathered) (given : List Command) : Type 0 where
-  pub gathers : HasGathered links gathered given
+-- These commands are given for those of the links, changed as asked, and the announcement and their records are written.
+pub record HasGiven (renumber : Bool) (before now : Option (List ℕ)) (links : List (List PageValue)) (gathered : Sourced) (given : List Command) : Type 0 where
+  pub gathers : HasSourced renumber links gathered given
   pub fits : AllByRecursion Fits given
   pub written : Appends before now (feed_of given)
 
 -- nothing waits: all whole packets of the links are written
-pub record HasGivenAll (before now : Option (List ℕ)) (links : List (List PageValue)) : Type 0 where
-  pub gathered : Gathered
+pub record HasGivenAll (renumber : Bool) (before now : Option (List ℕ)) (links : List (List PageValue)) : Type 0 where
+  pub gathered : Sourced
   pub given : List Command
-  pub all : HasGiven before now links gathered given
+  pub all : HasGiven renumber before now links gathered given
   pub none_waits : waits gathered.link ≡ false
 
 -- Where a command was too long for a record, the writer failed or memory was refused, the feed was written in part.
-pub record HasBroken (before now : Option (List ℕ)) (links : List (List PageValue)) : Type 0 where
-  pub gathered : Gathered
+pub record HasBroken (renumber : Bool) (before now : Option (List ℕ)) (links : List (List PageValue)) : Type 0 where
+  pub gathered : Sourced
   pub given : List Command
-  pub gathers : HasGathered links gathered given
+  pub gathers : HasSourced renumber links gathered given
   pub written : WritesPrefix before now (feed_of given)
 
 -- the input ended, and this is what was made of it: links with no packet unfinished, of which all is written
-pub record MakesFeed (from left before now : Option (List ℕ)) (made : Made) : Type 0 where
+pub record MakesFeed (renumber : Bool) (from left before now : Option (List ℕ)) (made : Made) : Type 0 where
   pub links : List (List PageValue)
   pub offset : ℕ
   pub taken : HasTaken from left links offset []
@@ -54,8 +56,8 @@ pub record MakesFeed (from left before now : Option (List ℕ)) (made : Made) : 
   pub given : List Command
   pub fits : AllByRecursion Fits given
   pub written : Appends before now (feed_of given)
-  -- the commands add up to what the links hold
-  pub held : (recording : Recording) → HoldsLinks links recording → after [] given ≡ recording
+  -- the commands add up to what the links hold, changed as asked
+  pub held : (recording : Recording) → HoldsLinks links recording → IsChanged renumber recording (after [] given)
   pub pages : made.pages ≡ length (flattened links)
   pub counted : made.commands ≡ min (length given) (2 ^ 64 - 1)
 
@@ -88,28 +90,28 @@ IsFaultOfInput Write links offset rest left = ⊥
 IsFaultOfInput Memory links offset rest left = ⊥
 
 -- where the input has a fault, all that was taken before it is written
-pub record StopsAtFault (from left before now : Option (List ℕ)) (fault : MakingFault) : Type 0 where
+pub record StopsAtFault (renumber : Bool) (from left before now : Option (List ℕ)) (fault : MakingFault) : Type 0 where
   pub links : List (List PageValue)
   pub offset : ℕ
   pub rest : List ℕ
   pub taken : HasTaken from left links offset rest
   pub fault_is : IsFaultOfInput fault links offset rest left
-  pub all : HasGivenAll before now links
+  pub all : HasGivenAll renumber before now links
 
-pub record Breaks (from left before now : Option (List ℕ)) : Type 0 where
+pub record Breaks (renumber : Bool) (from left before now : Option (List ℕ)) : Type 0 where
   pub links : List (List PageValue)
   pub offset : ℕ
   pub rest : List ℕ
   pub taken : HasTaken from left links offset rest
-  pub broken : HasBroken before now links
+  pub broken : HasBroken renumber before now links
 
 -- and one of these commands is too long for a record
-abbrev pub BreaksAtLimit : Option (List ℕ) → Option (List ℕ) → Option (List ℕ) → Option (List ℕ) → Type 0
-BreaksAtLimit from left before now = (breaks : Breaks from left before now) × HasTooLong breaks.broken.given
+abbrev pub BreaksAtLimit : Bool → Option (List ℕ) → Option (List ℕ) → Option (List ℕ) → Option (List ℕ) → Type 0
+BreaksAtLimit renumber from left before now = (breaks : Breaks renumber from left before now) × HasTooLong breaks.broken.given
 
 -- why a feed ended before its input did, and what was written
-abbrev pub Stops : MakingFault → Option (List ℕ) → Option (List ℕ) → Option (List ℕ) → Option (List ℕ) → Type 0
-Stops Limit from left before now = BreaksAtLimit from left before now
-Stops Write from left before now = Breaks from left before now
-Stops Memory from left before now = Breaks from left before now
-Stops fault from left before now = StopsAtFault from left before now fault
+abbrev pub Stops : Bool → MakingFault → Option (List ℕ) → Option (List ℕ) → Option (List ℕ) → Option (List ℕ) → Type 0
+Stops renumber Limit from left before now = BreaksAtLimit renumber from left before now
+Stops renumber Write from left before now = Breaks renumber from left before now
+Stops renumber Memory from left before now = Breaks renumber from left before now
+Stops renumber fault from left before now = StopsAtFault renumber from left before now fault

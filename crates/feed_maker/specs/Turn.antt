@@ -7,10 +7,11 @@ use Rattle.page_reader.specs.Reader.{IsFaultOf, started}
 use Rattle.page_reader.specs.declared.fault.PageReaderFault.{PageReaderFault}
 use Rattle.page_reader.specs.declared.fault.PageReaderFault.TheVariants.{Page as PageOf, Read as ReadOf}
 use Rattle.link_chain.specs.Links.{flattened}
-use Rattle.link_chain.specs.Taking.{fault_of_page, links_with}
+use Rattle.link_chain.specs.Taking.{fault_of_page}
 use Rattle.ogg_command.specs.declared.command.Command.{Command}
 use Rattle.gathering.specs.Kept.{is_too_long, waits}
-use Rattle.gathering.specs.Gathered.{CanGoOn, Gathered, HasGathered}
+use Rattle.gathering.specs.Gathered.{Gathered}
+use Rattle.feed_maker.specs.Source.{Gathers, GoesFurther, HasSourced, Sourced}
 use Rattle.feed_maker.specs.Feed.{Fits, GivesNot, records_of}
 use Rattle.feed_maker.specs.Making.{BeginsWith, Breaks, BreaksAtLimit, HasGiven, HasTaken, IsFaultOfInput, MakesFeed, Stops}
 use Rattle.feed_maker.specs.declared.made.Made.{Made}
@@ -23,17 +24,8 @@ fault_at at (PageOf fault) = Page at fault
 fault_at at ReadOf = Read at
 
 -- ---- one page
--- the page is gathered, and these commands are appended
-pub record Gathers (old : Gathered) (page : PageValue) (new : Gathered) (before now : List Command) : Type 0 where
-  pub follows : fault_of_page old.chain page ≡ None
-  pub more : List Command
-  pub appended : now ≡ before ++ more
-  pub gathers : (links : List (List PageValue)) (given : List Command) → HasGathered links old given → CanGoOn old
-      → HasGathered (links_with links page) new (given ++ more) × CanGoOn new
-  pub grows : new.chain.length_of ≡ old.chain.length_of + page_size page
-
 -- why a page at this offset isn't gathered
-abbrev pub RefusesPage : Gathered → PageValue → ℕ → Gathered → MakingFault → Type 0
+abbrev pub RefusesPage : Sourced → PageValue → ℕ → Sourced → MakingFault → Type 0
 RefusesPage old page offset new (Chain at fault) = (at ≡ offset) × (fault_of_page old.chain page ≡ Some fault) × (new ≡ old)
 RefusesPage old page offset new (PacketTooLong at) =
     (at ≡ offset) × (fault_of_page old.chain page ≡ None) × (is_too_long old.link page ≡ true) × (new ≡ old)
@@ -41,11 +33,20 @@ RefusesPage old page offset new (TooLong at) = (at ≡ offset) × (2 ^ 63 ≤ of
 RefusesPage old page offset new Memory = ⊤
 RefusesPage old page offset new fault = ⊥
 
+-- the same of what is gathered
+abbrev pub RefusesIn : Gathered → PageValue → ℕ → Gathered → MakingFault → Type 0
+RefusesIn old page offset new (Chain at fault) = (at ≡ offset) × (fault_of_page old.chain page ≡ Some fault) × (new ≡ old)
+RefusesIn old page offset new (PacketTooLong at) =
+    (at ≡ offset) × (fault_of_page old.chain page ≡ None) × (is_too_long old.link page ≡ true) × (new ≡ old)
+RefusesIn old page offset new (TooLong at) = (at ≡ offset) × (2 ^ 63 ≤ offset + page_size page) × (new ≡ old)
+RefusesIn old page offset new Memory = ⊤
+RefusesIn old page offset new fault = ⊥
+
 -- ---- what is kept between the pages
-pub record IsStarted (maker : Maker) : Type 0 where
+pub record IsStarted (renumber : Bool) (maker : Maker) : Type 0 where
   pub pages : maker.pages ≡ started
-  pub gathers : HasGathered [] maker.gatherer []
-  pub goes : CanGoOn maker.gatherer
+  pub gathers : HasSourced renumber [] maker.gatherer []
+  pub goes : GoesFurther maker.gatherer
   pub no_pages : maker.made.pages ≡ 0
   pub no_commands : maker.made.commands ≡ 0
 
@@ -56,10 +57,10 @@ pub record GoesOn (maker : Maker) : Type 0 where
   pub counted : maker.made.pages ≤ maker.pages.offset
 
 -- these links were taken, and the commands gathered of them written
-pub record HasMade (from left before now : Option (List ℕ)) (maker : Maker) (links : List (List PageValue)) (given : List Command) : Type 0 where
+pub record HasMade (renumber : Bool) (from left before now : Option (List ℕ)) (maker : Maker) (links : List (List PageValue)) (given : List Command) : Type 0 where
   pub taken : HasTaken from left links maker.pages.offset maker.pages.unread
-  pub all : HasGiven before now links maker.gatherer given
-  pub goes : CanGoOn maker.gatherer
+  pub all : HasGiven renumber before now links maker.gatherer given
+  pub goes : GoesFurther maker.gatherer
   pub pages : maker.made.pages ≡ length (flattened links)
   pub counted : maker.made.commands ≡ min (length given) (2 ^ 64 - 1)
 
@@ -87,7 +88,7 @@ pub record MeetsEnd (old new : Maker) (from left : Option (List ℕ)) : Type 0 w
   pub made : new.made ≡ old.made
 
 -- why no page is taken behind those that were gathered
-abbrev pub IsFaultBehind : MakingFault → Gathered → ℕ → List ℕ → Option (List ℕ) → Type 0
+abbrev pub IsFaultBehind : MakingFault → Sourced → ℕ → List ℕ → Option (List ℕ) → Type 0
 IsFaultBehind (Page at fault) gathered offset rest left = (at ≡ offset) × IsFaultOf rest left fault
 IsFaultBehind (Read at) gathered offset rest left = at ≡ offset
 IsFaultBehind (Chain at fault) gathered offset rest left =
@@ -129,45 +130,46 @@ pub record GivesNoFurther (old new : Maker) (before now : Option (List ℕ)) (fa
 
 -- ---- a turn, and all turns
 -- the input has a fault behind these links, whose commands are written, but for those that wait
-pub record EndsAt (fault : MakingFault) (from left before now : Option (List ℕ)) (maker : Maker) : Type 0 where
+pub record EndsAt (renumber : Bool) (fault : MakingFault) (from left before now : Option (List ℕ)) (maker : Maker) : Type 0 where
   pub links : List (List PageValue)
   pub given : List Command
   pub offset : ℕ
   pub rest : List ℕ
   pub taken : HasTaken from left links offset rest
   pub fault_is : IsFaultOfInput fault links offset rest left
-  pub all : HasGiven before now links maker.gatherer given
+  pub all : HasGiven renumber before now links maker.gatherer given
 
 -- the input has ended behind these links
-pub record EndsWell (from left before now : Option (List ℕ)) (maker : Maker) : Type 0 where
+pub record EndsWell (renumber : Bool) (from left before now : Option (List ℕ)) (maker : Maker) : Type 0 where
   pub links : List (List PageValue)
   pub given : List Command
-  pub made : HasMade from left before now maker links given
+  pub made : HasMade renumber from left before now maker links given
   pub at_end : IsAtEnd left
   pub unread : maker.pages.unread ≡ []
 
-pub record StillMakes (from left before now : Option (List ℕ)) (maker : Maker) : Type 0 where
+pub record StillMakes (renumber : Bool) (from left before now : Option (List ℕ)) (maker : Maker) : Type 0 where
   pub links : List (List PageValue)
   pub given : List Command
-  pub made : HasMade from left before now maker links given
+  pub made : HasMade renumber from left before now maker links given
 
-abbrev pub Turns : Result Bool MakingFault → Option (List ℕ) → Option (List ℕ) → Option (List ℕ) → Option (List ℕ) → Maker → Type 0
-Turns (Ok true) from left before now maker = StillMakes from left before now maker
-Turns (Ok false) from left before now maker = EndsWell from left before now maker
-Turns (Err Limit) from left before now maker = BreaksAtLimit from left before now
-Turns (Err Write) from left before now maker = Breaks from left before now
-Turns (Err Memory) from left before now maker = Breaks from left before now
-Turns (Err fault) from left before now maker = EndsAt fault from left before now maker
+abbrev pub Turns : Bool → Result Bool MakingFault → Option (List ℕ) → Option (List ℕ) → Option (List ℕ) → Option (List ℕ) → Maker → Type 0
+Turns renumber (Ok true) from left before now maker = StillMakes renumber from left before now maker
+Turns renumber (Ok false) from left before now maker = EndsWell renumber from left before now maker
+Turns renumber (Err Limit) from left before now maker = BreaksAtLimit renumber from left before now
+Turns renumber (Err Write) from left before now maker = Breaks renumber from left before now
+Turns renumber (Err Memory) from left before now maker = Breaks renumber from left before now
+Turns renumber (Err fault) from left before now maker = EndsAt renumber fault from left before now maker
 
-abbrev pub TakesAll : Result (Unit {0}) MakingFault → Option (List ℕ) → Option (List ℕ) → Option (List ℕ) → Option (List ℕ) → Maker → Type 0
-TakesAll (Ok done) from left before now maker = Turns (Ok false) from left before now maker
-TakesAll (Err fault) from left before now maker = Turns (Err fault) from left before now maker
+abbrev pub TakesAll : Bool → Result (Unit {0}) MakingFault → Option (List ℕ) → Option (List ℕ) → Option (List ℕ) → Option (List ℕ) → Maker → Type 0
+TakesAll renumber (Ok done) from left before now maker = Turns renumber (Ok false) from left before now maker
+TakesAll renumber (Err fault) from left before now maker = Turns renumber (Err fault) from left before now maker
 
 -- ---- the end
 -- the commands that waited, and their records
 pub record GivesRest (old new : Maker) (before now : Option (List ℕ)) : Type 0 where
   pub more : List Command
-  pub gathers : (links : List (List PageValue)) (given : List Command) → HasGathered links old.gatherer given → HasGathered links new.gatherer (given ++ more)
+  pub gathers : (renumber : Bool) (links : List (List PageValue)) (given : List Command) → HasSourced renumber links old.gatherer given
+      → HasSourced renumber links new.gatherer (given ++ more)
   pub none_waits : waits new.gatherer.link ≡ false
   pub fits : AllByRecursion Fits more
   pub written : Appends before now (records_of more)
@@ -177,8 +179,9 @@ pub record GivesRest (old new : Maker) (before now : Option (List ℕ)) : Type 0
 
 pub record GivesRestNot (fault : MakingFault) (old : Maker) (before now : Option (List ℕ)) : Type 0 where
   pub more : List Command
-  pub new : Gathered
-  pub gathers : (links : List (List PageValue)) (given : List Command) → HasGathered links old.gatherer given → HasGathered links new (given ++ more)
+  pub new : Sourced
+  pub gathers : (renumber : Bool) (links : List (List PageValue)) (given : List Command) → HasSourced renumber links old.gatherer given
+      → HasSourced renumber links new (given ++ more)
   pub not : GivesNot before now (records_of more) more fault
 
 abbrev pub Closes : Result (Unit {0}) MakingFault → Maker → Maker → Option (List ℕ) → Option (List ℕ) → Type 0
@@ -197,6 +200,6 @@ of_input Limit = false
 of_input Write = false
 of_input Memory = false
 
-abbrev pub Finishes : Result Made MakingFault → Option (List ℕ) → Option (List ℕ) → Option (List ℕ) → Option (List ℕ) → Type 0
-Finishes (Ok made) from left before now = MakesFeed from left before now made
-Finishes (Err fault) from left before now = Stops fault from left before now
+abbrev pub Finishes : Bool → Result Made MakingFault → Option (List ℕ) → Option (List ℕ) → Option (List ℕ) → Option (List ℕ) → Type 0
+Finishes renumber (Ok made) from left before now = MakesFeed renumber from left before now made
+Finishes renumber (Err fault) from left before now = Stops renumber fault from left before now

@@ -1,19 +1,18 @@
 //! Pages of a reader, gathered into commands, one page after the other.
-ghost use Rattle.std.specs.Prelude.{◌≡◌, ◌+◌, ◌-◌, ◌<◌, ◌^◌, [], min, ℕ, List, Option, IfOk, IfErr, OnOk, OnErr, true, Ok, Err};
+ghost use Rattle.std.specs.Prelude.{◌≡◌, ◌+◌, ◌-◌, ◌<◌, ◌^◌, [], min, ℕ, List, Option, IfOk, IfErr, OnOk, OnErr, true, Ok, Err, Bool};
 ghost use Rattle.std.specs.Io.KnownBytes.{Appends};
 ghost use Rattle.ogg_page.specs.Page.{Page as PageValue, page_size};
 ghost use Rattle.ogg_command.specs.declared.command.Command.{Command as CommandOf};
-ghost use Rattle.gathering.specs.Gathered.{Gathered, HasGathered};
+ghost use Rattle.feed_maker.specs.Source.{HasSourced, Sourced};
 ghost use Rattle.feed_maker.specs.Feed.{GivesNot, Fits, records_of};
-ghost use Rattle.feed_maker.specs.Turn.{Closes, Gathers, GoesOn, Gives, GivesNoFurther, HasMade, IsStarted, NextOf, RefusesPage, Turns, fault_at};
+ghost use Rattle.feed_maker.specs.Turn.{Closes, GoesOn, Gives, GivesNoFurther, HasMade, IsStarted, NextOf, Turns, fault_at};
 
 use crate::Memory;
 use crate::fault::MakingFault;
 use crate::giving::give;
 use crate::made::Made;
-use gathering::{GatherFault, Gatherer};
+use crate::source::Source;
 use ogg_command::Command;
-use ogg_page::Page;
 use page_reader::{PageReader, PageReaderFault};
 use std::alloc::Global;
 use std::io::{Read, Write};
@@ -23,18 +22,18 @@ use std::io::{Read, Write};
 #[derive(Drop)]
 pub(crate) struct Maker {
     pub(crate) pages: PageReader,
-    pub(crate) gatherer: Gatherer,
+    pub(crate) gatherer: Source,
     pub(crate) commands: Vec<Command>,
     pub(crate) bytes: Vec<u8>,
     pub(crate) made: Made,
 }
 
 impl Maker {
-    pub(crate) fn new(alloc: Global) -> Result<Maker, Memory>
-        ensures ok { IfOk result IsStarted }
-        ensures err { OnErr result ((gathered : Gathered) × HasGathered [] gathered []) }
+    pub(crate) fn new(alloc: Global, renumber: bool) -> Result<Maker, Memory>
+        ensures ok { IfOk result (IsStarted renumber) }
+        ensures err { OnErr result ((sourced : Sourced) × HasSourced renumber [] sourced []) }
     {
-        let gatherer = Gatherer::new(alloc);
+        let gatherer = Source::new(alloc, renumber);
         let pages = PageReader::new(alloc)?;
         Ok(Maker {
             pages,
@@ -53,7 +52,6 @@ impl Maker {
         requires { GoesOn self.old }
         ensures { NextOf result self.old self.new (R.remaining reader.old) (R.remaining reader.new) }
     {
-        self.commands.clear();
         match self.pages.advance(reader) {
             Ok(()) => {}
             Err(fault) => return Err(fault_at(self.pages.offset(), fault)),
@@ -61,8 +59,11 @@ impl Maker {
         let behind = self.pages.offset();
         match self.pages.lent() {
             Some((at, page)) => {
-                match take_page(&mut self.gatherer, &page, at, behind, &mut self.commands) {
-                    Ok(()) => Ok(true),
+                match self.gatherer.take_page(&page, at, behind) {
+                    Ok(commands) => {
+                        self.commands = commands;
+                        Ok(true)
+                    }
                     Err(fault) => Err(fault),
                 }
             }
@@ -92,9 +93,9 @@ impl Maker {
         writer: &mut W,
     ) -> Result<bool, MakingFault>
         requires { GoesOn self.old }
-        ensures made { (from before : Option (List ℕ)) (links : List (List PageValue)) (given : List CommandOf)
-            → HasMade from (R.remaining reader.old) before (W.contents writer.old) self.old links given
-            → Turns result from (R.remaining reader.new) before (W.contents writer.new) self.new }
+        ensures made { (renumber : Bool) (from before : Option (List ℕ)) (links : List (List PageValue)) (given : List CommandOf)
+            → HasMade renumber from (R.remaining reader.old) before (W.contents writer.old) self.old links given
+            → Turns renumber result from (R.remaining reader.new) before (W.contents writer.new) self.new }
         ensures goes { result ≡ Ok true → GoesOn self.new × (self.old.pages.offset < self.new.pages.offset) }
     {
         match self.next_page(reader) {
@@ -115,42 +116,14 @@ impl Maker {
     pub(crate) fn close<W: Write>(&mut self, writer: &mut W) -> Result<(), MakingFault>
         ensures { Closes result self.old self.new (W.contents writer.old) (W.contents writer.new) }
     {
-        self.commands.clear();
-        match self.gatherer.end(&mut self.commands) {
-            Ok(()) => {}
+        match self.gatherer.end() {
+            Ok(commands) => self.commands = commands,
             Err(_) => return Err(MakingFault::Memory),
         }
         match self.give(writer) {
             Ok(()) => Ok(()),
             Err(fault) => Err(fault),
         }
-    }
-}
-
-/// Takes a page that begins at `at` and ends at `behind`. The commands that it completes are appended. After `Memory`
-/// what is gathered is lost.
-fn take_page(
-    gatherer: &mut Gatherer,
-    page: &Page<'_>,
-    at: u64,
-    behind: u64,
-    commands: &mut Vec<Command>,
-) -> Result<(), MakingFault>
-    requires place { gatherer.old.chain.length_of ≡ at }
-    requires behind { behind ≡ min (at + page_size page.now) (2 ^ 64 - 1) }
-    ensures ok { OnOk result (Gathers gatherer.old page.now gatherer.new commands.old.items commands.new.items
-        × (at + page_size page.now < 2 ^ 63)) }
-    ensures err { IfErr result (RefusesPage gatherer.old page.now at gatherer.new) }
-    ensures same { OnErr result (commands.new.items ≡ commands.old.items) }
-{
-    if behind >= 1 << 63 {
-        return Err(MakingFault::TooLong(at));
-    }
-    match gatherer.take_page(page, commands) {
-        Ok(()) => Ok(()),
-        Err(GatherFault::Chain(fault)) => Err(MakingFault::Chain(at, fault)),
-        Err(GatherFault::PacketTooLong) => Err(MakingFault::PacketTooLong(at)),
-        Err(GatherFault::Memory) => Err(MakingFault::Memory),
     }
 }
 

@@ -1,35 +1,37 @@
 //! The feed of an input.
-ghost use Rattle.std.specs.Prelude.{◌≡◌, ℕ, List, Option, IfOk, IfErr, true, false};
+ghost use Rattle.std.specs.Prelude.{◌≡◌, ℕ, Bool, List, Option, IfOk, IfErr, true, false};
 ghost use Rattle.std.specs.Io.KnownBytes.{Appends};
 ghost use Rattle.feed_codec.specs.Record.{announcement};
 ghost use Rattle.feed_maker.specs.Making.{MakesFeed, Stops};
-ghost use Rattle.feed_maker.specs.Turn.{EndsWell, Finishes, IsStarted, TakesAll, of_input};
+ghost use Rattle.feed_maker.specs.Turn.{EndsWell, Finishes, GoesOn, IsStarted, TakesAll, of_input};
 
 use crate::fault::MakingFault;
 use crate::giving::announce;
 use crate::made::Made;
 use crate::maker::Maker;
+use crate::options::FeedOptions;
 use gathering::gathered_commands_hold_the_recording;
 use std::alloc::Global;
 use std::io::{Read, Write};
 
 /// Writes the feed of an Ogg bitstream: the announcement of version 2, and then the records of the commands that add up
-/// to what the input holds. What a page completes is written, and the writer flushed, before the next read. At the end
-/// of the input or at its fault the commands that still wait are written first. `Limit`, `Write` and `Memory` are the
-/// exceptions: after these nothing more is written.
+/// to what the input holds, changed as the options ask. What a page completes is written, and the writer flushed, before
+/// the next read. At the end of the input or at its fault the commands that still wait are written first. `Limit`,
+/// `Write` and `Memory` are the exceptions: after these nothing more is written.
 pub fn make_feed<R: Read + Drop, W: Write>(
     alloc: Global,
     reader: &mut R,
     writer: &mut W,
+    options: FeedOptions,
 ) -> Result<Made, MakingFault>
-    // The input is links with no packet unfinished, and the commands add up to what they hold.
-    ensures made { IfOk result (λ made. MakesFeed (R.remaining reader.old) (R.remaining reader.new)
+    // The input is links with no packet unfinished, and the commands add up to what they hold, changed as asked.
+    ensures made { IfOk result (λ made. MakesFeed options.renumber (R.remaining reader.old) (R.remaining reader.new)
         (W.contents writer.old) (W.contents writer.new) made) }
     // It has this fault behind the links that it begins with, and all their whole packets are written.
-    ensures stopped { IfErr result (λ fault. Stops fault (R.remaining reader.old) (R.remaining reader.new)
+    ensures stopped { IfErr result (λ fault. Stops options.renumber fault (R.remaining reader.old) (R.remaining reader.new)
         (W.contents writer.old) (W.contents writer.new)) }
 {
-    let mut maker = match Maker::new(alloc) {
+    let mut maker = match Maker::new(alloc, options.renumber) {
         Ok(maker) => maker,
         Err(_) => return Err(MakingFault::Memory),
     };
@@ -47,9 +49,9 @@ fn take_all<R: Read + Drop, W: Write>(
     reader: &mut R,
     writer: &mut W,
 ) -> Result<(), MakingFault>
-    requires { IsStarted maker.old }
-    ensures { (before : Option (List ℕ)) → Appends before (W.contents writer.old) announcement
-        → TakesAll result (R.remaining reader.old) (R.remaining reader.new) before (W.contents writer.new) maker.new }
+    requires { GoesOn maker.old }
+    ensures { (renumber : Bool) (before : Option (List ℕ)) → IsStarted renumber maker.old
+        → Appends before (W.contents writer.old) announcement → TakesAll renumber result (R.remaining reader.old) (R.remaining reader.new) before (W.contents writer.new) maker.new }
 {
     for _ in 0..u64::MAX {
         match maker.turn(reader, writer) {
@@ -68,8 +70,8 @@ fn finish<W: Write>(
     outcome: Result<(), MakingFault>,
     writer: &mut W,
 ) -> Result<Made, MakingFault>
-    ensures { (from left before : Option (List ℕ)) → TakesAll outcome from left before (W.contents writer.old) maker.old
-        → Finishes result from left before (W.contents writer.new) }
+    ensures { (renumber : Bool) (from left before : Option (List ℕ))
+        → TakesAll renumber outcome from left before (W.contents writer.old) maker.old → Finishes renumber result from left before (W.contents writer.new) }
 {
     match outcome {
         Ok(()) => finish_well(maker, writer),
@@ -88,8 +90,8 @@ fn finish<W: Write>(
 
 /// Writes the commands that still wait at the end of the input.
 fn finish_well<W: Write>(maker: &mut Maker, writer: &mut W) -> Result<Made, MakingFault>
-    ensures { (from left before : Option (List ℕ)) → EndsWell from left before (W.contents writer.old) maker.old
-        → Finishes result from left before (W.contents writer.new) }
+    ensures { (renumber : Bool) (from left before : Option (List ℕ))
+        → EndsWell renumber from left before (W.contents writer.old) maker.old → Finishes renumber result from left before (W.contents writer.new) }
 {
     gathered_commands_hold_the_recording();
     match maker.close(writer) {

@@ -4,7 +4,7 @@ use crate::watching::{Watch, WatchedFeed, WatchedReplies};
 use disk_model::{FileDisk, FileMode};
 use fault_lines::Fault;
 use feed_codec::{FeedFault, Tally};
-use feed_maker::make_feed;
+use feed_maker::{FeedOptions, make_feed};
 use feed_recorder::record_feed;
 use ogg_page::write_whole;
 use ogg_recorder::Recorder;
@@ -86,7 +86,12 @@ pub fn record(
 /// Writes the feed of the Ogg bitstream on standard input to standard output.
 pub fn feed(rt: &HostRuntime) -> Result<(), Fault> {
     // The standard streams keep no bytes back, so what is written is out; and what can be read at once is.
-    match make_feed(rt.alloc(), &mut rt.stdin(), &mut rt.stdout()) {
+    match make_feed(
+        rt.alloc(),
+        &mut rt.stdin(),
+        &mut rt.stdout(),
+        FeedOptions::none(),
+    ) {
         Ok(_) => Ok(()),
         Err(fault) => Err(Fault::Make(fault)),
     }

@@ -1,12 +1,12 @@
-use Rattle.std.proofs.Common.{◌≤◌, Option, List, ℕ}
+use Rattle.std.proofs.Common.{◌≤◌, Bool, Option, List, ℕ}
 use Rattle.std.specs.Io.KnownBytes.{Appends}
 use Rattle.feed_codec.specs.Record.{announcement}
-use Rattle.feed_maker.specs.Turn.{GoesOn, StillMakes}
+use Rattle.feed_maker.specs.Turn.{GoesOn, IsStarted, StillMakes}
 use Rattle.feed_maker.proofs.making.take_all.Given as goal
 
 -- each turn took a page
 abbrev pub invariant-loop : goal.invariant-loop
 invariant-loop g l =
     GoesOn l.maker × (l.counter ≤ l.maker.pages.offset)
-    × ((before : Option (List ℕ)) → Appends before (g.W.Write.contents l.initial.writer) announcement →
-    StillMakes (g.R.Read.remaining l.initial.reader) (g.R.Read.remaining l.reader) before (g.W.Write.contents l.writer) l.maker)
+    × ((renumber : Bool) (before : Option (List ℕ)) → IsStarted renumber l.initial.maker → Appends before (g.W.Write.contents l.initial.writer) announcement →
+    StillMakes renumber (g.R.Read.remaining l.initial.reader) (g.R.Read.remaining l.reader) before (g.W.Write.contents l.writer) l.maker)
