@@ -41,6 +41,32 @@ run mux --check --strict <"$work/feed"
 check "three headers: a Begin, two Puts and an End with each stream: status $status" [ "$(grep -c kept "$work/out")" -eq 6 ]
 check "three headers: begun with them" grep -q '^kept 1 ' "$work/out"
 
+# A serial that an earlier link has: the stream gets another one, and its packets and its end follow.
+twice() {
+    local name=$1
+    shift
+    pages "$@" >"$work/one.ogg"
+    cat "$work/one.ogg" "$work/one.ogg" "$work/one.ogg" >"$work/in.ogg"
+    run feed --renumber <"$work/in.ogg"
+    check "$name: status $status" [ "$status" -eq 0 ]
+    cp "$work/out" "$work/feed"
+    run mux --strict <"$work/feed"
+    check "$name: every command is kept" [ "$status" -eq 0 ]
+    cp "$work/out" "$work/again.ogg"
+    check "$name: the same under other serials" feeding renumbered "$work/in.ogg" "$work/again.ogg"
+    run feed <"$work/in.ogg"
+    cp "$work/out" "$work/feed"
+    run mux --check <"$work/feed"
+    check "$name: without the option the second copy is refused" grep -q '^refused 6 SerialTaken' "$work/out"
+}
+twice "one stream" "02 0 1 0 3 abc" "00 5 1 1 5 hello" "04 9 1 2 1 x"
+twice "two streams" "02 0 0 0 3 abc" "02 0 1 0 3 abd" "00 7 1 1 1 x" "04 9 0 1 - -" "04 7 1 2 1 y"
+twice "the highest serial" "02 0 4294967295 0 3 abc" "04 9 4294967295 1 1 x"
+for option in "" --renumber; do
+    timeout 20 "$program" feed $option <"$work/vorbis.ogg" >"$work/with.$option"
+done
+check "nothing to renumber: the same feed" cmp "$work/with." "$work/with.--renumber"
+
 # Faults of the input are told with their offsets, after what comes before them.
 pages "02 0 1 0 3 abc" "00 5 1 1 5 hello" "00 6 1 2 1 x" >"$work/in.ogg"
 faulty() {

@@ -2,6 +2,7 @@
 """What `feed` makes of Ogg files, by what is in them before and after.
 
     feeding.py same FILE OTHER        whether both hold the same streams, packets, positions and ends
+    feeding.py renumbered FILE OTHER  the same, but that a stream whose serial an earlier link has another one in OTHER
     feeding.py compare PROGRAM        random files through `feed` and `mux`, whole, in pieces, cut, and with a byte changed
     feeding.py live PROGRAM           a page at a time through a pipe: its record is out before the next page comes
 
@@ -74,6 +75,22 @@ def differ(name, data, other):
 
 
 HEADERS = 3
+
+
+def renumbered(data, other):
+    """How the second bytes are more than the first ones under serials that no two links share, as a line, or nothing."""
+    one, two = streams_of(pages_of(data)[0]), streams_of(pages_of(other)[0])
+    if len(one) != len(two):
+        return "%d links and not %d" % (len(two), len(one))
+    earlier = set()
+    for number, (link, made) in enumerate(zip(one, two)):
+        if [(s["packets"], s["ended"]) for s in link.values()] != [(s["packets"], s["ended"]) for s in made.values()]:
+            return "link %d holds something else" % number
+        for was, now in zip(link, made):
+            if now in earlier or was not in earlier and now != was:
+                return "link %d: serial %d became %d" % (number, was, now)
+        earlier |= set(made)
+    return None
 
 
 def run(words, given):
@@ -178,9 +195,9 @@ def live(program):
 
 
 def main():
-    if sys.argv[1] == "same":
+    if sys.argv[1] in ("same", "renumbered"):
         data, other = (open(path, "rb").read() for path in sys.argv[2:4])
-        difference = differ(sys.argv[2], data, other)
+        difference = differ(sys.argv[2], data, other) if sys.argv[1] == "same" else renumbered(data, other)
         if difference:
             print(difference)
         return 1 if difference else 0

@@ -83,15 +83,12 @@ pub fn record(
     Ok(())
 }
 
-/// Writes the feed of the Ogg bitstream on standard input to standard output.
-pub fn feed(rt: &HostRuntime) -> Result<(), Fault> {
+/// Writes the feed of the Ogg bitstream on standard input to standard output. If `renumber` says so, a stream gets another
+/// serial where an earlier link has its serial.
+pub fn feed(rt: &HostRuntime, renumber: bool) -> Result<(), Fault> {
+    let options = FeedOptions { renumber };
     // The standard streams keep no bytes back, so what is written is out; and what can be read at once is.
-    match make_feed(
-        rt.alloc(),
-        &mut rt.stdin(),
-        &mut rt.stdout(),
-        FeedOptions::none(),
-    ) {
+    match make_feed(rt.alloc(), &mut rt.stdin(), &mut rt.stdout(), options) {
         Ok(_) => Ok(()),
         Err(fault) => Err(Fault::Make(fault)),
     }

@@ -8,8 +8,10 @@ use std::{env, io};
 /// What the command line asks for.
 #[derive(Clone, Copy, Debug, PartialEq, Eq)]
 pub enum Action<'a> {
-    /// The feed of the Ogg bitstream on standard input.
-    Feed,
+    /// The feed of the Ogg bitstream on standard input, with `renumber` under serials that each stream has alone.
+    Feed {
+        renumber: bool,
+    },
     /// The pages of the feed on standard input, or with `check` its replies alone, with `strict` up to the first refusal.
     Mux {
         check: bool,
@@ -72,7 +74,7 @@ pub fn words(rt: &HostRuntime) -> Result<Vec<String>, Error> {
 pub fn action_of<'a>(alloc: Global, words: &'a [String]) -> Result<Action<'a>, Error> {
     let matches = program(alloc)?.try_get_matches_from(words)?;
     let action = match matches.subcommand() {
-        Some(("feed", _)) => Some(Action::Feed),
+        Some(("feed", words)) => Some(feed_of(words)),
         Some(("mux", words)) => Some(mux_of(words)),
         Some(("record", words)) => record_of(words),
         Some(("links", words)) => links_of(words),
@@ -136,11 +138,20 @@ fn file<'a>(alloc: Global, help: &'a str) -> Arg<'a> {
 }
 
 fn feed<'a>(alloc: Global) -> Result<Command<'a>, AllocError> {
-    Ok(
-        Command::new(alloc, "feed")
-            .about("Makes a feed of the Ogg stream on standard input, as an encoder writes it")
-            .after_help(FEED_HELP),
-    )
+    let renumber = Arg::new(alloc, "renumber")
+        .long("renumber")
+        .help("Gives a stream another serial if an earlier link of the input has its serial")
+        .action(ArgAction::SetTrue);
+    Command::new(alloc, "feed")
+        .about("Makes a feed of the Ogg stream on standard input, as an encoder writes it")
+        .after_help(FEED_HELP)
+        .arg(renumber)
+}
+
+fn feed_of<'a>(words: &ArgMatches<'a>) -> Action<'a> {
+    Action::Feed {
+        renumber: words.get_flag("renumber"),
+    }
 }
 
 const FEED_HELP: &str = "\
@@ -153,6 +164,11 @@ complete, so an encoder's output is recorded while it is made:
 A link begins once the headers of all its streams have come; Vorbis, Theora, Opus, FLAC and Speex are
 known, and of another codec the first packet is the header. Chains go on link by link, and a Skeleton is
 a stream like the others. Each packet gets the position of the page that it ends in.
+
+A file has each serial once, so of two copies of a file, or of an encoder that takes the same serial each
+time, the second link would be refused. With `--renumber` its streams get serials that are free:
+
+  cat song.ogg song.ogg | kudzuturret feed --renumber | kudzuturret record twice.ogg
 
 What can't be taken ends the feed by a fault with its offset, after everything before it is out:
 
