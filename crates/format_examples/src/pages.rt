@@ -91,50 +91,6 @@ fn a_changed_page_is_refused_by_its_first_fault(rt: HostRuntime) {
     }
 }
 
-/// The pages of a link with a Skeleton: a fishead, a first page, a fisbone, and the Skeleton's last page.
-const LINK_PAGES: [&[u8]; 4] = [
-    b"OggS\0\x02\0\0\0\0\0\0\0\0\x09\0\0\0\0\0\0\0}\xcd(\xf3\x01@fishead\0\x03\0\0\0\0\0\0\0\0\0\0\0\
-        \xe8\x03\0\0\0\0\0\0\0\0\0\0\0\0\0\0\xe8\x03\0\0\0\0\0\0\0\0\0\0\0\0\0\0\0\0\0\0\0\0\0\0\0\0",
-    &FIRST_PAGE,
-    b"OggS\0\0\0\0\0\0\0\0\0\0\x09\0\0\0\x01\0\0\0\xcd\xc2\x96\x10\x01Pfisbone\0,\0\0\0\x01\0\0\0\x01\0\0\0\
-        D\xac\0\0\0\0\0\0\x01\0\0\0\0\0\0\0\0\0\0\0\0\0\0\0\0\0\0\0\0\0\0\0Content-Type: audio/vorbis\r\n",
-    b"OggS\0\x04\0\0\0\0\0\0\0\0\x09\0\0\0\x02\0\0\0\xd624\x07\x01\0",
-];
-
-/// How many of the other values of the byte at the place make no page.
-fn refused_at(page: &[u8], place: usize) -> Result<u64, Fail> {
-    let mut bytes = [0; 108];
-    let (changed, _) = bytes.split_at_mut(page.len().min(108));
-    let mut refused = 0;
-    for value in 0..=255 {
-        if changed.len() != page.len() {
-            return Err(Fail::from("a longer page"));
-        }
-        changed.copy_from_slice(page);
-        if let Some(byte) = changed.get_mut(place) {
-            *byte = value;
-        }
-        if read_page(changed).is_err() {
-            refused = u64::saturating_add(refused, 1);
-        }
-    }
-    Ok(refused)
-}
-
-/// The number of lacing values and the values themselves are left as they are.
-#[test]
-fn each_changed_byte_of_a_page_is_a_fault(rt: HostRuntime) -> Result<(), Fail> {
-    for page in LINK_PAGES {
-        assert!(rt; read_page(page).is_ok());
-        for place in 0..page.len() {
-            if place != 26 && place != 27 {
-                assert!(rt; refused_at(page, place)? == 255, "at {place}");
-            }
-        }
-    }
-    Ok(())
-}
-
 #[test]
 fn a_page_that_is_cut_is_short(rt: HostRuntime) {
     for length in [0, 1, 26, 27, 28, 30] {
