@@ -122,12 +122,28 @@ fn page_in_front(bytes: &[u8], values: usize, size: usize) -> Page<'_>
     Page::new(head, lacing, body, bytes.split_at(FIXED + values + size).0)
 }
 
-/// The checksum of a page's bytes with zeros in the checksum's place.
+/// The checksum of a page's bytes with zeros in the checksum's place. The first 32 bytes go as one
+/// piece, so that the look-ups go on from there in whole pieces of sixteen bytes.
 fn blanked_checksum(whole: &[u8]) -> u32
     requires { 27 ≤ length whole.now }
     ensures { result ≡ checksum_of (blanked whole.now) }
 {
-    checksum_on(checksum_on(checksum(&whole[..22]), &[0; 4]), &whole[26..])
+    match whole.split_first_chunk::<32>() {
+        Some((front, rest)) => checksum_on(checksum(&blanked_front(front)), rest),
+        None => checksum_on(checksum_on(checksum(&whole[..22]), &[0; 4]), &whole[26..]),
+    }
+}
+
+/// The first bytes of a page, with zeros in the checksum's place.
+fn blanked_front(front: &[u8; 32]) -> [u8; 32]
+    ensures { (rest : List ℕ) → result ++ rest ≡ blanked (front.now ++ rest) }
+{
+    let mut blank = *front;
+    blank[22] = 0;
+    blank[23] = 0;
+    blank[24] = 0;
+    blank[25] = 0;
+    blank
 }
 
 fn u32_at(bytes: &[u8], at: usize) -> u32

@@ -1,10 +1,20 @@
-use Rattle.std.proofs.Common.{◌∙◌, ap, take, ◌++◌, ◌∷◌, [], ℕ, List}
-use Rattle.std.proofs.lemmas.List.{take_rest}
+use Rattle.std.proofs.Common.{◌∙◌, ◌≡◌, ap, take, ◌++◌, ◌∷◌, [], ℕ, List}
+use Rattle.std.proofs.lemmas.List.{take_rest, take-append-drop}
 use Rattle.ogg_page.specs.Checksum.{checksum_of}
+use Rattle.ogg_page.specs.Reading.{blanked}
 use Rattle.ogg_page.proofs.reading.blanked_checksum.Goals as goal
 
-pub returns : goal.returns
-returns c =
+pub returns-in-Some : goal.returns-in-Some
+returns-in-Some c =
+    let some = c.in-Some in
+    let whole : List ℕ = c.args.whole.now in
+    let split : some.front.now ++ some.rest.now ≡ whole =
+    ap (λ l. l ++ some.rest.now) some.ensures.cases.0 ∙ ap (λ l. take 32 whole ++ l) some.ensures.cases.1 ∙ take-append-drop 32 whole in
+    c.checksum_on.ensures c.blanked_front.result c.checksum.ensures
+    ∙ ap checksum_of (c.blanked_front.ensures some.rest.now ∙ ap blanked split)
+
+pub returns-in-None : goal.returns-in-None
+returns-in-None c =
     let front : List ℕ = take 22 c.args.whole.now ++ 0 ∷ 0 ∷ 0 ∷ 0 ∷ [] in
-    c.checksum_on-2.ensures front (c.checksum_on.ensures (take 22 c.args.whole.now) c.checksum.ensures)
+    c.checksum_on-in-None-2.ensures front (c.checksum_on-in-None.ensures (take 22 c.args.whole.now) c.checksum-in-None.ensures)
     ∙ ap (λ l. checksum_of (front ++ l)) (take_rest c.args.whole.now 26)

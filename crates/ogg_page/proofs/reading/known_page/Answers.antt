@@ -1,8 +1,6 @@
-use Rattle.std.proofs.Common.{◌≡◌, ◌+◌, ◌∙◌, ap, sym, refl, ℕ, List, sum, arith}
-use Rattle.std.specs.Prelude.{slice_index}
-use Rattle.std.specs.Result.{is_ok}
-use Rattle.ogg_page.specs.Reading.{page_at, fields_at, lacing_at, IsPageOf}
-use Rattle.ogg_page.specs.Laws.ReadAgain.{known_sizes, ok_same}
+use Rattle.std.proofs.Common.{◌∙◌, sym}
+use Rattle.ogg_page.specs.Reading.{fields_at}
+use Rattle.ogg_page.specs.Laws.ReadAgain.{ok_same}
 use Rattle.ogg_page.proofs.reading.known_page.Goals as goal
 
 pub returns : goal.returns
