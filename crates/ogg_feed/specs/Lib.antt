@@ -1,2 +1,3 @@
+pub mod Codecs
 pub mod Commands
 pub mod Headers

@@ -1,21 +1,19 @@
-//! How many of a stream's packets are headers: the one place that looks at what a packet says.
+//! How many of a stream's packets are headers.
 ghost use Rattle.std.specs.Prelude.{◌≡◌, ◌+◌, ◌*◌, slice_index};
 ghost use Rattle.ogg_feed.specs.Headers.{begins, flac_headers, header_count, is_flac, is_opus, is_speex, is_theora, is_vorbis, speex_headers};
+
+use crate::codec::Codec;
 
 /// How many of a stream's packets are headers, told by the first. Of a codec that isn't known it is the first alone.
 pub fn header_count(first: &[u8]) -> u32
     ensures { result ≡ header_count first.now }
 {
-    if first.starts_with(b"\x01vorbis") || first.starts_with(b"\x80theora") {
-        3
-    } else if first.starts_with(b"OpusHead") {
-        2
-    } else if first.starts_with(b"\x7FFLAC") {
-        1 + number_of(byte_at(first, 8), byte_at(first, 7))
-    } else if first.starts_with(b"Speex   ") {
-        2 + number_of(byte_at(first, 68), byte_at(first, 69))
-    } else {
-        1
+    match Codec::of(first) {
+        Codec::Vorbis | Codec::Theora => 3,
+        Codec::Opus => 2,
+        Codec::Flac => 1 + number_of(byte_at(first, 8), byte_at(first, 7)),
+        Codec::Speex => 2 + number_of(byte_at(first, 68), byte_at(first, 69)),
+        Codec::Other => 1,
     }
 }
 
@@ -27,7 +25,7 @@ fn number_of(low: u8, high: u8) -> u32
 }
 
 /// The byte at a place, or 0 after the end.
-fn byte_at(bytes: &[u8], at: usize) -> u8
+pub(crate) fn byte_at(bytes: &[u8], at: usize) -> u8
     ensures { result ≡ slice_index bytes.now at }
 {
     match bytes.get(at) {

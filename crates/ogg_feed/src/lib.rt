@@ -7,9 +7,11 @@
 //! Start at `specs/Commands.antt`, which says what the commands of a chain of links are.
 #![tactic(auto)]
 
+mod codec;
 mod headers;
 mod laws;
 
+pub use codec::{Codec, rate_of, shift_of};
 pub use headers::header_count;
 pub use laws::{
     commands_come_page_by_page, commands_of_links_add_up, packets_of_a_front_come_first,
