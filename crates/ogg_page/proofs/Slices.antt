@@ -7,7 +7,7 @@ use Rattle.std.specs.List.{flat_map}
 use Rattle.std.proofs.lemmas.List.{length-replicate, replicate-append-replicate, take-append-drop}
 use Rattle.std.proofs.lemmas.Nat.{be_bytes_4, xor_comm}
 use Rattle.std.proofs.lemmas.Grind.{flat_map-append}
-use Rattle.ogg_page.specs.Checksum.{bits_of, number_of, message_bits, add, remainder, checksum_of, entry_before}
+use Rattle.ogg_page.specs.Checksum.{bytes_of, bits_of, number_of, message_bits, add, remainder, checksum_of, entry_before}
 use Rattle.ogg_page.specs.Laws.Division.{zeros, add_parts, add-zeros, zeros-add, remainder-add, remainder-zeros, remainder-append, remainder-more, length-add}
 use Rattle.ogg_page.specs.Laws.BitNumbers.{number-add, number-append, number-bits_of, length-bits_of, number_lt, small_mod, same_number}
 use Rattle.ogg_page.specs.Laws.ByteStep.{left_of, length-left_of}
@@ -243,6 +243,17 @@ checksum-on_sixteen front a b c d sum v w x y is ha hb hc hd =
     ∙ ap (bit_xor (word_before 12 (bit_xor sum v))) (xor_assoc (word_before 8 w) (word_before 4 x) (word_before 0 y))
     ∙ sym first
 
+-- each word is spelled by its own bytes, and four words by theirs
+pub own_word : (word : ℕ) → word < 2 ^ 32 → IsWord (to_be_bytes w32 word) word
+own_word word fits = record { long = refl; fits = fits; spelled = refl }
+
+pub four_words : (a b c d : List ℕ) (v w x y : ℕ) → IsWord a v → IsWord b w → IsWord c x → IsWord d y → bytes_of v w x y ≡ a ++ (b ++ (c ++ d))
+four_words a b c d v w x y ha hb hc hd =
+    ap (λ l. l ++ (to_be_bytes w32 w ++ (to_be_bytes w32 x ++ to_be_bytes w32 y))) ha.spelled
+    ∙ ap (λ l. a ++ (l ++ (to_be_bytes w32 x ++ to_be_bytes w32 y))) hb.spelled
+    ∙ ap (λ l. a ++ (b ++ (l ++ to_be_bytes w32 y))) hc.spelled
+    ∙ ap (λ l. a ++ (b ++ (c ++ l))) hd.spelled
+
 -- ---- the bytes of a word, each with the zeros behind it
 checksum-first : (byte : ℕ) (rest : List ℕ) → checksum_of (byte ∷ rest) ≡ bit_xor (entry_before (length rest) byte) (checksum_of rest)
 checksum-first byte rest = checksum-apart (byte ∷ []) rest
@@ -300,6 +311,27 @@ word_of k xs word small is =
       fits = omega (arith, is, small k, small (suc k), small (suc (suc k)), small (suc (suc (suc k))));
       spelled = be_bytes_4 (gets k 4 xs) word refl each is;
     }
+
+two_small : (a b : ℕ) → a < 256 → b < 256 → (i : ℕ) → get_or (a ∷ b ∷ 0 ∷ 0 ∷ []) i 0 < 256
+two_small a b ha hb zero = ha
+two_small a b ha hb (suc zero) = hb
+two_small a b ha hb (suc (suc zero)) = omega arith
+two_small a b ha hb (suc (suc (suc zero))) = omega arith
+two_small a b ha hb (suc (suc (suc (suc i)))) = omega arith
+
+small_behind : (a b : ℕ) → a < 256 → b < 256 → (i : ℕ) → get_or (0 ∷ 0 ∷ a ∷ b ∷ []) i 0 < 256
+small_behind a b ha hb zero = omega arith
+small_behind a b ha hb (suc zero) = omega arith
+small_behind a b ha hb (suc (suc zero)) = ha
+small_behind a b ha hb (suc (suc (suc zero))) = hb
+small_behind a b ha hb (suc (suc (suc (suc i)))) = omega arith
+
+-- two bytes with zeros behind them, or before them
+pub word_of_two : (a b word : ℕ) → a < 256 → b < 256 → word ≡ from_be_bytes w32 (a ∷ b ∷ 0 ∷ 0 ∷ []) → IsWord (a ∷ b ∷ 0 ∷ 0 ∷ []) word
+word_of_two a b word ha hb is = word_of 0 (a ∷ b ∷ 0 ∷ 0 ∷ []) word (two_small a b ha hb) is
+
+pub word_behind_two : (a b word : ℕ) → a < 256 → b < 256 → word ≡ from_be_bytes w32 (0 ∷ 0 ∷ a ∷ b ∷ []) → IsWord (0 ∷ 0 ∷ a ∷ b ∷ []) word
+word_behind_two a b word ha hb is = word_of 0 (0 ∷ 0 ∷ a ∷ b ∷ []) word (small_behind a b ha hb) is
 
 -- ---- piece by piece
 -- the sum is that of what came before and of the bytes that are gone

@@ -3,6 +3,7 @@
 -- polynomial is the list of its coefficients, the highest first.
 use Rattle.std.specs.Prelude.{ℕ, zero, suc, ◌+◌, ◌/◌, ◌%◌, ◌^◌, Bool, true, false, not, nat_eq, if◌then◌else◌, List, [], ◌∷◌, ◌++◌, length, replicate}
 use Rattle.std.specs.List.{flat_map}
+use Rattle.std.specs.Int.{to_be_bytes, w32}
 
 -- the low n bits of a number, the highest first
 unfoldable pub bits_of : ℕ → ℕ → List Bool
@@ -45,3 +46,7 @@ checksum_of bytes = let message = message_bits bytes in number_of (remainder (le
 -- the checksum of a byte with so many zeros behind it
 abbrev pub entry_before : ℕ → ℕ → ℕ
 entry_before zeros byte = checksum_of (byte ∷ replicate zeros 0)
+
+-- sixteen bytes that are spelled by four words, each with its highest byte first
+abbrev pub bytes_of : ℕ → ℕ → ℕ → ℕ → List ℕ
+bytes_of first second third fourth = to_be_bytes w32 first ++ to_be_bytes w32 second ++ to_be_bytes w32 third ++ to_be_bytes w32 fourth

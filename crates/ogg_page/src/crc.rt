@@ -1,7 +1,7 @@
 //! The checksum of a page.
 ghost use Rattle.std.specs.Prelude.{◌≡◌, ◌<◌, ◌≤◌, ◌++◌, replicate, List, ℕ};
 ghost use Rattle.std.specs.Int.{to_be_bytes, w32};
-ghost use Rattle.ogg_page.specs.Checksum.{checksum_of, entry_before};
+ghost use Rattle.ogg_page.specs.Checksum.{bytes_of, checksum_of, entry_before};
 
 use crate::table::ENTRIES;
 
@@ -34,20 +34,33 @@ pub fn checksum_on(before: u32, bytes: &[u8]) -> u32
     checksum_on_each(sum, rest)
 }
 
-/// The same of sixteen bytes: what came before adds to the first word, and then each word adds the
-/// checksum that it has with the words behind it as zeros.
+/// The same of sixteen bytes.
 fn checksum_on_sixteen(before: u32, bytes: &[u8; 16]) -> u32
     ensures { (front : List ℕ) → before ≡ checksum_of front → result ≡ checksum_of (front ++ bytes.now) }
 {
-    let first = before ^ u32::from_be_bytes([bytes[0], bytes[1], bytes[2], bytes[3]]);
+    let first = u32::from_be_bytes([bytes[0], bytes[1], bytes[2], bytes[3]]);
     let second = u32::from_be_bytes([bytes[4], bytes[5], bytes[6], bytes[7]]);
     let third = u32::from_be_bytes([bytes[8], bytes[9], bytes[10], bytes[11]]);
     let fourth = u32::from_be_bytes([bytes[12], bytes[13], bytes[14], bytes[15]]);
+    checksum_on_words(before, first, second, third, fourth)
+}
+
+/// The same of sixteen bytes, as four words: what came before adds to the first word, and then each
+/// word adds the checksum that it has with the words behind it as zeros.
+pub(crate) fn checksum_on_words(
+    before: u32,
+    first: u32,
+    second: u32,
+    third: u32,
+    fourth: u32,
+) -> u32
+    ensures { (front : List ℕ) → before ≡ checksum_of front → result ≡ checksum_of (front ++ bytes_of first second third fourth) }
+{
     // The first word is the last to be added, since it alone waits for the bytes before.
     checksum_of_word(second, 8)
         ^ checksum_of_word(third, 4)
         ^ checksum_of_word(fourth, 0)
-        ^ checksum_of_word(first, 12)
+        ^ checksum_of_word(before ^ first, 12)
 }
 
 /// The same of eight bytes.

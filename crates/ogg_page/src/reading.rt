@@ -6,7 +6,7 @@ ghost use Rattle.ogg_page.specs.Reading.{page_at, fields_at, size_at, blanked, I
 ghost use Rattle.ogg_page.specs.Room.{BeginsWithPage};
 ghost use Rattle.ogg_page.specs.Checksum.{checksum_of};
 
-use crate::crc::{checksum, checksum_on};
+use crate::crc::{checksum, checksum_on, checksum_on_words};
 use crate::fault::PageFault;
 use crate::head::{FIXED, PageHead};
 use crate::lacing::body_size;
@@ -62,8 +62,8 @@ pub(crate) fn size_in_front(bytes: &[u8]) -> Result<usize, PageFault>
     ensures bytes { AreBytes bytes.now }
     ensures found { MatchResult result (λ size. BeginsWithPage bytes.now size) (λ fault. page_at bytes.now ≡ Err fault) }
 {
-    let page = read_page(bytes)?;
-    Ok(page.whole().len())
+    let (values, size) = sizes_of_page(bytes)?;
+    Ok(FIXED + values + size)
 }
 
 /// The page that is known to be these bytes. It takes no time for its lacing values either.
@@ -129,21 +129,31 @@ fn blanked_checksum(whole: &[u8]) -> u32
     ensures { result ≡ checksum_of (blanked whole.now) }
 {
     match whole.split_first_chunk::<32>() {
-        Some((front, rest)) => checksum_on(checksum(&blanked_front(front)), rest),
+        Some((front, rest)) => checksum_on(checksum_of_front(front), rest),
         None => checksum_on(checksum_on(checksum(&whole[..22]), &[0; 4]), &whole[26..]),
     }
 }
 
-/// The first bytes of a page, with zeros in the checksum's place.
-fn blanked_front(front: &[u8; 32]) -> [u8; 32]
-    ensures { (rest : List ℕ) → result ++ rest ≡ blanked (front.now ++ rest) }
+/// The same of a page's first bytes. They stay in registers: a copy that is blanked would be written
+/// and read again.
+fn checksum_of_front(front: &[u8; 32]) -> u32
+    ensures sum { result ≡ checksum_of (blanked front.now) }
+    ensures front { (rest : List ℕ) → blanked front.now ++ rest ≡ blanked (front.now ++ rest) }
 {
-    let mut blank = *front;
-    blank[22] = 0;
-    blank[23] = 0;
-    blank[24] = 0;
-    blank[25] = 0;
-    blank
+    let sum = checksum_on_words(
+        0,
+        u32::from_be_bytes([front[0], front[1], front[2], front[3]]),
+        u32::from_be_bytes([front[4], front[5], front[6], front[7]]),
+        u32::from_be_bytes([front[8], front[9], front[10], front[11]]),
+        u32::from_be_bytes([front[12], front[13], front[14], front[15]]),
+    );
+    checksum_on_words(
+        sum,
+        u32::from_be_bytes([front[16], front[17], front[18], front[19]]),
+        u32::from_be_bytes([front[20], front[21], 0, 0]),
+        u32::from_be_bytes([0, 0, front[26], front[27]]),
+        u32::from_be_bytes([front[28], front[29], front[30], front[31]]),
+    )
 }
 
 fn u32_at(bytes: &[u8], at: usize) -> u32

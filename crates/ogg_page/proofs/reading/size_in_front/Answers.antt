@@ -1,17 +1,23 @@
-use Rattle.std.proofs.Common.{◌≡◌, ◌∙◌, ap, sym, length, arith, length-append}
-use Rattle.ogg_page.specs.Page.{page_bytes, page_size}
-use Rattle.ogg_page.specs.Laws.ReadAgain.{length-page_bytes}
+use Rattle.std.proofs.Common.{◌+◌, ◌∙◌, ap, sym, ℕ, List, length, arith}
+use Rattle.std.proofs.lemmas.List.{length-take-le}
+use Rattle.ogg_page.specs.Page.{AreBytes}
+use Rattle.ogg_page.specs.Reading.{fields_at}
+use Rattle.ogg_page.specs.Laws.ReadAgain.{read_is_page, front_is_page, length-page_bytes}
 use Rattle.ogg_page.proofs.reading.size_in_front.Goals as goal
 
 pub returns-clause-found : goal.returns-clause-found
 returns-clause-found c =
-    let found = c.read_page.ensures.found in
-    let size : length c.whole.result.now ≡ page_size c.in_ok-page.page = ap length c.whole.ensures.bytes ∙ length-page_bytes c.in_ok-page.page in
+    let bytes : List ℕ = c.args.bytes.now in
+    let values : ℕ = c.in_ok-values.values in
+    let size : ℕ = c.in_ok-values.size in
+    let h : AreBytes bytes = λ i. omega (arith, c.type_inv.bytes i) in
+    let p = c.in_ok-values.ensures in
     record {
-      page = c.in_ok-page.page;
-      is = c.whole.ensures.is_page;
-      read = sym c.read_page.ensures.exact ∙ c.in_ok-page.was;
-      whole = size;
-      fits = omega (arith, size, ap length c.in_ok-page.ensures.found.2, length-append (page_bytes c.in_ok-page.page) c.in_ok-page.ensures.found.1, length-page_bytes c.in_ok-page.page);
-      small = λ i. omega (arith, c.type_inv.bytes i);
+      page = fields_at bytes;
+      is = (read_is_page bytes (fields_at bytes) h p.page).0;
+      read = p.page;
+      whole = sym (length-take-le (27 + values + size) bytes p.whole)
+          ∙ ap length (front_is_page bytes values size h p) ∙ length-page_bytes (fields_at bytes);
+      fits = p.whole;
+      small = h;
     }
