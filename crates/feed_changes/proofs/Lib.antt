@@ -1,4 +1,1 @@
 pub mod Names
-pub mod Renumbers
-pub mod Links
-pub mod Steps

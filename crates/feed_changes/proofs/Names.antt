@@ -9,7 +9,11 @@ use Rattle.std.proofs.lemmas.List.Folds.{list_any-append}
 use Rattle.std.proofs.lemmas.Bool.{eq-eqb}
 use Rattle.std.proofs.lemmas.Map.Made.{is_some-lookup}
 use Rattle.std.specs.Option.{is_some}
-use Rattle.feed_changes.specs.Naming.{AreNamed, AreNames, IsFreshName, IsKept, Keeps, KeepsAll, Renames, name_of, serials_of}
+use Rattle.feed_changes.specs.Naming.{AreNamed, AreNames, IsFreshName, IsKept, Keeps, KeepsAll, Renames, entries_named, entry_with, name_of, serials_of}
+use Rattle.std.proofs.lemmas.List.Elements.{filter_map-append}
+use Rattle.std.specs.Prelude.{Option}
+use Rattle.std.specs.List.{cons_option}
+use Rattle.ogg_command.specs.declared.command.Entry.{Entry}
 use Rattle.ogg_command.specs.declared.command.NewStream.{NewStream}
 
 pub any_more : (p : ℕ → Bool) (xs ys : List ℕ) → list_any p xs ≡ true → list_any p (xs ++ ys) ≡ true
@@ -147,3 +151,10 @@ pub kept_at : (given : List ℕ) (names : List (ℕ × ℕ)) (streams : List New
 kept_at given names [] i d less all = absurd (omega (arith, less))
 kept_at given names (stream ∷ streams) zero d less (p, all) = p
 kept_at given names (stream ∷ streams) (suc i) d less (p, all) = kept_at given names streams i d (omega (arith, less)) all
+
+-- ---- packet after packet
+pub entries_push : (names : List (ℕ × ℕ)) (entries : List Entry) (entry : Entry) (now : Option ℕ) → name_of names entry.serial ≡ now →
+    entries_named names (entries ++ entry ∷ []) ≡ entries_named names entries ++ cons_option (entry_with entry now) []
+entries_push names entries entry now e =
+    filter_map-append (λ (entry : Entry). entry_with entry (name_of names entry.serial)) entries (entry ∷ [])
+    ∙ ap (λ o. entries_named names entries ++ cons_option (entry_with entry o) []) e

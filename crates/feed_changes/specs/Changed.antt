@@ -1,17 +1,24 @@
 -- What changed commands have to do with those that they were. Ours.
-use Rattle.std.specs.Prelude.{◌≡◌, ℕ, Bool, true, false, nat_eq, None, List, [], ◌∷◌, map, ⊤}
-use Rattle.std.specs.List.{IsDistinct, flat_map}
+use Rattle.std.specs.Prelude.{◌≡◌, ℕ, Bool, true, false, nat_eq, None, List, [], ◌∷◌, ◌++◌, map, ⊤, ◌⊎◌}
+use Rattle.std.specs.List.{AllByRecursion, AllZip, IsDistinct, flat_map, list_any}
 use Rattle.std.specs.Map.{values_of}
 use Rattle.chain_rules.specs.Recording.{Stream, Recording, after}
 use Rattle.ogg_command.specs.declared.command.Command.{Command}
 use Rattle.ogg_command.specs.declared.command.Command.TheVariants.{Begin as BeginOf, Put as PutOf, End as EndOf}
-use Rattle.feed_changes.specs.Naming.{AreNamed, named}
-use Rattle.feed_changes.specs.Renumbered.{IsRenumbered, serials}
+use Rattle.feed_changes.specs.declared.options.ChangeOptions.{ChangeOptions}
+use Rattle.feed_changes.specs.Options.{is_none}
+use Rattle.feed_changes.specs.Naming.{AreNamed, AreNames, named}
+use Rattle.feed_changes.specs.Renumbered.{avoided, serials}
+use Rattle.feed_changes.specs.Links.{ChangedFrom, IsBefore, MayStay, those}
+use Rattle.feed_changes.specs.Skeletons.{IsBegunAs}
 
 -- the recording is changed as asked
-abbrev pub IsChanged : Bool → Recording → Recording → Type 0
-IsChanged false recording now = now ≡ recording
-IsChanged true recording now = IsRenumbered recording now
+abbrev pub IsChangedIf : Bool → ChangeOptions → Recording → Recording → Type 0
+IsChangedIf true options recording now = now ≡ recording
+IsChangedIf false options recording now = ChangedFrom options [] recording now
+
+abbrev pub IsChanged : ChangeOptions → Recording → Recording → Type 0
+IsChanged options recording now = IsChangedIf (is_none options) options recording now
 
 -- A link is begun without a Skeleton: its packets would name serials.
 abbrev pub IsPlain : Command → Type 0
@@ -20,33 +27,57 @@ IsPlain (PutOf put) = ⊤
 IsPlain (EndOf serial) = ⊤
 
 pub record ChangeState : Type 0 where
-  pub renumber : Bool
+  pub options : ChangeOptions
   -- the serials that streams have now, in the order in which they were begun
   pub given : List ℕ
   -- of the last link: what each serial is now
   pub names : List (ℕ × ℕ)
 
-abbrev pub last_of : Recording → List Stream
-last_of [] = []
-last_of (link ∷ []) = link
-last_of (link ∷ next ∷ links) = last_of (next ∷ links)
-
+-- ---- the recordings so far
 abbrev pub stream_under : List (ℕ × ℕ) → Stream → Stream
 stream_under names stream = record stream { serial = named names stream.serial }
 
--- the recordings so far
-pub record IsRenumberedBy (state : ChangeState) (recording now : Recording) : Type 0 where
-  pub renumbered : IsRenumbered recording now
-  pub given : state.given ≡ flat_map serials now
-  pub last : last_of now ≡ map (stream_under state.names) (last_of recording)
-  pub named : AreNamed state.names (serials (last_of recording))
-  pub distinct : IsDistinct nat_eq (values_of state.names)
+-- no stream has this serial now by its name
+abbrev pub IsNoName : List (ℕ × ℕ) → ℕ → Type 0
+IsNoName names serial = list_any (nat_eq serial) (values_of names) ≡ false
 
-abbrev pub Follows : Bool → ChangeState → Recording → Recording → Type 0
-Follows false state recording now = now ≡ recording
-Follows true state recording now = IsRenumberedBy state recording now
+-- the last link: its streams that stay are under their names
+pub record IsUnderNames (state : ChangeState) (earlier : List ℕ) (link now : List Stream) : Type 0 where
+  pub stays : List Bool
+  pub left_out : AllZip (MayStay state.options.skeletons) stays link
+  pub names : AreNames (avoided state.options.renumber earlier) state.names
+  pub named : AreNamed state.names (serials (those stays link))
+  pub before : List Stream
+  pub made : IsBefore state.options.skeletons earlier (serials (map (stream_under state.names) (those stays link))) before
+  pub apart : AllByRecursion (IsNoName state.names) (serials before)
+  pub is : now ≡ before ++ map (stream_under state.names) (those stays link)
+
+pub record IsUpTo (state : ChangeState) (recording now : Recording) : Type 0 where
+  pub links : Recording
+  pub links_now : Recording
+  pub changed : ChangedFrom state.options [] links links_now
+  pub link : List Stream
+  pub link_now : List Stream
+  pub last : IsUnderNames state (flat_map serials links_now) link link_now
+  pub recording_is : recording ≡ links ++ link ∷ []
+  pub now_is : now ≡ links_now ++ link_now ∷ []
+
+abbrev pub AreNone : Recording → Recording → Type 0
+AreNone recording now = (recording ≡ []) × (now ≡ [])
+
+pub record IsFollowed (state : ChangeState) (recording now : Recording) : Type 0 where
+  pub up_to : AreNone recording now ⊎ IsUpTo state recording now
+  pub given : state.given ≡ flat_map serials now
+
+abbrev pub FollowsIf : Bool → ChangeState → Recording → Recording → Type 0
+FollowsIf true state recording now = now ≡ recording
+FollowsIf false state recording now = IsFollowed state recording now
+
+abbrev pub Follows : ChangeState → Recording → Recording → Type 0
+Follows state recording now = FollowsIf (is_none state.options) state recording now
 
 -- These commands were given for those.
 pub record HasChanged (state : ChangeState) (commands given : List Command) : Type 0 where
-  pub changed : IsChanged state.renumber (after [] commands) (after [] given)
-  pub follows : Follows state.renumber state (after [] commands) (after [] given)
+  pub changed : IsChanged state.options (after [] commands) (after [] given)
+  pub begun : AllByRecursion (IsBegunAs state.options) given
+  pub follows : Follows state (after [] commands) (after [] given)

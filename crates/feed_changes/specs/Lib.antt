@@ -1,4 +1,7 @@
 pub mod Changed
+pub mod Links
 pub mod Naming
+pub mod Options
 pub mod Renumbered
+pub mod Skeletons
 pub mod Steps

@@ -3,20 +3,24 @@ ghost use Rattle.std.specs.Prelude.{◌≡◌, ◌++◌, ◌∷◌, [], List, tr
 ghost use Rattle.std.specs.List.{AllByRecursion};
 ghost use Rattle.ogg_command.specs.declared.command.Command.{Command as CommandOf};
 ghost use Rattle.feed_changes.specs.Changed.{HasChanged, IsPlain};
-ghost use Rattle.feed_changes.specs.Naming.{AreNamed, AreNames, entries_named, name_of, serials_of, stream_named};
+ghost use Rattle.feed_changes.specs.Naming.{entries_named, name_of};
+ghost use Rattle.feed_changes.specs.Options.{is_none};
 
-use crate::naming::{name_all, name_of};
+use crate::describing::{all_described, head_with};
+use crate::naming::{free_serial, name_all, name_of};
+use crate::options::ChangeOptions;
 use crate::renaming::{entries_named, give_all, streams_named};
+use crate::skeletons::{made_for, staying};
 use link_chain::Serials;
-use ogg_command::{Begin, Command, Listed, Memory, Put};
+use ogg_command::{Begin, Command, Listed, Memory, NewStream, Put, SkeletonHead};
 use std::alloc::{AllocError, Global};
 use std::marker::Model;
 
-/// Whether streams get other serials, and what has to be known of the streams so far for that.
+/// What is changed, and what has to be known of the streams so far for that.
 #[derive(Debug, Drop)]
 pub struct Changes {
     alloc: Global,
-    renumber: bool,
+    options: ChangeOptions,
     // the serials that streams have now
     given: Serials,
     // all serials below this one are given
@@ -30,44 +34,89 @@ impl Model for Changes {
 
     ghost Value = { ChangeState };
 
-    ghost view = { λ c. record { renumber = c.renumber; given = c.given.listed; names = c.names.items } };
+    ghost view = { λ c. record { options = c.options; given = c.given.listed; names = c.names.items } };
 }
 
 impl Changes {
-    ghost use Rattle.feed_changes.specs.Steps.{Begins, end_of, option_list, put_of};
+    ghost use Rattle.feed_changes.specs.Steps.{Begins, BeginsDescribed, BeginsPlain, Names, end_of, option_list, put_of};
 
     /// No commands yet. It takes no memory.
-    pub fn new(alloc: Global, renumber: bool) -> Changes
+    pub fn new(alloc: Global, options: ChangeOptions) -> Changes
         ensures changed { HasChanged result [] [] }
-        ensures renumber { result.renumber ≡ renumber }
+        ensures options { result.options ≡ options }
     {
         Changes {
             alloc,
-            renumber,
+            options,
             given: Serials::new(alloc),
             low: 0,
             names: Vec::new(alloc),
         }
     }
 
-    /// A link's streams begin, under other serials where theirs are given already.
+    /// The streams of a new link that stay, under the serials that they have now.
+    fn name(&mut self, streams: Vec<NewStream>) -> Result<Vec<NewStream>, Memory>
+        ensures names { IfOk result (λ now. Names self.old self.new streams.items now.items) }
+        ensures options { self.new.options ≡ self.old.options }
+    {
+        let stay = staying(self.alloc, self.options.skeletons, streams)?;
+        let names = &mut self.names;
+        if self.options.renumber {
+            name_all(&self.given, names, stay.as_slice(), &mut self.low)?;
+        } else {
+            // Nothing is avoided, so each is named by its own serial.
+            name_all(
+                &Serials::new(self.alloc),
+                names,
+                stay.as_slice(),
+                &mut self.low,
+            )?;
+        }
+        streams_named(self.alloc, self.names.as_slice(), stay)
+    }
+
+    /// Begins these streams without a Skeleton that is made.
+    fn begin_plain(
+        &mut self,
+        skeleton: Option<SkeletonHead>,
+        streams: Vec<NewStream>,
+    ) -> Result<Command, Memory>
+        ensures begins { IfOk result (λ now. BeginsPlain self.old self.new skeleton streams.items now) }
+        ensures options { self.new.options ≡ self.old.options }
+    {
+        give_all(&mut self.given, streams.as_slice())?;
+        Ok(Command::Begin(Begin {
+            skeleton,
+            streams: Listed::of(streams),
+        }))
+    }
+
+    /// Begins these streams with a Skeleton, whose serial is the first free one from `from` on.
+    fn begin_described(&mut self, from: u32, streams: Vec<NewStream>) -> Result<Command, Memory>
+        ensures begins { IfOk result (λ now. BeginsDescribed self.old self.new streams.items now) }
+        ensures options { self.new.options ≡ self.old.options }
+    {
+        let serial = free_serial(&self.given, self.names.as_slice(), from)?;
+        self.given.reserve(1)?;
+        self.given.push_reserved(serial);
+        give_all(&mut self.given, streams.as_slice())?;
+        let streams = all_described(self.alloc, streams)?;
+        Ok(Command::Begin(Begin {
+            skeleton: Some(head_with(serial)),
+            streams: Listed::of(streams),
+        }))
+    }
+
+    /// A link's streams begin: those that stay, under other serials if theirs are to be changed.
     fn begin(&mut self, begin: Begin) -> Result<Command, Memory>
         ensures begins { IfOk result (λ now. Begins self.old self.new begin now) }
-        ensures renumber { self.new.renumber ≡ self.old.renumber }
+        ensures options { self.new.options ≡ self.old.options }
     {
-        let streams = begin.streams.into_vec();
-        name_all(
-            &self.given,
-            &mut self.names,
-            streams.as_slice(),
-            &mut self.low,
-        )?;
-        let now = streams_named(self.alloc, self.names.as_slice(), streams)?;
-        give_all(&mut self.given, now.as_slice())?;
-        Ok(Command::Begin(Begin {
-            skeleton: begin.skeleton,
-            streams: Listed::of(now),
-        }))
+        let streams = self.name(begin.streams.into_vec())?;
+        match made_for(self.options.skeletons, streams.as_slice()) {
+            Some(from) => self.begin_described(from, streams),
+            None => self.begin_plain(begin.skeleton, streams),
+        }
     }
 
     /// Packets of the last link's streams, if there are any.
@@ -97,10 +146,10 @@ impl Changes {
     pub fn change(&mut self, command: Command) -> Result<Option<Command>, Memory>
         ensures changed { IfOk result (λ now. (commands given : List CommandOf) → HasChanged self.old commands given → IsPlain command
             → HasChanged self.new (commands ++ command ∷ []) (given ++ option_list now)) }
-        ensures renumber { self.new.renumber ≡ self.old.renumber }
-        ensures same { self.old.renumber ≡ false → result ≡ Ok (Some command) }
+        ensures options { self.new.options ≡ self.old.options }
+        ensures same { is_none self.old.options ≡ true → result ≡ Ok (Some command) }
     {
-        if !self.renumber {
+        if self.options.is_none() {
             return Ok(Some(command));
         }
         match command {
@@ -116,16 +165,16 @@ impl Changes {
         }
     }
 
-    /// The commands that are given for these. After `Memory`, which comes only if serials are changed, change no command
+    /// The commands that are given for these. After `Memory`, which comes only if something is changed, change no command
     /// any more.
     pub fn apply(&mut self, commands: Vec<Command>) -> Result<Vec<Command>, Memory>
         ensures changed { IfOk result (λ now. (before given : List CommandOf) → HasChanged self.old before given
             → AllByRecursion IsPlain commands.items → HasChanged self.new (before ++ commands.items) (given ++ now.items)) }
-        ensures renumber { self.new.renumber ≡ self.old.renumber }
-        ensures same { self.old.renumber ≡ false → IfOk result (λ now. now.items ≡ commands.items) }
-        ensures full { OnErr result (self.old.renumber ≡ true) }
+        ensures options { self.new.options ≡ self.old.options }
+        ensures same { is_none self.old.options ≡ true → IfOk result (λ now. now.items ≡ commands.items) }
+        ensures full { OnErr result (is_none self.old.options ≡ false) }
     {
-        if !self.renumber {
+        if self.options.is_none() {
             return Ok(commands);
         }
         let mut now = Vec::new(self.alloc);

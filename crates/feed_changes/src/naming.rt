@@ -1,5 +1,5 @@
 //! The serials that streams of a link have now.
-ghost use Rattle.std.specs.Prelude.{◌≡◌, ◌∷◌, ◌++◌, [], false, true, nat_eq, MatchOption, OnOk, length};
+ghost use Rattle.std.specs.Prelude.{◌≡◌, ◌∷◌, ◌++◌, [], false, true, nat_eq, MatchOption, IfOk, OnOk, length};
 ghost use Rattle.std.specs.List.{AllByRecursion, list_any};
 ghost use Rattle.std.specs.Map.{keys_of, values_of};
 ghost use Rattle.feed_changes.specs.Naming.{AreNamed, AreNames, Keeps, KeepsAll, Renames, name_of, serials_of};
@@ -43,6 +43,21 @@ fn free_from(given: &Serials, names: &[(u32, u32)], from: u32) -> Option<u32>
         }
     }
     None
+}
+
+/// The first serial from `from` on that no stream has now, or if there is none, the first at all.
+pub fn free_serial(given: &Serials, names: &[(u32, u32)], from: u32) -> Result<u32, Memory>
+    ensures given { IfOk result (λ serial. list_any (nat_eq serial) given.now.listed ≡ false) }
+    ensures names { IfOk result (λ serial. list_any (nat_eq serial) (values_of names.now) ≡ false) }
+{
+    match free_from(given, names, from) {
+        Some(free) => Ok(free),
+        None => match free_from(given, names, 0) {
+            Some(free) => Ok(free),
+            // All serials are given.
+            None => Err(AllocError),
+        },
+    }
 }
 
 /// Names the stream with this serial by it, if no stream of an earlier link has it.

@@ -2,7 +2,7 @@ use Rattle.std.proofs.Common.{sym, ◌∙◌, ap, ◌++◌, ◌∷◌, [], ℕ, 
 use Rattle.std.specs.Prelude.{Some, None}
 use Rattle.ogg_command.specs.declared.command.Entry.{Entry}
 use Rattle.feed_changes.specs.Naming.{entries_named}
-use Rattle.feed_changes.proofs.Steps.{entries_push}
+use Rattle.feed_changes.proofs.Names.{entries_push}
 use Rattle.feed_changes.proofs.renaming.entries_named.Goals as goal
 
 pub loop-entry-preserved-in-Continue-1 : goal.loop-entry-preserved-in-Continue-1

@@ -1,0 +1,46 @@
+//! What is changed.
+ghost use Rattle.std.specs.Prelude.{◌≡◌};
+ghost use Rattle.feed_changes.specs.Options.{is_none, no_options};
+
+/// What becomes of Skeletons.
+#[derive(Clone, Copy, Debug, PartialEq, Eq)]
+pub enum Skeletons {
+    /// A Skeleton of the input stays as it is.
+    Kept,
+    /// It is left out, if its link has another stream.
+    LeftOut,
+    /// It is left out likewise, and each link of other streams begins with one made anew, if a `Begin` may have one
+    /// stream more. Its serial is the first from this one on that no stream has had and none of the link has.
+    Made(u32),
+}
+
+/// What is changed.
+#[derive(Clone, Copy, Debug, PartialEq, Eq)]
+pub struct ChangeOptions {
+    /// Whether a stream whose serial a stream of an earlier link has gets another one.
+    pub renumber: bool,
+    /// What becomes of Skeletons.
+    pub skeletons: Skeletons,
+}
+
+impl ChangeOptions {
+    /// Nothing is changed.
+    pub fn none() -> ChangeOptions
+        ensures { result ≡ no_options }
+    {
+        ChangeOptions {
+            renumber: false,
+            skeletons: Skeletons::Kept,
+        }
+    }
+
+    /// Whether nothing is changed.
+    pub(crate) fn is_none(self) -> bool
+        ensures { result ≡ is_none self }
+    {
+        match self.skeletons {
+            Skeletons::Kept => !self.renumber,
+            Skeletons::LeftOut | Skeletons::Made(_) => false,
+        }
+    }
+}

@@ -1,0 +1,95 @@
+//! Skeletons among the streams of a link: which are left out, and for which links one is made.
+ghost use Rattle.std.specs.Prelude.{◌≡◌, ◌∷◌, [], false, not, IfOk, length};
+ghost use Rattle.std.specs.List.{filter, list_all};
+ghost use Rattle.ogg_command.specs.declared.command.NewStream.{NewStream as NewStreamOf};
+ghost use Rattle.ogg_feed.specs.Headers.{begins};
+ghost use Rattle.skeleton3.specs.Fishead.{fishead_name};
+ghost use Rattle.feed_changes.specs.Skeletons.{first_of, is_other, is_skeleton, leaves_out, made_for, staying};
+
+use crate::options::Skeletons;
+use ogg_command::{Listed, Memory, NewStream};
+use std::alloc::Global;
+
+/// Streams of a `Begin`.
+const MOST_STREAMS: usize = 64;
+
+/// A stream's first header, or no bytes if it has none.
+pub fn first_header(headers: &[Listed<u8>]) -> &[u8]
+    ensures { result.now ≡ first_of headers.now }
+{
+    match headers.first() {
+        Some(first) => first.as_slice(),
+        None => &[],
+    }
+}
+
+/// Whether the stream is a Skeleton: its first header begins as a fishead.
+fn is_skeleton(stream: &NewStream) -> bool
+    ensures { result ≡ is_skeleton stream.now }
+{
+    first_header(stream.headers.as_slice()).starts_with(b"fishead\0")
+}
+
+/// Whether each of the streams is a Skeleton.
+fn are_skeletons(streams: &[NewStream]) -> bool
+    ensures { result ≡ list_all is_skeleton streams.now }
+{
+    for stream in streams {
+        if !is_skeleton(stream) {
+            return false;
+        }
+    }
+    true
+}
+
+/// The streams that are no Skeletons.
+fn others(alloc: Global, streams: Vec<NewStream>) -> Result<Vec<NewStream>, Memory>
+    ensures { IfOk result (λ now. now.items ≡ filter is_other streams.items) }
+{
+    let mut now = Vec::new(alloc);
+    for stream in streams {
+        if !is_skeleton(&stream) {
+            now.push(stream)?;
+        }
+    }
+    Ok(now)
+}
+
+/// Whether Skeletons are left out.
+fn leaves_out(skeletons: Skeletons) -> bool
+    ensures { result ≡ leaves_out skeletons }
+{
+    match skeletons {
+        Skeletons::Kept => false,
+        Skeletons::LeftOut | Skeletons::Made(_) => true,
+    }
+}
+
+/// The streams of a link that stay.
+pub fn staying(
+    alloc: Global,
+    skeletons: Skeletons,
+    streams: Vec<NewStream>,
+) -> Result<Vec<NewStream>, Memory>
+    ensures { IfOk result (λ now. now.items ≡ staying skeletons streams.items) }
+{
+    if !leaves_out(skeletons) || are_skeletons(streams.as_slice()) {
+        return Ok(streams);
+    }
+    others(alloc, streams)
+}
+
+/// The serial to begin with in the search for that of the Skeleton of these streams, if one is made for them.
+pub fn made_for(skeletons: Skeletons, streams: &[NewStream]) -> Option<u32>
+    ensures { result ≡ made_for skeletons streams.now }
+{
+    match skeletons {
+        Skeletons::Kept | Skeletons::LeftOut => None,
+        Skeletons::Made(from) => {
+            if are_skeletons(streams) || streams.len() >= MOST_STREAMS {
+                return None;
+            }
+            Some(from)
+        }
+    }
+}
