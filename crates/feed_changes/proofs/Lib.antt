@@ -1,1 +1,6 @@
 pub mod Names
+pub mod Renumbers
+pub mod Lists
+pub mod Links
+pub mod Begins
+pub mod Steps

@@ -1,0 +1,69 @@
+-- Elements that stay, and streams changed one by one.
+use Rattle.std.proofs.Common.{◌≡◌, ℕ, Bool, true, false, List, [], ◌∷◌, ◌++◌, map, refl, sym, ◌∙◌, ap, subst}
+use Rattle.std.specs.Prelude.{nat_eq}
+use Rattle.std.specs.List.{AllByRecursion, AllZip, IsDistinct, list_any}
+use Rattle.std.proofs.lemmas.Bool.{or_parts}
+use Rattle.chain_rules.specs.Recording.{Stream}
+use Rattle.feed_changes.specs.declared.options.Skeletons.{Skeletons}
+use Rattle.feed_changes.specs.Naming.{AreNamed}
+use Rattle.feed_changes.specs.Renumbered.{serials}
+use Rattle.feed_changes.specs.Links.{IsLeftOut, MayStay, those}
+use Rattle.feed_changes.specs.Changed.{IsNoName, stream_under}
+use Rattle.feed_changes.proofs.Renumbers.{GoesWith}
+
+pub those_map : {A B : Type 0} (f : A → B) (stays : List Bool) (xs : List A) → those stays (map f xs) ≡ map f (those stays xs)
+those_map f [] xs = refl
+those_map f (stay ∷ stays) [] = refl
+those_map f (true ∷ stays) (x ∷ xs) = ap (λ l. f x ∷ l) (those_map f stays xs)
+those_map f (false ∷ stays) (x ∷ xs) = those_map f stays xs
+
+pub same_serials : (change : Stream → Stream) → ((stream : Stream) → (change stream).serial ≡ stream.serial) → (link : List Stream) → serials (map change link) ≡ serials link
+same_serials change same [] = refl
+same_serials change same (stream ∷ link) =
+    ap (λ n. n ∷ serials (map change link)) (same stream) ∙ ap (λ l. stream.serial ∷ l) (same_serials change same link)
+
+pub left_out_still : (skeletons : Skeletons) (names : List (ℕ × ℕ)) (change now : Stream → Stream) → GoesWith names change now → (stays : List Bool) (link : List Stream)
+    → AllZip (MayStay skeletons) stays link → AllZip (MayStay skeletons) stays (map change link)
+left_out_still skeletons names change now with [] [] all = tt
+left_out_still skeletons names change now with [] (stream ∷ link) all = absurd all
+left_out_still skeletons names change now with (stay ∷ stays) [] all = absurd all
+left_out_still skeletons names change now with (stay ∷ stays) (stream ∷ link) (may, all) =
+    (λ e. let left : IsLeftOut skeletons stream = may e in record { asked = left.asked; skeleton = with.fishead stream left.skeleton },
+    left_out_still skeletons names change now with stays link all)
+
+pub under_still : (names : List (ℕ × ℕ)) (change now : Stream → Stream) → GoesWith names change now → (link : List Stream) → AreNamed names (serials link)
+    → map now (map (stream_under names) link) ≡ map (stream_under names) (map change link)
+under_still names change now with [] all = refl
+under_still names change now with (stream ∷ link) (key, all) =
+    ap (λ s. s ∷ map now (map (stream_under names) link)) (with.under stream key)
+    ∙ ap (λ l. stream_under names (change stream) ∷ l) (under_still names change now with link all)
+
+pub apart_still : (names : List (ℕ × ℕ)) (change now : Stream → Stream) → GoesWith names change now → (before : List Stream) → AllByRecursion (IsNoName names) (serials before)
+    → map now before ≡ before
+apart_still names change now with [] all = refl
+apart_still names change now with (stream ∷ before) (none, all) =
+    ap (λ s. s ∷ map now before) (with.apart stream none) ∙ ap (λ l. stream ∷ l) (apart_still names change now with before all)
+
+pub map_same : {A : Type 0} (xs : List A) → map (λ x. x) xs ≡ xs
+map_same [] = refl
+map_same (x ∷ xs) = ap (λ l. x ∷ l) (map_same xs)
+
+-- ---- of distinct serials those that stay are distinct
+those_apart : (serial : ℕ) (stays : List Bool) (link : List Stream) → AllByRecursion (λ y. nat_eq serial y ≡ false) (serials link) → AllByRecursion (λ y. nat_eq serial y ≡ false) (serials (those stays link))
+those_apart serial [] link all = tt
+those_apart serial (stay ∷ stays) [] all = tt
+those_apart serial (true ∷ stays) (stream ∷ link) (p, all) = (p, those_apart serial stays link all)
+those_apart serial (false ∷ stays) (stream ∷ link) (p, all) = those_apart serial stays link all
+
+pub those_distinct : (stays : List Bool) (link : List Stream) → IsDistinct nat_eq (serials link) → IsDistinct nat_eq (serials (those stays link))
+unfolding IsDistinct
+those_distinct [] link d = tt
+those_distinct (stay ∷ stays) [] d = tt
+those_distinct (true ∷ stays) (stream ∷ link) (apart, d) = (those_apart stream.serial stays link apart, those_distinct stays link d)
+those_distinct (false ∷ stays) (stream ∷ link) (apart, d) = those_distinct stays link d
+
+pub no_serial : (serial : ℕ) (serials : List ℕ) → list_any (nat_eq serial) serials ≡ false → AllByRecursion (λ y. nat_eq serial y ≡ false) serials
+no_serial serial [] e = tt
+no_serial serial (y ∷ serials) e =
+    let parts : (nat_eq serial y ≡ false) × (list_any (nat_eq serial) serials ≡ false) = or_parts (nat_eq serial y) (list_any (nat_eq serial) serials) e in
+    (parts.0, no_serial serial serials parts.1)

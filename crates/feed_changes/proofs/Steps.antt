@@ -1,0 +1,299 @@
+-- Each command changed, over those before it.
+use Rattle.std.proofs.Common.{◌≡◌, ℕ, Bool, true, false, List, [], ◌∷◌, ◌++◌, map, refl, sym, ◌∙◌, ap, subst, append-nil, append_assoc, inl}
+use Rattle.std.specs.Prelude.{nat_eq, Option, Some, None}
+use Rattle.std.specs.List.{AllByRecursion, IsDistinct, cons_option, flat_map, fold, list_any}
+use Rattle.std.specs.Map.{values_of}
+use Rattle.std.proofs.lemmas.List.Sums.{fold-append}
+use Rattle.std.proofs.lemmas.Bool.{or_from}
+use Rattle.chain_rules.specs.Recording.{Stream, Recording, add, after, begun, begun_link, change_last, ended_skeleton, with_packet, with_end}
+use Rattle.ogg_command.specs.declared.command.Command.{Command}
+use Rattle.ogg_command.specs.declared.command.Command.TheVariants.{Begin as BeginOf, Put as PutOf, End as EndOf}
+use Rattle.ogg_command.specs.declared.command.Begin.{Begin}
+use Rattle.ogg_command.specs.declared.command.Put.{Put}
+use Rattle.ogg_command.specs.declared.command.NewStream.{NewStream}
+use Rattle.ogg_command.specs.declared.command.SkeletonHead.{SkeletonHead}
+use Rattle.ogg_command.specs.declared.command.Entry.{Entry}
+use Rattle.feed_changes.specs.declared.options.ChangeOptions.{ChangeOptions}
+use Rattle.feed_changes.specs.declared.options.Skeletons.{Skeletons}
+use Rattle.feed_changes.specs.declared.options.Skeletons.TheVariants.{Kept, LeftOut, Made}
+use Rattle.feed_changes.specs.Options.{is_none, is_none_with}
+use Rattle.feed_changes.specs.Naming.{AreNamed, AreNames, entries_named, entry_with, name_of, named, serials_of, stream_named}
+use Rattle.feed_changes.specs.Renumbered.{avoided, serials}
+use Rattle.feed_changes.specs.Links.{IsBefore, IsMadeFor, those}
+use Rattle.feed_changes.specs.Skeletons.{AreOthers, HasHead, IsBegunAs, described, head_with, made_for, staying}
+use Rattle.feed_changes.specs.Changed.{ChangeState, Follows, FollowsIf, HasChanged, IsChanged, IsChangedIf, IsFollowed, IsNoName, IsPlain, IsUnderNames, stream_under}
+use Rattle.feed_changes.specs.Steps.{Begins, BeginsAs, BeginsDescribed, BeginsPlain, Names, end_of, option_list, put_of}
+use Rattle.feed_changes.proofs.Names.{all_push}
+use Rattle.feed_changes.proofs.Renumbers.{HasName, clash, end_named, end_other, ended, ended_serial, grown, grown_serial, has_name, no_name, packet_named, packet_other}
+use Rattle.feed_changes.proofs.Lists.{same_serials}
+use Rattle.feed_changes.proofs.Links.{begin_step, change_step, followed_changed, same_last, under_only, under_step}
+use Rattle.feed_changes.proofs.Begins.{are_described, begun_described, begun_named, begun_serials, begun_staying, described_apart, described_serials, left_of, made_described, named_apart, stays_of}
+
+after_push : (commands : List Command) (command : Command) → after [] (commands ++ command ∷ []) ≡ add (after [] commands) command
+after_push commands command = fold-append add [] commands (command ∷ [])
+
+-- ---- where something is changed
+followed_of : (b : Bool) (state : ChangeState) (recording now : Recording) → b ≡ false → FollowsIf b state recording now → IsFollowed state recording now
+followed_of true state recording now e f = clash refl e
+followed_of false state recording now e f = f
+
+pub by_of : (state : ChangeState) (commands given : List Command) → is_none state.options ≡ false → HasChanged state commands given → IsFollowed state (after [] commands) (after [] given)
+by_of state commands given e h = followed_of (is_none state.options) state (after [] commands) (after [] given) e h.follows
+
+pub of_by : (state : ChangeState) (commands given : List Command) → is_none state.options ≡ false → AllByRecursion (IsBegunAs state.options) given
+    → IsFollowed state (after [] commands) (after [] given) → HasChanged state commands given
+of_by state commands given e begun by =
+    let recording : Recording = after [] commands in
+    let now : Recording = after [] given in
+    record {
+      changed = subst (λ b. IsChangedIf b state.options recording now) (sym e) (followed_changed state recording now by);
+      begun = begun;
+      follows = subst (λ b. FollowsIf b state recording now) (sym e) by;
+    }
+
+-- ---- a `Begin`
+under_of : (options : ChangeOptions) (given : List ℕ) (names : List (ℕ × ℕ)) (streams now : List NewStream) (earlier : List ℕ) (before link_now : List Stream)
+    → AreNames (avoided options.renumber earlier) names → AreNamed names (serials_of (staying options.skeletons streams)) → now ≡ map (stream_named names) (staying options.skeletons streams)
+    → IsBefore options.skeletons earlier (serials_of now) before → AllByRecursion (IsNoName names) (serials before) → link_now ≡ before ++ map begun now
+    → IsUnderNames (record { options = options; given = given; names = names }) earlier (map begun streams) link_now
+under_of options given names streams now earlier before link_now are named now_is made apart is =
+    let skeletons : Skeletons = options.skeletons in
+    let stay : List NewStream = staying skeletons streams in
+    let those_are : those (stays_of skeletons streams) (map begun streams) ≡ map begun stay = begun_staying skeletons streams in
+    let under_are : map (stream_under names) (those (stays_of skeletons streams) (map begun streams)) ≡ map begun now =
+    ap (map (stream_under names)) those_are ∙ sym (begun_named names stay) ∙ ap (map begun) (sym now_is) in
+    record {
+      stays = stays_of skeletons streams;
+      left_out = left_of skeletons streams;
+      names = are;
+      named = subst (AreNamed names) (sym (begun_serials stay) ∙ ap serials (sym those_are)) named;
+      before = before;
+      made = subst (λ l. IsBefore skeletons earlier l before) (sym (begun_serials now) ∙ ap serials (sym under_are)) made;
+      apart = apart;
+      is = is ∙ ap (λ l. before ++ l) (sym under_are);
+    }
+
+under_new : (old state new : ChangeState) (streams now : List NewStream) (earlier : List ℕ) (before link_now : List Stream) → Names old state streams now → old.given ≡ earlier
+    → new.options ≡ state.options → new.names ≡ state.names → IsBefore old.options.skeletons earlier (serials_of now) before → AllByRecursion (IsNoName state.names) (serials before)
+    → link_now ≡ before ++ map begun now → IsUnderNames new earlier (map begun streams) link_now
+under_new old state new streams now earlier before link_now named given options names made apart is =
+    subst (λ o. IsUnderNames (record { options = o; given = new.given; names = new.names }) earlier (map begun streams) link_now) (sym (options ∙ named.options))
+    (subst (λ m. IsUnderNames (record { options = old.options; given = new.given; names = m }) earlier (map begun streams) link_now) (sym names)
+    (under_of old.options new.given state.names streams now earlier before link_now (subst (λ e. AreNames (avoided old.options.renumber e) state.names) given named.names)
+    named.named named.now_is made apart is))
+
+begin_as : (old new : ChangeState) (begin : Begin) (now : Command) (link_now : List Stream) (commands given : List Command) → is_none old.options ≡ false → begin.skeleton ≡ None
+    → HasChanged old commands given → new.options ≡ old.options → new.given ≡ old.given ++ serials link_now → ((recording : Recording) → add recording now ≡ recording ++ link_now ∷ [])
+    → IsUnderNames new (flat_map serials (after [] given)) (map begun begin.streams) link_now → IsBegunAs old.options now
+    → HasChanged new (commands ++ BeginOf begin ∷ []) (given ++ now ∷ [])
+begin_as old new begin now link_now commands given is plain h same given_is added under begun_as =
+    of_by new (commands ++ BeginOf begin ∷ []) (given ++ now ∷ []) (ap is_none same ∙ is)
+    (subst (λ o. AllByRecursion (IsBegunAs o) (given ++ now ∷ [])) (sym same) (all_push (IsBegunAs old.options) given now h.begun begun_as))
+    (subst (λ r. IsFollowed new r (after [] (given ++ now ∷ [])))
+    (ap (λ s. after [] commands ++ begun_link s begin.streams ∷ []) (sym plain) ∙ sym (after_push commands (BeginOf begin)))
+    (subst (IsFollowed new (after [] commands ++ map begun begin.streams ∷ [])) (sym (added (after [] given)) ∙ sym (after_push given now))
+    (begin_step old new (after [] commands) (after [] given) (map begun begin.streams) link_now (by_of old commands given is h) same under given_is)))
+
+plain_changed : (old state new : ChangeState) (begin : Begin) (streams : List NewStream) (now : Command) (commands given : List Command) → is_none old.options ≡ false → begin.skeleton ≡ None
+    → HasChanged old commands given → Names old state begin.streams streams → made_for old.options.skeletons streams ≡ None → BeginsPlain state new begin.skeleton streams now
+    → HasChanged new (commands ++ BeginOf begin ∷ []) (given ++ now ∷ [])
+plain_changed old state new begin streams now commands given is plain h named none b =
+    let skeletons : Skeletons = old.options.skeletons in
+    let by : IsFollowed old (after [] commands) (after [] given) = by_of old commands given is h in
+    begin_as old new begin now (map begun streams) commands given is plain h (b.options ∙ named.options)
+    (b.given ∙ ap (λ l. l ++ serials_of streams) named.given ∙ ap (λ l. old.given ++ l) (sym (begun_serials streams)))
+    (λ recording. ap (add recording) b.now_is ∙ ap (λ s. recording ++ begun_link s streams ∷ []) plain)
+    (under_new old state new begin.streams streams (flat_map serials (after [] given)) [] (map begun streams) named by.given b.options b.names tt tt refl)
+    (subst (IsBegunAs old.options) (sym b.now_is)
+    (subst (AreOthers skeletons) (sym named.now_is) (named_apart state.names skeletons begin.streams),
+    subst (λ o. HasHead o (record { skeleton = begin.skeleton; streams = streams })) (sym none) plain))
+
+-- ---- and with a Skeleton
+named_serials : (names : List (ℕ × ℕ)) (streams : List NewStream) → serials_of (map (stream_named names) streams) ≡ map (named names) (serials_of streams)
+named_serials names [] = refl
+named_serials names (stream ∷ streams) = ap (λ l. named names stream.serial ∷ l) (named_serials names streams)
+
+not_among : (names : List (ℕ × ℕ)) (serial : ℕ) (serials : List ℕ) → AreNamed names serials → IsNoName names serial → list_any (nat_eq serial) (map (named names) serials) ≡ false
+not_among names serial [] all none = refl
+not_among names serial (y ∷ serials) (key, all) none =
+    let h : HasName names y = has_name names y key in
+    or_from (nat_eq serial (named names y)) (list_any (nat_eq serial) (map (named names) serials))
+    (ap (nat_eq serial) h.named_is ∙ no_name names serial y h.now h.is none) (not_among names serial serials all none)
+
+is_before : (skeletons : Skeletons) (streams : List NewStream) (from : ℕ) (earlier serials : List ℕ) (skeleton : Stream) → made_for skeletons streams ≡ Some from
+    → IsMadeFor earlier serials skeleton → IsBefore skeletons earlier serials (skeleton ∷ [])
+is_before Kept streams from earlier serials skeleton e made = absurd (none e)
+  where
+    none : None ≡ Some from → ⊥
+    none e = cc
+is_before LeftOut streams from earlier serials skeleton e made = absurd (none e)
+  where
+    none : None ≡ Some from → ⊥
+    none e = cc
+is_before (Made first) streams from earlier serials skeleton e made = made
+
+made_changed : (old state new : ChangeState) (begin : Begin) (streams : List NewStream) (now : Command) (commands given : List Command) (from : ℕ) → is_none old.options ≡ false → begin.skeleton ≡ None
+    → HasChanged old commands given → Names old state begin.streams streams → made_for old.options.skeletons streams ≡ Some from → BeginsDescribed state new streams now
+    → HasChanged new (commands ++ BeginOf begin ∷ []) (given ++ now ∷ [])
+made_changed old state new begin streams now commands given from is plain h named some b =
+    let skeletons : Skeletons = old.options.skeletons in
+    let by : IsFollowed old (after [] commands) (after [] given) = by_of old commands given is h in
+    let earlier : List ℕ = flat_map serials (after [] given) in
+    let more : List NewStream = map described streams in
+    let skeleton : Stream = ended_skeleton (head_with b.serial) more in
+    let made : IsMadeFor earlier (serials_of streams) skeleton = record {
+      serial = b.serial;
+      streams = more;
+      is = refl;
+      of = described_serials streams;
+      free = subst (λ l. list_any (nat_eq b.serial) l ≡ false) (named.given ∙ by.given) b.free;
+      other = subst (λ l. list_any (nat_eq b.serial) l ≡ false) (sym (named_serials state.names (staying skeletons begin.streams)) ∙ ap serials_of (sym named.now_is))
+          (not_among state.names b.serial (serials_of (staying skeletons begin.streams)) named.named b.unnamed);
+    } in
+    begin_as old new begin now (skeleton ∷ map begun more) commands given is plain h (b.options ∙ named.options)
+    (b.given ∙ ap (λ l. l ++ b.serial ∷ serials_of streams) named.given
+    ∙ ap (λ l. old.given ++ b.serial ∷ l) (sym (begun_serials streams) ∙ ap serials (sym (begun_described streams))))
+    (λ recording. ap (add recording) b.now_is)
+    (under_new old state new begin.streams streams earlier (skeleton ∷ []) (skeleton ∷ map begun more) named by.given b.options b.names
+    (is_before skeletons streams from earlier (serials_of streams) skeleton some made) (b.unnamed, tt) (ap (λ l. skeleton ∷ l) (begun_described streams)))
+    (subst (IsBegunAs old.options) (sym b.now_is)
+    (described_apart skeletons streams (subst (AreOthers skeletons) (sym named.now_is) (named_apart state.names skeletons begin.streams)),
+    subst (λ o. HasHead o (record { skeleton = Some (head_with b.serial); streams = more })) (sym (made_described skeletons streams ∙ some))
+    (record { serial = b.serial; head = refl; described = are_described streams })))
+
+pub begin_changed : (old new : ChangeState) (begin : Begin) (now : Command) (commands given : List Command) → is_none old.options ≡ false → begin.skeleton ≡ None
+    → Begins old new begin now → HasChanged old commands given → HasChanged new (commands ++ BeginOf begin ∷ []) (given ++ now ∷ [])
+begin_changed old new begin now commands given is plain b h = by (made_for old.options.skeletons b.streams) refl b.begins
+  where
+    by : (o : Option ℕ) → made_for old.options.skeletons b.streams ≡ o → BeginsAs o b.state new begin.skeleton b.streams now → HasChanged new (commands ++ BeginOf begin ∷ []) (given ++ now ∷ [])
+    by None e begins = plain_changed old b.state new begin b.streams now commands given is plain h b.named e begins
+    by (Some from) e begins = made_changed old b.state new begin b.streams now commands given from is plain h b.named e begins
+
+-- ---- packets
+put_list : (given : List Command) (entries : List Entry) → after [] (given ++ option_list (put_of entries)) ≡ change_last (λ link. fold with_packet link entries) (after [] given)
+put_list given [] = ap (after []) (append-nil given) ∙ sym (same_last (after [] given))
+put_list given (entry ∷ entries) = after_push given (PutOf (record { entries = entry ∷ entries }))
+
+put_serials : (link : List Stream) (entries : List Entry) → serials (fold with_packet link entries) ≡ serials link
+put_serials link [] = refl
+put_serials link (entry ∷ entries) =
+    put_serials (with_packet link entry) entries ∙ same_serials (grown entry) (λ stream. grown_serial entry.packet stream (nat_eq stream.serial entry.serial)) link
+
+put_under : (state : ChangeState) (earlier : List ℕ) (entries : List Entry) (link link_now : List Stream) → IsUnderNames state earlier link link_now
+    → IsUnderNames state earlier (fold with_packet link entries) (fold with_packet link_now (entries_named state.names entries))
+put_under state earlier [] link link_now by = by
+put_under state earlier (entry ∷ entries) link link_now by =
+    pick (put_under state earlier entries (with_packet link entry)) (name_of state.names entry.serial) refl
+  where
+    pick : ((now : List Stream) → IsUnderNames state earlier (with_packet link entry) now → IsUnderNames state earlier (fold with_packet (with_packet link entry) entries) (fold with_packet now (entries_named state.names entries))) →
+        (o : Option ℕ) → name_of state.names entry.serial ≡ o →
+        IsUnderNames state earlier (fold with_packet (with_packet link entry) entries) (fold with_packet link_now (cons_option (entry_with entry o) (entries_named state.names entries)))
+    pick rest None e = rest link_now (under_only state earlier link link_now (grown entry) (packet_other state.names entry e) by)
+    pick rest (Some now) e =
+        rest (with_packet link_now (record entry { serial = now }))
+        (under_step state earlier link link_now (grown entry) (grown (record entry { serial = now })) (packet_named state.names entry now by.names.distinct e) by)
+
+none_begun : (options : ChangeOptions) (given : List Command) (entries : List Entry) → AllByRecursion (IsBegunAs options) given → AllByRecursion (IsBegunAs options) (given ++ option_list (put_of entries))
+none_begun options given [] all = subst (AllByRecursion (IsBegunAs options)) (sym (append-nil given)) all
+none_begun options given (entry ∷ entries) all = all_push (IsBegunAs options) given (PutOf (record { entries = entry ∷ entries })) all tt
+
+pub put_changed : (state : ChangeState) (put : Put) (commands given : List Command) → is_none state.options ≡ false → HasChanged state commands given →
+    HasChanged state (commands ++ PutOf put ∷ []) (given ++ option_list (put_of (entries_named state.names put.entries)))
+put_changed state put commands given is h =
+    let now : List Entry = entries_named state.names put.entries in
+    of_by state (commands ++ PutOf put ∷ []) (given ++ option_list (put_of now)) is (none_begun state.options given now h.begun)
+    (subst (λ r. IsFollowed state r (after [] (given ++ option_list (put_of now)))) (sym (after_push commands (PutOf put)))
+    (subst (IsFollowed state (change_last (λ link. fold with_packet link put.entries) (after [] commands))) (sym (put_list given now))
+    (change_step state (λ link. fold with_packet link put.entries) (λ link. fold with_packet link now) (after [] commands) (after [] given)
+    (λ link. put_serials link now) (λ earlier. put_under state earlier put.entries) (by_of state commands given is h))))
+
+-- ---- ends
+end_list : Option ℕ → List Stream → List Stream
+end_list None link = link
+end_list (Some serial) link = with_end serial link
+
+end_after : (given : List Command) (serial : Option ℕ) → after [] (given ++ option_list (end_of serial)) ≡ change_last (end_list serial) (after [] given)
+unfolding end_list
+end_after given None = ap (after []) (append-nil given) ∙ sym (same_last (after [] given))
+end_after given (Some serial) = after_push given (EndOf serial)
+
+end_serials : (serial : Option ℕ) (link : List Stream) → serials (end_list serial link) ≡ serials link
+unfolding end_list
+end_serials None link = refl
+end_serials (Some serial) link = same_serials (ended serial) (λ stream. ended_serial stream (nat_eq stream.serial serial)) link
+
+end_under : (state : ChangeState) (earlier : List ℕ) (serial : ℕ) (o : Option ℕ) → name_of state.names serial ≡ o → (link link_now : List Stream) → IsUnderNames state earlier link link_now
+    → IsUnderNames state earlier (with_end serial link) (end_list o link_now)
+unfolding end_list
+end_under state earlier serial None e link link_now by = under_only state earlier link link_now (ended serial) (end_other state.names serial e) by
+end_under state earlier serial (Some now) e link link_now by =
+    under_step state earlier link link_now (ended serial) (ended now) (end_named state.names serial now by.names.distinct e) by
+
+end_begun : (options : ChangeOptions) (given : List Command) (serial : Option ℕ) → AllByRecursion (IsBegunAs options) given → AllByRecursion (IsBegunAs options) (given ++ option_list (end_of serial))
+end_begun options given None all = subst (AllByRecursion (IsBegunAs options)) (sym (append-nil given)) all
+end_begun options given (Some serial) all = all_push (IsBegunAs options) given (EndOf serial) all tt
+
+pub end_changed : (state : ChangeState) (serial : ℕ) (commands given : List Command) → is_none state.options ≡ false → HasChanged state commands given →
+    HasChanged state (commands ++ EndOf serial ∷ []) (given ++ option_list (end_of (name_of state.names serial)))
+end_changed state serial commands given is h =
+    let now : Option ℕ = name_of state.names serial in
+    of_by state (commands ++ EndOf serial ∷ []) (given ++ option_list (end_of now)) is (end_begun state.options given now h.begun)
+    (subst (λ r. IsFollowed state r (after [] (given ++ option_list (end_of now)))) (sym (after_push commands (EndOf serial)))
+    (subst (IsFollowed state (change_last (with_end serial) (after [] commands))) (sym (end_after given now))
+    (change_step state (with_end serial) (end_list now) (after [] commands) (after [] given) (end_serials now)
+    (λ earlier. end_under state earlier serial now refl) (by_of state commands given is h))))
+
+-- ---- where nothing is changed
+plain_begun : (skeletons : Skeletons) (renumber : Bool) (command : Command) → is_none_with skeletons renumber ≡ true → IsPlain command → IsBegunAs (record { renumber = renumber; skeletons = skeletons }) command
+plain_begun Kept renumber (BeginOf begin) e plain = ((λ asked. clash asked refl), plain)
+plain_begun LeftOut renumber (BeginOf begin) e plain = clash e refl
+plain_begun (Made from) renumber (BeginOf begin) e plain = clash e refl
+plain_begun skeletons renumber (PutOf put) e plain = tt
+plain_begun skeletons renumber (EndOf serial) e plain = tt
+
+same_if : (b : Bool) (state : ChangeState) (recording now : Recording) → b ≡ true → now ≡ recording → IsChangedIf b state.options recording now × FollowsIf b state recording now
+same_if true state recording now e same = (same, same)
+same_if false state recording now e same = clash e refl
+
+same_of : (b : Bool) (options : ChangeOptions) (recording now : Recording) → b ≡ true → IsChangedIf b options recording now → now ≡ recording
+same_of true options recording now e c = c
+same_of false options recording now e c = clash e refl
+
+pub same_command : (state : ChangeState) (command : Command) (commands given : List Command) → is_none state.options ≡ true → HasChanged state commands given → IsPlain command →
+    HasChanged state (commands ++ command ∷ []) (given ++ command ∷ [])
+same_command state command commands given is h plain =
+    let recording : Recording = after [] (commands ++ command ∷ []) in
+    let now : Recording = after [] (given ++ command ∷ []) in
+    let both : IsChangedIf (is_none state.options) state.options recording now × FollowsIf (is_none state.options) state recording now =
+    same_if (is_none state.options) state recording now is
+    (after_push given command
+    ∙ ap (λ r. add r command) (same_of (is_none state.options) state.options (after [] commands) (after [] given) is h.changed)
+    ∙ sym (after_push commands command)) in
+    record {
+      changed = both.0;
+      begun = all_push (IsBegunAs state.options) given command h.begun (plain_begun state.options.skeletons state.options.renumber command is plain);
+      follows = both.1;
+    }
+
+-- ---- one command after the other
+pub apply_step : (state : ChangeState) (before yielded given now more : List Command) (command : Command) (out : Option Command)
+    → HasChanged state ((before ++ yielded) ++ command ∷ []) ((given ++ now) ++ option_list out) → more ≡ now ++ option_list out → HasChanged state (before ++ (yielded ++ command ∷ [])) (given ++ more)
+apply_step state before yielded given now more command out h e =
+    subst (λ l. HasChanged state l (given ++ more)) (append_assoc before yielded (command ∷ []))
+    (subst (HasChanged state ((before ++ yielded) ++ command ∷ [])) (append_assoc given now (option_list out) ∙ ap (λ l. given ++ l) (sym e)) h)
+
+pub all_front : {X : Type 0} (P : X → Type 0) (xs : List X) (x : X) → AllByRecursion P (xs ++ x ∷ []) → AllByRecursion P xs
+all_front P [] x all = tt
+all_front P (y ∷ xs) x (p, all) = (p, all_front P xs x all)
+
+pub all_last : {X : Type 0} (P : X → Type 0) (xs : List X) (x : X) → AllByRecursion P (xs ++ x ∷ []) → P x
+all_last P [] x (p, all) = p
+all_last P (y ∷ xs) x (p, all) = all_last P xs x all
+
+pub same_commands : (state : ChangeState) (before given commands : List Command) → is_none state.options ≡ true → HasChanged state before given → AllByRecursion IsPlain commands →
+    HasChanged state (before ++ commands) (given ++ commands)
+same_commands state before given [] is h plain = subst (HasChanged state (before ++ [])) (sym (append-nil given)) (subst (λ l. HasChanged state l given) (sym (append-nil before)) h)
+same_commands state before given (command ∷ commands) is h (p, plain) =
+    subst (HasChanged state (before ++ command ∷ commands)) (append_assoc given (command ∷ []) commands)
+    (subst (λ l. HasChanged state l ((given ++ command ∷ []) ++ commands)) (append_assoc before (command ∷ []) commands)
+    (same_commands state (before ++ command ∷ []) (given ++ command ∷ []) commands is (same_command state command before given is h p) plain))
