@@ -12,7 +12,7 @@ use Rattle.feed_changes.specs.declared.options.Skeletons.{Skeletons}
 use Rattle.feed_changes.specs.declared.options.Skeletons.TheVariants.{Kept, LeftOut, Made}
 use Rattle.feed_changes.specs.Naming.{named, serials_of, stream_named}
 use Rattle.feed_changes.specs.Renumbered.{serials}
-use Rattle.feed_changes.specs.Links.{MayStay, those}
+use Rattle.feed_changes.specs.Links.{HasReason, those}
 use Rattle.feed_changes.specs.Changed.{stream_under}
 use Rattle.feed_changes.specs.Skeletons.{AreOthers, IsDescribed, described, is_other, is_skeleton, leaves_out, made_for, staying}
 use Rattle.feed_changes.proofs.Renumbers.{clash}
@@ -47,7 +47,7 @@ begun_staying skeletons streams = by (all_stay skeletons streams)
     by true = begun_all streams
     by false = begun_others streams
 
-none_left : (skeletons : Skeletons) (streams : List NewStream) → AllZip (MayStay skeletons) (map (λ stream. true) streams) (map begun streams)
+none_left : (skeletons : Skeletons) (streams : List NewStream) → AllZip (HasReason skeletons) (map (λ stream. true) streams) (map begun streams)
 none_left skeletons [] = tt
 none_left skeletons (stream ∷ streams) = ((λ e. clash refl e), none_left skeletons streams)
 
@@ -55,7 +55,7 @@ not_other : (b : Bool) → not b ≡ false → b ≡ true
 not_other true e = refl
 not_other false e = absurd (clash refl e)
 
-others_left : (skeletons : Skeletons) (streams : List NewStream) → leaves_out skeletons ≡ true → AllZip (MayStay skeletons) (map is_other streams) (map begun streams)
+others_left : (skeletons : Skeletons) (streams : List NewStream) → leaves_out skeletons ≡ true → AllZip (HasReason skeletons) (map is_other streams) (map begun streams)
 others_left skeletons [] asked = tt
 others_left skeletons (stream ∷ streams) asked = ((λ e. record { asked = asked; skeleton = not_other (is_skeleton stream) e }), others_left skeletons streams asked)
 
@@ -63,10 +63,10 @@ left_asked : (a b : Bool) → (not a || b) ≡ false → a ≡ true
 left_asked true b e = refl
 left_asked false b e = absurd (clash refl e)
 
-pub left_of : (skeletons : Skeletons) (streams : List NewStream) → AllZip (MayStay skeletons) (stays_of skeletons streams) (map begun streams)
+pub left_of : (skeletons : Skeletons) (streams : List NewStream) → AllZip (HasReason skeletons) (stays_of skeletons streams) (map begun streams)
 left_of skeletons streams = by (all_stay skeletons streams) refl
   where
-    by : (b : Bool) → all_stay skeletons streams ≡ b → AllZip (MayStay skeletons) (stays_if b streams) (map begun streams)
+    by : (b : Bool) → all_stay skeletons streams ≡ b → AllZip (HasReason skeletons) (stays_if b streams) (map begun streams)
     by true e = none_left skeletons streams
     by false e = others_left skeletons streams (left_asked (leaves_out skeletons) (list_all is_skeleton streams) e)
 

@@ -5,7 +5,7 @@ use Rattle.std.proofs.Common.{inl, inr}
 use Rattle.std.specs.List.{AllByRecursion, AllZip, IsDistinct, flat_map, list_any}
 use Rattle.std.specs.Map.{keys_of, values_of}
 use Rattle.std.proofs.lemmas.Grind.{flat_map-append}
-use Rattle.std.proofs.lemmas.Bool.{eqb-true}
+use Rattle.std.proofs.lemmas.Bool.{eqb-true, or_parts}
 use Rattle.std.proofs.lemmas.List.{map-append}
 use Rattle.chain_rules.specs.Recording.{Stream, Recording, change_last}
 use Rattle.feed_changes.specs.declared.options.ChangeOptions.{ChangeOptions}
@@ -98,7 +98,7 @@ distinct_before Kept earlier streams (skeleton ∷ more) made d = absurd made
 distinct_before LeftOut earlier streams (skeleton ∷ more) made d = absurd made
 distinct_before (Made from) earlier streams (skeleton ∷ next ∷ more) made d = absurd made
 distinct_before (Made from) earlier streams (skeleton ∷ []) made d =
-    (subst (λ (s : Stream). AllByRecursion (λ y. nat_eq s.serial y ≡ false) (serials streams)) (sym made.is) (no_serial made.serial (serials streams) made.other), d)
+    (subst (λ (s : Stream). AllByRecursion (λ y. nat_eq s.serial y ≡ false) (serials streams)) (sym made.is) (no_serial made.serial (serials streams) (or_parts (list_any (nat_eq made.serial) earlier) (list_any (nat_eq made.serial) (serials streams)) made.first.free).1), d)
 
 pub link_changed : (state : ChangeState) (earlier : List ℕ) (link now : List Stream) → IsUnderNames state earlier link now → IsChangedLink state.options earlier link now
 link_changed state earlier link now by =
@@ -124,9 +124,11 @@ from_push : (options : ChangeOptions) (earlier : List ℕ) (recording now : Reco
 from_push options earlier [] [] link more r p = (subst (λ e. IsChangedLink options e link more) (append-nil earlier) p, tt)
 from_push options earlier [] (m ∷ now) link more r p = absurd r
 from_push options earlier (l ∷ recording) [] link more r p = absurd r
-from_push options earlier (l ∷ recording) (m ∷ now) link more (q, r) p =
-    (q, from_push options (earlier ++ serials m) recording now link more r
-    (subst (λ e. IsChangedLink options e link more) (sym (append_assoc earlier (serials m) (flat_map serials now))) p))
+from_push options earlier (l ∷ recording) (m ∷ now) link more (q, r) p = (
+  q,
+  from_push options (earlier ++ serials m) recording now link more r
+      (subst (λ e. IsChangedLink options e link more) (sym (append_assoc earlier (serials m) (flat_map serials now))) p),
+)
 
 pub up_to_changed : (state : ChangeState) (recording now : Recording) → IsUpTo state recording now → ChangedFrom state.options [] recording now
 up_to_changed state recording now by =

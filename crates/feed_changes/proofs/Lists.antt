@@ -7,7 +7,7 @@ use Rattle.chain_rules.specs.Recording.{Stream}
 use Rattle.feed_changes.specs.declared.options.Skeletons.{Skeletons}
 use Rattle.feed_changes.specs.Naming.{AreNamed}
 use Rattle.feed_changes.specs.Renumbered.{serials}
-use Rattle.feed_changes.specs.Links.{IsLeftOut, MayStay, those}
+use Rattle.feed_changes.specs.Links.{IsLeftOut, HasReason, those}
 use Rattle.feed_changes.specs.Changed.{IsNoName, stream_under}
 use Rattle.feed_changes.proofs.Renumbers.{GoesWith}
 
@@ -23,13 +23,14 @@ same_serials change same (stream ∷ link) =
     ap (λ n. n ∷ serials (map change link)) (same stream) ∙ ap (λ l. stream.serial ∷ l) (same_serials change same link)
 
 pub left_out_still : (skeletons : Skeletons) (names : List (ℕ × ℕ)) (change now : Stream → Stream) → GoesWith names change now → (stays : List Bool) (link : List Stream)
-    → AllZip (MayStay skeletons) stays link → AllZip (MayStay skeletons) stays (map change link)
+    → AllZip (HasReason skeletons) stays link → AllZip (HasReason skeletons) stays (map change link)
 left_out_still skeletons names change now with [] [] all = tt
 left_out_still skeletons names change now with [] (stream ∷ link) all = absurd all
 left_out_still skeletons names change now with (stay ∷ stays) [] all = absurd all
-left_out_still skeletons names change now with (stay ∷ stays) (stream ∷ link) (may, all) =
-    (λ e. let left : IsLeftOut skeletons stream = may e in record { asked = left.asked; skeleton = with.fishead stream left.skeleton },
-    left_out_still skeletons names change now with stays link all)
+left_out_still skeletons names change now with (stay ∷ stays) (stream ∷ link) (may, all) = (
+  λ e. let left : IsLeftOut skeletons stream = may e in record { asked = left.asked; skeleton = with.fishead stream left.skeleton },
+  left_out_still skeletons names change now with stays link all,
+)
 
 pub under_still : (names : List (ℕ × ℕ)) (change now : Stream → Stream) → GoesWith names change now → (link : List Stream) → AreNamed names (serials link)
     → map now (map (stream_under names) link) ≡ map (stream_under names) (map change link)

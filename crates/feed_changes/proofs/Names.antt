@@ -9,7 +9,7 @@ use Rattle.std.proofs.lemmas.List.Folds.{list_any-append}
 use Rattle.std.proofs.lemmas.Bool.{eq-eqb}
 use Rattle.std.proofs.lemmas.Map.Made.{is_some-lookup}
 use Rattle.std.specs.Option.{is_some}
-use Rattle.feed_changes.specs.Naming.{AreNamed, AreNames, IsFreshName, IsKept, Keeps, KeepsAll, Renames, entries_named, entry_with, name_of, serials_of}
+use Rattle.feed_changes.specs.Naming.{AreNamed, AreNames, AreOnlyOf, IsFreshName, IsKept, Keeps, KeepsAll, Renames, entries_named, entry_with, name_of, serials_of}
 use Rattle.std.proofs.lemmas.List.Elements.{filter_map-append}
 use Rattle.std.specs.Prelude.{Option}
 use Rattle.std.specs.List.{cons_option}
@@ -41,7 +41,7 @@ or_left : (a b : Bool) → (a || b) ≡ false → a ≡ false
 or_left false b e = refl
 or_left true b e = e
 
-or_right : (a b : Bool) → (a || b) ≡ false → b ≡ false
+pub or_right : (a b : Bool) → (a || b) ≡ false → b ≡ false
 or_right false b e = e
 or_right true b e = absurd (cc)
 
@@ -53,9 +53,10 @@ distinct_push (x ∷ xs) y (apart, d) none = (
   distinct_push xs y d (or_right (nat_eq y x) (list_any (nat_eq y) xs) none),
 )
 
-pub names_push : (given : List ℕ) (names : List (ℕ × ℕ)) (serial now : ℕ) → AreNames given names → list_any (nat_eq now) given ≡ false
+pub names_push : (given : List ℕ) (names : List (ℕ × ℕ)) (serial now : ℕ) → AreNames given names → list_any (nat_eq serial) (keys_of names) ≡ false → list_any (nat_eq now) given ≡ false
     → (list_any (nat_eq serial) given ≡ false → now ≡ serial) → list_any (nat_eq now) (values_of names) ≡ false → AreNames given (names ++ (serial, now) ∷ [])
-names_push given names serial now are free kept none = record {
+names_push given names serial now are new free kept none = record {
+  once = subst (IsDistinct nat_eq) (sym (map-append (λ (e : ℕ × ℕ). e.0) names ((serial, now) ∷ []))) (distinct_push (keys_of names) serial are.once new);
   distinct = subst (IsDistinct nat_eq) (sym (map-append (λ (e : ℕ × ℕ). e.1) names ((serial, now) ∷ []))) (distinct_push (values_of names) now are.distinct none);
   each = all_push (IsFreshName given) names (serial, now) are.each (record { free = free; kept = kept });
 }
@@ -71,7 +72,12 @@ keeps_none given serial names kept = record {
   kept = kept;
   are = λ are own. are;
   own = λ own. own;
+  only = λ serials is only. only;
 }
+
+pub or_true : (b : Bool) → (b || true) ≡ true
+or_true true = refl
+or_true false = refl
 
 own_key : (names : List (ℕ × ℕ)) (serial now : ℕ) → list_any (nat_eq serial) (keys_of (names ++ (serial, now) ∷ [])) ≡ true
 own_key names serial now =
@@ -79,10 +85,11 @@ own_key names serial now =
     ∙ list_any-append (nat_eq serial) (keys_of names) (serial ∷ [])
     ∙ ap (λ b. list_any (nat_eq serial) (keys_of names) || (b || false)) (eq-eqb serial serial refl)
     ∙ or_true (list_any (nat_eq serial) (keys_of names))
-  where
-    or_true : (b : Bool) → (b || true) ≡ true
-    or_true true = refl
-    or_true false = refl
+
+only_push : (names : List (ℕ × ℕ)) (serial now : ℕ) (serials : List ℕ) → list_any (nat_eq serial) serials ≡ true → AreOnlyOf names serials → AreOnlyOf (names ++ (serial, now) ∷ []) serials
+only_push names serial now serials is only =
+    subst (AllByRecursion (λ key. list_any (nat_eq key) serials ≡ true)) (sym (map-append (λ (e : ℕ × ℕ). e.0) names ((serial, now) ∷ [])))
+    (all_push (λ key. list_any (nat_eq key) serials ≡ true) (keys_of names) serial only is)
 
 pub keeps_one : (given : List ℕ) (serial : ℕ) (names : List (ℕ × ℕ)) → list_any (nat_eq serial) given ≡ false → list_any (nat_eq serial) (keys_of names) ≡ false →
     Keeps given serial names (names ++ (serial, serial) ∷ [])
@@ -90,10 +97,11 @@ keeps_one given serial names free none = record {
   more = (serial, serial) ∷ [];
   appended = refl;
   kept = λ new. own_key names serial serial;
-  are = λ are own. names_push given names serial serial are free (λ e. refl) (subst (λ l. list_any (nat_eq serial) l ≡ false) own none);
+  are = λ are own. names_push given names serial serial are none free (λ e. refl) (subst (λ l. list_any (nat_eq serial) l ≡ false) own none);
   own = λ own.
       map-append (λ (e : ℕ × ℕ). e.0) names ((serial, serial) ∷ []) ∙ ap (λ l. l ++ serial ∷ []) own
       ∙ sym (map-append (λ (e : ℕ × ℕ). e.1) names ((serial, serial) ∷ []));
+  only = λ serials is only. only_push names serial serial serials is only;
 }
 
 pub renames_none : (given : List ℕ) (serial : ℕ) (names : List (ℕ × ℕ)) → list_any (nat_eq serial) (keys_of names) ≡ true → Renames given serial names names
@@ -102,6 +110,7 @@ renames_none given serial names is = record {
   appended = sym (append-nil names);
   is_named = is;
   are = λ are kept. are;
+  only = λ serials is only. only;
 }
 
 clash : {A : Type 0} {b : Bool} → b ≡ true → b ≡ false → A
@@ -121,17 +130,28 @@ renames_one given serial now names none free unused = record {
   appended = refl;
   is_named = own_key names serial now;
   are = λ are kept.
-      names_push given names serial now are free
+      names_push given names serial now are none free
       (kept_given (list_any (nat_eq serial) given) (list_any (nat_eq serial) (keys_of names)) now serial kept none) unused;
+  only = λ serials is only. only_push names serial now serials is only;
 }
 
 -- ---- stream after stream
+any_own : (serials : List ℕ) (serial : ℕ) → list_any (nat_eq serial) (serials ++ serial ∷ []) ≡ true
+any_own serials serial =
+    list_any-append (nat_eq serial) serials (serial ∷ []) ∙ ap (λ b. list_any (nat_eq serial) serials || (b || false)) (eq-eqb serial serial refl)
+    ∙ or_true (list_any (nat_eq serial) serials)
+
+only_more : (serials more keys : List ℕ) → AllByRecursion (λ key. list_any (nat_eq key) serials ≡ true) keys → AllByRecursion (λ key. list_any (nat_eq key) (serials ++ more) ≡ true) keys
+only_more serials more [] all = tt
+only_more serials more (key ∷ keys) (p, all) = (any_more (nat_eq key) serials more p, only_more serials more keys all)
+
 pub keeps_next : (given : List ℕ) (old new : List (ℕ × ℕ)) (serials : List ℕ) (serial : ℕ) → KeepsAll given old serials → Keeps given serial old new → KeepsAll given new (serials ++ serial ∷ [])
 keeps_next given old new serials serial all next = record {
   are = next.are all.are all.own;
   own = next.own all.own;
   all = all_push (IsKept given new) serials serial
       (subst (λ l. AllByRecursion (IsKept given l) serials) (sym next.appended) (kept_more given old next.more serials all.all)) next.kept;
+  only = next.only (serials ++ serial ∷ []) (any_own serials serial) (only_more serials (serial ∷ []) (keys_of old) all.only);
 }
 
 pub kept_next : (given : List ℕ) (old new : List (ℕ × ℕ)) (serials : List ℕ) (serial : ℕ) → AllByRecursion (IsKept given old) serials → Renames given serial old new → AllByRecursion (IsKept given new) serials
@@ -144,13 +164,19 @@ named_next given old new serials serial all next =
 
 pub no_names : (given : List ℕ) → KeepsAll given [] []
 unfolding IsDistinct
-no_names given = record { are = record { distinct = tt; each = tt }; own = refl; all = tt }
+no_names given = record { are = record { once = tt; distinct = tt; each = tt }; own = refl; all = tt; only = tt }
 
 pub kept_at : (given : List ℕ) (names : List (ℕ × ℕ)) (streams : List NewStream) (i : ℕ) (d : NewStream) → i < length streams → AllByRecursion (IsKept given names) (serials_of streams) →
     IsKept given names (get_or streams i d).serial
 kept_at given names [] i d less all = absurd (omega (arith, less))
 kept_at given names (stream ∷ streams) zero d less (p, all) = p
 kept_at given names (stream ∷ streams) (suc i) d less (p, all) = kept_at given names streams i d (omega (arith, less)) all
+
+pub serial_at : (streams : List NewStream) (i : ℕ) (d : NewStream) → i < length streams → list_any (nat_eq (get_or streams i d).serial) (serials_of streams) ≡ true
+serial_at [] i d less = absurd (omega (arith, less))
+serial_at (stream ∷ streams) zero d less = ap (λ b. b || list_any (nat_eq stream.serial) (serials_of streams)) (eq-eqb stream.serial stream.serial refl)
+serial_at (stream ∷ streams) (suc i) d less =
+    ap (λ b. nat_eq (get_or streams i d).serial stream.serial || b) (serial_at streams i d (omega (arith, less))) ∙ or_true (nat_eq (get_or streams i d).serial stream.serial)
 
 -- ---- packet after packet
 pub entries_push : (names : List (ℕ × ℕ)) (entries : List Entry) (entry : Entry) (now : Option ℕ) → name_of names entry.serial ≡ now →

@@ -1,17 +1,18 @@
 -- Names and streams under them.
 use Rattle.std.proofs.Common.{◌≡◌, ℕ, Bool, true, false, cond, List, [], ◌∷◌, ◌++◌, map, refl, sym, ◌∙◌, ap, subst}
-use Rattle.std.specs.Prelude.{nat_eq, Option, Some, None, if◌then◌else◌}
+use Rattle.std.specs.Prelude.{nat_eq, Option, Some, None, ◌||◌, if◌then◌else◌}
 use Rattle.std.specs.Option.{is_some, unwrap_or}
 use Rattle.std.specs.List.{AllByRecursion, IsDistinct, list_any}
 use Rattle.std.specs.Map.{keys_of, values_of}
-use Rattle.std.proofs.lemmas.Bool.{eqb-true, eq-eqb, or_parts}
+use Rattle.std.proofs.lemmas.Bool.{eqb-true, eq-eqb, or_from, or_parts}
 use Rattle.std.proofs.lemmas.Map.Made.{is_some-lookup}
 use Rattle.chain_rules.specs.Recording.{Stream}
 use Rattle.ogg_command.specs.declared.command.Entry.{Entry}
-use Rattle.feed_changes.specs.Naming.{name_of, named}
+use Rattle.feed_changes.specs.Naming.{AreNamed, AreOnlyOf, name_of, named}
 use Rattle.feed_changes.specs.Renumbered.{serials}
 use Rattle.feed_changes.specs.Changed.{IsNoName, stream_under}
 use Rattle.feed_changes.specs.Skeletons.{first_of, is_fishead}
+use Rattle.feed_changes.proofs.Names.{eq_swaps, or_true}
 
 pub clash : {A : Type 0} {b : Bool} → b ≡ true → b ≡ false → A
 clash t f = absurd (true_false (sym t ∙ f))
@@ -106,6 +107,65 @@ other names s t key none = by (nat_eq s t) refl
     by false e = refl
     by true e = clash (is_some-lookup (nat_eq s) names ∙ key) (ap (λ n. is_some (name_of names n)) (eqb-true s t e) ∙ ap is_some none)
 
+-- a serial that is no name isn't that of a stream under its name
+pub no_name : (names : List (ℕ × ℕ)) (s t now : ℕ) → name_of names t ≡ Some now → IsNoName names s → nat_eq s now ≡ false
+no_name names s t now is none = by (nat_eq s now) refl
+  where
+    by : (b : Bool) → nat_eq s now ≡ b → b ≡ false
+    by false e = refl
+    by true e = absurd (named_now names t now is (subst (IsNoName names) (eqb-true s now e) none))
+
+-- ---- the names are the serials that streams have now
+found_more : (names : List (ℕ × ℕ)) (key value : ℕ) → AllByRecursion (λ y. nat_eq key y ≡ false) (keys_of names) → (rest : List (ℕ × ℕ)) → AllByRecursion (λ y. nat_eq key y ≡ false) (keys_of rest)
+    → AllByRecursion (λ (name : ℕ × ℕ). name_of names name.0 ≡ Some name.1) rest → AllByRecursion (λ (name : ℕ × ℕ). name_of ((key, value) ∷ names) name.0 ≡ Some name.1) rest
+found_more names key value apart [] others all = tt
+found_more names key value apart ((k, v) ∷ rest) (other, others) (is, all) =
+    (ap (λ b. cond b (Some value) (name_of names k)) (eq_swaps k key ∙ other) ∙ is, found_more names key value apart rest others all)
+
+each_found : (names : List (ℕ × ℕ)) → IsDistinct nat_eq (keys_of names) → AllByRecursion (λ (name : ℕ × ℕ). name_of names name.0 ≡ Some name.1) names
+unfolding IsDistinct
+each_found [] d = tt
+each_found ((k, v) ∷ names) (apart, d) =
+    (ap (λ b. cond b (Some v) (name_of names k)) (eq-eqb k k refl), found_more names k v apart names apart (each_found names d))
+
+any_named : (names : List (ℕ × ℕ)) (serial : ℕ) (serials : List ℕ) → list_any (nat_eq serial) serials ≡ true → list_any (nat_eq (named names serial)) (map (named names) serials) ≡ true
+any_named names serial [] e = e
+any_named names serial (y ∷ serials) e = by (any_named names serial serials) (nat_eq serial y) refl e
+  where
+    by : (list_any (nat_eq serial) serials ≡ true → list_any (nat_eq (named names serial)) (map (named names) serials) ≡ true) → (b : Bool) → nat_eq serial y ≡ b
+        → (b || list_any (nat_eq serial) serials) ≡ true → (nat_eq (named names serial) (named names y) || list_any (nat_eq (named names serial)) (map (named names) serials)) ≡ true
+    by rest true p f = ap (λ b. b || list_any (nat_eq (named names serial)) (map (named names) serials)) (eq-eqb (named names serial) (named names y) (ap (named names) (eqb-true serial y p)))
+    by rest false p f = ap (λ b. nat_eq (named names serial) (named names y) || b) (rest f) ∙ or_true (nat_eq (named names serial) (named names y))
+
+values_had : (names : List (ℕ × ℕ)) (serials : List ℕ) (n : ℕ) → list_any (nat_eq n) (map (named names) serials) ≡ false → (rest : List (ℕ × ℕ))
+    → AllByRecursion (λ (name : ℕ × ℕ). name_of names name.0 ≡ Some name.1) rest → AllByRecursion (λ key. list_any (nat_eq key) serials ≡ true) (keys_of rest)
+    → list_any (nat_eq n) (values_of rest) ≡ false
+values_had names serials n none [] found only = refl
+values_had names serials n none ((k, v) ∷ rest) (is, found) (among, only) =
+    or_from (nat_eq n v) (list_any (nat_eq n) (values_of rest)) (by (nat_eq n v) refl) (values_had names serials n none rest found only)
+  where
+    by : (b : Bool) → nat_eq n v ≡ b → b ≡ false
+    by false e = refl
+    by true e =
+        clash (subst (λ m. list_any (nat_eq m) (map (named names) serials) ≡ true) (ap (λ o. unwrap_or o k) is ∙ sym (eqb-true n v e)) (any_named names k serials among)) none
+
+pub not_among : (names : List (ℕ × ℕ)) (serial : ℕ) (serials : List ℕ) → AreNamed names serials → IsNoName names serial → list_any (nat_eq serial) (map (named names) serials) ≡ false
+not_among names serial [] all none = refl
+not_among names serial (y ∷ serials) (key, all) none =
+    let h : HasName names y = has_name names y key in
+    or_from (nat_eq serial (named names y)) (list_any (nat_eq serial) (map (named names) serials))
+    (ap (nat_eq serial) h.named_is ∙ no_name names serial y h.now h.is none) (not_among names serial serials all none)
+
+pub names_are : (names : List (ℕ × ℕ)) (serials : List ℕ) → IsDistinct nat_eq (keys_of names) → AreNamed names serials → AreOnlyOf names serials → (n : ℕ)
+    → list_any (nat_eq n) (values_of names) ≡ list_any (nat_eq n) (map (named names) serials)
+names_are names serials once all only n = by (list_any (nat_eq n) (values_of names)) (list_any (nat_eq n) (map (named names) serials)) refl refl
+  where
+    by : (a b : Bool) → list_any (nat_eq n) (values_of names) ≡ a → list_any (nat_eq n) (map (named names) serials) ≡ b → a ≡ b
+    by true true p q = refl
+    by false false p q = refl
+    by true false p q = clash p (values_had names serials n q names (each_found names once) only)
+    by false true p q = clash q (not_among names n serials all p)
+
 -- ---- a change of a stream, and the one that goes with it of the stream under its name
 pub record GoesWith (names : List (ℕ × ℕ)) (change now : Stream → Stream) : Type 0 where
   pub serial : (stream : Stream) → (change stream).serial ≡ stream.serial
@@ -155,14 +215,6 @@ grown_under names packet stream false = refl
 ended_under : (names : List (ℕ × ℕ)) (stream : Stream) (b : Bool) → ended_if (stream_under names stream) b ≡ stream_under names (ended_if stream b)
 ended_under names stream true = refl
 ended_under names stream false = refl
-
--- a serial that is no name isn't that of a stream under its name
-pub no_name : (names : List (ℕ × ℕ)) (s t now : ℕ) → name_of names t ≡ Some now → IsNoName names s → nat_eq s now ≡ false
-no_name names s t now is none = by (nat_eq s now) refl
-  where
-    by : (b : Bool) → nat_eq s now ≡ b → b ≡ false
-    by false e = refl
-    by true e = absurd (named_now names t now is (subst (IsNoName names) (eqb-true s now e) none))
 
 pub packet_named : (names : List (ℕ × ℕ)) (entry : Entry) (now : ℕ) → IsDistinct nat_eq (values_of names) → name_of names entry.serial ≡ Some now →
     GoesWith names (grown entry) (grown (record entry { serial = now }))

@@ -1,10 +1,10 @@
 -- Each command changed, over those before it.
 use Rattle.std.proofs.Common.{◌≡◌, ℕ, Bool, true, false, List, [], ◌∷◌, ◌++◌, map, refl, sym, ◌∙◌, ap, subst, append-nil, append_assoc, inl}
-use Rattle.std.specs.Prelude.{nat_eq, Option, Some, None}
-use Rattle.std.specs.List.{AllByRecursion, IsDistinct, cons_option, flat_map, fold, list_any}
+use Rattle.std.specs.Prelude.{nat_eq, nat_le, Option, Some, None, ◌||◌, if◌then◌else◌, length}
+use Rattle.std.specs.List.{AllByRecursion, IsDistinct, cons_option, flat_map, fold, list_all, list_any}
 use Rattle.std.specs.Map.{values_of}
 use Rattle.std.proofs.lemmas.List.Sums.{fold-append}
-use Rattle.std.proofs.lemmas.Bool.{or_from}
+use Rattle.link_chain.specs.Limits.{most_streams}
 use Rattle.chain_rules.specs.Recording.{Stream, Recording, add, after, begun, begun_link, change_last, ended_skeleton, with_packet, with_end}
 use Rattle.ogg_command.specs.declared.command.Command.{Command}
 use Rattle.ogg_command.specs.declared.command.Command.TheVariants.{Begin as BeginOf, Put as PutOf, End as EndOf}
@@ -17,14 +17,14 @@ use Rattle.feed_changes.specs.declared.options.ChangeOptions.{ChangeOptions}
 use Rattle.feed_changes.specs.declared.options.Skeletons.{Skeletons}
 use Rattle.feed_changes.specs.declared.options.Skeletons.TheVariants.{Kept, LeftOut, Made}
 use Rattle.feed_changes.specs.Options.{is_none, is_none_with}
-use Rattle.feed_changes.specs.Naming.{AreNamed, AreNames, entries_named, entry_with, name_of, named, serials_of, stream_named}
+use Rattle.feed_changes.specs.Naming.{AreNamed, AreNames, entries_named, entry_with, is_had, name_of, named, serials_of, stream_named, IsFirstFree}
 use Rattle.feed_changes.specs.Renumbered.{avoided, serials}
 use Rattle.feed_changes.specs.Links.{IsBefore, IsMadeFor, those}
-use Rattle.feed_changes.specs.Skeletons.{AreOthers, HasHead, IsBegunAs, described, head_with, made_for, staying}
+use Rattle.feed_changes.specs.Skeletons.{AreOthers, HasHead, IsBegunAs, described, head_with, is_skeleton, made_for, staying}
 use Rattle.feed_changes.specs.Changed.{ChangeState, Follows, FollowsIf, HasChanged, IsChanged, IsChangedIf, IsFollowed, IsNoName, IsPlain, IsUnderNames, stream_under}
 use Rattle.feed_changes.specs.Steps.{Begins, BeginsAs, BeginsDescribed, BeginsPlain, Names, end_of, option_list, put_of}
-use Rattle.feed_changes.proofs.Names.{all_push}
-use Rattle.feed_changes.proofs.Renumbers.{HasName, clash, end_named, end_other, ended, ended_serial, grown, grown_serial, has_name, no_name, packet_named, packet_other}
+use Rattle.feed_changes.proofs.Names.{all_push, or_right}
+use Rattle.feed_changes.proofs.Renumbers.{clash, end_named, end_other, ended, ended_serial, grown, grown_serial, names_are, packet_named, packet_other}
 use Rattle.feed_changes.proofs.Lists.{same_serials}
 use Rattle.feed_changes.proofs.Links.{begin_step, change_step, followed_changed, same_last, under_only, under_step}
 use Rattle.feed_changes.proofs.Begins.{are_described, begun_described, begun_named, begun_serials, begun_staying, described_apart, described_serials, left_of, made_described, named_apart, stays_of}
@@ -104,24 +104,29 @@ plain_changed old state new begin streams now commands given is plain h named no
     (b.given ∙ ap (λ l. l ++ serials_of streams) named.given ∙ ap (λ l. old.given ++ l) (sym (begun_serials streams)))
     (λ recording. ap (add recording) b.now_is ∙ ap (λ s. recording ++ begun_link s streams ∷ []) plain)
     (under_new old state new begin.streams streams (flat_map serials (after [] given)) [] (map begun streams) named by.given b.options b.names tt tt refl)
-    (subst (IsBegunAs old.options) (sym b.now_is)
-    (subst (AreOthers skeletons) (sym named.now_is) (named_apart state.names skeletons begin.streams),
-    subst (λ o. HasHead o (record { skeleton = begin.skeleton; streams = streams })) (sym none) plain))
+    (subst (IsBegunAs old.options) (sym b.now_is) (
+      subst (AreOthers skeletons) (sym named.now_is) (named_apart state.names skeletons begin.streams),
+      subst (λ o. HasHead o (record { skeleton = begin.skeleton; streams = streams })) (sym none) plain,
+    ))
 
 -- ---- and with a Skeleton
 named_serials : (names : List (ℕ × ℕ)) (streams : List NewStream) → serials_of (map (stream_named names) streams) ≡ map (named names) (serials_of streams)
 named_serials names [] = refl
 named_serials names (stream ∷ streams) = ap (λ l. named names stream.serial ∷ l) (named_serials names streams)
 
-not_among : (names : List (ℕ × ℕ)) (serial : ℕ) (serials : List ℕ) → AreNamed names serials → IsNoName names serial → list_any (nat_eq serial) (map (named names) serials) ≡ false
-not_among names serial [] all none = refl
-not_among names serial (y ∷ serials) (key, all) none =
-    let h : HasName names y = has_name names y key in
-    or_from (nat_eq serial (named names y)) (list_any (nat_eq serial) (map (named names) serials))
-    (ap (nat_eq serial) h.named_is ∙ no_name names serial y h.now h.is none) (not_among names serial serials all none)
+had_alike : (earlier xs ys : List ℕ) → ((n : ℕ) → list_any (nat_eq n) xs ≡ list_any (nat_eq n) ys) → (n : ℕ) → is_had earlier xs n ≡ is_had earlier ys n
+had_alike earlier xs ys same n = ap (λ b. list_any (nat_eq n) earlier || b) (same n)
+
+first_alike : (from : ℕ) (earlier xs ys : List ℕ) (serial : ℕ) → ((n : ℕ) → list_any (nat_eq n) xs ≡ list_any (nat_eq n) ys) → IsFirstFree from earlier xs serial → IsFirstFree from earlier ys serial
+first_alike from earlier xs ys serial same is = record {
+  free = sym (had_alike earlier xs ys same serial) ∙ is.free;
+  first = λ n low high. sym (had_alike earlier xs ys same n) ∙ is.first n low high;
+  none = λ less n low high. sym (had_alike earlier xs ys same n) ∙ is.none less n low high;
+  least = λ less n high. sym (had_alike earlier xs ys same n) ∙ is.least less n high;
+}
 
 is_before : (skeletons : Skeletons) (streams : List NewStream) (from : ℕ) (earlier serials : List ℕ) (skeleton : Stream) → made_for skeletons streams ≡ Some from
-    → IsMadeFor earlier serials skeleton → IsBefore skeletons earlier serials (skeleton ∷ [])
+    → IsMadeFor from earlier serials skeleton → IsBefore skeletons earlier serials (skeleton ∷ [])
 is_before Kept streams from earlier serials skeleton e made = absurd (none e)
   where
     none : None ≡ Some from → ⊥
@@ -130,10 +135,21 @@ is_before LeftOut streams from earlier serials skeleton e made = absurd (none e)
   where
     none : None ≡ Some from → ⊥
     none e = cc
-is_before (Made first) streams from earlier serials skeleton e made = made
+is_before (Made first) streams from earlier serials skeleton e made =
+    subst (λ n. IsMadeFor n earlier serials skeleton) (by (list_all is_skeleton streams || nat_le most_streams (length streams)) e) made
+  where
+    value : Some first ≡ Some from → from ≡ first
+    value f = cc
+
+    none : None ≡ Some from → ⊥
+    none e = cc
+
+    by : (b : Bool) → (if b then None else Some first) ≡ Some from → from ≡ first
+    by true f = absurd (none f)
+    by false f = value f
 
 made_changed : (old state new : ChangeState) (begin : Begin) (streams : List NewStream) (now : Command) (commands given : List Command) (from : ℕ) → is_none old.options ≡ false → begin.skeleton ≡ None
-    → HasChanged old commands given → Names old state begin.streams streams → made_for old.options.skeletons streams ≡ Some from → BeginsDescribed state new streams now
+    → HasChanged old commands given → Names old state begin.streams streams → made_for old.options.skeletons streams ≡ Some from → BeginsDescribed from state new streams now
     → HasChanged new (commands ++ BeginOf begin ∷ []) (given ++ now ∷ [])
 made_changed old state new begin streams now commands given from is plain h named some b =
     let skeletons : Skeletons = old.options.skeletons in
@@ -141,25 +157,28 @@ made_changed old state new begin streams now commands given from is plain h name
     let earlier : List ℕ = flat_map serials (after [] given) in
     let more : List NewStream = map described streams in
     let skeleton : Stream = ended_skeleton (head_with b.serial) more in
-    let made : IsMadeFor earlier (serials_of streams) skeleton = record {
+    let made : IsMadeFor from earlier (serials_of streams) skeleton = record {
       serial = b.serial;
       streams = more;
       is = refl;
       of = described_serials streams;
-      free = subst (λ l. list_any (nat_eq b.serial) l ≡ false) (named.given ∙ by.given) b.free;
-      other = subst (λ l. list_any (nat_eq b.serial) l ≡ false) (sym (named_serials state.names (staying skeletons begin.streams)) ∙ ap serials_of (sym named.now_is))
-          (not_among state.names b.serial (serials_of (staying skeletons begin.streams)) named.named b.unnamed);
+      first = first_alike from earlier (values_of state.names) (serials_of streams) b.serial
+          (λ n. names_are state.names (serials_of (staying skeletons begin.streams)) named.names.once named.named named.only n
+          ∙ ap (list_any (nat_eq n)) (sym (named_serials state.names (staying skeletons begin.streams)) ∙ ap serials_of (sym named.now_is)))
+          (subst (λ l. IsFirstFree from l (values_of state.names) b.serial) (named.given ∙ by.given) b.first);
     } in
     begin_as old new begin now (skeleton ∷ map begun more) commands given is plain h (b.options ∙ named.options)
     (b.given ∙ ap (λ l. l ++ b.serial ∷ serials_of streams) named.given
     ∙ ap (λ l. old.given ++ b.serial ∷ l) (sym (begun_serials streams) ∙ ap serials (sym (begun_described streams))))
     (λ recording. ap (add recording) b.now_is)
     (under_new old state new begin.streams streams earlier (skeleton ∷ []) (skeleton ∷ map begun more) named by.given b.options b.names
-    (is_before skeletons streams from earlier (serials_of streams) skeleton some made) (b.unnamed, tt) (ap (λ l. skeleton ∷ l) (begun_described streams)))
-    (subst (IsBegunAs old.options) (sym b.now_is)
-    (described_apart skeletons streams (subst (AreOthers skeletons) (sym named.now_is) (named_apart state.names skeletons begin.streams)),
-    subst (λ o. HasHead o (record { skeleton = Some (head_with b.serial); streams = more })) (sym (made_described skeletons streams ∙ some))
-    (record { serial = b.serial; head = refl; described = are_described streams })))
+    (is_before skeletons streams from earlier (serials_of streams) skeleton some made)
+    (or_right (list_any (nat_eq b.serial) state.given) (list_any (nat_eq b.serial) (values_of state.names)) b.first.free, tt) (ap (λ l. skeleton ∷ l) (begun_described streams)))
+    (subst (IsBegunAs old.options) (sym b.now_is) (
+      described_apart skeletons streams (subst (AreOthers skeletons) (sym named.now_is) (named_apart state.names skeletons begin.streams)),
+      subst (λ o. HasHead o (record { skeleton = Some (head_with b.serial); streams = more })) (sym (made_described skeletons streams ∙ some))
+          (record { serial = b.serial; head = refl; described = are_described streams }),
+    ))
 
 pub begin_changed : (old new : ChangeState) (begin : Begin) (now : Command) (commands given : List Command) → is_none old.options ≡ false → begin.skeleton ≡ None
     → Begins old new begin now → HasChanged old commands given → HasChanged new (commands ++ BeginOf begin ∷ []) (given ++ now ∷ [])
@@ -297,3 +316,12 @@ same_commands state before given (command ∷ commands) is h (p, plain) =
     subst (HasChanged state (before ++ command ∷ commands)) (append_assoc given (command ∷ []) commands)
     (subst (λ l. HasChanged state l ((given ++ command ∷ []) ++ commands)) (append_assoc before (command ∷ []) commands)
     (same_commands state (before ++ command ∷ []) (given ++ command ∷ []) commands is (same_command state command before given is h p) plain))
+
+pub no_commands : (state : ChangeState) → state.given ≡ [] → HasChanged state [] []
+no_commands state given =
+    let both : IsChangedIf (is_none state.options) state.options [] [] × FollowsIf (is_none state.options) state [] [] = by (is_none state.options) in
+    record { changed = both.0; begun = tt; follows = both.1 }
+  where
+    by : (b : Bool) → IsChangedIf b state.options [] [] × FollowsIf b state [] []
+    by true = (refl, refl)
+    by false = (tt, record { up_to = inl (refl, refl); given = given })

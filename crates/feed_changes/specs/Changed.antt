@@ -9,7 +9,7 @@ use Rattle.feed_changes.specs.declared.options.ChangeOptions.{ChangeOptions}
 use Rattle.feed_changes.specs.Options.{is_none}
 use Rattle.feed_changes.specs.Naming.{AreNamed, AreNames, named}
 use Rattle.feed_changes.specs.Renumbered.{avoided, serials}
-use Rattle.feed_changes.specs.Links.{ChangedFrom, IsBefore, MayStay, those}
+use Rattle.feed_changes.specs.Links.{ChangedFrom, IsBefore, HasReason, those}
 use Rattle.feed_changes.specs.Skeletons.{IsBegunAs}
 
 -- the recording is changed as asked
@@ -44,7 +44,7 @@ IsNoName names serial = list_any (nat_eq serial) (values_of names) ≡ false
 -- the last link: its streams that stay are under their names
 pub record IsUnderNames (state : ChangeState) (earlier : List ℕ) (link now : List Stream) : Type 0 where
   pub stays : List Bool
-  pub left_out : AllZip (MayStay state.options.skeletons) stays link
+  pub left_out : AllZip (HasReason state.options.skeletons) stays link
   pub names : AreNames (avoided state.options.renumber earlier) state.names
   pub named : AreNamed state.names (serials (those stays link))
   pub before : List Stream

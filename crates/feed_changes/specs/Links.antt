@@ -7,7 +7,7 @@ use Rattle.chain_rules.specs.Recording.{Stream, Recording, ended_skeleton}
 use Rattle.feed_changes.specs.declared.options.ChangeOptions.{ChangeOptions}
 use Rattle.feed_changes.specs.declared.options.Skeletons.{Skeletons}
 use Rattle.feed_changes.specs.declared.options.Skeletons.TheVariants.{Kept, LeftOut, Made}
-use Rattle.feed_changes.specs.Naming.{serials_of}
+use Rattle.feed_changes.specs.Naming.{IsFirstFree, serials_of}
 use Rattle.feed_changes.specs.Renumbered.{IsRenumberedStream, avoided, serials}
 use Rattle.feed_changes.specs.Skeletons.{first_of, head_with, is_fishead, leaves_out}
 
@@ -18,36 +18,35 @@ those (stays ∷ more) [] = []
 those (true ∷ more) (x ∷ xs) = x ∷ those more xs
 those (false ∷ more) (x ∷ xs) = those more xs
 
--- if it doesn't stay, then because it's a Skeleton
+-- a stream that is left out is a Skeleton
 pub record IsLeftOut (skeletons : Skeletons) (stream : Stream) : Type 0 where
   pub asked : leaves_out skeletons ≡ true
   pub skeleton : is_fishead (first_of stream.packets) ≡ true
 
-abbrev pub MayStay : Skeletons → Bool → Stream → Type 0
-MayStay skeletons stays stream = stays ≡ false → IsLeftOut skeletons stream
+abbrev pub HasReason : Skeletons → Bool → Stream → Type 0
+HasReason skeletons stays stream = stays ≡ false → IsLeftOut skeletons stream
 
 -- A Skeleton that is made for streams with these serials: it has another serial, and one that no stream of an earlier link has.
-pub record IsMadeFor (earlier serials : List ℕ) (skeleton : Stream) : Type 0 where
+pub record IsMadeFor (from : ℕ) (earlier serials : List ℕ) (skeleton : Stream) : Type 0 where
   pub serial : ℕ
   pub streams : List NewStream
   pub is : skeleton ≡ ended_skeleton (head_with serial) streams
   pub of : serials_of streams ≡ serials
-  pub free : list_any (nat_eq serial) earlier ≡ false
-  pub other : list_any (nat_eq serial) serials ≡ false
+  pub first : IsFirstFree from earlier serials serial
 
 -- before streams with these serials there is nothing, or a Skeleton that is made
 abbrev pub IsBefore : Skeletons → List ℕ → List ℕ → List Stream → Type 0
 IsBefore skeletons earlier serials [] = ⊤
 IsBefore Kept earlier serials (skeleton ∷ more) = ⊥
 IsBefore LeftOut earlier serials (skeleton ∷ more) = ⊥
-IsBefore (Made from) earlier serials (skeleton ∷ []) = IsMadeFor earlier serials skeleton
+IsBefore (Made from) earlier serials (skeleton ∷ []) = IsMadeFor from earlier serials skeleton
 IsBefore (Made from) earlier serials (skeleton ∷ next ∷ more) = ⊥
 
 -- A link's streams but for Skeletons that are left out, in order, perhaps with a Skeleton before them. They have distinct
 -- serials if they had.
 pub record IsChangedLink (options : ChangeOptions) (earlier : List ℕ) (link now : List Stream) : Type 0 where
   pub stays : List Bool
-  pub left_out : AllZip (MayStay options.skeletons) stays link
+  pub left_out : AllZip (HasReason options.skeletons) stays link
   pub streams : List Stream
   pub renumbered : AllZip (IsRenumberedStream (avoided options.renumber earlier)) (those stays link) streams
   pub before : List Stream

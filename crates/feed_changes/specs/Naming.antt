@@ -1,5 +1,5 @@
 -- The serials that the streams of the last link had, each with the one that it has now. Ours.
-use Rattle.std.specs.Prelude.{◌≡◌, ℕ, true, false, nat_eq, Option, Some, None, List, ◌++◌, map}
+use Rattle.std.specs.Prelude.{◌≡◌, ℕ, ◌<◌, ◌≤◌, ◌^◌, ◌||◌, Bool, true, false, nat_eq, Option, Some, None, List, ◌++◌, map}
 use Rattle.std.specs.Option.{unwrap_or}
 use Rattle.std.specs.List.{AllByRecursion, IsDistinct, filter_map, list_any}
 use Rattle.std.specs.Map.{keys_of, values_of, lookup}
@@ -28,12 +28,17 @@ entries_named names entries = filter_map (λ (entry : Entry). entry_with entry (
 abbrev pub AreNamed : List (ℕ × ℕ) → List ℕ → Type 0
 AreNamed names serials = AllByRecursion (λ serial. list_any (nat_eq serial) (keys_of names) ≡ true) serials
 
+-- no others are
+abbrev pub AreOnlyOf : List (ℕ × ℕ) → List ℕ → Type 0
+AreOnlyOf names serials = AllByRecursion (λ serial. list_any (nat_eq serial) serials ≡ true) (keys_of names)
+
 -- no serial is named that was given already, and one that wasn't is its own name
 pub record IsFreshName (given : List ℕ) (name : ℕ × ℕ) : Type 0 where
   pub free : list_any (nat_eq name.1) given ≡ false
   pub kept : list_any (nat_eq name.0) given ≡ false → name.1 ≡ name.0
 
 pub record AreNames (given : List ℕ) (names : List (ℕ × ℕ)) : Type 0 where
+  pub once : IsDistinct nat_eq (keys_of names)
   pub distinct : IsDistinct nat_eq (values_of names)
   pub each : AllByRecursion (IsFreshName given) names
 
@@ -50,6 +55,7 @@ pub record KeepsAll (given : List ℕ) (names : List (ℕ × ℕ)) (serials : Li
   pub are : AreNames given names
   pub own : keys_of names ≡ values_of names
   pub all : AllByRecursion (IsKept given names) serials
+  pub only : AreOnlyOf names serials
 
 pub record Keeps (given : List ℕ) (serial : ℕ) (old new : List (ℕ × ℕ)) : Type 0 where
   pub more : List (ℕ × ℕ)
@@ -57,9 +63,28 @@ pub record Keeps (given : List ℕ) (serial : ℕ) (old new : List (ℕ × ℕ))
   pub kept : IsKept given new serial
   pub are : AreNames given old → keys_of old ≡ values_of old → AreNames given new
   pub own : keys_of old ≡ values_of old → keys_of new ≡ values_of new
+  pub only : (serials : List ℕ) → list_any (nat_eq serial) serials ≡ true → AreOnlyOf old serials → AreOnlyOf new serials
 
 pub record Renames (given : List ℕ) (serial : ℕ) (old new : List (ℕ × ℕ)) : Type 0 where
   pub more : List (ℕ × ℕ)
   pub appended : new ≡ old ++ more
   pub is_named : list_any (nat_eq serial) (keys_of new) ≡ true
   pub are : AreNames given old → IsKept given old serial → AreNames given new
+  pub only : (serials : List ℕ) → list_any (nat_eq serial) serials ≡ true → AreOnlyOf old serials → AreOnlyOf new serials
+
+-- ---- a new serial
+abbrev pub is_had : List ℕ → List ℕ → ℕ → Bool
+is_had earlier serials serial = list_any (nat_eq serial) earlier || list_any (nat_eq serial) serials
+
+-- it is the first from this one on that isn't among these, or if there is none, the first at all
+pub record IsFirstFree (from : ℕ) (earlier serials : List ℕ) (serial : ℕ) : Type 0 where
+  pub free : is_had earlier serials serial ≡ false
+  pub first : (other : ℕ) → from ≤ other → other < serial → is_had earlier serials other ≡ true
+  pub none : serial < from → (other : ℕ) → from ≤ other → other < 2 ^ 32 → is_had earlier serials other ≡ true
+  pub least : serial < from → (other : ℕ) → other < serial → is_had earlier serials other ≡ true
+
+-- whether there is one from this one on
+abbrev pub IsFreeFrom : ℕ → List ℕ → List ℕ → Option ℕ → Type 0
+IsFreeFrom from earlier serials None = (other : ℕ) → from ≤ other → other < 2 ^ 32 → is_had earlier serials other ≡ true
+IsFreeFrom from earlier serials (Some serial) =
+    (is_had earlier serials serial ≡ false) × (from ≤ serial) × ((other : ℕ) → from ≤ other → other < serial → is_had earlier serials other ≡ true)

@@ -93,7 +93,7 @@ impl Changes {
 
     /// Begins these streams with a Skeleton, whose serial is the first free one from `from` on.
     fn begin_described(&mut self, from: u32, streams: Vec<NewStream>) -> Result<Command, Memory>
-        ensures begins { IfOk result (λ now. BeginsDescribed self.old self.new streams.items now) }
+        ensures begins { IfOk result (λ now. BeginsDescribed from self.old self.new streams.items now) }
         ensures options { self.new.options ≡ self.old.options }
     {
         let serial = free_serial(&self.given, self.names.as_slice(), from)?;

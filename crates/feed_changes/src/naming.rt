@@ -1,8 +1,8 @@
 //! The serials that streams of a link have now.
-ghost use Rattle.std.specs.Prelude.{◌≡◌, ◌∷◌, ◌++◌, [], false, true, nat_eq, MatchOption, IfOk, OnOk, length};
+ghost use Rattle.std.specs.Prelude.{◌≡◌, ◌∷◌, ◌++◌, [], false, true, nat_eq, IfOk, OnOk, length};
 ghost use Rattle.std.specs.List.{AllByRecursion, list_any};
 ghost use Rattle.std.specs.Map.{keys_of, values_of};
-ghost use Rattle.feed_changes.specs.Naming.{AreNamed, AreNames, Keeps, KeepsAll, Renames, name_of, serials_of};
+ghost use Rattle.feed_changes.specs.Naming.{AreNamed, AreNames, AreOnlyOf, IsFirstFree, IsFreeFrom, Keeps, KeepsAll, Renames, name_of, serials_of};
 
 use link_chain::Serials;
 use ogg_command::{Memory, NewStream};
@@ -32,10 +32,9 @@ fn is_name(names: &[(u32, u32)], serial: u32) -> bool
     false
 }
 
-/// The least serial from `from` on that no stream has now.
+/// The first serial from `from` on that no stream has now.
 fn free_from(given: &Serials, names: &[(u32, u32)], from: u32) -> Option<u32>
-    ensures given { MatchOption result (Unit {0}) (λ serial. list_any (nat_eq serial) given.now.listed ≡ false) }
-    ensures names { MatchOption result (Unit {0}) (λ serial. list_any (nat_eq serial) (values_of names.now) ≡ false) }
+    ensures { IsFreeFrom from given.now.listed (values_of names.now) result }
 {
     for serial in from..=u32::MAX {
         if !given.contains(serial) && !is_name(names, serial) {
@@ -47,8 +46,7 @@ fn free_from(given: &Serials, names: &[(u32, u32)], from: u32) -> Option<u32>
 
 /// The first serial from `from` on that no stream has now, or if there is none, the first at all.
 pub fn free_serial(given: &Serials, names: &[(u32, u32)], from: u32) -> Result<u32, Memory>
-    ensures given { IfOk result (λ serial. list_any (nat_eq serial) given.now.listed ≡ false) }
-    ensures names { IfOk result (λ serial. list_any (nat_eq serial) (values_of names.now) ≡ false) }
+    ensures { IfOk result (λ serial. IsFirstFree from given.now.listed (values_of names.now) serial) }
 {
     match free_from(given, names, from) {
         Some(free) => Ok(free),
@@ -122,6 +120,7 @@ fn rename_all(
     requires { KeepsAll given.now.listed names.old.items (serials_of streams.now) }
     ensures names { OnOk result (AreNames given.now.listed names.new.items) }
     ensures named { OnOk result (AreNamed names.new.items (serials_of streams.now)) }
+    ensures only { OnOk result (AreOnlyOf names.new.items (serials_of streams.now)) }
 {
     for stream in streams {
         rename(given, names, stream.serial, low)?;
@@ -138,6 +137,7 @@ pub fn name_all(
 ) -> Result<(), Memory>
     ensures names { OnOk result (AreNames given.now.listed names.new.items) }
     ensures named { OnOk result (AreNamed names.new.items (serials_of streams.now)) }
+    ensures only { OnOk result (AreOnlyOf names.new.items (serials_of streams.now)) }
 {
     names.clear();
     keep_all(given, names, streams)?;

@@ -1,4 +1,5 @@
 use Rattle.std.proofs.Common.{true, false, sym, ◌∙◌, ap, subst, ℕ, List, nat_eq}
+use Rattle.std.proofs.lemmas.Bool.{or_parts}
 use Rattle.std.specs.Option.{is_some}
 use Rattle.std.specs.List.{list_any}
 use Rattle.std.specs.Map.{values_of}
@@ -20,5 +21,6 @@ returns-in_ok-push-in-Some c =
     (renames_one c.args.given.now.listed c.args.serial c.in-Some.free names
     (keyed names c.args.serial false
     (ap (λ l. is_some (name_of l c.args.serial)) (sym c.as_slice.ensures.value) ∙ ap is_some (sym c.name_of.ensures) ∙ sym c.is_some.ensures ∙ c.if-is_some.false))
-    c.in-Some.ensures.given
-    (ap (λ l. list_any (nat_eq c.in-Some.free) (values_of l)) (sym c.as_slice-2.ensures.value) ∙ c.in-Some.ensures.names))
+    (or_parts (list_any (nat_eq c.in-Some.free) c.args.given.now.listed) (list_any (nat_eq c.in-Some.free) (values_of c.as_slice-2.result.now)) c.in-Some.ensures.0).0
+    (ap (λ l. list_any (nat_eq c.in-Some.free) (values_of l)) (sym c.as_slice-2.ensures.value)
+    ∙ (or_parts (list_any (nat_eq c.in-Some.free) c.args.given.now.listed) (list_any (nat_eq c.in-Some.free) (values_of c.as_slice-2.result.now)) c.in-Some.ensures.0).1))

@@ -1,6 +1,6 @@
 use Rattle.std.proofs.Common.{take}
 use Rattle.std.specs.List.{AllByRecursion}
-use Rattle.feed_changes.specs.Naming.{AreNamed, AreNames, IsKept, serials_of}
+use Rattle.feed_changes.specs.Naming.{AreNamed, AreNames, AreOnlyOf, IsKept, serials_of}
 use Rattle.feed_changes.proofs.naming.rename_all.Given as goal
 
 -- the streams so far are named, and the others kept if they may be
@@ -8,5 +8,6 @@ abbrev pub invariant-loop-stream : goal.invariant-loop-stream
 invariant-loop-stream l = record {
   names : AreNames l.given.listed l.names.items;
   kept : AllByRecursion (IsKept l.given.listed l.names.items) (serials_of l.streams);
+  only : AreOnlyOf l.names.items (serials_of l.streams);
   done : AreNamed l.names.items (serials_of (take l.stream-index l.streams));
 }

@@ -4,7 +4,7 @@ use Rattle.ogg_command.specs.declared.command.Command.TheVariants.{Put as PutOf,
 use Rattle.feed_changes.specs.Changed.{HasChanged, IsPlain, ChangeState}
 use Rattle.feed_changes.specs.Options.{is_none}
 use Rattle.feed_changes.specs.Steps.{option_list}
-use Rattle.feed_changes.proofs.Steps.{begin_changed, put_changed, end_changed}
+use Rattle.feed_changes.proofs.Steps.{begin_changed, put_changed, end_changed, same_command}
 use Rattle.feed_changes.proofs.changes.Changes.change.Goals as goal
 
 pub returns-in-Ok-clause-changed : goal.returns-in-Ok-clause-changed
@@ -27,3 +27,8 @@ returns-in-End-clause-changed c = λ commands given h plain.
     (subst (λ o. HasChanged c.args.self.now (commands ++ EndOf c.in-End.serial ∷ []) (given ++ option_list o)) (sym c.end.ensures)
     (end_changed c.args.self.now c.in-End.serial commands given
     (ap (λ (s : ChangeState). is_none s.options) (sym c.self.view_is) ∙ sym c.is_none.ensures ∙ c.if-is_none.false) h))
+
+pub returns-then-is_none-clause-changed : goal.returns-then-is_none-clause-changed
+returns-then-is_none-clause-changed c = λ commands given h plain.
+    same_command c.args.self.now c.args.command commands given
+    (ap (λ (s : ChangeState). is_none s.options) (sym c.self.view_is) ∙ sym c.is_none.ensures ∙ c.if-is_none.true) h plain
