@@ -67,6 +67,61 @@ for option in "" --renumber; do
 done
 check "nothing to renumber: the same feed" cmp "$work/with." "$work/with.--renumber"
 
+# Skeletons, left out or made anew. The file is $work/in.ogg.
+with_skeletons() {
+    local name=$1 made_from=$2 options=(--no-skeleton)
+    [ -z "$made_from" ] || options=(--skeleton "$made_from")
+    run feed "${options[@]}" <"$work/in.ogg"
+    check "$name: status $status" [ "$status" -eq 0 ]
+    cp "$work/out" "$work/feed"
+    run mux --strict <"$work/feed"
+    check "$name: every command is kept" [ "$status" -eq 0 ]
+    cp "$work/out" "$work/again.ogg"
+    check "$name: the streams and the Skeletons" feeding skeletons "$work/in.ogg" "$work/again.ogg" $made_from
+}
+pages "02 0 1 0 3 abc" "00 5 1 1 5 hello" "04 9 1 2 1 x" >"$work/in.ogg"
+with_skeletons "none to leave out" ""
+with_skeletons "one is made" 9
+with_skeletons "one is made of the next serial" 1
+with_skeletons "one is made of the first serial after the last" 4294967295
+pages "02 0 4294967295 0 3 abc" "04 9 4294967295 1 1 x" "02 0 2 0 3 abc" "04 9 2 1 1 x" >"$work/in.ogg"
+with_skeletons "one is made for each link" 4294967295
+cp "$work/vorbis.ogg" "$work/in.ogg"
+with_skeletons "one is made for a known codec and another" 5
+feed <<'END' | timeout 20 "$program" mux 2>/dev/null >"$work/in.ogg"
+skeleton 9 ; 1 audio/x-other 8000/1 abc ; 2 audio/x-other 8000/1 abc def
+put 1 5 hello ; 2 6 x
+end 1
+end 2
+begin 3 abc
+put 3 7 y
+end 3
+END
+with_skeletons "one is left out" ""
+with_skeletons "one is left out and one made" 9
+with_skeletons "one is left out and one made of another serial" 77
+cp "$work/in.ogg" "$work/described.ogg"
+python3 - "$here" "$work/described.ogg" >"$work/in.ogg" <<'END'
+import sys
+sys.path.insert(0, sys.argv[1])
+from feeding import is_skeleton, pages_of, streams_of
+data = open(sys.argv[2], "rb").read()
+pages = pages_of(data)[0]
+skeleton = next(serial for serial, stream in streams_of(pages)[0].items() if is_skeleton(stream))
+sys.stdout.buffer.write(b"".join(page[6] for page in pages if page[2] == skeleton))
+END
+with_skeletons "a link of nothing else keeps it" ""
+with_skeletons "a link of nothing else gets no other" 77
+python3 - "$here" >"$work/feed" <<'END'
+import sys
+sys.path.insert(0, sys.argv[1])
+from records import begin, end
+sys.stdout.buffer.write(begin(range(63)) + b"".join(map(end, range(63))) + begin(range(100, 164)) + b"".join(map(end, range(100, 164))))
+END
+run mux <"$work/feed"
+cp "$work/out" "$work/in.ogg"
+with_skeletons "63 streams get one, 64 don't" 1000
+
 # Faults of the input are told with their offsets, after what comes before them.
 pages "02 0 1 0 3 abc" "00 5 1 1 5 hello" "00 6 1 2 1 x" >"$work/in.ogg"
 faulty() {
@@ -96,6 +151,11 @@ timeout 20 "$program" feed <"$work/whole.ogg" >/dev/full 2>"$work/err"
 check "a full device" is_text "$work/err" 'fault make 8 Write\n'
 
 check "random files, whole, in pieces, cut and changed" feeding compare "$program"
+check "random files with the options" feeding options "$program"
 check "a page at a time" feeding live "$program"
+run feed --skeleton 1 --no-skeleton </dev/null
+check "made and left out: status $status" [ "$status" -eq 2 ]
+run feed --skeleton one </dev/null
+check "a serial that is no number: status $status" [ "$status" -eq 2 ]
 
 finish

@@ -3,6 +3,8 @@
 
     feeding.py same FILE OTHER        whether both hold the same streams, packets, positions and ends
     feeding.py renumbered FILE OTHER  the same, but that a stream whose serial an earlier link has another one in OTHER
+    feeding.py skeletons FILE OTHER [SERIAL]
+                                      the same without its Skeletons, or with one made anew for each link, from SERIAL on
     feeding.py compare PROGRAM        random files through `feed` and `mux`, whole, in pieces, cut, and with a byte changed
     feeding.py live PROGRAM           a page at a time through a pipe: its record is out before the next page comes
 
@@ -93,6 +95,71 @@ def renumbered(data, other):
     return None
 
 
+def is_skeleton(stream):
+    return any(packet.startswith(b"fishead\0") for packet in stream["packets"][:1])
+
+
+def described(first):
+    """What a first packet says of its stream: media type, rate, preroll, shift, and how many packets are headers."""
+    def number(form, at):
+        field = first[at:at + 4].ljust(4, b"\0")
+        return struct.unpack(form, field)[0]
+    byte = lambda at: first[at] if at < len(first) else 0
+    if first.startswith(b"\x01vorbis"):
+        return b"audio/vorbis", number("<I", 12), 1, 2, 0, 3
+    if first.startswith(b"\x80theora"):
+        return b"video/theora", number(">I", 22), number(">I", 26), 0, (byte(40) & 3) << 3 | byte(41) >> 5, 3
+    if first.startswith(b"OpusHead"):
+        return b"audio/opus", 48000, 1, 4, 0, 2
+    if first.startswith(b"\x7fFLAC"):
+        return b"audio/flac", number(">I", 27) >> 12, 1, 0, 0, 1 + (byte(7) << 8 | byte(8))
+    if first.startswith(b"Speex   "):
+        return b"audio/speex", number("<I", 36), 1, 3, 0, 2 + (byte(68) | byte(69) << 8)
+    return b"application/octet-stream", 1, 1, 0, 0, 1
+
+
+def skeleton_of(streams):
+    """The packets of the Skeleton of these streams, each with its serial (Ogg Skeleton 3.0)."""
+    packets = [b"fishead\0" + struct.pack("<HHqqqq", 3, 0, 0, 1000, 0, 1000) + bytes(20)]
+    for serial, stream in streams:
+        media, rate, denominator, preroll, shift, headers = described(b"".join(stream["packets"][:1]))
+        fields = struct.pack("<IIIqqqIB3x", 44, serial, min(headers, len(stream["packets"])), max(rate, 1), max(denominator, 1), 0, preroll, shift)
+        packets.append(b"fisbone\0" + fields + b"Content-Type: " + media + b"\r\n")
+    return packets + [b""]
+
+
+def next_free(serial, taken):
+    while serial in taken:
+        serial = (serial + 1) % 2**32
+    return serial
+
+
+def skeletons(data, other, made_from=None, renumber=False):
+    """How the second bytes aren't the first ones without their Skeletons, or with Skeletons made anew, as a line, or nothing."""
+    one, two = streams_of(pages_of(data)[0]), streams_of(pages_of(other)[0])
+    if len(one) != len(two):
+        return "%d links and not %d" % (len(two), len(one))
+    earlier = set()
+    for number, (link, now) in enumerate(zip(one, two)):
+        stay = {serial: stream for serial, stream in link.items() if not is_skeleton(stream)}
+        has_made = made_from is not None and 0 < len(stay) < 64
+        stay = stay or link
+        streams = list(now.items())
+        if has_made:
+            serial, skeleton = streams.pop(0)
+            if serial != next_free(made_from, earlier | {one for one, _ in streams}):
+                return "link %d: a Skeleton of serial %d" % (number, serial)
+            if skeleton["packets"] != skeleton_of(streams) or not skeleton["ended"]:
+                return "link %d: another Skeleton: %r" % (number, skeleton["packets"])
+        if [(s["packets"], s["ended"]) for s in stay.values()] != [(s["packets"], s["ended"]) for _, s in streams]:
+            return "link %d holds something else" % number
+        for was, (serial, _) in zip(stay, streams):
+            if serial != was and not (renumber and was in earlier) or renumber and serial in earlier:
+                return "link %d: serial %d became %d" % (number, was, serial)
+        earlier |= set(now)
+    return None
+
+
 def run(words, given):
     return subprocess.run(words, input=given, stdout=subprocess.PIPE, stderr=subprocess.PIPE, timeout=20)
 
@@ -149,6 +216,30 @@ def check(program, name, data, source):
     return len(wrong)
 
 
+def options(program):
+    """Random files with and without Skeletons, alone and twice, through `feed` with its options, and `mux`."""
+    cases = [(["--no-skeleton"], None, 1), (["--skeleton", "3000000000"], 3000000000, 1), (["--skeleton", "0", "--renumber"], 0, 2),
+             (["--no-skeleton", "--renumber"], None, 2)]
+    files = wrong = described_files = 0
+    for n in range(40):
+        data = mux(random_feed(random.Random(7000 + n)))[0]
+        for words, made_from, times in cases:
+            if times == 2 and any(stream["open"] for link in streams_of(pages_of(data)[0]) for stream in link.values()):
+                continue
+            if not data or times == 2 and not all(stream["ended"] for link in streams_of(pages_of(data)[0])[-1:] for stream in link.values()):
+                continue
+            files += 1
+            made = run([program, "feed"] + words, data * times)
+            again = run([program, "mux", "--strict"], made.stdout)
+            difference = skeletons(data * times, again.stdout, made_from, "--renumber" in words)
+            described_files += any(is_skeleton(stream) for link in streams_of(pages_of(data)[0]) for stream in link.values())
+            if difference or again.returncode:
+                wrong += 1
+                print("file %d, %s: %s %r" % (n, " ".join(words), difference, again.stderr[-60:]))
+    print("%d files, %d of them with Skeletons, %d differ" % (files, described_files, wrong))
+    return 1 if wrong or files < 60 or described_files < 10 else 0
+
+
 def compare(program):
     files = wrong = 0
     for n in range(60):
@@ -201,7 +292,13 @@ def main():
         if difference:
             print(difference)
         return 1 if difference else 0
-    return {"compare": compare, "live": live}[sys.argv[1]](sys.argv[2])
+    if sys.argv[1] == "skeletons":
+        data, other = (open(path, "rb").read() for path in sys.argv[2:4])
+        difference = skeletons(data, other, *map(int, sys.argv[4:]))
+        if difference:
+            print(difference)
+        return 1 if difference else 0
+    return {"compare": compare, "options": options, "live": live}[sys.argv[1]](sys.argv[2])
 
 
 if __name__ == "__main__":

@@ -19,13 +19,13 @@ pub plain_all : (commands : List Command) → AllByRecursion IsBare commands →
 plain_all [] all = tt
 plain_all (command ∷ commands) (p, all) = (plain_one command p, plain_all commands all)
 
-pub sourced_page : (old new : Sourced) (page : PageValue) (commands now : List Command) → TakesIn (gathered_of old) page (gathered_of new) [] commands → new.changes.renumber ≡ old.changes.renumber
+pub sourced_page : (old new : Sourced) (page : PageValue) (commands now : List Command) → TakesIn (gathered_of old) page (gathered_of new) [] commands → new.changes.options ≡ old.changes.options
     → ((before given : List Command) → HasChanged old.changes before given → AllByRecursion IsPlain commands → HasChanged new.changes (before ++ commands) (given ++ now)) → Gathers old page new [] now
 sourced_page old new page commands now t same changes = record {
   follows = t.follows;
   more = now;
   appended = refl;
-  gathers = λ renumber links given h goes.
+  gathers = λ options links given h goes.
       let g = t.gathers links h.commands h.gathers goes in (
         record {
           commands = h.commands ++ t.more;
@@ -41,10 +41,10 @@ sourced_page old new page commands now t same changes = record {
 
 pub sourced_rest : (old new : Sourced) (commands more now : List Command) → commands ≡ more → AllByRecursion IsBare more
     → ((links : List (List PageValue)) (given : List Command) → HasGathered links (gathered_of old) given → HasGathered links (gathered_of new) (given ++ more))
-    → waits new.link ≡ false → new.changes.renumber ≡ old.changes.renumber
+    → waits new.link ≡ false → new.changes.options ≡ old.changes.options
     → ((before given : List Command) → HasChanged old.changes before given → AllByRecursion IsPlain commands → HasChanged new.changes (before ++ commands) (given ++ now)) → GathersRest old new now
 sourced_rest old new commands more now is plain gathers none same changes = record {
-  gathers = λ renumber links given h. record {
+  gathers = λ options links given h. record {
     commands = h.commands ++ more;
     gathers = gathers links h.commands h.gathers;
     changed = subst (λ l. HasChanged new.changes (h.commands ++ l) (given ++ now)) is

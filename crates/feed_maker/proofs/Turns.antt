@@ -23,6 +23,7 @@ use Rattle.feed_maker.specs.declared.maker.Maker.{Maker}
 use Rattle.feed_maker.specs.declared.fault.MakingFault.{MakingFault}
 use Rattle.feed_maker.specs.declared.fault.MakingFault.TheVariants.{Page, Chain, PacketTooLong, Unfinished, TooLong, Read, Limit, Write, Memory}
 use Rattle.feed_maker.proofs.Lists.{both, later_of}
+use Rattle.feed_changes.specs.declared.options.ChangeOptions.{ChangeOptions}
 
 -- ---- bytes read and written
 pub read_on : (from left now : Option (List ℕ)) (links : List (List PageValue)) (offset : ℕ) (rest taken : List ℕ) →
@@ -104,10 +105,10 @@ pub record TakenOn (from left : Option (List ℕ)) (links : List (List PageValue
   pub taken : HasTaken from left (links_with links page) offset rest
   pub count : length (flattened (links_with links page)) ≡ length (flattened links) + 1
 
-pub taken_on : (renumber : Bool) (from left now : Option (List ℕ)) (old new : Maker) (links : List (List PageValue)) (given : List Command) →
-    HasTaken from left links old.pages.offset old.pages.unread → HasSourced renumber links old.gatherer given → (t : TakesPage old new left now) →
+pub taken_on : (options : ChangeOptions) (from left now : Option (List ℕ)) (old new : Maker) (links : List (List PageValue)) (given : List Command) →
+    HasTaken from left links old.pages.offset old.pages.unread → HasSourced options links old.gatherer given → (t : TakesPage old new left now) →
     TakenOn from now links t.page new.pages.offset new.pages.unread
-taken_on renumber from left now old new links given was gathers t =
+taken_on options from left now old new links given was gathers t =
     let page : PageValue = t.page in
     let follows : fault_of_page (chain_state_of links) page ≡ None = subst (λ chain. fault_of_page chain page ≡ None) gathers.gathers.chain t.gathers.follows in
     let are : AreLinks (was.bytes ++ page_bytes page) (links_with links page) = page_is_taken was.bytes links page t.is_page was.are follows in
@@ -136,20 +137,20 @@ takes_page true old new from left is takes = takes
 takes_page false old new from left is takes = cc
 
 -- a page was taken, and its commands were written
-pub turn_made : (renumber : Bool) (from left0 left1 before now0 now1 : Option (List ℕ)) (old mid after : Maker) (links : List (List PageValue)) (given : List Command) →
-    HasMade renumber from left0 before now0 old links given → TakesPage old mid left0 left1 → Gives mid after now0 now1 →
-    StillMakes renumber from left1 before now1 (record {
+pub turn_made : (options : ChangeOptions) (from left0 left1 before now0 now1 : Option (List ℕ)) (old mid after : Maker) (links : List (List PageValue)) (given : List Command) →
+    HasMade options from left0 before now0 old links given → TakesPage old mid left0 left1 → Gives mid after now0 now1 →
+    StillMakes options from left1 before now1 (record {
       pages = after.pages;
       gatherer = after.gatherer;
       commands = after.commands;
       bytes = after.bytes;
       made = record { pages = after.made.pages + 1; commands = after.made.commands };
     })
-turn_made renumber from left0 left1 before now0 now1 old mid after links given was t g =
+turn_made options from left0 left1 before now0 now1 old mid after links given was t g =
     let more : List Command = t.gathers.more in
     let commands : mid.commands.items ≡ more = t.gathers.appended in
-    let on = taken_on renumber from left0 left1 old mid links given was.taken was.all.gathers t in
-    let gathered = t.gathers.gathers renumber links given was.all.gathers was.goes in
+    let on = taken_on options from left0 left1 old mid links given was.taken was.all.gathers t in
+    let gathered = t.gathers.gathers options links given was.all.gathers was.goes in
     let page_count : mid.made.pages ≡ old.made.pages = ap (λ m. m.pages) t.made in
     let command_count : mid.made.commands ≡ old.made.commands = ap (λ m. m.commands) t.made in
     record {
@@ -158,7 +159,7 @@ turn_made renumber from left0 left1 before now0 now1 old mid after links given w
       made = record {
         taken = subst (λ r. HasTaken from left1 (links_with links t.page) r.offset r.unread) (sym g.pages) on.taken;
         all = record {
-          gathers = subst (λ (q : Sourced). HasSourced renumber (links_with links t.page) q (given ++ more)) (sym g.gatherer) gathered.0;
+          gathers = subst (λ (q : Sourced). HasSourced options (links_with links t.page) q (given ++ more)) (sym g.gatherer) gathered.0;
           fits = both Fits given more was.all.fits (subst (AllByRecursion Fits) commands g.fits);
           written = written_more before now0 now1 given more was.all.written (subst (λ (l : List Command). Appends now0 now1 (records_of l)) commands g.written);
         };
@@ -190,14 +191,14 @@ turn_goes left0 left1 now0 now1 old mid after goes t g =
     )
 
 -- no page was taken
-input_fault : (renumber : Bool) (fault : MakingFault) (links : List (List PageValue)) (given : List Command) (gathered : Sourced) (offset : ℕ) (rest : List ℕ) (left : Option (List ℕ)) →
-    HasSourced renumber links gathered given → IsFaultBehind fault gathered offset rest left → IsFaultOfInput fault links offset rest left
-input_fault renumber (Page at fault) links given gathered offset rest left gathers is = is
-input_fault renumber (Read at) links given gathered offset rest left gathers is = is
-input_fault renumber (TooLong at) links given gathered offset rest left gathers is = is
-input_fault renumber (Chain at fault) links given gathered offset rest left gathers (at_is, page, begins, is) =
+input_fault : (options : ChangeOptions) (fault : MakingFault) (links : List (List PageValue)) (given : List Command) (gathered : Sourced) (offset : ℕ) (rest : List ℕ) (left : Option (List ℕ)) →
+    HasSourced options links gathered given → IsFaultBehind fault gathered offset rest left → IsFaultOfInput fault links offset rest left
+input_fault options (Page at fault) links given gathered offset rest left gathers is = is
+input_fault options (Read at) links given gathered offset rest left gathers is = is
+input_fault options (TooLong at) links given gathered offset rest left gathers is = is
+input_fault options (Chain at fault) links given gathered offset rest left gathers (at_is, page, begins, is) =
     (at_is, page, begins, subst (λ chain. fault_of_page chain page ≡ Some fault) gathers.gathers.chain is)
-input_fault renumber (PacketTooLong at) links given gathered offset rest left gathers (at_is, page, begins, follows, long) = (
+input_fault options (PacketTooLong at) links given gathered offset rest left gathers (at_is, page, begins, follows, long) = (
   at_is,
   page,
   begins,
@@ -209,34 +210,34 @@ input_fault renumber (PacketTooLong at) links given gathered offset rest left ga
     long = long;
   },
 )
-input_fault renumber (Unfinished at serial) links given gathered offset rest left gathers is = absurd is
-input_fault renumber Limit links given gathered offset rest left gathers is = absurd is
-input_fault renumber Write links given gathered offset rest left gathers is = absurd is
-input_fault renumber Memory links given gathered offset rest left gathers is = absurd is
+input_fault options (Unfinished at serial) links given gathered offset rest left gathers is = absurd is
+input_fault options Limit links given gathered offset rest left gathers is = absurd is
+input_fault options Write links given gathered offset rest left gathers is = absurd is
+input_fault options Memory links given gathered offset rest left gathers is = absurd is
 
-ends_at : (renumber : Bool) (fault : MakingFault) (from left0 left1 before now : Option (List ℕ)) (old mid : Maker) (links : List (List PageValue)) (given : List Command) →
-    HasMade renumber from left0 before now old links given → MeetsFault fault old mid left0 left1 → EndsAt renumber fault from left1 before now mid
-ends_at renumber fault from left0 left1 before now old mid links given was meets = record {
+ends_at : (options : ChangeOptions) (fault : MakingFault) (from left0 left1 before now : Option (List ℕ)) (old mid : Maker) (links : List (List PageValue)) (given : List Command) →
+    HasMade options from left0 before now old links given → MeetsFault fault old mid left0 left1 → EndsAt options fault from left1 before now mid
+ends_at options fault from left0 left1 before now old mid links given was meets = record {
   links = links;
   given = given;
   offset = old.pages.offset;
   rest = old.pages.unread ++ meets.taken;
   taken = read_on from left0 left1 links old.pages.offset old.pages.unread meets.taken was.taken meets.consumed;
-  fault_is = input_fault renumber fault links given old.gatherer old.pages.offset (old.pages.unread ++ meets.taken) left1 was.all.gathers meets.fault_is;
-  all = subst (λ (q : Sourced). HasGiven renumber before now links q given) (sym meets.gatherer) was.all;
+  fault_is = input_fault options fault links given old.gatherer old.pages.offset (old.pages.unread ++ meets.taken) left1 was.all.gathers meets.fault_is;
+  all = subst (λ (q : Sourced). HasGiven options before now links q given) (sym meets.gatherer) was.all;
 }
 
-pub turn_fails : (renumber : Bool) (fault : MakingFault) (from left0 left1 before now : Option (List ℕ)) (old mid : Maker) (links : List (List PageValue)) (given : List Command) →
-    HasMade renumber from left0 before now old links given → NextOf (Err fault) old mid left0 left1 → Turns renumber (Err fault) from left1 before now mid
-turn_fails renumber (Page at fault) from left0 left1 before now old mid links given was meets = ends_at renumber (Page at fault) from left0 left1 before now old mid links given was meets
-turn_fails renumber (Chain at fault) from left0 left1 before now old mid links given was meets = ends_at renumber (Chain at fault) from left0 left1 before now old mid links given was meets
-turn_fails renumber (PacketTooLong at) from left0 left1 before now old mid links given was meets = ends_at renumber (PacketTooLong at) from left0 left1 before now old mid links given was meets
-turn_fails renumber (Unfinished at serial) from left0 left1 before now old mid links given was meets = ends_at renumber (Unfinished at serial) from left0 left1 before now old mid links given was meets
-turn_fails renumber (TooLong at) from left0 left1 before now old mid links given was meets = ends_at renumber (TooLong at) from left0 left1 before now old mid links given was meets
-turn_fails renumber (Read at) from left0 left1 before now old mid links given was meets = ends_at renumber (Read at) from left0 left1 before now old mid links given was meets
-turn_fails renumber Limit from left0 left1 before now old mid links given was meets = absurd meets.fault_is
-turn_fails renumber Write from left0 left1 before now old mid links given was meets = absurd meets.fault_is
-turn_fails renumber Memory from left0 left1 before now old mid links given was meets = record {
+pub turn_fails : (options : ChangeOptions) (fault : MakingFault) (from left0 left1 before now : Option (List ℕ)) (old mid : Maker) (links : List (List PageValue)) (given : List Command) →
+    HasMade options from left0 before now old links given → NextOf (Err fault) old mid left0 left1 → Turns options (Err fault) from left1 before now mid
+turn_fails options (Page at fault) from left0 left1 before now old mid links given was meets = ends_at options (Page at fault) from left0 left1 before now old mid links given was meets
+turn_fails options (Chain at fault) from left0 left1 before now old mid links given was meets = ends_at options (Chain at fault) from left0 left1 before now old mid links given was meets
+turn_fails options (PacketTooLong at) from left0 left1 before now old mid links given was meets = ends_at options (PacketTooLong at) from left0 left1 before now old mid links given was meets
+turn_fails options (Unfinished at serial) from left0 left1 before now old mid links given was meets = ends_at options (Unfinished at serial) from left0 left1 before now old mid links given was meets
+turn_fails options (TooLong at) from left0 left1 before now old mid links given was meets = ends_at options (TooLong at) from left0 left1 before now old mid links given was meets
+turn_fails options (Read at) from left0 left1 before now old mid links given was meets = ends_at options (Read at) from left0 left1 before now old mid links given was meets
+turn_fails options Limit from left0 left1 before now old mid links given was meets = absurd meets.fault_is
+turn_fails options Write from left0 left1 before now old mid links given was meets = absurd meets.fault_is
+turn_fails options Memory from left0 left1 before now old mid links given was meets = record {
   links = links;
   offset = old.pages.offset;
   rest = old.pages.unread ++ meets.taken;
@@ -245,44 +246,44 @@ turn_fails renumber Memory from left0 left1 before now old mid links given was m
 }
 
 -- a fault that isn't the input's
-own_fault : (renumber : Bool) (fault : MakingFault) (a b : Option (List ℕ)) (bytes : List ℕ) (commands : List Command) (from left before now : Option (List ℕ)) (maker : Maker) → GivesNot a b bytes commands fault →
-    (breaks : Breaks renumber from left before now) → (HasTooLong commands → HasTooLong breaks.broken.given) → Turns renumber (Err fault) from left before now maker
-own_fault renumber Limit a b bytes commands from left before now maker is breaks long = (breaks, long is.1)
-own_fault renumber Write a b bytes commands from left before now maker is breaks long = breaks
-own_fault renumber Memory a b bytes commands from left before now maker is breaks long = breaks
-own_fault renumber (Page at fault) a b bytes commands from left before now maker never breaks long = absurd never
-own_fault renumber (Chain at fault) a b bytes commands from left before now maker never breaks long = absurd never
-own_fault renumber (PacketTooLong at) a b bytes commands from left before now maker never breaks long = absurd never
-own_fault renumber (Unfinished at serial) a b bytes commands from left before now maker never breaks long = absurd never
-own_fault renumber (TooLong at) a b bytes commands from left before now maker never breaks long = absurd never
-own_fault renumber (Read at) a b bytes commands from left before now maker never breaks long = absurd never
+own_fault : (options : ChangeOptions) (fault : MakingFault) (a b : Option (List ℕ)) (bytes : List ℕ) (commands : List Command) (from left before now : Option (List ℕ)) (maker : Maker) → GivesNot a b bytes commands fault →
+    (breaks : Breaks options from left before now) → (HasTooLong commands → HasTooLong breaks.broken.given) → Turns options (Err fault) from left before now maker
+own_fault options Limit a b bytes commands from left before now maker is breaks long = (breaks, long is.1)
+own_fault options Write a b bytes commands from left before now maker is breaks long = breaks
+own_fault options Memory a b bytes commands from left before now maker is breaks long = breaks
+own_fault options (Page at fault) a b bytes commands from left before now maker never breaks long = absurd never
+own_fault options (Chain at fault) a b bytes commands from left before now maker never breaks long = absurd never
+own_fault options (PacketTooLong at) a b bytes commands from left before now maker never breaks long = absurd never
+own_fault options (Unfinished at serial) a b bytes commands from left before now maker never breaks long = absurd never
+own_fault options (TooLong at) a b bytes commands from left before now maker never breaks long = absurd never
+own_fault options (Read at) a b bytes commands from left before now maker never breaks long = absurd never
 
 -- a page was taken, and its commands weren't written as a whole
-pub turn_breaks : (renumber : Bool) (fault : MakingFault) (from left0 left1 before now0 now1 : Option (List ℕ)) (old mid after : Maker) (links : List (List PageValue)) (given : List Command) →
-    HasMade renumber from left0 before now0 old links given → TakesPage old mid left0 left1 → GivesNoFurther mid after now0 now1 fault →
-    Turns renumber (Err fault) from left1 before now1 after
-turn_breaks renumber fault from left0 left1 before now0 now1 old mid after links given was t g =
+pub turn_breaks : (options : ChangeOptions) (fault : MakingFault) (from left0 left1 before now0 now1 : Option (List ℕ)) (old mid after : Maker) (links : List (List PageValue)) (given : List Command) →
+    HasMade options from left0 before now0 old links given → TakesPage old mid left0 left1 → GivesNoFurther mid after now0 now1 fault →
+    Turns options (Err fault) from left1 before now1 after
+turn_breaks options fault from left0 left1 before now0 now1 old mid after links given was t g =
     let more : List Command = t.gathers.more in
     let prefix : WritesPrefix now0 now1 (records_of more) =
     subst (λ (l : List Command). WritesPrefix now0 now1 (records_of l)) t.gathers.appended (not_given now0 now1 (records_of mid.commands.items) mid.commands.items fault g.not) in
-    own_fault renumber fault now0 now1 (records_of mid.commands.items) mid.commands.items from left1 before now1 after g.not (record {
+    own_fault options fault now0 now1 (records_of mid.commands.items) mid.commands.items from left1 before now1 after g.not (record {
       links = links_with links t.page;
       offset = mid.pages.offset;
       rest = mid.pages.unread;
-      taken = (taken_on renumber from left0 left1 old mid links given was.taken was.all.gathers t).taken;
+      taken = (taken_on options from left0 left1 old mid links given was.taken was.all.gathers t).taken;
       broken = record {
         gathered = mid.gatherer;
         given = given ++ more;
-        gathers = (t.gathers.gathers renumber links given was.all.gathers was.goes).0;
+        gathers = (t.gathers.gathers options links given was.all.gathers was.goes).0;
         written = prefix_written before now0 now1 given more was.all.written prefix;
       };
     })
     (λ long all. long (subst (AllByRecursion Fits) (sym t.gathers.appended) (later_of Fits given more all)))
 
 -- a page was taken, but its commands got lost
-pub memory_breaks : (renumber : Bool) (from left0 left1 before now : Option (List ℕ)) (old : Maker) (links : List (List PageValue)) (given : List Command) (taken : List ℕ) →
-    HasMade renumber from left0 before now old links given → Consumes left0 left1 taken → Breaks renumber from left1 before now
-memory_breaks renumber from left0 left1 before now old links given taken was consumed = record {
+pub memory_breaks : (options : ChangeOptions) (from left0 left1 before now : Option (List ℕ)) (old : Maker) (links : List (List PageValue)) (given : List Command) (taken : List ℕ) →
+    HasMade options from left0 before now old links given → Consumes left0 left1 taken → Breaks options from left1 before now
+memory_breaks options from left0 left1 before now old links given taken was consumed = record {
   links = links;
   offset = old.pages.offset;
   rest = old.pages.unread ++ taken;

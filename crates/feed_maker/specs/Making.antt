@@ -18,6 +18,7 @@ use Rattle.feed_maker.specs.Feed.{Fits, HasTooLong, feed_of}
 use Rattle.feed_maker.specs.declared.made.Made.{Made}
 use Rattle.feed_maker.specs.declared.fault.MakingFault.{MakingFault}
 use Rattle.feed_maker.specs.declared.fault.MakingFault.TheVariants.{Page, Chain, PacketTooLong, Unfinished, TooLong, Read, Limit, Write, Memory}
+use Rattle.feed_changes.specs.declared.options.ChangeOptions.{ChangeOptions}
 
 -- Of the input these links were taken, which end at this offset, and then bytes of no page of them were read.
 pub record HasTaken (from left : Option (List ℕ)) (links : List (List PageValue)) (offset : ℕ) (rest : List ℕ) : Type 0 where
@@ -27,27 +28,27 @@ pub record HasTaken (from left : Option (List ℕ)) (links : List (List PageValu
   pub offset_is : offset ≡ length bytes
 
 -- These commands are given for those of the links, changed as asked, and the announcement and their records are written.
-pub record HasGiven (renumber : Bool) (before now : Option (List ℕ)) (links : List (List PageValue)) (gathered : Sourced) (given : List Command) : Type 0 where
-  pub gathers : HasSourced renumber links gathered given
+pub record HasGiven (options : ChangeOptions) (before now : Option (List ℕ)) (links : List (List PageValue)) (gathered : Sourced) (given : List Command) : Type 0 where
+  pub gathers : HasSourced options links gathered given
   pub fits : AllByRecursion Fits given
   pub written : Appends before now (feed_of given)
 
 -- nothing waits: all whole packets of the links are written
-pub record HasGivenAll (renumber : Bool) (before now : Option (List ℕ)) (links : List (List PageValue)) : Type 0 where
+pub record HasGivenAll (options : ChangeOptions) (before now : Option (List ℕ)) (links : List (List PageValue)) : Type 0 where
   pub gathered : Sourced
   pub given : List Command
-  pub all : HasGiven renumber before now links gathered given
+  pub all : HasGiven options before now links gathered given
   pub none_waits : waits gathered.link ≡ false
 
 -- Where a command was too long for a record, the writer failed or memory was refused, the feed was written in part.
-pub record HasBroken (renumber : Bool) (before now : Option (List ℕ)) (links : List (List PageValue)) : Type 0 where
+pub record HasBroken (options : ChangeOptions) (before now : Option (List ℕ)) (links : List (List PageValue)) : Type 0 where
   pub gathered : Sourced
   pub given : List Command
-  pub gathers : HasSourced renumber links gathered given
+  pub gathers : HasSourced options links gathered given
   pub written : WritesPrefix before now (feed_of given)
 
 -- the input ended, and this is what was made of it: links with no packet unfinished, of which all is written
-pub record MakesFeed (renumber : Bool) (from left before now : Option (List ℕ)) (made : Made) : Type 0 where
+pub record MakesFeed (options : ChangeOptions) (from left before now : Option (List ℕ)) (made : Made) : Type 0 where
   pub links : List (List PageValue)
   pub offset : ℕ
   pub taken : HasTaken from left links offset []
@@ -57,7 +58,7 @@ pub record MakesFeed (renumber : Bool) (from left before now : Option (List ℕ)
   pub fits : AllByRecursion Fits given
   pub written : Appends before now (feed_of given)
   -- the commands add up to what the links hold, changed as asked
-  pub held : (recording : Recording) → HoldsLinks links recording → IsChanged renumber recording (after [] given)
+  pub held : (recording : Recording) → HoldsLinks links recording → IsChanged options recording (after [] given)
   pub pages : made.pages ≡ length (flattened links)
   pub counted : made.commands ≡ min (length given) (2 ^ 64 - 1)
 
@@ -90,28 +91,28 @@ IsFaultOfInput Write links offset rest left = ⊥
 IsFaultOfInput Memory links offset rest left = ⊥
 
 -- where the input has a fault, all that was taken before it is written
-pub record StopsAtFault (renumber : Bool) (from left before now : Option (List ℕ)) (fault : MakingFault) : Type 0 where
+pub record StopsAtFault (options : ChangeOptions) (from left before now : Option (List ℕ)) (fault : MakingFault) : Type 0 where
   pub links : List (List PageValue)
   pub offset : ℕ
   pub rest : List ℕ
   pub taken : HasTaken from left links offset rest
   pub fault_is : IsFaultOfInput fault links offset rest left
-  pub all : HasGivenAll renumber before now links
+  pub all : HasGivenAll options before now links
 
-pub record Breaks (renumber : Bool) (from left before now : Option (List ℕ)) : Type 0 where
+pub record Breaks (options : ChangeOptions) (from left before now : Option (List ℕ)) : Type 0 where
   pub links : List (List PageValue)
   pub offset : ℕ
   pub rest : List ℕ
   pub taken : HasTaken from left links offset rest
-  pub broken : HasBroken renumber before now links
+  pub broken : HasBroken options before now links
 
 -- and one of these commands is too long for a record
-abbrev pub BreaksAtLimit : Bool → Option (List ℕ) → Option (List ℕ) → Option (List ℕ) → Option (List ℕ) → Type 0
-BreaksAtLimit renumber from left before now = (breaks : Breaks renumber from left before now) × HasTooLong breaks.broken.given
+abbrev pub BreaksAtLimit : ChangeOptions → Option (List ℕ) → Option (List ℕ) → Option (List ℕ) → Option (List ℕ) → Type 0
+BreaksAtLimit options from left before now = (breaks : Breaks options from left before now) × HasTooLong breaks.broken.given
 
 -- why a feed ended before its input did, and what was written
-abbrev pub Stops : Bool → MakingFault → Option (List ℕ) → Option (List ℕ) → Option (List ℕ) → Option (List ℕ) → Type 0
-Stops renumber Limit from left before now = BreaksAtLimit renumber from left before now
-Stops renumber Write from left before now = Breaks renumber from left before now
-Stops renumber Memory from left before now = Breaks renumber from left before now
-Stops renumber fault from left before now = StopsAtFault renumber from left before now fault
+abbrev pub Stops : ChangeOptions → MakingFault → Option (List ℕ) → Option (List ℕ) → Option (List ℕ) → Option (List ℕ) → Type 0
+Stops options Limit from left before now = BreaksAtLimit options from left before now
+Stops options Write from left before now = Breaks options from left before now
+Stops options Memory from left before now = Breaks options from left before now
+Stops options fault from left before now = StopsAtFault options from left before now fault

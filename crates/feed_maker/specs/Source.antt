@@ -9,6 +9,7 @@ use Rattle.gathering.specs.Kept.{KeptLink, waits}
 use Rattle.gathering.specs.Giving.{IsPlain}
 use Rattle.gathering.specs.Gathered.{CanGoOn, Gathered, HasGathered}
 use Rattle.feed_changes.specs.Changed.{ChangeState, HasChanged}
+use Rattle.feed_changes.specs.declared.options.ChangeOptions.{ChangeOptions}
 
 pub record Sourced : Type 0 where
   pub chain : ChainState
@@ -19,11 +20,11 @@ abbrev pub gathered_of : Sourced → Gathered
 gathered_of sourced = record { chain = sourced.chain; link = sourced.link }
 
 -- These commands are given for those of the links, as far as they are gathered, changed as asked.
-pub record HasSourced (renumber : Bool) (links : List (List PageValue)) (sourced : Sourced) (given : List Command) : Type 0 where
+pub record HasSourced (options : ChangeOptions) (links : List (List PageValue)) (sourced : Sourced) (given : List Command) : Type 0 where
   pub commands : List Command
   pub gathers : HasGathered links (gathered_of sourced) commands
   pub changed : HasChanged sourced.changes commands given
-  pub asked : sourced.changes.renumber ≡ renumber
+  pub asked : sourced.changes.options ≡ options
 
 -- pages may be taken
 abbrev pub GoesFurther : Sourced → Type 0
@@ -45,12 +46,12 @@ pub record Gathers (old : Sourced) (page : PageValue) (new : Sourced) (before no
   pub follows : fault_of_page old.chain page ≡ None
   pub more : List Command
   pub appended : now ≡ before ++ more
-  pub gathers : (renumber : Bool) (links : List (List PageValue)) (given : List Command) → HasSourced renumber links old given → GoesFurther old
-      → HasSourced renumber (links_with links page) new (given ++ more) × GoesFurther new
+  pub gathers : (options : ChangeOptions) (links : List (List PageValue)) (given : List Command) → HasSourced options links old given → GoesFurther old
+      → HasSourced options (links_with links page) new (given ++ more) × GoesFurther new
   pub grows : new.chain.length_of ≡ old.chain.length_of + page_size page
 
 -- ---- the end
 pub record GathersRest (old new : Sourced) (more : List Command) : Type 0 where
-  pub gathers : (renumber : Bool) (links : List (List PageValue)) (given : List Command) → HasSourced renumber links old given
-      → HasSourced renumber links new (given ++ more)
+  pub gathers : (options : ChangeOptions) (links : List (List PageValue)) (given : List Command) → HasSourced options links old given
+      → HasSourced options links new (given ++ more)
   pub none_waits : waits new.link ≡ false

@@ -18,6 +18,7 @@ use Rattle.feed_maker.specs.declared.made.Made.{Made}
 use Rattle.feed_maker.specs.declared.maker.Maker.{Maker}
 use Rattle.feed_maker.specs.declared.fault.MakingFault.{MakingFault}
 use Rattle.feed_maker.specs.declared.fault.MakingFault.TheVariants.{Page, Chain, PacketTooLong, Unfinished, TooLong, Read, Limit, Write, Memory}
+use Rattle.feed_changes.specs.declared.options.ChangeOptions.{ChangeOptions}
 
 abbrev pub fault_at : ℕ → PageReaderFault → MakingFault
 fault_at at (PageOf fault) = Page at fault
@@ -43,9 +44,9 @@ RefusesIn old page offset new Memory = ⊤
 RefusesIn old page offset new fault = ⊥
 
 -- ---- what is kept between the pages
-pub record IsStarted (renumber : Bool) (maker : Maker) : Type 0 where
+pub record IsStarted (options : ChangeOptions) (maker : Maker) : Type 0 where
   pub pages : maker.pages ≡ started
-  pub gathers : HasSourced renumber [] maker.gatherer []
+  pub gathers : HasSourced options [] maker.gatherer []
   pub goes : GoesFurther maker.gatherer
   pub no_pages : maker.made.pages ≡ 0
   pub no_commands : maker.made.commands ≡ 0
@@ -57,9 +58,9 @@ pub record GoesOn (maker : Maker) : Type 0 where
   pub counted : maker.made.pages ≤ maker.pages.offset
 
 -- these links were taken, and the commands gathered of them written
-pub record HasMade (renumber : Bool) (from left before now : Option (List ℕ)) (maker : Maker) (links : List (List PageValue)) (given : List Command) : Type 0 where
+pub record HasMade (options : ChangeOptions) (from left before now : Option (List ℕ)) (maker : Maker) (links : List (List PageValue)) (given : List Command) : Type 0 where
   pub taken : HasTaken from left links maker.pages.offset maker.pages.unread
-  pub all : HasGiven renumber before now links maker.gatherer given
+  pub all : HasGiven options before now links maker.gatherer given
   pub goes : GoesFurther maker.gatherer
   pub pages : maker.made.pages ≡ length (flattened links)
   pub counted : maker.made.commands ≡ min (length given) (2 ^ 64 - 1)
@@ -130,46 +131,46 @@ pub record GivesNoFurther (old new : Maker) (before now : Option (List ℕ)) (fa
 
 -- ---- a turn, and all turns
 -- the input has a fault behind these links, whose commands are written, but for those that wait
-pub record EndsAt (renumber : Bool) (fault : MakingFault) (from left before now : Option (List ℕ)) (maker : Maker) : Type 0 where
+pub record EndsAt (options : ChangeOptions) (fault : MakingFault) (from left before now : Option (List ℕ)) (maker : Maker) : Type 0 where
   pub links : List (List PageValue)
   pub given : List Command
   pub offset : ℕ
   pub rest : List ℕ
   pub taken : HasTaken from left links offset rest
   pub fault_is : IsFaultOfInput fault links offset rest left
-  pub all : HasGiven renumber before now links maker.gatherer given
+  pub all : HasGiven options before now links maker.gatherer given
 
 -- the input has ended behind these links
-pub record EndsWell (renumber : Bool) (from left before now : Option (List ℕ)) (maker : Maker) : Type 0 where
+pub record EndsWell (options : ChangeOptions) (from left before now : Option (List ℕ)) (maker : Maker) : Type 0 where
   pub links : List (List PageValue)
   pub given : List Command
-  pub made : HasMade renumber from left before now maker links given
+  pub made : HasMade options from left before now maker links given
   pub at_end : IsAtEnd left
   pub unread : maker.pages.unread ≡ []
 
-pub record StillMakes (renumber : Bool) (from left before now : Option (List ℕ)) (maker : Maker) : Type 0 where
+pub record StillMakes (options : ChangeOptions) (from left before now : Option (List ℕ)) (maker : Maker) : Type 0 where
   pub links : List (List PageValue)
   pub given : List Command
-  pub made : HasMade renumber from left before now maker links given
+  pub made : HasMade options from left before now maker links given
 
-abbrev pub Turns : Bool → Result Bool MakingFault → Option (List ℕ) → Option (List ℕ) → Option (List ℕ) → Option (List ℕ) → Maker → Type 0
-Turns renumber (Ok true) from left before now maker = StillMakes renumber from left before now maker
-Turns renumber (Ok false) from left before now maker = EndsWell renumber from left before now maker
-Turns renumber (Err Limit) from left before now maker = BreaksAtLimit renumber from left before now
-Turns renumber (Err Write) from left before now maker = Breaks renumber from left before now
-Turns renumber (Err Memory) from left before now maker = Breaks renumber from left before now
-Turns renumber (Err fault) from left before now maker = EndsAt renumber fault from left before now maker
+abbrev pub Turns : ChangeOptions → Result Bool MakingFault → Option (List ℕ) → Option (List ℕ) → Option (List ℕ) → Option (List ℕ) → Maker → Type 0
+Turns options (Ok true) from left before now maker = StillMakes options from left before now maker
+Turns options (Ok false) from left before now maker = EndsWell options from left before now maker
+Turns options (Err Limit) from left before now maker = BreaksAtLimit options from left before now
+Turns options (Err Write) from left before now maker = Breaks options from left before now
+Turns options (Err Memory) from left before now maker = Breaks options from left before now
+Turns options (Err fault) from left before now maker = EndsAt options fault from left before now maker
 
-abbrev pub TakesAll : Bool → Result (Unit {0}) MakingFault → Option (List ℕ) → Option (List ℕ) → Option (List ℕ) → Option (List ℕ) → Maker → Type 0
-TakesAll renumber (Ok done) from left before now maker = Turns renumber (Ok false) from left before now maker
-TakesAll renumber (Err fault) from left before now maker = Turns renumber (Err fault) from left before now maker
+abbrev pub TakesAll : ChangeOptions → Result (Unit {0}) MakingFault → Option (List ℕ) → Option (List ℕ) → Option (List ℕ) → Option (List ℕ) → Maker → Type 0
+TakesAll options (Ok done) from left before now maker = Turns options (Ok false) from left before now maker
+TakesAll options (Err fault) from left before now maker = Turns options (Err fault) from left before now maker
 
 -- ---- the end
 -- the commands that waited, and their records
 pub record GivesRest (old new : Maker) (before now : Option (List ℕ)) : Type 0 where
   pub more : List Command
-  pub gathers : (renumber : Bool) (links : List (List PageValue)) (given : List Command) → HasSourced renumber links old.gatherer given
-      → HasSourced renumber links new.gatherer (given ++ more)
+  pub gathers : (options : ChangeOptions) (links : List (List PageValue)) (given : List Command) → HasSourced options links old.gatherer given
+      → HasSourced options links new.gatherer (given ++ more)
   pub none_waits : waits new.gatherer.link ≡ false
   pub fits : AllByRecursion Fits more
   pub written : Appends before now (records_of more)
@@ -180,8 +181,8 @@ pub record GivesRest (old new : Maker) (before now : Option (List ℕ)) : Type 0
 pub record GivesRestNot (fault : MakingFault) (old : Maker) (before now : Option (List ℕ)) : Type 0 where
   pub more : List Command
   pub new : Sourced
-  pub gathers : (renumber : Bool) (links : List (List PageValue)) (given : List Command) → HasSourced renumber links old.gatherer given
-      → HasSourced renumber links new (given ++ more)
+  pub gathers : (options : ChangeOptions) (links : List (List PageValue)) (given : List Command) → HasSourced options links old.gatherer given
+      → HasSourced options links new (given ++ more)
   pub not : GivesNot before now (records_of more) more fault
 
 abbrev pub Closes : Result (Unit {0}) MakingFault → Maker → Maker → Option (List ℕ) → Option (List ℕ) → Type 0
@@ -200,6 +201,6 @@ of_input Limit = false
 of_input Write = false
 of_input Memory = false
 
-abbrev pub Finishes : Bool → Result Made MakingFault → Option (List ℕ) → Option (List ℕ) → Option (List ℕ) → Option (List ℕ) → Type 0
-Finishes renumber (Ok made) from left before now = MakesFeed renumber from left before now made
-Finishes renumber (Err fault) from left before now = Stops renumber fault from left before now
+abbrev pub Finishes : ChangeOptions → Result Made MakingFault → Option (List ℕ) → Option (List ℕ) → Option (List ℕ) → Option (List ℕ) → Type 0
+Finishes options (Ok made) from left before now = MakesFeed options from left before now made
+Finishes options (Err fault) from left before now = Stops options fault from left before now

@@ -12,12 +12,11 @@ mod giving;
 mod made;
 mod maker;
 mod making;
-mod options;
 mod source;
 
 pub use fault::MakingFault;
+pub use feed_changes::{ChangeOptions, Skeletons};
 pub use fits::fits_record;
 pub use made::Made;
 pub use making::make_feed;
 pub use ogg_page::Memory;
-pub use options::FeedOptions;

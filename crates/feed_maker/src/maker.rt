@@ -3,6 +3,7 @@ ghost use Rattle.std.specs.Prelude.{◌≡◌, ◌+◌, ◌-◌, ◌<◌, ◌^�
 ghost use Rattle.std.specs.Io.KnownBytes.{Appends};
 ghost use Rattle.ogg_page.specs.Page.{Page as PageValue, page_size};
 ghost use Rattle.ogg_command.specs.declared.command.Command.{Command as CommandOf};
+ghost use Rattle.feed_changes.specs.declared.options.ChangeOptions.{ChangeOptions as OptionsOf};
 ghost use Rattle.feed_maker.specs.Source.{HasSourced, Sourced};
 ghost use Rattle.feed_maker.specs.Feed.{GivesNot, Fits, records_of};
 ghost use Rattle.feed_maker.specs.Turn.{Closes, GoesOn, Gives, GivesNoFurther, HasMade, IsStarted, NextOf, Turns, fault_at};
@@ -12,6 +13,7 @@ use crate::fault::MakingFault;
 use crate::giving::give;
 use crate::made::Made;
 use crate::source::Source;
+use feed_changes::ChangeOptions;
 use ogg_command::Command;
 use page_reader::{PageReader, PageReaderFault};
 use std::alloc::Global;
@@ -29,11 +31,11 @@ pub(crate) struct Maker {
 }
 
 impl Maker {
-    pub(crate) fn new(alloc: Global, renumber: bool) -> Result<Maker, Memory>
-        ensures ok { IfOk result (IsStarted renumber) }
-        ensures err { OnErr result ((sourced : Sourced) × HasSourced renumber [] sourced []) }
+    pub(crate) fn new(alloc: Global, options: ChangeOptions) -> Result<Maker, Memory>
+        ensures ok { IfOk result (IsStarted options) }
+        ensures err { OnErr result ((sourced : Sourced) × HasSourced options [] sourced []) }
     {
-        let gatherer = Source::new(alloc, renumber);
+        let gatherer = Source::new(alloc, options);
         let pages = PageReader::new(alloc)?;
         Ok(Maker {
             pages,
@@ -93,9 +95,9 @@ impl Maker {
         writer: &mut W,
     ) -> Result<bool, MakingFault>
         requires { GoesOn self.old }
-        ensures made { (renumber : Bool) (from before : Option (List ℕ)) (links : List (List PageValue)) (given : List CommandOf)
-            → HasMade renumber from (R.remaining reader.old) before (W.contents writer.old) self.old links given
-            → Turns renumber result from (R.remaining reader.new) before (W.contents writer.new) self.new }
+        ensures made { (options : OptionsOf) (from before : Option (List ℕ)) (links : List (List PageValue)) (given : List CommandOf)
+            → HasMade options from (R.remaining reader.old) before (W.contents writer.old) self.old links given
+            → Turns options result from (R.remaining reader.new) before (W.contents writer.new) self.new }
         ensures goes { result ≡ Ok true → GoesOn self.new × (self.old.pages.offset < self.new.pages.offset) }
     {
         match self.next_page(reader) {

@@ -2,6 +2,7 @@
 ghost use Rattle.std.specs.Prelude.{◌≡◌, ℕ, Bool, List, Option, IfOk, IfErr, true, false};
 ghost use Rattle.std.specs.Io.KnownBytes.{Appends};
 ghost use Rattle.feed_codec.specs.Record.{announcement};
+ghost use Rattle.feed_changes.specs.declared.options.ChangeOptions.{ChangeOptions as OptionsOf};
 ghost use Rattle.feed_maker.specs.Making.{MakesFeed, Stops};
 ghost use Rattle.feed_maker.specs.Turn.{EndsWell, Finishes, GoesOn, IsStarted, TakesAll, of_input};
 
@@ -9,7 +10,7 @@ use crate::fault::MakingFault;
 use crate::giving::announce;
 use crate::made::Made;
 use crate::maker::Maker;
-use crate::options::FeedOptions;
+use feed_changes::ChangeOptions;
 use gathering::gathered_commands_hold_the_recording;
 use std::alloc::Global;
 use std::io::{Read, Write};
@@ -22,16 +23,16 @@ pub fn make_feed<R: Read + Drop, W: Write>(
     alloc: Global,
     reader: &mut R,
     writer: &mut W,
-    options: FeedOptions,
+    options: ChangeOptions,
 ) -> Result<Made, MakingFault>
     // The input is links with no packet unfinished, and the commands add up to what they hold, changed as asked.
-    ensures made { IfOk result (λ made. MakesFeed options.renumber (R.remaining reader.old) (R.remaining reader.new)
+    ensures made { IfOk result (λ made. MakesFeed options (R.remaining reader.old) (R.remaining reader.new)
         (W.contents writer.old) (W.contents writer.new) made) }
     // It has this fault behind the links that it begins with, and all their whole packets are written.
-    ensures stopped { IfErr result (λ fault. Stops options.renumber fault (R.remaining reader.old) (R.remaining reader.new)
+    ensures stopped { IfErr result (λ fault. Stops options fault (R.remaining reader.old) (R.remaining reader.new)
         (W.contents writer.old) (W.contents writer.new)) }
 {
-    let mut maker = match Maker::new(alloc, options.renumber) {
+    let mut maker = match Maker::new(alloc, options) {
         Ok(maker) => maker,
         Err(_) => return Err(MakingFault::Memory),
     };
@@ -50,8 +51,8 @@ fn take_all<R: Read + Drop, W: Write>(
     writer: &mut W,
 ) -> Result<(), MakingFault>
     requires { GoesOn maker.old }
-    ensures { (renumber : Bool) (before : Option (List ℕ)) → IsStarted renumber maker.old
-        → Appends before (W.contents writer.old) announcement → TakesAll renumber result (R.remaining reader.old) (R.remaining reader.new) before (W.contents writer.new) maker.new }
+    ensures { (options : OptionsOf) (before : Option (List ℕ)) → IsStarted options maker.old
+        → Appends before (W.contents writer.old) announcement → TakesAll options result (R.remaining reader.old) (R.remaining reader.new) before (W.contents writer.new) maker.new }
 {
     for _ in 0..u64::MAX {
         match maker.turn(reader, writer) {
@@ -70,8 +71,8 @@ fn finish<W: Write>(
     outcome: Result<(), MakingFault>,
     writer: &mut W,
 ) -> Result<Made, MakingFault>
-    ensures { (renumber : Bool) (from left before : Option (List ℕ))
-        → TakesAll renumber outcome from left before (W.contents writer.old) maker.old → Finishes renumber result from left before (W.contents writer.new) }
+    ensures { (options : OptionsOf) (from left before : Option (List ℕ))
+        → TakesAll options outcome from left before (W.contents writer.old) maker.old → Finishes options result from left before (W.contents writer.new) }
 {
     match outcome {
         Ok(()) => finish_well(maker, writer),
@@ -90,8 +91,8 @@ fn finish<W: Write>(
 
 /// Writes the commands that still wait at the end of the input.
 fn finish_well<W: Write>(maker: &mut Maker, writer: &mut W) -> Result<Made, MakingFault>
-    ensures { (renumber : Bool) (from left before : Option (List ℕ))
-        → EndsWell renumber from left before (W.contents writer.old) maker.old → Finishes renumber result from left before (W.contents writer.new) }
+    ensures { (options : OptionsOf) (from left before : Option (List ℕ))
+        → EndsWell options from left before (W.contents writer.old) maker.old → Finishes options result from left before (W.contents writer.new) }
 {
     gathered_commands_hold_the_recording();
     match maker.close(writer) {

@@ -7,7 +7,7 @@ ghost use Rattle.feed_maker.specs.Turn.{RefusesIn, RefusesPage};
 ghost use Rattle.feed_maker.specs.Source.{Gathers, GathersRest, GoesFurther, HasSourced, TakesIn};
 
 use crate::fault::MakingFault;
-use feed_changes::Changes;
+use feed_changes::{ChangeOptions, Changes};
 use gathering::{GatherFault, Gatherer, links_are_begun_without_a_skeleton};
 use ogg_command::Command;
 use ogg_page::Page;
@@ -31,14 +31,14 @@ impl Model for Source {
 }
 
 impl Source {
-    pub(crate) fn new(alloc: Global, renumber: bool) -> Source
-        ensures sourced { HasSourced renumber [] result [] }
+    pub(crate) fn new(alloc: Global, options: ChangeOptions) -> Source
+        ensures sourced { HasSourced options [] result [] }
         ensures goes { GoesFurther result }
     {
         Source {
             alloc,
             gatherer: Gatherer::new(alloc),
-            changes: Changes::new(alloc, renumber),
+            changes: Changes::new(alloc, options),
         }
     }
 

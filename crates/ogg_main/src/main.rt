@@ -45,7 +45,7 @@ fn show(rt: &HostRuntime, error: &Error) -> ExitCode {
 /// Does what the command line asks for.
 fn run(rt: &HostRuntime, action: Action<'_>) -> Result<(), Fault> {
     match action {
-        Action::Feed { renumber } => streams::feed(rt, renumber),
+        Action::Feed { options } => streams::feed(rt, options),
         Action::Mux { check, strict } => streams::mux(rt, check, strict),
         Action::Record {
             file,

@@ -4,7 +4,7 @@ use crate::watching::{Watch, WatchedFeed, WatchedReplies};
 use disk_model::{FileDisk, FileMode};
 use fault_lines::Fault;
 use feed_codec::{FeedFault, Tally};
-use feed_maker::{FeedOptions, make_feed};
+use feed_maker::{ChangeOptions, make_feed};
 use feed_recorder::record_feed;
 use ogg_page::write_whole;
 use ogg_recorder::Recorder;
@@ -83,10 +83,8 @@ pub fn record(
     Ok(())
 }
 
-/// Writes the feed of the Ogg bitstream on standard input to standard output. If `renumber` says so, a stream gets another
-/// serial where an earlier link has its serial.
-pub fn feed(rt: &HostRuntime, renumber: bool) -> Result<(), Fault> {
-    let options = FeedOptions { renumber };
+/// Writes the feed of the Ogg bitstream on standard input to standard output, changed as the options ask.
+pub fn feed(rt: &HostRuntime, options: ChangeOptions) -> Result<(), Fault> {
     // The standard streams keep no bytes back, so what is written is out; and what can be read at once is.
     match make_feed(rt.alloc(), &mut rt.stdin(), &mut rt.stdout(), options) {
         Ok(_) => Ok(()),

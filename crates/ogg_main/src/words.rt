@@ -2,15 +2,16 @@
 
 use clap::error::ErrorKind;
 use clap::{Arg, ArgAction, ArgMatches, Command, Error, value_parser};
+use feed_maker::{ChangeOptions, Skeletons};
 use std::alloc::{AllocError, Global};
 use std::{env, io};
 
 /// What the command line asks for.
 #[derive(Clone, Copy, Debug, PartialEq, Eq)]
 pub enum Action<'a> {
-    /// The feed of the Ogg bitstream on standard input, with `renumber` under serials that each stream has alone.
+    /// The feed of the Ogg bitstream on standard input, changed as these options ask.
     Feed {
-        renumber: bool,
+        options: ChangeOptions,
     },
     /// The pages of the feed on standard input, or with `check` its replies alone, with `strict` up to the first refusal.
     Mux {
@@ -142,15 +143,35 @@ fn feed<'a>(alloc: Global) -> Result<Command<'a>, AllocError> {
         .long("renumber")
         .help("Gives a stream another serial if an earlier link of the input has its serial")
         .action(ArgAction::SetTrue);
+    let skeleton = Arg::new(alloc, "skeleton")
+        .long("skeleton")
+        .value_name("SERIAL")
+        .help("Begins each link with a Skeleton made anew, of this serial or the next one that is free")
+        .value_parser(value_parser!(u32));
+    let no_skeleton = Arg::new(alloc, "no-skeleton")
+        .long("no-skeleton")
+        .help("Leaves out the Skeletons of the input")
+        .conflicts_with("skeleton")?
+        .action(ArgAction::SetTrue);
     Command::new(alloc, "feed")
         .about("Makes a feed of the Ogg stream on standard input, as an encoder writes it")
         .after_help(FEED_HELP)
+        .arg(skeleton)?
+        .arg(no_skeleton)?
         .arg(renumber)
 }
 
 fn feed_of<'a>(words: &ArgMatches<'a>) -> Action<'a> {
+    let skeletons = match words.get_one::<u32>("skeleton") {
+        Some(serial) => Skeletons::Made(serial),
+        None if words.get_flag("no-skeleton") => Skeletons::LeftOut,
+        None => Skeletons::Kept,
+    };
     Action::Feed {
-        renumber: words.get_flag("renumber"),
+        options: ChangeOptions {
+            renumber: words.get_flag("renumber"),
+            skeletons,
+        },
     }
 }
 
@@ -162,8 +183,14 @@ complete, so an encoder's output is recorded while it is made:
   kudzuturret feed < song.ogg | kudzuturret mux > again.ogg
 
 A link begins once the headers of all its streams have come; Vorbis, Theora, Opus, FLAC and Speex are
-known, and of another codec the first packet is the header. Chains go on link by link, and a Skeleton is
-a stream like the others. Each packet gets the position of the page that it ends in.
+known, and of another codec the first packet is the header. Chains go on link by link. Each packet gets
+the position of the page that it ends in.
+
+A Skeleton in the input, which describes the streams of its link, stays packet by packet as it is.
+`--no-skeleton` leaves it out. `--skeleton SERIAL` has each link begin with one that is made anew: with
+each stream's media type, rate and preroll, as its first packet tells them.
+
+  kudzuturret feed --skeleton 4000000000 < song.ogg | kudzuturret mux > described.ogg
 
 A file has each serial once, so of two copies of a file, or of an encoder that takes the same serial each
 time, the second link would be refused. With `--renumber` its streams get serials that are free:

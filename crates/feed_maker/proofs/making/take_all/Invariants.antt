@@ -3,10 +3,11 @@ use Rattle.std.specs.Io.KnownBytes.{Appends}
 use Rattle.feed_codec.specs.Record.{announcement}
 use Rattle.feed_maker.specs.Turn.{GoesOn, IsStarted, StillMakes}
 use Rattle.feed_maker.proofs.making.take_all.Given as goal
+use Rattle.feed_changes.specs.declared.options.ChangeOptions.{ChangeOptions}
 
 -- each turn took a page
 abbrev pub invariant-loop : goal.invariant-loop
 invariant-loop g l =
     GoesOn l.maker × (l.counter ≤ l.maker.pages.offset)
-    × ((renumber : Bool) (before : Option (List ℕ)) → IsStarted renumber l.initial.maker → Appends before (g.W.Write.contents l.initial.writer) announcement →
-    StillMakes renumber (g.R.Read.remaining l.initial.reader) (g.R.Read.remaining l.reader) before (g.W.Write.contents l.writer) l.maker)
+    × ((options : ChangeOptions) (before : Option (List ℕ)) → IsStarted options l.initial.maker → Appends before (g.W.Write.contents l.initial.writer) announcement →
+    StillMakes options (g.R.Read.remaining l.initial.reader) (g.R.Read.remaining l.reader) before (g.W.Write.contents l.writer) l.maker)

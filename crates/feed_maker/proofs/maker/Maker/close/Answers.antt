@@ -7,7 +7,7 @@ pub returns-in-Err : goal.returns-in-Err
 returns-in-Err g c = record {
   more = [];
   new = c.args.self.now.gatherer;
-  gathers = λ renumber links given is. subst (λ (l : List Command). HasSourced renumber links c.args.self.now.gatherer l) (sym (append-nil given)) is;
+  gathers = λ options links given is. subst (λ (l : List Command). HasSourced options links c.args.self.now.gatherer l) (sym (append-nil given)) is;
   not = refl;
 }
 
