@@ -10,7 +10,9 @@ use Rattle.chain_rules.specs.Recording.{Recording, HoldsLinks, after}
 use Rattle.ogg_command.specs.declared.command.Command.{Command}
 use Rattle.gathering.specs.Kept.{waits}
 use Rattle.gathering.specs.Gathered.{Gathered, HasGathered}
+use Rattle.std.specs.List.{AllByRecursion}
 use Rattle.feed_changes.specs.Changed.{IsChanged}
+use Rattle.feed_changes.specs.Skeletons.{IsBegunAs}
 use Rattle.feed_maker.specs.Source.{HasSourced, Sourced, gathered_of}
 use Rattle.feed_codec.specs.Record.{announcement}
 use Rattle.feed_maker.specs.Feed.{Fits, GivesNot, HasTooLong, records_of}
@@ -161,6 +163,7 @@ ends_whole options from left before now0 now1 old new holds finished ends rest =
       written = all.written;
       held = λ recording is.
           held_as_asked options ends.made.taken.bytes ends.links new.gatherer given recording holds ends.made.taken.are all.gathers rest.none_waits is;
+      begun = subst (λ o. AllByRecursion (IsBegunAs o) given) all.gathers.asked all.gathers.changed.begun;
       pages = rest.page_count ∙ ends.made.pages;
       counted = omega (arith, rest.counted, ends.made.counted, length-append ends.given rest.more);
     }

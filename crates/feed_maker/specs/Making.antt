@@ -1,5 +1,5 @@
 -- What was written of what was read. Ours.
-use Rattle.std.specs.Prelude.{Bool, ◌≡◌, ℕ, ◌+◌, ◌-◌, ◌^◌, ◌≤◌, min, true, false, Option, Some, None, List, [], ◌++◌, length}
+use Rattle.std.specs.Prelude.{◌≡◌, ℕ, ◌+◌, ◌-◌, ◌^◌, ◌≤◌, min, true, false, Option, Some, None, List, [], ◌++◌, length}
 use Rattle.std.specs.List.{AllByRecursion}
 use Rattle.std.specs.Io.KnownBytes.{Appends, Consumes, IsAtEnd}
 use Rattle.ogg_page.specs.Output.{WritesPrefix}
@@ -13,6 +13,7 @@ use Rattle.ogg_command.specs.declared.command.Command.{Command}
 use Rattle.gathering.specs.Kept.{is_too_long, waits}
 use Rattle.gathering.specs.Gathered.{Gathered, HasGathered}
 use Rattle.feed_changes.specs.Changed.{IsChanged}
+use Rattle.feed_changes.specs.Skeletons.{IsBegunAs}
 use Rattle.feed_maker.specs.Source.{HasSourced, Sourced}
 use Rattle.feed_maker.specs.Feed.{Fits, HasTooLong, feed_of}
 use Rattle.feed_maker.specs.declared.made.Made.{Made}
@@ -59,6 +60,8 @@ pub record MakesFeed (options : ChangeOptions) (from left before now : Option (L
   pub written : Appends before now (feed_of given)
   -- the commands add up to what the links hold, changed as asked
   pub held : (recording : Recording) → HoldsLinks links recording → IsChanged options recording (after [] given)
+  -- and none of them begins a Skeleton otherwise than asked
+  pub begun : AllByRecursion (IsBegunAs options) given
   pub pages : made.pages ≡ length (flattened links)
   pub counted : made.commands ≡ min (length given) (2 ^ 64 - 1)
 

@@ -1,5 +1,5 @@
 -- Pages gathered into commands, which are changed as asked. Ours.
-use Rattle.std.specs.Prelude.{◌≡◌, ◌+◌, Bool, false, None, List, ◌++◌}
+use Rattle.std.specs.Prelude.{◌≡◌, ◌+◌, false, None, List, ◌++◌}
 use Rattle.std.specs.List.{AllByRecursion}
 use Rattle.ogg_page.specs.Page.{Page as PageValue, page_size}
 use Rattle.link_chain.specs.ChainState.{ChainState}

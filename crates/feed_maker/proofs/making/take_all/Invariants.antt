@@ -1,4 +1,4 @@
-use Rattle.std.proofs.Common.{◌≤◌, Bool, Option, List, ℕ}
+use Rattle.std.proofs.Common.{◌≤◌, Option, List, ℕ}
 use Rattle.std.specs.Io.KnownBytes.{Appends}
 use Rattle.feed_codec.specs.Record.{announcement}
 use Rattle.feed_maker.specs.Turn.{GoesOn, IsStarted, StillMakes}
