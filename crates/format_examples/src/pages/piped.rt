@@ -1,7 +1,7 @@
 //! Pages that come through a pipe, and the feed that is made of them.
 use super::THREE_PAGES;
 use crate::feeds::fakes::{FakeReader, FakeWriter};
-use feed_maker::{FeedOptions, Made, MakingFault, make_feed};
+use feed_maker::{ChangeOptions, Made, MakingFault, make_feed};
 use page_reader::{PageReader, PageReaderFault};
 use std::test::Fail;
 
@@ -59,7 +59,7 @@ fn a_feed_is_made_of_three_pages(rt: HostRuntime) -> Result<(), Fail> {
     for step in [1, 40, 1000] {
         let mut reader = FakeReader::new(&THREE_PAGES, step, 0);
         let mut writer = FakeWriter::new(Vec::new(rt.alloc()), step, 0);
-        let made = make_feed(rt.alloc(), &mut reader, &mut writer, FeedOptions::none())?;
+        let made = make_feed(rt.alloc(), &mut reader, &mut writer, ChangeOptions::none())?;
         assert!(rt;
             made == Made {
                 pages: 3,
@@ -80,7 +80,7 @@ fn what_is_whole_is_written_before_a_fault_is_told(rt: HostRuntime) -> Result<()
     ] {
         let mut reader = FakeReader::new(front, 100, 2);
         let mut writer = FakeWriter::new(Vec::new(rt.alloc()), 1000, 0);
-        let failed = make_feed(rt.alloc(), &mut reader, &mut writer, FeedOptions::none());
+        let failed = make_feed(rt.alloc(), &mut reader, &mut writer, ChangeOptions::none());
         assert!(rt; failed.is_err_and(|fault| fault == want));
         assert!(rt; writer.written() == written);
     }
