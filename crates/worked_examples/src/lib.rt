@@ -13,4 +13,6 @@ mod pages;
 #[cfg(test)]
 mod records;
 #[cfg(test)]
+mod refused;
+#[cfg(test)]
 mod taking;
