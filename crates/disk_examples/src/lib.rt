@@ -14,3 +14,5 @@ mod gates;
 mod recorders;
 #[cfg(test)]
 mod recording;
+#[cfg(test)]
+mod refused;

@@ -1,0 +1,291 @@
+//! Recordings on disks in memory while one request for memory is refused: `rt try --test --fail-alloc N` refuses the
+//! `N`th. The refusal may meet the feed, the command or the disk. What was kept before it is found again, and the next
+//! recording comes to what the feed comes to.
+use chain_rules::{Command, Refusal};
+use disk_model::MemDisk;
+use feed_codec::{FeedFault, RunFault};
+use feed_recorder::record_feed;
+use gate_file::OpenFault;
+use ogg_command::{Begin, Listed, Memory, NewStream};
+use ogg_recorder::{Outcome, Recorder};
+use std::alloc::Global;
+use std::process::Abort;
+use std::test::Fail;
+
+/// One stream begins, with serial 1 and the header `abc`.
+const BEGIN: &[u8] = b"\x01\x2f\0\0\0\0\x01\0\x01\0\0\0\x01\0\x03\0\0\0abc\0\0\
+    \0\0\0\0\0\0\0\0\0\0\0\0\0\0\0\0\0\0\0\0\0\0\0\0\0\0\0\0\0";
+
+/// The same with the headers `abc`, `de` and `f`.
+const BEGIN_THREE: &[u8] = b"\x01\x3a\0\0\0\0\x01\0\x01\0\0\0\x03\0\
+    \x03\0\0\0abc\x02\0\0\0de\x01\0\0\0f\0\0\
+    \0\0\0\0\0\0\0\0\0\0\0\0\0\0\0\0\0\0\0\0\0\0\0\0\0\0\0\0\0";
+
+/// Two streams begin, with serials 1 and 2 and the header `abc`.
+const BEGIN_TWO: &[u8] = b"\x01\x5b\0\0\0\0\x02\0\
+    \x01\0\0\0\x01\0\x03\0\0\0abc\0\0\
+    \0\0\0\0\0\0\0\0\0\0\0\0\0\0\0\0\0\0\0\0\0\0\0\0\0\0\0\0\0\
+    \x02\0\0\0\x01\0\x03\0\0\0abc\0\0\
+    \0\0\0\0\0\0\0\0\0\0\0\0\0\0\0\0\0\0\0\0\0\0\0\0\0\0\0\0\0";
+
+/// A stream of type `audio/vorbis` and rate 44100/1 begins, and a Skeleton of serial 9 with times 0/1000.
+const BEGIN_DESCRIBED: &[u8] = b"\x01\x73\0\0\0\x01\x09\0\0\0\
+    \0\0\0\0\0\0\0\0\xe8\x03\0\0\0\0\0\0\0\0\0\0\0\0\0\0\xe8\x03\0\0\0\0\0\0\
+    \0\0\0\0\0\0\0\0\0\0\0\0\0\0\0\0\0\0\0\0\
+    \x01\0\x01\0\0\0\x01\0\x03\0\0\0abc\x0c\0audio/vorbis\
+    \x44\xac\0\0\0\0\0\0\x01\0\0\0\0\0\0\0\0\0\0\0\0\0\0\0\0\0\0\0\0";
+
+/// Stream 1 gets `a`, `b` and `d`, and stream 2 gets `c` before the last of them.
+const PUT_FOUR: &[u8] = b"\x02\x46\0\0\0\x04\0\
+    \x01\0\0\0\0\0\0\0\0\0\0\0\x01\0\0\0a\x01\0\0\0\0\0\0\0\0\0\0\0\x01\0\0\0b\
+    \x02\0\0\0\0\0\0\0\0\0\0\0\x01\0\0\0c\x01\0\0\0\0\0\0\0\0\0\0\0\x01\0\0\0d";
+
+/// A begin, and a put of packets whose lengths are multiples of 255, or nearly: 0, 254, 255 and 510 zeros.
+const ZEROS: [&[u8]; 8] = [
+    BEGIN,
+    b"\x02\x3d\x04\0\0\x04\0\x01\0\0\0\0\0\0\0\0\0\0\0\0\0\0\0",
+    b"\x01\0\0\0\0\0\0\0\0\0\0\0\xfe\0\0\0",
+    &[0; 254],
+    b"\x01\0\0\0\0\0\0\0\0\0\0\0\xff\0\0\0",
+    &[0; 255],
+    b"\x01\0\0\0\0\0\0\0\0\0\0\0\xfe\x01\0\0",
+    &[0; 510],
+];
+
+/// What a run leaves: whether the feed was read to its end, the reply lines, and where an opening then may find the end
+/// of the committed bytes.
+type Left = (bool, &'static str, &'static [u64]);
+
+/// A feed, and what its run comes to on a new disk.
+struct Row {
+    /// Its bytes, in parts.
+    feed: &'static [&'static [u8]],
+    /// With memory.
+    whole: Left,
+    /// If memory is refused once.
+    refused: &'static [Left],
+}
+
+const ROWS: [Row; 4] = [
+    Row {
+        feed: &ZEROS,
+        whole: (true, "kept 1 31\nkept 2 1084\n", &[1084]),
+        refused: &[
+            (true, "refused 20 Memory\nrefused 3 NoLink\n", &[0]),
+            (true, "refused 21 Disk\nrefused 1 Failed\n", &[0, 31]),
+            (true, "kept 1 31\nrefused 20 Memory\n", &[31]),
+            (true, "kept 1 31\nrefused 21 Disk\n", &[31, 1084]),
+            (false, "", &[0]),
+            (false, "kept 1 31\n", &[31]),
+        ],
+    },
+    Row {
+        feed: &[BEGIN_DESCRIBED],
+        whole: (true, "kept 1 259\n", &[259]),
+        refused: &[
+            (true, "refused 20 Memory\n", &[0]),
+            (true, "refused 21 Disk\n", &[0, 259]),
+            (false, "", &[0]),
+        ],
+    },
+    Row {
+        feed: &[BEGIN_THREE],
+        whole: (true, "kept 1 63\n", &[63]),
+        refused: &[
+            (true, "refused 20 Memory\n", &[0]),
+            (true, "refused 21 Disk\n", &[0, 63]),
+            (false, "", &[0]),
+        ],
+    },
+    Row {
+        feed: &[BEGIN_TWO, PUT_FOUR],
+        whole: (true, "kept 1 62\nkept 2 151\n", &[151]),
+        refused: &[
+            (true, "refused 20 Memory\nrefused 3 NoLink\n", &[0]),
+            (true, "refused 21 Disk\nrefused 1 Failed\n", &[0, 62]),
+            (true, "kept 1 62\nrefused 20 Memory\n", &[62]),
+            (true, "kept 1 62\nrefused 21 Disk\n", &[62, 151]),
+            (false, "", &[0]),
+            (false, "kept 1 62\n", &[62]),
+        ],
+    },
+];
+
+fn joined(alloc: Global, parts: &[&[u8]]) -> Result<Vec<u8>, Memory> {
+    let mut bytes = Vec::new(alloc);
+    for part in parts {
+        bytes.extend_from_slice(part)?;
+    }
+    Ok(bytes)
+}
+
+/// The parts, joined once more if memory is refused.
+fn bytes_of(alloc: Global, parts: &[&[u8]]) -> Result<Vec<u8>, Memory> {
+    match joined(alloc, parts) {
+        Ok(bytes) => Ok(bytes),
+        Err(_) => joined(alloc, parts),
+    }
+}
+
+/// A disk with these bytes, made once more if memory is refused.
+fn disk_of(alloc: Global, bytes: &[u8]) -> Result<MemDisk, Memory> {
+    match MemDisk::of(alloc, bytes) {
+        Ok(disk) => Ok(disk),
+        Err(_) => MemDisk::of(alloc, bytes),
+    }
+}
+
+/// Opens the disk, once more if memory is refused. By a refusal the disk stays as long as it was, but where the disk is
+/// refused memory for the byte that closes the file, which may be written.
+fn opened(alloc: Global, disk: MemDisk) -> Result<Recorder<MemDisk>, Fail> {
+    let length = disk.contents().len();
+    match Recorder::open(alloc, disk) {
+        Ok(recorder) => Ok(recorder),
+        Err((OpenFault::Memory, disk)) => {
+            if disk.contents().len() != length {
+                return Err(Fail::from("changed"));
+            }
+            opened_at_last(alloc, disk)
+        }
+        Err((OpenFault::Disk, disk)) => opened_at_last(alloc, disk),
+        Err(_) => Err(Fail::from("not opened")),
+    }
+}
+
+fn opened_at_last(alloc: Global, disk: MemDisk) -> Result<Recorder<MemDisk>, Fail> {
+    match Recorder::open(alloc, disk) {
+        Ok(recorder) => Ok(recorder),
+        Err(_) => Err(Fail::from("not opened")),
+    }
+}
+
+/// Records the feed onto a new disk: whether it was read to its end or memory was refused to it, and where an opening
+/// then finds the end of the committed bytes.
+fn recorded(alloc: Global, feed: &[u8], replies: &mut Vec<u8>) -> Result<(bool, u64), Fail> {
+    let mut feed = feed;
+    let mut recorder = opened(alloc, disk_of(alloc, b"")?)?;
+    let is_read = match record_feed(alloc, &mut feed, replies, &mut recorder) {
+        Ok(_) => true,
+        Err(RunFault::Feed(FeedFault::Memory)) => false,
+        Err(fault) => return Err(fault.into()),
+    };
+    let found = opened(alloc, recorder.give_back())?;
+    Ok((is_read, found.end()))
+}
+
+/// Whether a run has left this.
+fn has_left(run: (bool, u64), replies: &[u8], left: &Left) -> bool {
+    let (is_read, lines, ends) = *left;
+    run.0 == is_read && replies == lines.as_bytes() && ends.contains(&run.1)
+}
+
+#[test]
+fn a_recording_that_was_refused_memory_is_made_anew(rt: HostRuntime) -> Result<(), Fail> {
+    let alloc = rt.alloc();
+    let mut replies = bytes_of(alloc, &[&[0; 64]])?;
+    for row in &ROWS {
+        let feed = bytes_of(alloc, row.feed)?;
+        replies.clear();
+        let mut run = recorded(alloc, &feed, &mut replies)?;
+        if !has_left(run, &replies, &row.whole) {
+            assert!(rt; row.refused.iter().any(|left| has_left(run, &replies, left)));
+            replies.clear();
+            run = recorded(alloc, &feed, &mut replies)?;
+        }
+        assert!(rt; has_left(run, &replies, &row.whole));
+    }
+    Ok(())
+}
+
+/// Two streams in a link. The second packet of stream 1 has two parts, and a page of stream 2 comes between them. The
+/// checksums are by another program.
+const TWO_STREAMS: [&[u8]; 11] = [
+    b"OggS\0\x02\0\0\0\0\0\0\0\0\x01\0\0\0\0\0\0\0\x92\xdd\xf6\x15\x01\x03abc",
+    b"OggS\0\x02\0\0\0\0\0\0\0\0\x02\0\0\0\0\0\0\0u\x8e\x83-\x01\x03abc",
+    b"OggS\0\0\xff\xff\xff\xff\xff\xff\xff\xff\x01\0\0\0\x01\0\0\0\xb3!\xbe\x1a\xff",
+    &[255; 255],
+    &[7; 65_025],
+    b"OggS\0\0\x01\0\0\0\0\0\0\0\x02\0\0\0\x01\0\0\0\xaf\x18\xff\xf9\x01\x01x",
+    b"OggS\0\x05\x09\0\0\0\0\0\0\0\x01\0\0\0\x02\0\0\0\x1e\x92\xa9\xda\x14",
+    &[255; 19],
+    &[130],
+    &[7; 4975],
+    b"OggS\0\x04\x01\0\0\0\0\0\0\0\x02\0\0\0\x02\0\0\0\x8ai\x18\xad\0",
+];
+
+/// The begin of a stream with this serial and the header `abc`.
+fn begin(alloc: Global, serial: u32) -> Result<Command, Memory> {
+    let mut headers = Vec::new(alloc);
+    headers.push(Listed::of(Vec::from_slice(alloc, b"abc")?))?;
+    let mut streams = Vec::new(alloc);
+    streams.push(NewStream {
+        serial,
+        headers: Listed::of(headers),
+        media: Listed::of(Vec::new(alloc)),
+        fields: Listed::of(Vec::new(alloc)),
+        rate: (1, 1),
+        base_granule: 0,
+        preroll: 0,
+        shift: 0,
+    })?;
+    Ok(Command::Begin(Begin {
+        skeleton: None,
+        streams: Listed::of(streams),
+    }))
+}
+
+/// That begin, made once more if memory is refused.
+fn begin_of(alloc: Global, serial: u32) -> Result<Command, Memory> {
+    match begin(alloc, serial) {
+        Ok(command) => Ok(command),
+        Err(_) => begin(alloc, serial),
+    }
+}
+
+/// Gives the recorder of a file with `end` committed bytes a begin that has a page of 31 bytes. Whether the end is then
+/// 31 bytes later: at once, when it is given again after memory was refused, or, where the disk was refused memory, in
+/// the file that is opened again, to which it is given if it isn't there.
+fn begins(
+    alloc: Global,
+    mut recorder: Recorder<MemDisk>,
+    command: &Command,
+    end: u64,
+) -> Result<bool, Fail> {
+    let later = end.saturating_add(31);
+    let mut answer = recorder.command(command);
+    if answer == Err(Refusal::Memory) {
+        if (recorder.count(), recorder.held(), recorder.end()) != (0, 0, end) {
+            return Ok(false);
+        }
+        answer = recorder.command(command);
+    }
+    if answer == Err(Refusal::Disk) {
+        if recorder.end() != end || recorder.command(command) != Err(Refusal::Failed) {
+            return Ok(false);
+        }
+        recorder = opened(alloc, recorder.give_back())?;
+        if recorder.end() == later {
+            return Ok(true);
+        }
+        answer = recorder.command(command);
+    }
+    match answer {
+        Ok(Outcome::Kept(kept)) => {
+            Ok(kept.count == 1 && kept.end == later && recorder.end() == later)
+        }
+        _ => Ok(false),
+    }
+}
+
+#[test]
+fn a_file_is_opened_again_after_memory_was_refused(rt: HostRuntime) -> Result<(), Fail> {
+    let alloc = rt.alloc();
+    let bytes = bytes_of(alloc, &TWO_STREAMS)?;
+    let taken = begin_of(alloc, 1)?;
+    let new = begin_of(alloc, 3)?;
+    let mut recorder = opened(alloc, disk_of(alloc, &bytes)?)?;
+    assert!(rt; (recorder.end(), recorder.tail()) == (70_447, 0));
+    assert!(rt; recorder.command(&taken) == Err(Refusal::SerialTaken));
+    assert!(rt; begins(alloc, recorder, &new, 70_447)?);
+    Ok(())
+}
