@@ -29,7 +29,7 @@ use Rattle.command_pages.specs.Laws.Runs.{some_values}
 
 -- ---- which refusals a decision has
 -- those of the table
-abbrev pub IsDecided : Refusal → Type 0
+abbrev IsDecided : Refusal → Type 0
 IsDecided Failed = ⊥
 IsDecided Memory = ⊥
 IsDecided Disk = ⊥

@@ -111,11 +111,11 @@ first_fits stream good = record {
 }
 
 -- the pages with flags added hold the same
-pub flagged_lacing : (flags : ℕ) (pages : List Page) → joined_lacing (flagged flags pages) ≡ joined_lacing pages
+flagged_lacing : (flags : ℕ) (pages : List Page) → joined_lacing (flagged flags pages) ≡ joined_lacing pages
 flagged_lacing flags [] = refl
 flagged_lacing flags (page ∷ pages) = refl
 
-pub flagged_bodies : (flags : ℕ) (pages : List Page) → joined_bodies (flagged flags pages) ≡ joined_bodies pages
+flagged_bodies : (flags : ℕ) (pages : List Page) → joined_bodies (flagged flags pages) ≡ joined_bodies pages
 flagged_bodies flags [] = refl
 flagged_bodies flags (page ∷ pages) = refl
 

@@ -26,7 +26,7 @@ ended_lacing : (n : ℕ) → packets_ended (lacing_of n) ≡ 1
 unfolding lacing_of
 ended_lacing n = ended_both (replicate (n / 255) 255) (n % 255 ∷ []) ∙ omega (arith, ended_whole (n / 255), ended_one (n % 255) (omega arith))
 
-pub ended_run : (run : List Timed) → packets_ended (run_lacing run) ≡ length run
+ended_run : (run : List Timed) → packets_ended (run_lacing run) ≡ length run
 unfolding run_lacing
 ended_run [] = refl
 ended_run (item ∷ run) = ended_both (lace item.packet) (flat_map (λ i. lace i.packet) run) ∙ omega (arith, ended_lacing (length item.packet), ended_run run)

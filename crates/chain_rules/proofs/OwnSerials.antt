@@ -12,7 +12,7 @@ use Rattle.chain_rules.specs.Begun.{new_state, states_of, serials_in}
 use Rattle.link_chain.specs.Places.{HaveOwnSerials}
 use Rattle.link_chain.specs.Laws.OwnSerials.{serial_in, own_stay}
 
-pub own_run : (streams : List StreamState) (run : List Entry) → HaveOwnSerials streams → HaveOwnSerials (with_run streams run)
+own_run : (streams : List StreamState) (run : List Entry) → HaveOwnSerials streams → HaveOwnSerials (with_run streams run)
 own_run streams run d =
     own_stay (run_serial run) (advanced (next_in streams (run_serial run) + length (pages_behind streams run)) (run_position run)) streams (λ s. refl) d
 

@@ -68,7 +68,7 @@ abbrev pub part_serials : List Part → List ℕ
 part_serials parts = map (λ (s : Part). s.stream.serial) parts
 
 -- these pages of each part are its own
-abbrev pub EachOwn : (Part → List Page) → List Part → Type 0
+abbrev EachOwn : (Part → List Page) → List Part → Type 0
 EachOwn pages parts = AllByRecursion (λ (s : Part). Own s.stream.serial (pages s)) parts
 
 with_none : (pages : Part → List Page) (serial : ℕ) (parts : List Part) → EachOwn pages parts → AllByRecursion (λ y. nat_eq serial y ≡ false) (part_serials parts) →
@@ -94,7 +94,7 @@ with_later pages part parts serial own ne =
     ∙ ap (λ l. l ++ pages_with serial (flat_map pages parts)) (other_with part.stream.serial serial (pages part) own ne)
 
 -- each part's pages among the pages of all
-pub each_alone : (pages : Part → List Page) (parts : List Part) → EachOwn pages parts → IsDistinct nat_eq (part_serials parts) →
+each_alone : (pages : Part → List Page) (parts : List Part) → EachOwn pages parts → IsDistinct nat_eq (part_serials parts) →
     AllByRecursion (λ (s : Part). pages_with s.stream.serial (flat_map pages parts) ≡ pages s) parts
 unfolding IsDistinct
 each_alone pages [] own d = tt
@@ -112,10 +112,10 @@ firsts parts = flat_map first_of parts
 abbrev pub laters : List Part → List Page
 laters parts = flat_map later_of parts
 
-pub firsts_own : (parts : List Part) → AllByRecursion IsPart parts → EachOwn first_of parts
+firsts_own : (parts : List Part) → AllByRecursion IsPart parts → EachOwn first_of parts
 firsts_own parts good = all_weaker IsPart (λ (s : Part). Own s.stream.serial (first_of s)) (λ s h. first_own s.stream h.good) parts good
 
-pub laters_own : (parts : List Part) → AllByRecursion IsPart parts → EachOwn later_of parts
+laters_own : (parts : List Part) → AllByRecursion IsPart parts → EachOwn later_of parts
 laters_own parts good = all_weaker IsPart (λ (s : Part). Own s.stream.serial (later_of s)) (λ s h. h.own) parts good
 
 all_fit : (parts : List Part) → AllByRecursion IsPart parts → IsDistinct nat_eq (part_serials parts) → (serial : ℕ) →
@@ -138,7 +138,7 @@ all_fit (part ∷ parts) good d serial =
     ]
 
 -- ---- the link
-pub all_flat : (P : Page → Type 0) (pages : Part → List Page) (parts : List Part) → AllByRecursion (λ (s : Part). AllByRecursion P (pages s)) parts → AllByRecursion P (flat_map pages parts)
+all_flat : (P : Page → Type 0) (pages : Part → List Page) (parts : List Part) → AllByRecursion (λ (s : Part). AllByRecursion P (pages s)) parts → AllByRecursion P (flat_map pages parts)
 all_flat P pages [] h = tt
 all_flat P pages (part ∷ parts) h = all_both P (pages part) (flat_map pages parts) h.0 (all_flat P pages parts h.1)
 
@@ -157,7 +157,7 @@ all_first P f parts good = subst (AllByRecursion P) (sym (firsts_are parts good)
 pub laters_unmarked : (parts : List Part) → AllByRecursion IsPart parts → Unmarked (laters parts)
 laters_unmarked parts good = all_flat (λ (p : Page). is_first p ≡ false) later_of parts (all_weaker IsPart (λ (s : Part). Unmarked (later_of s)) (λ s h. h.unmarked) parts good)
 
-pub laters_go_on : (parts : List Part) → AllByRecursion IsPart parts → GoOn (laters parts)
+laters_go_on : (parts : List Part) → AllByRecursion IsPart parts → GoOn (laters parts)
 laters_go_on parts good = all_flat (λ (p : Page). is_last p ≡ false) later_of parts (all_weaker IsPart (λ (s : Part). GoOn (later_of s)) (λ s h. h.goes_on) parts good)
 
 pub all_go_on : (parts : List Part) → AllByRecursion IsPart parts → GoOn (firsts parts ++ laters parts)

@@ -62,10 +62,10 @@ ready_entries streams now (entry ∷ entries) same h = (
 )
 
 -- ---- runs that do
-pub record IsReadyRun (streams : List StreamState) (run : List Entry) : Type 0 where
-  pub some : 0 < length run
-  pub known : is_none (stream_in streams (run_serial run)) ≡ false
-  pub small : run_position run < 2 ^ 63
+record IsReadyRun (streams : List StreamState) (run : List Entry) : Type 0 where
+  some : 0 < length run
+  known : is_none (stream_in streams (run_serial run)) ≡ false
+  small : run_position run < 2 ^ 63
 
 front_ready : (streams : List StreamState) (entry : Entry) (runs : List (List Entry)) → IsReady streams entry → AllByRecursion (IsReadyRun streams) runs →
     AllByRecursion (IsReadyRun streams) (with_front entry runs)
@@ -80,7 +80,7 @@ front_ready streams entry ((next ∷ run) ∷ runs) ready h =
     either true x y p q = p
     either false x y p q = q
 
-pub ready_runs : (streams : List StreamState) (entries : List Entry) → AllByRecursion (IsReady streams) entries → AllByRecursion (IsReadyRun streams) (runs_of entries)
+ready_runs : (streams : List StreamState) (entries : List Entry) → AllByRecursion (IsReady streams) entries → AllByRecursion (IsReadyRun streams) (runs_of entries)
 ready_runs streams [] h = tt
 ready_runs streams (entry ∷ entries) h = front_ready streams entry (runs_of entries) h.0 (ready_runs streams entries h.1)
 
@@ -90,7 +90,7 @@ end_of_run [] some = absurd (omega arith)
 end_of_run (entry ∷ []) some = refl
 end_of_run (entry ∷ next ∷ run) some = end_of_run (next ∷ run) (omega arith)
 
-pub behind_run : (links : List (List Page)) (run : List Entry) → links ≢ [] → IsReadyRun (chain_state_of links).streams run →
+behind_run : (links : List (List Page)) (run : List Entry) → links ≢ [] → IsReadyRun (chain_state_of links).streams run →
     let chain : ChainState = chain_state_of links in
     chain_state_of (with_pages links (pages_behind chain.streams run))
     ≡ moved_by chain (run_serial run) (advanced (next_in chain.streams (run_serial run) + length (pages_behind chain.streams run)) (run_position run)) (size_of_pages (pages_behind chain.streams run))
@@ -166,7 +166,7 @@ behind_later (run ∷ runs) links some has h =
     ∙ ap (λ n. record chain { streams = fold with_run (with_run chain.streams run) runs; has_data = true; length_of = n })
     (let e : chain.length_of + size_of_pages pages + size_of_pages rest ≡ chain.length_of + size_of_pages (pages ++ rest) = omega (arith, sum_by-append page_size pages rest) in e)
 
-pub behind_runs : (run : List Entry) (runs : List (List Entry)) (links : List (List Page)) → links ≢ [] → AllByRecursion (IsReadyRun (chain_state_of links).streams) (run ∷ runs) →
+behind_runs : (run : List Entry) (runs : List (List Entry)) (links : List (List Page)) → links ≢ [] → AllByRecursion (IsReadyRun (chain_state_of links).streams) (run ∷ runs) →
     let chain : ChainState = chain_state_of links in
     chain_state_of (with_pages links (pages_of_runs chain.streams (run ∷ runs)))
     ≡ grown chain (fold with_run chain.streams (run ∷ runs)) (size_of_pages (pages_of_runs chain.streams (run ∷ runs)))

@@ -186,9 +186,9 @@ abbrev pub Numbered : List Page → List StreamState → Type 0
 Numbered link states = (serial : ℕ) → has_stream link serial ≡ true → IsNumbered link states serial
 
 -- the entry's stream is there and hasn't ended
-pub record TakesPackets (link : List Page) (entry : Entry) : Type 0 where
-  pub there : has_stream link entry.serial ≡ true
-  pub unended : has_ended link entry.serial ≡ false
+record TakesPackets (link : List Page) (entry : Entry) : Type 0 where
+  there : has_stream link entry.serial ≡ true
+  unended : has_ended link entry.serial ≡ false
 
 pub record Grown (link : List Page) (pages : List Page) (streams : List Stream) : Type 0 where
   pub link_is : IsLink (link ++ pages)
@@ -199,7 +199,7 @@ packets_timed [] = refl
 packets_timed (entry ∷ run) = ap (λ l. entry.packet ∷ l) (packets_timed run)
 
 -- packets more of one stream
-pub run_grows : (link : List Page) (serial first : ℕ) (run : List Timed) (streams : List Stream) (change : Stream → Stream) →
+run_grows : (link : List Page) (serial first : ℕ) (run : List Timed) (streams : List Stream) (change : Stream → Stream) →
     IsLink link → HoldsLink link streams → all_ended link ≡ false → has_stream link serial ≡ true → has_ended link serial ≡ false →
     number_behind (pages_with serial link) ≡ first →
     ((stream : Stream) → stream.serial ≡ serial → change stream ≡ with_packets stream (map (λ (t : Timed). t.packet) run)) →
@@ -220,7 +220,7 @@ run_grows link serial first run streams change l h opened there unended number h
           elsewhere h;
     }
 
-pub run_numbers : (link : List Page) (serial position : ℕ) (states : List StreamState) (run : List Timed) → Numbered link states →
+run_numbers : (link : List Page) (serial position : ℕ) (states : List StreamState) (run : List Timed) → Numbered link states →
     Numbered (link ++ pages_of_run serial (next_in states serial) run)
     (brought_to serial (next_in states serial + length (pages_of_run serial (next_in states serial) run)) position states)
 run_numbers link serial position states run numbered other there =
@@ -257,7 +257,7 @@ ready_later link pages unmarked go_on runs h =
     runs h
 
 -- ---- all runs
-pub runs_grow : (runs : List (List Entry)) (link : List Page) (states : List StreamState) (streams : List Stream) →
+runs_grow : (runs : List (List Entry)) (link : List Page) (states : List StreamState) (streams : List Stream) →
     IsLink link → HoldsLink link streams → all_ended link ≡ false → Numbered link states →
     AllByRecursion OneSerial runs → AllByRecursion (AllByRecursion (TakesPackets link)) runs →
     Grown link (pages_of_runs states runs) (fold with_packets_of streams runs)

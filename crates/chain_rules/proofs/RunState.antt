@@ -20,12 +20,12 @@ use Rattle.link_chain.specs.Laws.StateBehind.{state}
 pub use Rattle.link_chain.specs.Followed.{moved_by}
 
 -- ---- a run
-pub closed_open : (xs values : List ℕ) → EndsClosed values → ends_open (xs ++ values) ≡ false
+closed_open : (xs values : List ℕ) → EndsClosed values → ends_open (xs ++ values) ≡ false
 closed_open xs values h =
     ap (λ l. ends_open (xs ++ l)) h.whole ∙ ap ends_open (sym (append_assoc xs h.front (h.last ∷ [])))
     ∙ ends_open-at (xs ++ h.front) h.last [] ∙ ne_eqb h.last 255 (λ e. omega (arith, h.small, e))
 
-pub run_joined : (serial first : ℕ) (run : List Timed) → joined_lacing (pages_of_run serial first run) ≡ run_lacing run
+run_joined : (serial first : ℕ) (run : List Timed) → joined_lacing (pages_of_run serial first run) ≡ run_lacing run
 run_joined serial first run = (run_is_held serial first run).lacing ∙ append-nil _ ∙ sym (lacing_again run)
 
 pub run_own : (serial first : ℕ) (run : List Timed) → Own serial (pages_of_run serial first run)

@@ -32,7 +32,7 @@ use Rattle.chain_rules.proofs.RunState.{run_own, run_unmarked, run_goes_on}
 use Rattle.chain_rules.proofs.Still.{run_still}
 
 -- ---- the fisbones' pages
-pub fisbones_own : (serial first : ℕ) (streams : List NewStream) → Own serial (fisbone_pages serial first streams)
+fisbones_own : (serial first : ℕ) (streams : List NewStream) → Own serial (fisbone_pages serial first streams)
 fisbones_own serial first [] = tt
 fisbones_own serial first (s ∷ streams) =
     all_both (λ (p : Page). p.serial ≡ serial) (pages_of_run serial first (header (fisbone_packet s) ∷ [])) (fisbone_pages serial (first + 1) streams)
@@ -44,7 +44,7 @@ fisbones_unmarked serial first (s ∷ streams) =
     all_both (λ (p : Page). is_first p ≡ false) (pages_of_run serial first (header (fisbone_packet s) ∷ [])) (fisbone_pages serial (first + 1) streams)
     (run_unmarked serial first (header (fisbone_packet s) ∷ [])) (fisbones_unmarked serial (first + 1) streams)
 
-pub fisbones_go_on : (serial first : ℕ) (streams : List NewStream) → GoOn (fisbone_pages serial first streams)
+fisbones_go_on : (serial first : ℕ) (streams : List NewStream) → GoOn (fisbone_pages serial first streams)
 fisbones_go_on serial first [] = tt
 fisbones_go_on serial first (s ∷ streams) =
     all_both (λ (p : Page). is_last p ≡ false) (pages_of_run serial first (header (fisbone_packet s) ∷ [])) (fisbone_pages serial (first + 1) streams)
@@ -110,7 +110,7 @@ fisbones_count serial first (s ∷ streams) short =
 abbrev pub skeleton_part : SkeletonHead → List NewStream → Part
 skeleton_part head streams = record { stream = skeleton_stream head streams; later = fisbone_pages head.serial 1 streams }
 
-pub good_skeleton : (head : SkeletonHead) (streams : List NewStream) → length head.utc ≡ 20 → IsGood (skeleton_stream head streams)
+good_skeleton : (head : SkeletonHead) (streams : List NewStream) → length head.utc ≡ 20 → IsGood (skeleton_stream head streams)
 good_skeleton head streams size = record {
   some = ne_eqb (length (skeleton_stream head streams).headers) 0 (λ e. omega (arith, e));
   short = or_from (nat_lt 65024 (length (fishead_bytes (fishead_of head)))) false (le-ltb 65024 (length (fishead_bytes (fishead_of head))) (short_fishead head size)) refl;
@@ -170,7 +170,7 @@ fraction_is_bytes fraction = all_bytes (i64_bytes fraction.0) (i64_bytes fractio
 name_is_bytes : AllByRecursion IsByte (codes "fishead" ++ 0 ∷ []) × AllByRecursion IsByte (codes "fisbone" ++ 0 ∷ [])
 name_is_bytes = (search rules, search rules)
 
-pub fishead_is_bytes : (head : SkeletonHead) → AllByRecursion IsByte head.utc → AllByRecursion IsByte (fishead_bytes (fishead_of head))
+fishead_is_bytes : (head : SkeletonHead) → AllByRecursion IsByte head.utc → AllByRecursion IsByte (fishead_bytes (fishead_of head))
 unfolding fishead_with
 fishead_is_bytes head utc =
     all_both IsByte (codes "fishead" ++ 0 ∷ []) _ name_is_bytes.0
@@ -196,7 +196,7 @@ lines_are_bytes : (fields : List NamedValue) → AllByRecursion AreFieldBytes fi
 lines_are_bytes [] are = tt
 lines_are_bytes (field ∷ fields) are = all_both IsByte (field_line field) (flat_map field_line fields) (line_is_bytes field are.0) (lines_are_bytes fields are.1)
 
-pub fisbone_is_bytes : (stream : NewStream) → IsNewStream stream → AllByRecursion IsByte (fisbone_packet stream)
+fisbone_is_bytes : (stream : NewStream) → IsNewStream stream → AllByRecursion IsByte (fisbone_packet stream)
 unfolding fixed_part
 fisbone_is_bytes stream is =
     let last : List ℕ = stream.shift ∷ 0 ∷ 0 ∷ 0 ∷ [] in

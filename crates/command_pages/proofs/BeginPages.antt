@@ -79,7 +79,7 @@ pub headers_size : (stream : NewStream) → size_of_pages (header_pages stream)
     ≡ size_for (length (run_lacing (map header (drop 1 stream.headers)))) (length (run_bytes (map header (drop 1 stream.headers))))
 headers_size stream = run_bytes_all stream.serial 1 (map header (drop 1 stream.headers))
 
-pub small_run : (headers : List (List ℕ)) → size_for (length (run_lacing (map header headers))) (length (run_bytes (map header headers))) ≤ 29 * (header_lengths headers + length headers)
+small_run : (headers : List (List ℕ)) → size_for (length (run_lacing (map header headers))) (length (run_bytes (map header headers))) ≤ 29 * (header_lengths headers + length headers)
 small_run headers = omega (arith, few_values (map header headers), lengths_of_headers headers, length-map headers header, length-run_bytes (map header headers))
 
 pub small_stream : (stream : NewStream) → size_of_pages (first_pages stream) + size_of_pages (header_pages stream) ≤ 29 * (header_bytes stream + length stream.headers)

@@ -17,7 +17,7 @@ pub front_same : (serial : ℕ) (entry : Entry) (entries : List Entry) → entry
 front_same serial entry entries e =
     ap length (take_while-cons (same serial) entry entries ∙ cond-true (nat_eq entry.serial serial) (entry ∷ take_while (same serial) entries) [] (eq-eqb entry.serial serial e))
 
-pub front_other : (serial : ℕ) (entry : Entry) (entries : List Entry) → (entry.serial ≡ serial → ⊥) → front serial (entry ∷ entries) ≡ 0
+front_other : (serial : ℕ) (entry : Entry) (entries : List Entry) → (entry.serial ≡ serial → ⊥) → front serial (entry ∷ entries) ≡ 0
 front_other serial entry entries e =
     ap length (take_while-cons (same serial) entry entries ∙ cond-false (nat_eq entry.serial serial) (entry ∷ take_while (same serial) entries) [] (ne_eqb entry.serial serial e))
 
@@ -53,7 +53,7 @@ front_run_from entry (next ∷ entries) =
           (new_front entry next entries (front next.serial entries) (λ s. e (sym s)) (front_run_from next entries))
     ]
 
-pub front_run : (entry : Entry) (entries : List Entry) → Splits (front entry.serial (entry ∷ entries)) (entry ∷ entries)
+front_run : (entry : Entry) (entries : List Entry) → Splits (front entry.serial (entry ∷ entries)) (entry ∷ entries)
 front_run entry entries =
     splits_at (front entry.serial (entry ∷ entries)) (suc (front entry.serial entries)) (entry ∷ entries) (front_same entry.serial entry entries refl) (front_run_from entry entries)
 

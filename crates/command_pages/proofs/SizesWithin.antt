@@ -6,7 +6,7 @@ use Rattle.ogg_page.specs.Page.{Page, page_size}
 use Rattle.link_chain.specs.Size.{size_of_pages}
 
 -- the size of the pages of several
-pub size_of_all : {X : Type 0} (pages : X → List Page) (xs : List X) → size_of_pages (flat_map pages xs) ≡ sum_by (λ x. size_of_pages (pages x)) xs
+size_of_all : {X : Type 0} (pages : X → List Page) (xs : List X) → size_of_pages (flat_map pages xs) ≡ sum_by (λ x. size_of_pages (pages x)) xs
 size_of_all pages [] = refl
 size_of_all pages (x ∷ xs) =
     sum_by-append page_size (pages x) (flat_map pages xs) ∙ ap (λ n. size_of_pages (pages x) + n) (size_of_all pages xs) ∙ sym (sum_by-cons (λ y. size_of_pages (pages y)) x xs)

@@ -4,10 +4,10 @@ use Rattle.std.proofs.lemmas.Bool.Decides.{nat_tests}
 use Rattle.std.proofs.lemmas.Grind.{common_steps}
 use Rattle.std.proofs.lemmas.List.{get_or-append_right, get_or-drop, get_or-take, length-take-le}
 use Rattle.std.proofs.lemmas.Option.{slice_get-get_or}
-use Rattle.disk_model.specs.Image.{DiskState, IsImage, IsWithin, is_written, overwritten, after_write, after_cut}
+use Rattle.disk_model.specs.Image.{DiskState, IsImage, is_written, overwritten, after_cut}
 
 -- a range more
-pub is_written-push : (ranges : List (ℕ × ℕ)) (at n k : ℕ) → is_written (ranges ++ (at, n) ∷ []) k ≡ false → is_written ranges k ≡ false
+is_written-push : (ranges : List (ℕ × ℕ)) (at n k : ℕ) → is_written (ranges ++ (at, n) ∷ []) k ≡ false → is_written ranges k ≡ false
 is_written-push [] at n k none = refl
 is_written-push (range ∷ ranges) at n k none = grind (arith, is_written-push ranges at n k)
 
@@ -19,27 +19,18 @@ outside (range ∷ ranges) at n k none = grind (arith, outside ranges at n k)
 same_slot : (xs ys : List ℕ) (k : ℕ) → k < length xs → k < length ys → get_or xs k 0 ≡ get_or ys k 0 → slice_get xs k ≡ slice_get ys k
 same_slot xs ys k in_xs in_ys same = slice_get-get_or xs k 0 in_xs ∙ ap Some same ∙ sym (slice_get-get_or ys k 0 in_ys)
 
-pub overwritten-before : (old bytes : List ℕ) (at k : ℕ) → at ≤ length old → k < at → get_or (overwritten old at bytes) k 0 ≡ get_or old k 0
+overwritten-before : (old bytes : List ℕ) (at k : ℕ) → at ≤ length old → k < at → get_or (overwritten old at bytes) k 0 ≡ get_or old k 0
 overwritten-before old bytes at k le below = grind (arith, common_steps)
 
-pub overwritten-behind : (old bytes : List ℕ) (at k : ℕ) → at ≤ length old → at + length bytes ≤ k → get_or (overwritten old at bytes) k 0 ≡ get_or old k 0
+overwritten-behind : (old bytes : List ℕ) (at k : ℕ) → at ≤ length old → at + length bytes ≤ k → get_or (overwritten old at bytes) k 0 ≡ get_or old k 0
 overwritten-behind old bytes at k le behind =
     let front : length (take at old ++ bytes) ≡ at + length bytes = grind (arith, common_steps) in
     get_or-append_right (take at old ++ bytes) (drop (at + length bytes) old) (at + length bytes) k 0 front behind
     ∙ get_or-drop (at + length bytes) old (k - (at + length bytes)) 0
     ∙ ap (λ (j : ℕ). get_or old j 0) (omega arith)
 
-pub length-overwritten : (old bytes : List ℕ) (at : ℕ) → at ≤ length old → length (overwritten old at bytes) ≡ max (length old) (at + length bytes)
+length-overwritten : (old bytes : List ℕ) (at : ℕ) → at ≤ length old → length (overwritten old at bytes) ≡ max (length old) (at + length bytes)
 length-overwritten old bytes at le = grind (arith, common_steps)
-
--- a failed write has none but these
-pub within_write : (disk new : DiskState) (at n : ℕ) → new.synced ≡ disk.synced → new.written ≡ disk.written → new.least ≡ disk.least → new.greatest ≡ disk.greatest → IsWithin new (after_write at n disk)
-within_write disk new at n synced written least greatest = record {
-  synced = synced;
-  unwritten = λ k none. rw written (is_written-push disk.written at n k none);
-  least = omega arith;
-  greatest = omega arith;
-}
 
 -- an image that is written
 pub image_written : (disk new : DiskState) (image bytes : List ℕ) (at : ℕ) → IsImage disk image → at ≤ length image

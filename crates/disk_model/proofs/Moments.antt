@@ -7,7 +7,7 @@ use Rattle.disk_model.specs.Torn.{settled_image}
 use Rattle.disk_model.specs.Calls.{after_call, after_calls, WasImageSince}
 use Rattle.disk_model.specs.declared.memory.Call.{Call}
 
-pub after_calls-push : (calls : List Call) (call : Call) (disk : DiskState) → after_calls (calls ++ call ∷ []) disk ≡ after_call call (after_calls calls disk)
+after_calls-push : (calls : List Call) (call : Call) (disk : DiskState) → after_calls (calls ++ call ∷ []) disk ≡ after_call call (after_calls calls disk)
 after_calls-push [] call disk = refl
 after_calls-push (first ∷ calls) call disk = after_calls-push calls call (after_call first disk)
 

@@ -28,11 +28,6 @@ part_more old mid new bytes at done n room within before is =
     let size : done ≡ length xs = sym (length-take-le done bytes within) in
     is ∙ (λ i. overwritten (before i) (at + size i) (take n (take_rest bytes done i))) ∙ twice old xs ys at room ∙ ap (λ (l : List ℕ). overwritten old at l) (sym (take-add done n bytes))
 
--- the place lies inside what was written so far
-pub inside_so_far : (old mid bytes : List ℕ) (at done : ℕ) → at ≤ length old → done ≤ length bytes → mid ≡ overwritten old at (take done bytes) → at + done ≤ length mid
-inside_so_far old mid bytes at done room within is =
-    omega (arith, ap length is, length-append (take at old ++ take done bytes) (drop (at + length (take done bytes)) old), length-append (take at old) (take done bytes), length-take-le at old room, length-take-le done bytes within)
-
 -- a read in parts
 pub filled : (xs ys post contents : List ℕ) (done n at : ℕ) → done ≤ length xs → n ≤ length ys → take done xs ≡ take done (drop at contents) → take n ys ≡ take n (drop (at + done) contents)
     → take (done + n) (take done xs ++ (ys ++ post)) ≡ take (done + n) (drop at contents)

@@ -104,7 +104,7 @@ bad_record first v kind n payload more named fits whole bad =
       rw (fine, long) refl,
     )
 
-pub short_payload : (first : Bool) (v : Version) (old new : Option (List ℕ)) (head : Head) → IsHead first head → Consumes old new (head_bytes head) → IsShort new head.length → HasItemFault first v old Truncated
+short_payload : (first : Bool) (v : Version) (old new : Option (List ℕ)) (head : Head) → IsHead first head → Consumes old new (head_bytes head) → IsShort new head.length → HasItemFault first v old Truncated
 short_payload first v None new head is c short = tt
 short_payload first v (Some bytes) None head is c short = absurd c
 short_payload first v (Some bytes) (Some behind) head is c short =
@@ -141,7 +141,7 @@ read_record first v old mid new head payload item is c d whole held kind spelled
     )
 
 -- memory was refused where a payload was to be read
-pub no_payload : (first : Bool) (v : Version) (old new : Option (List ℕ)) (head : Head) → IsHead first head → Consumes old new (head_bytes head) → TakesItemPart first v old new
+no_payload : (first : Bool) (v : Version) (old new : Option (List ℕ)) (head : Head) → IsHead first head → Consumes old new (head_bytes head) → TakesItemPart first v old new
 no_payload first v old new head is c =
     inl (
       head_bytes head,
@@ -151,7 +151,7 @@ no_payload first v old new head is c =
     )
 
 -- why a payload wasn't read
-abbrev pub PayloadFault : FeedFault → Type 0 → Type 0 → Type 0
+abbrev PayloadFault : FeedFault → Type 0 → Type 0 → Type 0
 PayloadFault fault Untouched Short = (fault ≡ Read) ⊎ ((fault ≡ Memory) × Untouched) ⊎ ((fault ≡ Truncated) × Short)
 
 pub payload_fault : (first : Bool) (v : Version) (old mid : Option (List ℕ)) (head : Head) (fault : FeedFault) (Untouched : Type 0) → IsHead first head → Consumes old mid (head_bytes head)
@@ -183,7 +183,3 @@ pub end_behind_announcement : (before left behind : Option (List ℕ)) (found : 
     → IfNone found (GivesEnd None before behind)
 end_behind_announcement before left behind None read (end, kept) = record { version = Two; left = left; read = read; end = end; kept = kept }
 end_behind_announcement before left behind (Some given) read end = tt
-
-pub end_later : (version : Version) (before behind : Option (List ℕ)) (found : Option RecordOf) → IfNone found (IsAtEnd before × Keeps before behind) → IfNone found (GivesEnd (Some version) before behind)
-end_later version before behind None (end, kept) = record { version = version; left = before; read = Consumes-nil before; end = end; kept = kept }
-end_later version before behind (Some given) end = tt

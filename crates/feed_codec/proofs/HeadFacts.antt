@@ -1,5 +1,5 @@
 -- What the head of a record says of the bytes.
-use Rattle.std.proofs.Common.{◌≡◌, ℕ, ◌<◌, ◌≤◌, ◌^◌, List, [], ◌∷◌, ◌++◌, length, refl, sym, ap, ◌∙◌, arith, length-append, Bool, None, Some, true, false}
+use Rattle.std.proofs.Common.{◌≡◌, ℕ, ◌<◌, ◌≤◌, ◌^◌, List, ◌∷◌, ◌++◌, length, refl, sym, ap, ◌∙◌, arith, length-append, Bool, None, Some, true, false}
 use Rattle.std.specs.Prelude.{slice_index, nat_lt}
 use Rattle.std.proofs.lemmas.Bool.{lt-ltb, le-ltb}
 use Rattle.byteorder.specs.Numbers.{little_number-reads_back}
@@ -9,23 +9,15 @@ use Rattle.feed_codec.specs.Feed.{is_kind, head_fault, payload_length}
 use Rattle.feed_codec.specs.RecordKind.{number_of}
 use Rattle.feed_codec.specs.declared.head.RecordKind.{RecordKind}
 use Rattle.ogg_page.specs.Laws.NumberBytes.{length-u32_bytes}
-use Rattle.feed_codec.specs.declared.fault.FeedFault.TheVariants.{Truncated, Kind, Length}
+use Rattle.feed_codec.specs.declared.fault.FeedFault.TheVariants.{Length}
 
-pub fault_short : (first : Bool) (bytes : List ℕ) → length bytes < 5 → head_fault first bytes ≡ Some Truncated
-fault_short first bytes l = let short : nat_lt (length bytes) 5 ≡ true = lt-ltb (length bytes) 5 l in rw short refl
-
-pub fault_kind : (first : Bool) (bytes : List ℕ) → 5 ≤ length bytes → is_kind first (slice_index bytes 0) ≡ false → head_fault first bytes ≡ Some Kind
-fault_kind first bytes l kind =
-    let long : nat_lt (length bytes) 5 ≡ false = le-ltb (length bytes) 5 l in
-    rw (long, kind) refl
-
-pub fault_length : (first : Bool) (bytes : List ℕ) → 5 ≤ length bytes → is_kind first (slice_index bytes 0) ≡ true → most_payload < payload_length bytes → head_fault first bytes ≡ Some Length
+fault_length : (first : Bool) (bytes : List ℕ) → 5 ≤ length bytes → is_kind first (slice_index bytes 0) ≡ true → most_payload < payload_length bytes → head_fault first bytes ≡ Some Length
 fault_length first bytes l kind n =
     let long : nat_lt (length bytes) 5 ≡ false = le-ltb (length bytes) 5 l in
     let over : nat_lt most_payload (payload_length bytes) ≡ true = lt-ltb most_payload (payload_length bytes) n in
     rw (long, kind, over) refl
 
-pub fault_none : (first : Bool) (bytes : List ℕ) → 5 ≤ length bytes → is_kind first (slice_index bytes 0) ≡ true → payload_length bytes ≤ most_payload → head_fault first bytes ≡ None
+fault_none : (first : Bool) (bytes : List ℕ) → 5 ≤ length bytes → is_kind first (slice_index bytes 0) ≡ true → payload_length bytes ≤ most_payload → head_fault first bytes ≡ None
 fault_none first bytes l kind n =
     let long : nat_lt (length bytes) 5 ≡ false = le-ltb (length bytes) 5 l in
     let within : nat_lt most_payload (payload_length bytes) ≡ false = le-ltb most_payload (payload_length bytes) n in
@@ -34,27 +26,6 @@ fault_none first bytes l kind n =
 pub length_field : (number n : ℕ) (more : List ℕ) → n < 2 ^ 32 → payload_length (number ∷ (u32_bytes n ++ more)) ≡ n
 unfolding u32_bytes
 length_field number n more small = little_number-reads_back 4 n more small
-
-front_byte : (head rest : List ℕ) → length head ≡ 5 → slice_index (head ++ rest) 0 ≡ slice_index head 0
-front_byte [] rest l = absurd (omega arith)
-front_byte (a ∷ head) rest l = refl
-
-front_length : (head rest : List ℕ) → length head ≡ 5 → payload_length (head ++ rest) ≡ payload_length head
-front_length [] rest l = absurd (omega arith)
-front_length (a ∷ []) rest l = absurd (omega arith)
-front_length (a ∷ b ∷ []) rest l = absurd (omega arith)
-front_length (a ∷ b ∷ c ∷ []) rest l = absurd (omega arith)
-front_length (a ∷ b ∷ c ∷ d ∷ []) rest l = absurd (omega arith)
-front_length (a ∷ b ∷ c ∷ d ∷ e ∷ head) rest l = refl
-
--- only the head tells the fault of a head
-pub head_fault-append : (first : Bool) (head rest : List ℕ) → length head ≡ 5 → head_fault first (head ++ rest) ≡ head_fault first head
-head_fault-append first head rest l =
-    let long : nat_lt (length (head ++ rest)) 5 ≡ nat_lt (length head) 5 =
-    le-ltb (length (head ++ rest)) 5 (omega (arith, length-append head rest, l)) ∙ sym (le-ltb (length head) 5 (omega (arith, l))) in
-    let byte = front_byte head rest l in
-    let size = front_length head rest l in
-    rw (long, byte, size) refl
 
 -- where a kind and a length stand in front, and the length is within bounds, the head has no fault
 pub head_is_fine : (first : Bool) (kind : RecordKind) (n : ℕ) (more : List ℕ) → is_kind first (number_of kind) ≡ true → n ≤ most_payload → head_fault first (number_of kind ∷ (u32_bytes n ++ more)) ≡ None

@@ -29,12 +29,12 @@ pub packet_short : (bytes : List ℕ) → length bytes < 4 → BeginsNone IsPack
 packet_short bytes l p rest h e =
     omega (arith, l, ap length e, length-append (packet_bytes p) rest, length-append (u32_bytes (length p)) p, length-u32_bytes (length p))
 
-pub packet_cut : (bytes rest : List ℕ) (n : ℕ) → n < 2 ^ 32 → bytes ≡ u32_bytes n ++ rest → length rest < n → BeginsNone IsPacket packet_bytes bytes
+packet_cut : (bytes rest : List ℕ) (n : ℕ) → n < 2 ^ 32 → bytes ≡ u32_bytes n ++ rest → length rest < n → BeginsNone IsPacket packet_bytes bytes
 packet_cut bytes rest n small is l p more h e =
     let sizes = front IsU32 u32_bytes same_u32 n (length p) rest p more small h.fits (sym is ∙ e) in
     omega (arith, l, sizes.0, ap length sizes.1, length-append p more)
 
-pub packet_found : (bytes rest packet more : List ℕ) (n : ℕ) → n < 2 ^ 32 → AllByRecursion IsByte bytes → bytes ≡ u32_bytes n ++ rest
+packet_found : (bytes rest packet more : List ℕ) (n : ℕ) → n < 2 ^ 32 → AllByRecursion IsByte bytes → bytes ≡ u32_bytes n ++ rest
     → rest ≡ packet ++ more → length packet ≡ n → IsPacket packet × (bytes ≡ packet_bytes packet ++ more)
 packet_found bytes rest packet more n small all is cut l =
     let behind : AllByRecursion IsByte rest = all_back IsByte (u32_bytes n) rest (subst (AllByRecursion IsByte) is all) in (
@@ -57,12 +57,12 @@ pub media_short : (bytes : List ℕ) → length bytes < 2 → BeginsNone IsMedia
 media_short bytes l p rest h e =
     omega (arith, l, ap length e, length-append (media_bytes p) rest, length-append (u16_bytes (length p)) p, length-u16_bytes (length p))
 
-pub media_cut : (bytes rest : List ℕ) (n : ℕ) → n < 2 ^ 16 → bytes ≡ u16_bytes n ++ rest → length rest < n → BeginsNone IsMedia media_bytes bytes
+media_cut : (bytes rest : List ℕ) (n : ℕ) → n < 2 ^ 16 → bytes ≡ u16_bytes n ++ rest → length rest < n → BeginsNone IsMedia media_bytes bytes
 media_cut bytes rest n small is l p more h e =
     let sizes = front IsU16 u16_bytes same_u16 n (length p) rest p more small h.fits (sym is ∙ e) in
     omega (arith, l, sizes.0, ap length sizes.1, length-append p more)
 
-pub media_found : (bytes rest media more : List ℕ) (n : ℕ) → n < 2 ^ 16 → AllByRecursion IsByte bytes → bytes ≡ u16_bytes n ++ rest
+media_found : (bytes rest media more : List ℕ) (n : ℕ) → n < 2 ^ 16 → AllByRecursion IsByte bytes → bytes ≡ u16_bytes n ++ rest
     → rest ≡ media ++ more → length media ≡ n → IsMedia media × (bytes ≡ media_bytes media ++ more)
 media_found bytes rest media more n small all is cut l =
     let behind : AllByRecursion IsByte rest = all_back IsByte (u16_bytes n) rest (subst (AllByRecursion IsByte) is all) in (
@@ -270,20 +270,10 @@ tail_found bytes b1 b2 b3 b4 more media rate base_granule preroll shift hm hr hg
 
 -- ---- message fields
 
-pub field_cut : (bytes : List ℕ) → BeginsNone IsMedia media_bytes bytes → BeginsNone IsFieldOfFeed field_bytes bytes
-field_cut bytes none field more h e = none field.0 (media_bytes field.1 ++ more) h.name (e ∙ append_assoc (media_bytes field.0) (media_bytes field.1) more)
-
 pub value_cut : (bytes rest name : List ℕ) → IsMedia name → bytes ≡ media_bytes name ++ rest → BeginsNone IsMedia media_bytes rest → BeginsNone IsFieldOfFeed field_bytes bytes
 value_cut bytes rest name hn is none field more h e =
     let behind = front IsMedia media_bytes same_media name field.0 rest (media_bytes field.1) more hn h.name (sym is ∙ e) in
     none field.1 more h.value behind.1
-
-pub field_found : (bytes rest name value more : List ℕ) → IsMedia name → IsMedia value → bytes ≡ media_bytes name ++ rest → rest ≡ media_bytes value ++ more
-    → IsFieldOfFeed (name, value) × (bytes ≡ field_bytes (name, value) ++ more)
-field_found bytes rest name value more hn hv is then = (
-  record { name = hn; value = hv },
-  is ∙ ap (λ l. media_bytes name ++ l) then ∙ sym (append_assoc (media_bytes name) (media_bytes value) more),
-)
 
 pub fields_short : (bytes : List ℕ) → length bytes < 2 → BeginsNone (AreFields Two) (fields_bytes Two) bytes
 fields_short bytes l fields rest h e =
@@ -296,13 +286,13 @@ fields_short bytes l fields rest h e =
       length-u16_bytes (length fields),
     )
 
-pub fields_cut : (bytes rest : List ℕ) (n : ℕ) → n < 2 ^ 16 → bytes ≡ u16_bytes n ++ rest → BeginsNone (AreMany IsFieldOfFeed n) (flat_map field_bytes) rest
+fields_cut : (bytes rest : List ℕ) (n : ℕ) → n < 2 ^ 16 → bytes ≡ u16_bytes n ++ rest → BeginsNone (AreMany IsFieldOfFeed n) (flat_map field_bytes) rest
     → BeginsNone (AreFields Two) (fields_bytes Two) bytes
 fields_cut bytes rest n small is none fields more h e =
     let count = front IsU16 u16_bytes same_u16 n (length fields) rest (flat_map field_bytes fields) more small h.0 (sym is ∙ e) in
     none fields more (sym count.0, h.1) count.1
 
-pub fields_found : (bytes rest more : List ℕ) (n : ℕ) (fields : List NamedValue) → n < 2 ^ 16 → bytes ≡ u16_bytes n ++ rest → AreMany IsFieldOfFeed n fields → rest ≡ flat_map field_bytes fields ++ more
+fields_found : (bytes rest more : List ℕ) (n : ℕ) (fields : List NamedValue) → n < 2 ^ 16 → bytes ≡ u16_bytes n ++ rest → AreMany IsFieldOfFeed n fields → rest ≡ flat_map field_bytes fields ++ more
     → AreFields Two fields × (bytes ≡ fields_bytes Two fields ++ more)
 fields_found bytes rest more n fields small is many e = (
   (omega (arith, many.0, small), many.1),
@@ -337,10 +327,10 @@ fields_stand bytes rest n small is (more, (fields, h, e)) =
 
 -- ---- all that stands behind a stream's headers
 
-pub behind_cut : (v : Version) (bytes : List ℕ) → BeginsNone IsTail tail_bytes bytes → BeginsNone (IsBehind v) (behind_bytes v) bytes
+behind_cut : (v : Version) (bytes : List ℕ) → BeginsNone IsTail tail_bytes bytes → BeginsNone (IsBehind v) (behind_bytes v) bytes
 behind_cut v bytes none behind more h e = none behind.0 (fields_bytes v behind.1 ++ more) h.tail (e ∙ append_assoc (tail_bytes behind.0) (fields_bytes v behind.1) more)
 
-pub behind_fields_cut : (v : Version) (bytes rest : List ℕ) (tail : Tail) → IsTail tail → bytes ≡ tail_bytes tail ++ rest → BeginsNone (AreFields v) (fields_bytes v) rest
+behind_fields_cut : (v : Version) (bytes rest : List ℕ) (tail : Tail) → IsTail tail → bytes ≡ tail_bytes tail ++ rest → BeginsNone (AreFields v) (fields_bytes v) rest
     → BeginsNone (IsBehind v) (behind_bytes v) bytes
 behind_fields_cut v bytes rest tail ht is none behind more h e =
     let fields = front IsTail tail_bytes same_tail tail behind.0 rest (fields_bytes v behind.1) more ht h.tail (sym is ∙ e) in
@@ -401,7 +391,7 @@ stream_cut v bytes b1 b2 serial count hs hc e1 e2 none s more h e =
     none s.headers (behind_bytes v (behind_of_stream s) ++ more) (sym behind.0, stream_headers v s h)
     (behind.1 ∙ append_assoc (flat_map packet_bytes s.headers) (behind_bytes v (behind_of_stream s)) more)
 
-pub stream_tail_cut : (v : Version) (bytes b1 b2 b3 : List ℕ) (serial count : ℕ) → serial < 2 ^ 32 → count < 2 ^ 16 → bytes ≡ u32_bytes serial ++ b1 → b1 ≡ u16_bytes count ++ b2
+stream_tail_cut : (v : Version) (bytes b1 b2 b3 : List ℕ) (serial count : ℕ) → serial < 2 ^ 32 → count < 2 ^ 16 → bytes ≡ u32_bytes serial ++ b1 → b1 ≡ u16_bytes count ++ b2
     → Begins (AreMany IsPacket count) (flat_map packet_bytes) b2 b3 → BeginsNone (IsBehind v) (behind_bytes v) b3 → BeginsNone (IsStreamOfFeed v) (stream_bytes v) bytes
 stream_tail_cut v bytes b1 b2 b3 serial count hs hc e1 e2 some none s more h e =
     let behind = stream_behind v bytes b1 b2 more serial count s hs hc e1 e2 h e in
@@ -410,7 +400,7 @@ stream_tail_cut v bytes b1 b2 b3 serial count hs hc e1 e2 some none s more h e =
     none (behind_of_stream s) more (stream_behind_headers v s h) headers.1
 
 -- the stream with this serial, these headers, and this behind them
-abbrev pub stream_with : ℕ → List (List ℕ) → Behind → NewStream
+abbrev stream_with : ℕ → List (List ℕ) → Behind → NewStream
 stream_with serial headers (tail, fields) =
     record { serial = serial; headers = headers; media = tail.media; fields = fields; rate = tail.rate; base_granule = tail.base_granule; preroll = tail.preroll; shift = tail.shift }
 
@@ -463,14 +453,6 @@ stream_split v (Some p) bytes b1 b2 b3 serial count hs hc e1 e2 (headers, many, 
     (stream_with serial headers behind, found.0, found.1)
 
 -- ---- payloads
-
-pub not_begin : (v : Version) (payload : List ℕ) → BeginsNone IsSkeleton skeleton_bytes payload → ¬ IsPayload v 1 payload
-not_begin v payload none (RecordItem (CommandOf (BeginOf begin)), h, kind, e) =
-    none begin.skeleton (u16_bytes (length begin.streams) ++ flat_map (stream_bytes v) begin.streams) h.0.0 (sym e)
-not_begin v payload none (RecordItem (CommandOf (PutOf put)), h, kind, e) = omega (arith, kind)
-not_begin v payload none (RecordItem (CommandOf (EndOf serial)), h, kind, e) = omega (arith, kind)
-not_begin v payload none (RecordItem Flush, h, kind, e) = omega (arith, kind)
-not_begin v payload none (Announcement, h, kind, e) = omega (arith, kind)
 
 -- what stands behind the Skeleton of a begin
 pub begin_behind : (v : Version) (payload rest : List ℕ) (skeleton : Option SkeletonHead) → IsSkeleton skeleton → payload ≡ skeleton_bytes skeleton ++ rest → IsPayload v 1 payload
@@ -558,14 +540,6 @@ end_behind v payload (RecordItem (CommandOf (PutOf put)), h, kind, e) = absurd (
 end_behind v payload (RecordItem (CommandOf (EndOf serial)), h, kind, e) = ap length (sym e) ∙ length-u32_bytes serial
 end_behind v payload (RecordItem Flush, h, kind, e) = absurd (omega (arith, kind))
 end_behind v payload (Announcement, h, kind, e) = absurd (omega (arith, kind))
-
--- an announcement holds the one byte 2, and a flush nothing
-pub announcement_behind : (v : Version) (payload : List ℕ) → IsPayload v 0 payload → payload ≡ 2 ∷ []
-announcement_behind v payload (RecordItem (CommandOf (BeginOf begin)), h, kind, e) = absurd (omega (arith, kind))
-announcement_behind v payload (RecordItem (CommandOf (PutOf put)), h, kind, e) = absurd (omega (arith, kind))
-announcement_behind v payload (RecordItem (CommandOf (EndOf serial)), h, kind, e) = absurd (omega (arith, kind))
-announcement_behind v payload (RecordItem Flush, h, kind, e) = absurd (omega (arith, kind))
-announcement_behind v payload (Announcement, h, kind, e) = sym e
 
 pub flush_behind : (v : Version) (payload : List ℕ) → IsPayload v 4 payload → payload ≡ []
 flush_behind v payload (RecordItem (CommandOf (BeginOf begin)), h, kind, e) = absurd (omega (arith, kind))

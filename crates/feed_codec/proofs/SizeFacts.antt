@@ -69,7 +69,7 @@ length-skeleton_bytes head =
       length-fraction_bytes head.base,
     )
 
-pub length-tail_bytes : (tail : Tail) → length (tail_bytes tail) ≡ 31 + length tail.media
+length-tail_bytes : (tail : Tail) → length (tail_bytes tail) ≡ 31 + length tail.media
 unfolding tail_bytes
 length-tail_bytes tail =
     omega (

@@ -80,7 +80,7 @@ same_tail a b x y ha hb e =
     let behind : x ≡ y = cc preroll.1 in
     (λ i. record { media = media.0 i; rate = rate.0 i; base_granule = base.0 i; preroll = preroll.0 i; shift = shift i }, behind)
 
-pub same_skeleton_head : PrefixFree IsSkeletonHead skeleton_head_bytes
+same_skeleton_head : PrefixFree IsSkeletonHead skeleton_head_bytes
 unfolding skeleton_head_bytes
 same_skeleton_head a b x y ha hb e =
     let serial = fronts IsU32 u32_bytes same_u32 a.serial b.serial (fraction_bytes a.presentation ++ (fraction_bytes a.base ++ a.utc)) (fraction_bytes b.presentation ++ (fraction_bytes b.base ++ b.utc)) x y ha.serial hb.serial e in
@@ -105,13 +105,13 @@ same_field a b x y ha hb e =
     let value = same_media a.1 b.1 x y ha.value hb.value name.1 in
     (λ i. (name.0 i, value.0 i), value.1)
 
-pub same_fields : (v : Version) → PrefixFree (AreFields v) (fields_bytes v)
+same_fields : (v : Version) → PrefixFree (AreFields v) (fields_bytes v)
 same_fields One a b x y ha hb e = (ha ∙ sym hb, e)
 same_fields Two a b x y ha hb e =
     let count = fronts IsU16 u16_bytes same_u16 (length a) (length b) (flat_map field_bytes a) (flat_map field_bytes b) x y ha.0 hb.0 e in
     same_many IsFieldOfFeed field_bytes same_field (length b) a b x y (count.0, ha.1) (refl, hb.1) count.1
 
-pub same_behind : (v : Version) → PrefixFree (IsBehind v) (behind_bytes v)
+same_behind : (v : Version) → PrefixFree (IsBehind v) (behind_bytes v)
 same_behind v a b x y ha hb e =
     let tail = fronts IsTail tail_bytes same_tail a.0 b.0 (fields_bytes v a.1) (fields_bytes v b.1) x y ha.tail hb.tail e in
     let fields = same_fields v a.1 b.1 x y ha.fields hb.fields tail.1 in
@@ -201,12 +201,12 @@ same_command v (EndOf a) (BeginOf b) x y ha fa hb fb kind e = absurd (omega arit
 same_command v (EndOf a) (PutOf b) x y ha fa hb fb kind e = absurd (omega arith)
 
 -- a command's kind is one of three
-pub kind_within : (command : Command) → (1 ≤ kind_of command) × (kind_of command ≤ 3)
+kind_within : (command : Command) → (1 ≤ kind_of command) × (kind_of command ≤ 3)
 kind_within (BeginOf begin) = (omega arith, omega arith)
 kind_within (PutOf put) = (omega arith, omega arith)
 kind_within (EndOf serial) = (omega arith, omega arith)
 
-pub same_payload : (v : Version) (a b : Item) (x y : List ℕ) → IsItem v a → IsItem v b → kind_in a ≡ kind_in b → payload_in v a ++ x ≡ payload_in v b ++ y → (a ≡ b) × (x ≡ y)
+same_payload : (v : Version) (a b : Item) (x y : List ℕ) → IsItem v a → IsItem v b → kind_in a ≡ kind_in b → payload_in v a ++ x ≡ payload_in v b ++ y → (a ≡ b) × (x ≡ y)
 same_payload v Announcement Announcement x y ha hb kind e = (refl, cc e)
 same_payload v Announcement (RecordItem (CommandOf b)) x y ha hb kind e = absurd (omega (arith, kind, kind_within b))
 same_payload v Announcement (RecordItem Flush) x y ha hb kind e = absurd (omega (arith, kind))

@@ -9,7 +9,7 @@ use Rattle.feed_codec.specs.declared.item.Record.TheVariants.{Command as Command
 use Rattle.feed_run.specs.declared.counting.Counts.{Counts}
 use Rattle.feed_run.specs.Counting.{counts_with, left_by}
 
-pub left_few : (refusal : Refusal) (waiting : ℕ) → left_by refusal 0 waiting ≤ waiting
+left_few : (refusal : Refusal) (waiting : ℕ) → left_by refusal 0 waiting ≤ waiting
 left_few Failed waiting = omega arith
 left_few Disk waiting = omega arith
 left_few refusal waiting = omega arith

@@ -38,10 +38,10 @@ left_of Disk count waiting same = refl
 left_of refusal count waiting same = same
 
 -- one record's
-pub record CountsOne (counts now : Counts) (waiting : List Command) (given : Record) (reply : Reply) : Type 0 where
-  pub commands : now.commands ≡ counts.commands + length (commands_in (given ∷ []))
-  pub kept : now.kept ≡ counts.kept + length (kept_by waiting given reply)
-  pub waits : now.waiting ≡ length (waiting_after waiting given reply)
+record CountsOne (counts now : Counts) (waiting : List Command) (given : Record) (reply : Reply) : Type 0 where
+  commands : now.commands ≡ counts.commands + length (commands_in (given ∷ []))
+  kept : now.kept ≡ counts.kept + length (kept_by waiting given reply)
+  waits : now.waiting ≡ length (waiting_after waiting given reply)
 
 counts_one : (counts : Counts) (waiting : List Command) (given : Record) (reply : Reply) → counts.waiting ≡ length waiting → CountsOne counts (counts_with counts given reply) waiting given reply
 counts_one counts waiting (CommandOf command) (KeptOf kept) same =

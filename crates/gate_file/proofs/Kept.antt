@@ -9,7 +9,7 @@ use Rattle.gate_file.proofs.Staged.{ready_staged}
 pub inside : (contents : List ℕ) (end : ℕ) → end ≡ length (take end contents) → end ≤ length contents
 inside contents end is = grind (arith, common_steps)
 
-pub kept_staged : {D : Type 0} (is_honest : D → Type 0) (state : D → DiskState) (disk : D) (end staged : ℕ) (whole : Bool) → end + staged < 2 ^ 63 → (whole ≡ true → 0 < staged)
+kept_staged : {D : Type 0} (is_honest : D → Type 0) (state : D → DiskState) (disk : D) (end staged : ℕ) (whole : Bool) → end + staged < 2 ^ 63 → (whole ≡ true → 0 < staged)
     → (is_honest disk → IsStaged end staged (state disk)) → (whole ≡ true → is_honest disk → IsStagedWhole end staged (state disk)) → IsKept is_honest state (gate_state disk end staged whole false)
 kept_staged is_honest state disk end staged whole short some is is_whole = record {
   short = short;

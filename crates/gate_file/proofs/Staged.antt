@@ -1,5 +1,5 @@
 -- Writes behind a closed byte.
-use Rattle.std.proofs.Common.{◌≡◌, ◌≢◌, inl, ℕ, ◌+◌, ◌-◌, ◌<◌, ◌≤◌, List, [], ◌∷◌, ◌++◌, length, take, drop, refl, sym, ◌∙◌, ap, subst, arith, append_assoc, length-append, take-append-drop}
+use Rattle.std.proofs.Common.{◌≡◌, ◌≢◌, inl, ℕ, ◌+◌, ◌-◌, ◌<◌, List, [], ◌∷◌, ◌++◌, length, take, drop, refl, sym, ◌∙◌, ap, subst, arith, append_assoc, length-append, take-append-drop}
 use Rattle.std.proofs.lemmas.List.{take_at}
 use Rattle.std.proofs.Math.Seq.{drop-append-add}
 use Rattle.disk_model.specs.Image.{DiskState, IsImage, IsSettled, overwritten}
@@ -19,26 +19,16 @@ behind_front front rest bytes at is =
     (λ i. (front_is i ++ bytes) ++ back_is i) ∙ append_assoc front bytes (drop (length bytes) rest)
 
 -- every image commits to the bytes in front of the closed byte
-pub closed_image : (b image : List ℕ) (gate n : ℕ) → ArePages b → gate ≢ capture → take n image ≡ b ++ gate ∷ [] → CommitsTo b image
+closed_image : (b image : List ℕ) (gate n : ℕ) → ArePages b → gate ≢ capture → take n image ≡ b ++ gate ∷ [] → CommitsTo b image
 closed_image b image gate n pages shut front =
     commits_closed b image gate (drop n image) pages shut
     (sym (take-append-drop n image) ∙ ap (λ (l : List ℕ). l ++ drop n image) front ∙ append_assoc b (gate ∷ []) (drop n image))
 
-pub staged_image : (b all : List ℕ) (disk : DiskState) (image : List ℕ) → (s : Stages b all disk) → IsImage disk image → CommitsTo b image
-staged_image b all disk image s is = closed_image b image s.gate (length b + 1) s.pages s.closed (front_image _ _ disk image s.keeps is)
-
 same_keeps : (n m : ℕ) (front other : List ℕ) (disk : DiskState) → n ≡ m → front ≡ other → KeepsFront n front disk → KeepsFront m other disk
 same_keeps n m front other disk same is keeps = subst (λ (k : ℕ). KeepsFront k other disk) same (subst (λ (l : List ℕ). KeepsFront n l disk) is keeps)
 
--- what `write_behind` asks
-pub asks_front : (b all : List ℕ) (disk : DiskState) (n : ℕ) → n ≡ length b + 1 → Stages b all disk → KeepsFront n (take n disk.synced) disk
-asks_front b all disk n is s = same_keeps (length b + 1) n (b ++ s.gate ∷ []) (take n disk.synced) disk (sym is) (sym s.keeps.synced ∙ ap (λ (k : ℕ). take k disk.synced) (sym is)) s.keeps
-
 pub image_behind : (b all : List ℕ) (disk : DiskState) (n : ℕ) (image : List ℕ) → n ≡ length b + 1 → Stages b all disk → take n image ≡ take n disk.synced → CommitsTo b image
 image_behind b all disk n image is s front = closed_image b image s.gate n s.pages s.closed (front ∙ ap (λ (k : ℕ). take k disk.synced) is ∙ s.keeps.synced)
-
-pub room_behind : (b all : List ℕ) (disk : DiskState) → (s : Stages b all disk) → length b + 1 + length (drop 1 all) ≤ length disk.contents
-room_behind b all disk s = omega (arith, ap length s.contents, length-append b (s.gate ∷ (drop 1 all ++ s.tail)), length-append (drop 1 all) s.tail)
 
 -- after the write
 pub written_behind : (b all bytes part : List ℕ) (old new : DiskState) (n at : ℕ) → n ≡ length b + 1 → at ≡ n + length (drop 1 all) → drop 1 all ++ part ≡ drop 1 (all ++ bytes)
@@ -60,7 +50,7 @@ written_behind b all bytes part old new n at is place joined s written keeps =
     }
 
 -- between two appends nothing is staged
-pub stands_staged : (b : List ℕ) (disk : DiskState) → StandsAt b disk → Stages b [] disk
+stands_staged : (b : List ℕ) (disk : DiskState) → StandsAt b disk → Stages b [] disk
 stands_staged b disk s =
     let long : length (b ++ s.gate ∷ []) ≡ length b + 1 = length-append b (s.gate ∷ []) in
     let whole : disk.contents ≡ (b ++ s.gate ∷ []) ++ s.tail = s.contents ∙ sym (append_assoc b (s.gate ∷ []) s.tail) in
@@ -134,10 +124,10 @@ as_append staged pages some =
     let same : pages_in (staged ++ 0 ∷ []) ≡ staged = take_at staged (0 ∷ []) (length (staged ++ 0 ∷ []) - 1) (omega (arith, length-append staged (0 ∷ []))) in
     (record { pages = subst ArePages (sym same) pages; some = λ none. some (sym same ∙ none); closed = ap (λ (l : List ℕ). l ++ 0 ∷ []) (sym same) }, same)
 
-pub body_of : (b staged : List ℕ) (disk : DiskState) (contents : List ℕ) → (s : StagesWhole b staged disk) → contents ≡ disk.contents → contents ≡ b ++ s.gate ∷ ((drop 1 staged ++ 0 ∷ []) ++ s.tail)
+body_of : (b staged : List ℕ) (disk : DiskState) (contents : List ℕ) → (s : StagesWhole b staged disk) → contents ≡ disk.contents → contents ≡ b ++ s.gate ∷ ((drop 1 staged ++ 0 ∷ []) ++ s.tail)
 body_of b staged disk contents s same = same ∙ s.contents ∙ ap (λ (l : List ℕ). b ++ s.gate ∷ l) (sym (append_assoc (drop 1 staged) (0 ∷ []) s.tail))
 
-pub begins_all : (staged : List ℕ) → ArePages staged → staged ≢ [] → staged ++ 0 ∷ [] ≡ 79 ∷ (drop 1 staged ++ 0 ∷ [])
+begins_all : (staged : List ℕ) → ArePages staged → staged ≢ [] → staged ++ 0 ∷ [] ≡ 79 ∷ (drop 1 staged ++ 0 ∷ [])
 begins_all staged pages some =
     let first = pages_begin staged pages some in
     subst (λ (l : List ℕ). l ++ 0 ∷ [] ≡ 79 ∷ (drop 1 l ++ 0 ∷ [])) (sym first.2) refl
@@ -211,14 +201,6 @@ is_whole b all disk end count s is size =
 -- nothing is staged
 pub ready_staged : (disk : DiskState) (end : ℕ) → IsReadyAt end disk → IsStaged end 0 disk
 ready_staged disk end ready = is_staged (take end disk.contents) [] disk end 0 (stands_staged (take end disk.contents) disk ready.stands) ready.long refl (λ none. ready.stands.settled)
-
-pub staged_ready : (disk : DiskState) (end count : ℕ) → count ≡ 0 → IsStaged end count disk → IsReadyAt end disk
-staged_ready disk end count none was =
-    let i : IsStaged end 0 disk = subst (λ (n : ℕ). IsStaged end n disk) none was in
-    record {
-      long = i.long;
-      stands = record { gate = i.stages.gate; tail = i.stages.tail; contents = i.stages.contents; closed = i.stages.closed; pages = i.stages.pages; settled = i.settled refl };
-    }
 
 pub has_grown : (pages : List ℕ) (old new : DiskState) (end size : ℕ) → IsGrown (take end old.contents) pages (end + size) new → HasGrown end size pages old new
 has_grown pages old new end size is = record { committed = is.committed; ready = record { long = is.long; stands = is.stands } }

@@ -15,9 +15,6 @@ pub record CutSoFar (segments : ℕ) (rest values body : List ℕ) (packets : Li
   pub bodies : rest ++ body ≡ concat packets ++ (unfinished ++ left)
   pub left_size : length unfinished ≡ 255 * later
 
-pub cut_nothing : (segments : ℕ) (rest body : List ℕ) → length rest ≡ 255 * segments → CutSoFar segments rest [] body [] rest body
-cut_nothing segments rest body e = record { later = segments; lacing = append-nil (replicate segments 255); bodies = refl; left_size = e }
-
 full_and : (n : ℕ) (values : List ℕ) → replicate n 255 ++ 255 ∷ values ≡ replicate (suc n) 255 ++ values
 full_and zero values = refl
 full_and (suc n) values = ap (λ l. 255 ∷ l) (full_and n values)

@@ -25,7 +25,7 @@ use Rattle.gathering.proofs.Pages.{keeps_other, keeps_bare}
 use Rattle.gathering.proofs.First.{keeps_first, begun_by, one_wanted}
 use Rattle.gathering.proofs.Steps.{Taken, taken_last, taken_serials, taken_wanted, Marks, marks, begun_same, kept_same, ends_more}
 
-pub some_is : {A : Type 0} (x : A) (list : List A) → has_some (x ∷ list) ≡ true
+some_is : {A : Type 0} (x : A) (list : List A) → has_some (x ∷ list) ≡ true
 some_is x list = ap not (ne_eqb (length (x ∷ list)) 0 (λ e. absurd (omega (arith, e))))
 
 has_more : {A : Type 0} (front : List A) (x : A) (back : List A) → has_some (front ++ x ∷ back) ≡ true

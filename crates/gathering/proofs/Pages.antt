@@ -50,7 +50,7 @@ keeps_other pages page kept stream other k =
       marked = k.marked;
     }
 
-pub ended_own : (pages : List Page) (page : Page) (serial : ℕ) → serial ≡ page.serial → has_ended (pages ++ page ∷ []) serial ≡ (has_ended pages serial || is_last page)
+ended_own : (pages : List Page) (page : Page) (serial : ℕ) → serial ≡ page.serial → has_ended (pages ++ page ∷ []) serial ≡ (has_ended pages serial || is_last page)
 ended_own pages page serial own =
     ap (list_any is_last) (with_own serial pages (page ∷ []) (sym own, tt)) ∙ any_push (pages_with serial pages)
   where
@@ -63,7 +63,7 @@ ended_own pages page serial own =
     any_push (p ∷ l) = ap (λ b. is_last p || b) (any_push l) ∙ or_more (is_last p) (list_any is_last l) (is_last page)
 
 -- the page's stream has the packets that end in it
-pub keeps_own : (pages : List Page) (page : Page) (old new : KeptStream) (stream : Stream) (more : List (List ℕ)) → old.serial ≡ page.serial → new.serial ≡ old.serial →
+keeps_own : (pages : List Page) (page : Page) (old new : KeptStream) (stream : Stream) (more : List (List ℕ)) → old.serial ≡ page.serial → new.serial ≡ old.serial →
     EndIn old.rest page more new.rest → new.ended ≡ (old.ended || is_last page) → KeepsUp pages old stream → KeepsUp (pages ++ page ∷ []) new (grown more (is_last page) stream)
 keeps_own pages page old new stream more own same cut ended k =
     let with_page : pages_with new.serial (pages ++ page ∷ []) ≡ pages_with old.serial pages ++ page ∷ [] =

@@ -71,7 +71,7 @@ grows w ((step, disk) ∷ steps) =
     record { more = on.more; is = on.is; has = on.has; rest = on.rest; split = on.split; made = on.made }
 
 -- groups are no longer than they may be
-pub short_group : {C : Type 0} (most : ℕ) (w : World C) (call : Call C) → length w.held < most → length w.in_doubt ≤ most → length (group_in_doubt w call) ≤ most
+short_group : {C : Type 0} (most : ℕ) (w : World C) (call : Call C) → length w.held < most → length w.in_doubt ≤ most → length (group_in_doubt w call) ≤ most
 short_group most w Opening held in_doubt = in_doubt
 short_group most w (Staging c) held in_doubt = in_doubt
 short_group most w (Committing c) held in_doubt = grind (arith, common_steps)

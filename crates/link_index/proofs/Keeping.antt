@@ -1,20 +1,14 @@
 -- What is kept of an index while pages are added.
-use Rattle.std.proofs.Common.{◌≡◌, ◌≢◌, ℕ, suc, ◌+◌, ◌<◌, ◌≤◌, ◌^◌, Bool, true, false, List, [], ◌∷◌, ◌++◌, length, map, take, drop, refl, sym, ◌∙◌, ap, subst, arith, length-append, None}
-use Rattle.std.specs.Prelude.{nat_eq, not}
-use Rattle.std.specs.List.{list_any}
+use Rattle.std.proofs.Common.{◌≡◌, ℕ, ◌+◌, true, false, List, [], ◌∷◌, ◌++◌, length, take, drop, sym, ◌∙◌, ap, subst, arith, length-append, None}
 use Rattle.std.proofs.Math.Seq.{take-append_seam}
 use Rattle.std.proofs.lemmas.List.{length-map}
-use Rattle.std.proofs.lemmas.Bool.{eqb-false}
 use Rattle.ogg_page.specs.Page.{Page, page_bytes, page_size}
 use Rattle.ogg_page.specs.PageLaws.{length-page_bytes}
 use Rattle.ogg_page.specs.LogicalStream.{is_first}
-use Rattle.link_chain.specs.declared.stream_state.StreamState.{StreamState}
 use Rattle.link_chain.specs.ChainState.{ChainState, chain_state_of, is_open}
 use Rattle.link_chain.specs.Progress.{change_at}
 use Rattle.link_chain.specs.Followed.{opened, joined, continued, entered, followed}
-use Rattle.link_chain.specs.Taking.{fault_of_page, links_with, later_rules}
-use Rattle.link_chain.specs.Laws.Rules.{NoneBroken}
-use Rattle.link_chain.specs.Laws.PageRules.{later_kept}
+use Rattle.link_chain.specs.Taking.{fault_of_page, links_with}
 use Rattle.link_chain.specs.Laws.PageState.{opened_state, joined_state, later_state, opens_few}
 use Rattle.link_index.specs.declared.info.StreamInfo.{StreamInfo}
 use Rattle.link_index.specs.declared.rows.Row.{Row}
@@ -96,23 +90,3 @@ kept_later chain next page rows new_rows streams new_streams k moves later none 
       last = last ∙ k.last ∙ sym (length-map chain.streams (change_at page.serial (followed page))) ∙ sym (ap (λ (c : ChainState). length c.streams) is);
       within = subst (λ n. AreWithin n new_rows new_streams) (size_moved chain next page (ap (λ (c : ChainState). c.length_of) is)) (within chain.length_of k.within);
     }
-
--- ---- there is a last link
-open_streams : (streams : List StreamState) → list_any (λ (s : StreamState). not s.ended) streams ≡ true → 0 < length streams
-open_streams [] e = cc
-open_streams (s ∷ streams) e = omega arith
-
-counted_rows : (rows : List Row) → 0 < last_count rows → 0 < length rows
-counted_rows [] some = some
-counted_rows (row ∷ rows) some = omega arith
-
-pub some_joined : (chain : ChainState) (rows : List Row) (streams : List StreamInfo) → IsKept chain rows streams → is_open chain ≡ true → 0 < length rows
-some_joined chain rows streams k open' = counted_rows rows (omega (arith, k.last, open_streams chain.streams open'))
-
-pub some_later : (chain : ChainState) (page : Page) (rows : List Row) (streams : List StreamInfo) → IsKept chain rows streams → is_first page ≡ false → fault_of_page chain page ≡ None → 0 < length rows
-some_later chain page rows streams k later none =
-    let kept : NoneBroken (later_rules chain page) = later_kept chain page later none in
-    omega (arith, k.count, some chain.links (eqb-false chain.links 0 kept.0))
-  where
-    some : (n : ℕ) → n ≢ 0 → 0 < n
-    some n ne = omega (arith, ne)

@@ -9,7 +9,6 @@ use Rattle.ogg_page.specs.PageLaws.{length-page_bytes}
 use Rattle.ogg_page.specs.LogicalStream.{is_last}
 use Rattle.std.proofs.lemmas.List.{append-nil, take-append-le, take-append-drop, drop-take, take-map, take_all, length-take-le}
 use Rattle.ogg_page.specs.Page.{Page, page_bytes}
-use Rattle.link_index.specs.declared.info.LinkInfo.{LinkInfo}
 use Rattle.link_index.specs.declared.info.StreamInfo.{StreamInfo}
 use Rattle.link_index.specs.declared.rows.Row.{Row}
 use Rattle.link_index.specs.Index.{LinkEntry}
@@ -28,7 +27,7 @@ pub packed_with : (rows : List Row) (row : Row) (at end : ℕ) → ArePacked at 
 packed_with [] row at end p e = (sym p, ap (λ n. n + row.count) p ∙ e)
 packed_with (first ∷ rows) row at end p e = (p.0, packed_with rows row (at + first.count) end p.1 e)
 
-pub packed_end : (rows : List Row) (at end : ℕ) → ArePacked at rows end → at ≤ end
+packed_end : (rows : List Row) (at end : ℕ) → ArePacked at rows end → at ≤ end
 packed_end [] at end p = omega (arith, p)
 packed_end (row ∷ rows) at end p = omega (arith, packed_end rows (at + row.count) end p.1)
 
@@ -60,7 +59,7 @@ cut_front : (n : ℕ) (front own : List StreamInfo) (k : ℕ) → k + n ≤ leng
 cut_front n front own k inside =
     sym (drop-take k n (front ++ own)) ∙ ap (drop k) (take-append-le (k + n) front own inside) ∙ drop-take k n front
 
-pub entries_front : (front own other : List StreamInfo) (rows : List Row) → AllByRecursion (λ (row : Row). row.first + row.count ≤ length front) rows
+entries_front : (front own other : List StreamInfo) (rows : List Row) → AllByRecursion (λ (row : Row). row.first + row.count ≤ length front) rows
     → entries_of (front ++ own) rows ≡ entries_of (front ++ other) rows
 entries_front front own other [] inside = refl
 entries_front front own other (row ∷ rows) inside =

@@ -1,5 +1,5 @@
 -- Pages that are added one by one while bytes are walked through.
-use Rattle.std.proofs.Common.{◌≡◌, ◌≢◌, ℕ, List, [], ◌∷◌, ◌++◌, refl, sym, ◌∙◌, ap, subst, append_assoc, Option, Some, None, Result, Ok, Err, inl, inr}
+use Rattle.std.proofs.Common.{◌≡◌, ◌≢◌, ℕ, List, [], ◌∷◌, ◌++◌, refl, sym, ◌∙◌, ap, subst, append_assoc, Option, Some, None, Result, Err}
 use Rattle.std.proofs.Common.{cond}
 use Rattle.std.specs.Prelude.{⊤, Bool, true, false}
 use Rattle.std.proofs.lemmas.Bool.{cond_both}
@@ -30,9 +30,6 @@ taken_more : (start : List (List Page)) (pages : List Page) (page : Page) (after
 taken_more start [] page after t none =
     (ap (λ (l : List (List Page)). fault_of_page (chain_state_of l) page) (sym t) ∙ none, ap (λ (l : List (List Page)). links_with l page) t)
 taken_more start (p ∷ pages) page after t none = (t.0, taken_more (links_with start p) pages page after t.1 none)
-
-pub adds_none : (links : List (List Page)) (bytes : List ℕ) (index : IndexState) → IsIndexOf links index → AddsSome links bytes index bytes
-adds_none links bytes index is = record { pages = []; after = links; are_pages = tt; spelled = refl; taken = refl; is_index = is }
 
 pub adds_more : (links : List (List Page)) (bytes rest more : List ℕ) (index next : IndexState) (page : Page) → AddsSome links bytes index rest
     → IsPage page → rest ≡ page_bytes page ++ more → fault_of_page index.chain.chain page ≡ None

@@ -135,7 +135,7 @@ stream_of serial packets ended = record { serial = serial; packets = packets; en
 abbrev pub grow : Stream → Entry → Stream
 grow stream entry = cond (nat_eq stream.serial entry.serial) (record stream { packets = stream.packets ++ entry.packet ∷ [] }) stream
 
-abbrev pub end_at : ℕ → Stream → Stream
+abbrev end_at : ℕ → Stream → Stream
 end_at serial stream = cond (nat_eq stream.serial serial) (record stream { ended = true }) stream
 
 abbrev pub end_by : Page → Stream → Stream

@@ -3,13 +3,13 @@ use Rattle.std.proofs.Common.{◌≡◌, ◌≤◌, ℕ, zero, suc, ◌+◌, Opt
 use Rattle.std.specs.Prelude.{slice_get}
 use Rattle.std.specs.List.{flat_map}
 use Rattle.std.specs.Io.KnownBytes.{Appends}
-use Rattle.std.proofs.KnownBytes.{Appends-nil, Appends-trans}
+use Rattle.std.proofs.KnownBytes.{Appends-trans}
 use Rattle.ogg_page.specs.Output.{WritesPrefix}
 use Rattle.ogg_page.specs.Page.{Page, bytes_of_pages}
 use Rattle.ogg_finish.specs.Finishing.{finished_link, finished_links}
 use Rattle.ogg_finish.proofs.Passed.{prefix_on}
 
-abbrev pub file_text : List (List Page) → List ℕ
+abbrev file_text : List (List Page) → List ℕ
 file_text links = flat_map bytes_of_pages (finished_links links)
 
 -- the first links of the file were written
@@ -17,9 +17,6 @@ pub record LinksWritten (links : List (List Page)) (number : ℕ) (old now : Opt
   pub written : List ℕ
   pub whole : file_text links ≡ written ++ file_text (drop number links)
   pub appended : Appends old now written
-
-pub none_written : (links : List (List Page)) (old : Option (List ℕ)) → LinksWritten links 0 old old
-none_written links old = record { written = []; whole = refl; appended = Appends-nil old }
 
 next_is : (links : List (List Page)) (number : ℕ) (pages : List Page) → slice_get links number ≡ Some pages → drop number links ≡ pages ∷ drop (number + 1) links
 next_is [] number pages e = cc

@@ -34,7 +34,7 @@ each_page P mark page h m =
         (λ _. cond_both (nat_eq page.sequence n.sequence) (marked_last page ∷ []) [] (λ l. AllByRecursion P l) (λ _. (m later, tt)) (λ _. tt))
 
 -- for the pages of any link
-abbrev pub in_link : List Page → Page → List Page
+abbrev in_link : List Page → Page → List Page
 in_link link page = finished_page (end_mark (pages_with page.serial link)) page
 
 each_of : (P : Page → Type 0) (link pages : List Page) → ((page : Page) → P page → is_first page ≡ false → P (marked_last page)) →
@@ -150,7 +150,7 @@ goes_on before (page ∷ pages) later known fits =
     )
 
 -- ---- the finished link
-pub is_link : (link : List Page) → IsLink link → AllByRecursion IsPage link → IsLink (finished_link link)
+is_link : (link : List Page) → IsLink link → AllByRecursion IsPage link → IsLink (finished_link link)
 is_link link l all =
     let others : List Page = others_of link l in
     let split : finished_link link ≡ l.first_pages ++ others = split_new link l in

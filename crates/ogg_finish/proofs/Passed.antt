@@ -70,9 +70,6 @@ pub record Looked (pages : List Page) (left : List ℕ) (old now : List StreamEn
   pub left_is : left ≡ bytes_of_pages more
   pub whole : ends_after pages old ≡ ends_after more now
 
-pub look_begun : (pages : List Page) (left : List ℕ) (old : List StreamEnd) → AllByRecursion IsPage pages → left ≡ bytes_of_pages pages → Looked pages left old old
-look_begun pages left old are is = record { more = pages; are_pages = are; left_is = is; whole = refl }
-
 pub looked : (pages : List Page) (left rest : List ℕ) (old mid now : List StreamEnd) (page : Page) → Looked pages left old mid → IsPage page
     → left ≡ page_bytes page ++ rest → now ≡ ends_after (page ∷ []) mid → Looked pages rest old now
 looked pages left rest old mid now page w is split next =

@@ -92,7 +92,7 @@ numbers_read text (Some at) resource found e =
     ap (λ t. codes "/link/" ++ t) parts ∙ ap path_to same)
 
 -- what a path names has that path
-pub named_read : (path : List ℕ) (resource : Resource) → named_by path ≡ Some resource → path ≡ path_to resource
+named_read : (path : List ℕ) (resource : Resource) → named_by path ≡ Some resource → path ≡ path_to resource
 named_read path resource =
     let Reads : Option Resource → Type 0 = λ named. named ≡ Some resource → path ≡ path_to resource in
     let by_numbers : Option Resource = named_by_numbers (first_slash (drop 6 path)) (drop 6 path) in

@@ -13,7 +13,7 @@ use Rattle.ogg_page.specs.Laws.BitNumbers.{number-add, number-append, number-bit
 use Rattle.ogg_page.specs.Laws.ByteStep.{left_of, length-left_of}
 
 -- ---- bytes as bits
-pub length-message_bits : (bytes : List ℕ) → length (message_bits bytes) ≡ 8 * length bytes
+length-message_bits : (bytes : List ℕ) → length (message_bits bytes) ≡ 8 * length bytes
 unfolding message_bits
 length-message_bits [] = refl
 length-message_bits (b ∷ bytes) = omega (arith, length-append (bits_of 8 b) (flat_map (bits_of 8) bytes), length-bits_of 8 b, length-message_bits bytes)

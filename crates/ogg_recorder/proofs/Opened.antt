@@ -28,7 +28,7 @@ commits_as_before before b source image is was now = record {
   keeps = λ bytes commits. subst (λ (l : List ℕ). CommitsTo l image) (one_commit b bytes source was commits) now;
 }
 
-pub shows_as_before : (before : DiskState) (image : List ℕ) → IsAsBefore Commits before image → IsAsBefore Shows before image
+shows_as_before : (before : DiskState) (image : List ℕ) → IsAsBefore Commits before image → IsAsBefore Shows before image
 shows_as_before before image is = record {
   source = is.source;
   was = is.was;

@@ -32,10 +32,6 @@ opened_if : (open_now : Bool) → false ≡ not open_now → open_now ≡ true
 opened_if true e = refl
 opened_if false e = absurd cc
 
-shut_if : (open_now : Bool) → true ≡ not open_now → open_now ≡ false
-shut_if false e = refl
-shut_if true e = absurd cc
-
 add_last : (recording : Recording) (commands : List Command) (command : Command) → fold add recording (commands ++ command ∷ []) ≡ add (fold add recording commands) command
 add_last recording commands command = fold-append add recording commands (command ∷ [])
 

@@ -1,5 +1,5 @@
 -- What a reopening leaves of its disk.
-use Rattle.std.proofs.Common.{◌≡◌, ℕ, ◌≤◌, Bool, false, Option, Some, Result, Ok, Err, List, sym, ap, subst}
+use Rattle.std.proofs.Common.{◌≡◌, ℕ, ◌≤◌, Bool, false, Some, Result, Ok, Err, List, sym, ap, subst}
 use Rattle.std.specs.Prelude.{◌↔◌, ⊤}
 use Rattle.disk_model.specs.Image.{DiskState}
 use Rattle.disk_model.specs.Clock.{LeavesOnly}
@@ -20,9 +20,6 @@ fault_is fault e = cc
 
 no_fault : ◌≡◌ {A = Result ⊤ OpenFault} (Ok tt) (Err Disk) → ⊥
 no_fault e = cc
-
-pub same_disk : {D : Type 0} (a b : D) (o : Option D) → o ≡ Some a → o ≡ Some b → a ≡ b
-same_disk a b o e f = cc
 
 module _ {D : Type 0} (is_honest : D → Type 0) (state : D → DiskState) (moment : D → ℕ) (images_since : D → ℕ → List ℕ → Type 0) (failures : D → ℕ) where
   -- the recorder that was opened, once its group is set

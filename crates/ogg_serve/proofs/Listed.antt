@@ -61,7 +61,7 @@ stays_one committed more law (Head received) (Sending rest) is = is
 stays_one committed more law (Response sending) (Reading bytes) is = is
 stays_one committed more law (Response sending) (Sending rest) is = law rest sending is
 
-pub all_stay : (committed more : List ℕ) → ((rest : List ℕ) (sending : SendingState) → IsLeft committed sending rest → IsLeft (committed ++ more) sending rest)
+all_stay : (committed more : List ℕ) → ((rest : List ℕ) (sending : SendingState) → IsLeft committed sending rest → IsLeft (committed ++ more) sending rest)
     → (parts : List SessionParts) (machine : List Session) → AreSessions committed parts machine → AreSessions (committed ++ more) parts machine
 all_stay committed more law [] [] are = tt
 all_stay committed more law [] (m ∷ machine) are = are

@@ -25,7 +25,7 @@ full m parts are many =
     or_left (nat_le most_sessions (length m.sessions)) (nat_le (2 ^ 64) m.next_id)
     (le-leb most_sessions (length m.sessions) (let n = as_many m.committed parts m.sessions are in omega (arith, n, many)))
 
-pub not_full : (m : HubState) (parts : List SessionParts) → AreSessions m.committed parts m.sessions → length parts < 64 → m.next_id < 2 ^ 64 → is_full m ≡ false
+not_full : (m : HubState) (parts : List SessionParts) → AreSessions m.committed parts m.sessions → length parts < 64 → m.next_id < 2 ^ 64 → is_full m ≡ false
 not_full m parts are few short =
     elim (cases_Bool (is_full m)) [
       | inl is ↦

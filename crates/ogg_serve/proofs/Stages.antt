@@ -97,7 +97,7 @@ not_ready : (fault : HubFault) → ◌≡◌ {A = Result Progress HubFault} (Err
 not_ready fault e = cc
 
 -- the session is left out, whatever its phase
-pub left_out : (id : ℕ) (after : Phase) (sessions : List Session) → without_in id (with_phase_in id after sessions) ≡ without_in id sessions
+left_out : (id : ℕ) (after : Phase) (sessions : List Session) → without_in id (with_phase_in id after sessions) ≡ without_in id sessions
 left_out id after [] = refl
 left_out id after (s ∷ sessions) =
     elim (cases_Bool (nat_eq s.id id)) [
@@ -113,7 +113,7 @@ left_out id after (s ∷ sessions) =
     ]
 
 -- the machine with the sessions that are left after a fault
-abbrev pub left_machine : HubFault → ℕ → Phase → HubState → HubState
+abbrev left_machine : HubFault → ℕ → Phase → HubState → HubState
 left_machine fault id after m = record m { sessions = left_after fault id (with_phase_in id after m.sessions) }
 
 out : (m : HubState) (id : ℕ) (after : Phase) → left_machine Source id after m ≡ without_session id m

@@ -34,9 +34,6 @@ same_rest a b x y long e = sym (drop_at a b (length a) refl) ∙ ap (drop (lengt
 same_sum : (a b x y : List ℕ) → a ≡ x → b ≡ y → a ++ b ≡ x ++ y
 same_sum a b x y e f = ap (λ (l : List ℕ). l ++ b) e ∙ ap (λ (l : List ℕ). x ++ l) f
 
-count_held : (n kept held waiting : ℕ) → n ≡ kept + held → waiting ≡ held → n - waiting ≡ kept + 0
-count_held n kept held waiting e f = omega (arith, e, f)
-
 -- ---- refusals
 same_refusal : {T : Type 0} (a b : Refusal) → ◌≡◌ {A = Result T Refusal} (Err a) (Err b) → a ≡ b
 same_refusal a b e = cc

@@ -48,7 +48,7 @@ moved bytes rest from place page e le stands =
     }
 
 -- ---- places where no page begins
-abbrev pub NoneFrom : List ℕ → ℕ → ℕ → Type 0
+abbrev NoneFrom : List ℕ → ℕ → ℕ → Type 0
 NoneFrom bytes from to = (place : ℕ) (page : Page) → from ≤ place → place < to → StandsAt bytes place page → ⊥
 
 pub none_before : (bytes rest : List ℕ) (from skipped : ℕ) → rest ≡ drop from bytes → Nowhere (OccursAt rest (codes "OggS")) 0 skipped → NoneFrom bytes from (from + skipped)

@@ -18,7 +18,7 @@ part_of bytes first last position = record { bytes = bytes; first = first; last 
 
 -- ---- the parts in a page
 
-pub parts-end : (full total size : ℕ) (position : Option ℕ) (first : Bool) (value : ℕ) (lacing body : List ℕ) → value ≢ 255 → size + (255 * full + value) ≡ total →
+parts-end : (full total size : ℕ) (position : Option ℕ) (first : Bool) (value : ℕ) (lacing body : List ℕ) → value ≢ 255 → size + (255 * full + value) ≡ total →
     page_parts position first size (replicate full 255 ++ value ∷ lacing) body
     ≡ part_of (take total body) first true (if ends_packet lacing then None else position) ∷ page_parts position true 0 lacing (drop total body)
 unfolding page_parts
@@ -29,7 +29,7 @@ parts-end zero total size position first value lacing body ne e =
 parts-end (suc full) total size position first value lacing body ne e =
     parts-end full total (size + 255) position first value lacing body ne (omega arith)
 
-pub parts-go_on : (full total size : ℕ) (position : Option ℕ) (first : Bool) (body : List ℕ) → size + 255 * full ≡ total → 0 < total →
+parts-go_on : (full total size : ℕ) (position : Option ℕ) (first : Bool) (body : List ℕ) → size + 255 * full ≡ total → 0 < total →
     page_parts position first size (replicate full 255) body ≡ part_of (take total body) first false None ∷ []
 unfolding page_parts
 parts-go_on zero total size position first body e some =
@@ -39,17 +39,17 @@ parts-go_on (suc full) total size position first body e some = parts-go_on full 
 
 -- ---- whether a packet goes on
 
-pub goes_on-full : (full : ℕ) → goes_on true (replicate full 255) ≡ true
+goes_on-full : (full : ℕ) → goes_on true (replicate full 255) ≡ true
 unfolding goes_on
 goes_on-full zero = refl
 goes_on-full (suc full) = goes_on-full full
 
-pub goes_on-some : (full : ℕ) (unfinished : Bool) → 0 < full → goes_on unfinished (replicate full 255) ≡ true
+goes_on-some : (full : ℕ) (unfinished : Bool) → 0 < full → goes_on unfinished (replicate full 255) ≡ true
 unfolding goes_on
 goes_on-some zero unfinished some = absurd (omega arith)
 goes_on-some (suc full) unfinished some = goes_on-full full
 
-pub goes_on-end : (full : ℕ) (unfinished : Bool) (value : ℕ) (lacing : List ℕ) → value ≢ 255 → goes_on unfinished (replicate full 255 ++ value ∷ lacing) ≡ goes_on false lacing
+goes_on-end : (full : ℕ) (unfinished : Bool) (value : ℕ) (lacing : List ℕ) → value ≢ 255 → goes_on unfinished (replicate full 255 ++ value ∷ lacing) ≡ goes_on false lacing
 unfolding goes_on
 goes_on-end zero unfinished value lacing ne = ap (λ b. goes_on b lacing) (other value 255 ne)
 goes_on-end (suc full) unfinished value lacing ne = goes_on-end full true value lacing ne

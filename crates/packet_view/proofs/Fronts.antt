@@ -26,7 +26,7 @@ other m n ne = by_cases (nat_eq m n) refl
     by_cases false e = e
 
 -- values that end a packet of the page
-pub packets-ends : (full total size : ℕ) (position : Option ℕ) (parts : List Part) (place value : ℕ) (lacing body : List ℕ) → value ≢ 255 → size + (255 * full + value) ≡ total →
+packets-ends : (full total size : ℕ) (position : Option ℕ) (parts : List Part) (place value : ℕ) (lacing body : List ℕ) → value ≢ 255 → size + (255 * full + value) ≡ total →
     packets_in position parts place size (replicate full 255 ++ value ∷ lacing) body
     ≡ ended position parts place total lacing body ∷ packets_in position [] (place + total) 0 lacing (drop total body)
 unfolding packets_in
@@ -37,7 +37,7 @@ packets-ends zero total size position parts place value lacing body ne e =
 packets-ends (suc full) total size position parts place value lacing body ne e =
     packets-ends full total (size + 255) position parts place value lacing body ne (omega arith)
 
-pub parts-ends : (full total size : ℕ) (parts : List Part) (place value : ℕ) (lacing body : List ℕ) → value ≢ 255 → size + (255 * full + value) ≡ total →
+parts-ends : (full total size : ℕ) (parts : List Part) (place value : ℕ) (lacing body : List ℕ) → value ≢ 255 → size + (255 * full + value) ≡ total →
     parts_behind parts place size (replicate full 255 ++ value ∷ lacing) body ≡ parts_behind [] (place + total) 0 lacing (drop total body)
 unfolding parts_behind
 parts-ends zero total size parts place value lacing body ne e =
@@ -47,25 +47,25 @@ parts-ends zero total size parts place value lacing body ne e =
 parts-ends (suc full) total size parts place value lacing body ne e =
     parts-ends full total (size + 255) parts place value lacing body ne (omega arith)
 
-pub front_size-ends : (full value : ℕ) (lacing : List ℕ) → value ≢ 255 → front_size (replicate full 255 ++ value ∷ lacing) ≡ 255 * full + value
+front_size-ends : (full value : ℕ) (lacing : List ℕ) → value ≢ 255 → front_size (replicate full 255 ++ value ∷ lacing) ≡ 255 * full + value
 unfolding front_size
 front_size-ends zero value lacing ne = pick_false (nat_eq value 255) _ _ (other value 255 ne) ∙ omega arith
 front_size-ends (suc full) value lacing ne = ap (λ n. 255 + n) (front_size-ends full value lacing ne) ∙ omega arith
 
 -- values that end no packet
-pub packets-open : (full size : ℕ) (position : Option ℕ) (parts : List Part) (place : ℕ) (body : List ℕ) → packets_in position parts place size (replicate full 255) body ≡ []
+packets-open : (full size : ℕ) (position : Option ℕ) (parts : List Part) (place : ℕ) (body : List ℕ) → packets_in position parts place size (replicate full 255) body ≡ []
 unfolding packets_in
 packets-open zero size position parts place body = refl
 packets-open (suc full) size position parts place body = packets-open full (size + 255) position parts place body
 
-pub parts-open : (full total size : ℕ) (parts : List Part) (place : ℕ) (body : List ℕ) → size + 255 * full ≡ total → parts_behind parts place size (replicate full 255) body ≡ with_part parts place (take total body)
+parts-open : (full total size : ℕ) (parts : List Part) (place : ℕ) (body : List ℕ) → size + 255 * full ≡ total → parts_behind parts place size (replicate full 255) body ≡ with_part parts place (take total body)
 unfolding parts_behind
 parts-open zero total size parts place body e =
     let exact : size ≡ total = omega arith in
     ap (λ n. with_part parts place (take n body)) exact
 parts-open (suc full) total size parts place body e = parts-open full total (size + 255) parts place body (omega arith)
 
-pub front_size-open : (full : ℕ) → front_size (replicate full 255) ≡ 255 * full
+front_size-open : (full : ℕ) → front_size (replicate full 255) ≡ 255 * full
 unfolding front_size
 front_size-open zero = refl
 front_size-open (suc full) = ap (λ n. 255 + n) (front_size-open full) ∙ omega arith

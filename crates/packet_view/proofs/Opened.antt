@@ -18,7 +18,7 @@ use Rattle.packet_view.specs.declared.unread.Unread.{Unread}
 
 -- ---- parts
 
-pub with_part-append : (parts : List Part) (place : ℕ) (bytes : List ℕ) → with_part parts place bytes ≡ parts ++ with_part [] place bytes
+with_part-append : (parts : List Part) (place : ℕ) (bytes : List ℕ) → with_part parts place bytes ≡ parts ++ with_part [] place bytes
 with_part-append parts place [] = sym (append-nil parts)
 with_part-append parts place (byte ∷ bytes) = refl
 
@@ -31,10 +31,6 @@ joined-with_part parts place (byte ∷ bytes) =
 pub some_first : (place : ℕ) (first : List ℕ) (more : List Part) → first ≢ [] → is_some_part (with_part [] place first ++ more) ≡ true
 some_first place [] more some = absurd (some refl)
 some_first place (byte ∷ first) more some = refl
-
-pub is_some_with_part : (place : ℕ) (first : List ℕ) → first ≢ [] → is_some_part (with_part [] place first) ≡ true
-is_some_with_part place [] some = absurd (some refl)
-is_some_with_part place (byte ∷ first) some = refl
 
 -- ---- pages
 
@@ -148,14 +144,14 @@ goes_on serial from place next first piece len so_far reach on leads =
       fits = omega (arith, so_far.fits, reach.later, next.before, ap length on.front, length-take (front_size next.unread.lacing.now) next.unread.body.now);
     }
 
-abbrev pub ended_packet : List Part → Unread → PacketParts
+abbrev ended_packet : List Part → Unread → PacketParts
 ended_packet parts left = record { parts = parts; position = position_behind left }
 
 -- the packets from a place with these parts on
-abbrev pub packets_with : ℕ → Behind → Unread → ℕ → List ℕ → PacketsLeft
+abbrev packets_with : ℕ → Behind → Unread → ℕ → List ℕ → PacketsLeft
 packets_with serial behind unread offset rest = after_packets (packets_left unread []) (packets_from serial behind (parts_left unread []) (found_in offset rest))
 
-pub new_place : (serial : ℕ) (place new : Place) (left : Unread) → IsPlaceWith place left new → packets_at serial new [] ≡ packets_with serial place.behind left place.offset place.rest.now
+new_place : (serial : ℕ) (place new : Place) (left : Unread) → IsPlaceWith place left new → packets_at serial new [] ≡ packets_with serial place.behind left place.offset place.rest.now
 new_place serial place new left with =
     ap (λ b. packets_with serial b new.unread new.offset new.rest.now) with.behind
     ∙ ap (λ u. packets_with serial place.behind u new.offset new.rest.now) with.unread

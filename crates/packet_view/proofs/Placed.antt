@@ -1,6 +1,6 @@
 -- The parts of a stream's packets are in the source, one behind the other.
 use Rattle.std.proofs.Common.{◌≡◌, ℕ, ◌+◌, ◌≤◌, ◌<◌, Bool, true, false, List, [], ◌∷◌, ◌++◌, length, take, drop, sum, refl, sym, ◌∙◌, ap, subst, arith, append_assoc, length-append, Option, Some, None, Ok, Err, Result}
-use Rattle.std.specs.Prelude.{nat_eq, if◌then◌else◌}
+use Rattle.std.specs.Prelude.{nat_eq}
 use Rattle.std.specs.List.{AllByRecursion}
 use Rattle.std.proofs.lemmas.Bool.{eqb-true}
 use Rattle.std.proofs.lemmas.List.{drop-drop, drop_at, take-append-le, drop-append-le, length-take-le, length-drop}
@@ -14,7 +14,7 @@ use Rattle.ogg_page.specs.declared.fault.PageFault.{PageFault}
 use Rattle.ogg_page.specs.Laws.ReadAgain.{length-page_bytes}
 use Rattle.ogg_page.specs.Laws.Walk.{FoundFrom}
 use Rattle.ogg_page.specs.Laws.Found.{all_found}
-use Rattle.packet_view.specs.Packets.{Part, PacketParts, PacketsLeft, with_part, is_some_part, misplaced, body_place, behind_page, position_in, packets_in, parts_behind, packets_from, packets_of, ends_packet}
+use Rattle.packet_view.specs.Packets.{Part, PacketParts, PacketsLeft, with_part, is_some_part, misplaced, body_place, behind_page, position_in, packets_in, parts_behind, packets_from, packets_of}
 use Rattle.packet_view.specs.Placed.{IsAtItsPlace, AreInOrder, parts_of_all}
 use Rattle.packet_view.specs.declared.place.Behind.{Behind}
 use Rattle.packet_view.specs.declared.fault.ViewFault.{ViewFault}
@@ -71,9 +71,6 @@ front_at source body behind place size at le =
 abbrev all_parts : Option ℕ → List Part → ℕ → ℕ → List ℕ → List ℕ → List Part
 all_parts position parts place size lacing body =
     parts_of_all (packets_in position parts place size lacing body) ++ parts_behind parts place size lacing body
-
-abbrev one_ended : Option ℕ → List Part → ℕ → ℕ → List ℕ → List ℕ → PacketParts
-one_ended position parts place size lacing body = record { parts = with_part parts place (take size body); position = if ends_packet lacing then None else position }
 
 in_page : (lacing : List ℕ) (source : List ℕ) (from place size : ℕ) (position : Option ℕ) (parts : List Part) (body behind : List ℕ) → drop place source ≡ body ++ behind →
     size + sum lacing ≤ length body → AreInOrderUpTo source from parts place →

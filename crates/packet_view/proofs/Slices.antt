@@ -19,7 +19,7 @@ use Rattle.packet_view.proofs.Walks.{pick_true}
 use Rattle.packet_view.proofs.Opened.{joined-with_part, parts-pages, no_parts}
 
 -- where a part lies doesn't change its bytes
-pub same_slice : (a b : ℕ) (bytes : List ℕ) → slices_of (with_part [] a bytes) ≡ slices_of (with_part [] b bytes)
+same_slice : (a b : ℕ) (bytes : List ℕ) → slices_of (with_part [] a bytes) ≡ slices_of (with_part [] b bytes)
 same_slice a b [] = refl
 same_slice a b (byte ∷ bytes) = refl
 
@@ -40,7 +40,7 @@ same_pages serial a b (page ∷ pages) =
     (parts_in serial (located (b + page_size page) pages)) (with_part [] (body_place b page) (take (front_size page.lacing) page.body))
     (same_slice (body_place a page) (body_place b page) (take (front_size page.lacing) page.body)) (same_pages serial (a + page_size page) (b + page_size page) pages)
 
-pub same_slices : (serial a b : ℕ) (bytes : List ℕ) → ArePages bytes → slices_of (parts_in serial (found_in a bytes)) ≡ slices_of (parts_in serial (found_in b bytes))
+same_slices : (serial a b : ℕ) (bytes : List ℕ) → ArePages bytes → slices_of (parts_in serial (found_in a bytes)) ≡ slices_of (parts_in serial (found_in b bytes))
 same_slices serial a b bytes are =
     ap slices_of (parts-pages serial a are.pages bytes are.are_pages are.joined)
     ∙ same_pages serial a b are.pages

@@ -103,7 +103,7 @@ with_more : (b : Bool) (part before behind : List Part) → (if b then part ++ (
 with_more true part before behind = sym (append_assoc part before behind)
 with_more false part before behind = refl
 
-pub parts_push : (serial start : ℕ) (pages : List Page) (page : Page) →
+parts_push : (serial start : ℕ) (pages : List Page) (page : Page) →
     parts_in serial (located start (pages ++ page ∷ [])) ≡ parts_in serial (located start pages) ++ part_of serial (start + length (bytes_of_pages pages)) page
 unfolding parts_in
 parts_push serial start [] page =

@@ -5,7 +5,7 @@ use Rattle.std.proofs.lemmas.Bool.{lt-ltb, ne_eqb}
 use Rattle.std.proofs.lemmas.List.{append-nil, drop-append-le, take_all, drop-drop}
 use Rattle.std.proofs.lemmas.List.Sums.{sum_by-append, sum_by-cons}
 use Rattle.ogg_page.specs.Lacing.{lacing_of, ends_open}
-use Rattle.packetiser.specs.Run.{Timed, run_lacing, run_bytes, packets_ended, position_of, no_position}
+use Rattle.packetiser.specs.Run.{Timed, run_lacing, run_bytes, packets_ended, position_of}
 use Rattle.packetiser.specs.Place.{values_left, bytes_left, IsWithin}
 use Rattle.ogg_page.specs.StreamLaws.{ends_open-at}
 use Rattle.packetiser.specs.Laws.Pieces.{sum_app}
@@ -18,10 +18,6 @@ pub record IsFilled (run : List Timed) (begun : ℕ) (lacing : List ℕ) (positi
   pub position_is : position ≡ position_of (packets_ended lacing) run
   pub within : IsWithin done rest
   pub open_is : 0 < length lacing → nat_lt 0 done ≡ ends_open lacing
-
-pub nothing_filled : (run : List Timed) (begun : ℕ) → IsWithin begun run → IsFilled run begun [] no_position run begun
-nothing_filled run begun h =
-    record { values = refl; bytes = refl; ended = refl; position_is = refl; within = h; open_is = λ some. absurd (omega arith) }
 
 -- ---- lacing values
 small_lacing : (n : ℕ) → n < 255 → lacing_of n ≡ n ∷ []

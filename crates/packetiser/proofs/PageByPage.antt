@@ -50,7 +50,7 @@ nth_counted f (suc k) first (suc n) h =
     ∙ ap (λ m. f m ∷ drop (suc k) (map f (counted (first + 1) n))) (let e : first + 1 + k ≡ first + suc k = omega arith in e)
 
 -- a page with flags added to its own
-abbrev pub more_flags : ℕ → Page → Page
+abbrev more_flags : ℕ → Page → Page
 more_flags flags page = record page { flags = page.flags + flags }
 
 no_more_flags : (page : Page) → more_flags 0 page ≡ page

@@ -127,9 +127,6 @@ pages_more serial first run k =
     ∙ ap (map (page_of_run serial first run)) (counted-more 0 k ∙ ap (λ n. counted 0 k ++ n ∷ []) (omega arith))
     ∙ map-push (page_of_run serial first run) (counted 0 k) k
 
-flagged-push : (flags : ℕ) (first : Page) (pages : List Page) (page : Page) → flagged flags ((first ∷ pages) ++ page ∷ []) ≡ flagged flags (first ∷ pages) ++ page ∷ []
-flagged-push flags first pages page = refl
-
 no_flags : (page : Page) → record page { flags = page.flags + 0 } ≡ page
 no_flags page = ap (λ n. record page { flags = n }) (omega arith)
 

@@ -108,10 +108,6 @@ same_body front back fixed table_there body_there =
           ∙ ap (λ l. not (nat_eq (little_number 4 (drop 22 front)) (checksum_of (blanked l)))) whole;
     }
 
--- the fault is that of the first test that isn't passed
-abbrev Judges : Bool → Bool → Bool → Bool → Bool → Bool → PageFault → Type 0
-Judges a b c d e f fault = (p : Page) → judged a b c d e f p ≡ Err fault
-
 some_fault : (fault other : PageFault) (r : Result Page PageFault) → r ≡ Err other → r ≡ Err fault → other ≡ fault
 some_fault fault other r e f = cc
 

@@ -11,7 +11,7 @@ use Rattle.ogg_page.specs.Reading.{page_at, fields_at}
 use Rattle.ogg_page.specs.Laws.ReadAgain.{read_is_page, page_is_read, length-page_bytes, passed}
 use Rattle.page_reader.specs.declared.held.Held.{Held}
 use Rattle.std.specs.Io.KnownBytes.{Consumes}
-use Rattle.std.proofs.KnownBytes.{Consumes-nil, Consumes-trans}
+use Rattle.std.proofs.KnownBytes.{Consumes-trans}
 use Rattle.ogg_page.specs.Window.{LentAt}
 use Rattle.page_reader.specs.declared.fault.PageReaderFault.{PageReaderFault}
 use Rattle.page_reader.specs.Room.{BeginsWithPage, Finds, IsHeld, IsLent, ReadsMore, held_of}
@@ -44,17 +44,6 @@ pub record HasRead (before : List ℕ) (from : Option (List ℕ)) (count : ℕ) 
   pub all : held_of room held ≡ before ++ taken
   pub part : held.end - held.start < 65307
   pub counted : count ≤ held.end - held.start
-
-pub none_read : (room : List ℕ) (held : Held) (from : Option (List ℕ)) → IsHeld room held → held.end - held.start < 65307 →
-    HasRead (held_of room held) from 0 room held from
-none_read room held from is part = record {
-  is = is;
-  taken = [];
-  consumed = Consumes-nil from;
-  all = sym (append-nil (held_of room held));
-  part = part;
-  counted = omega arith;
-}
 
 -- how many bytes are held
 pub held_size : (room : List ℕ) (held : Held) → IsHeld room held → length (held_of room held) ≡ held.end - held.start
@@ -96,7 +85,7 @@ unfolding page_at
 nothing_is_short = refl
 
 -- bytes at fault are some
-pub some_at_fault : (bytes : List ℕ) (fault : PageFault) → page_at bytes ≡ Err fault → fault ≢ Short → bytes ≢ []
+some_at_fault : (bytes : List ℕ) (fault : PageFault) → page_at bytes ≡ Err fault → fault ≢ Short → bytes ≢ []
 some_at_fault bytes fault read other none = other (same_fault fault (sym read ∙ ap page_at none ∙ nothing_is_short))
   where
     same_fault : (fault : PageFault) → (let r : Result Page PageFault = Err fault in r) ≡ Err Short → fault ≡ Short

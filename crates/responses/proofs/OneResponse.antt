@@ -7,7 +7,7 @@ use Rattle.ogg_http.specs.Head.{head_bytes}
 use Rattle.responses.specs.Response.{Asked, Asks, asked_of, response, IsResponse}
 
 -- what was received asks one thing at most
-pub asks_one : (received : List ℕ) (a b : Option Asked) → Asks received a → Asks received b → a ≡ b
+asks_one : (received : List ℕ) (a b : Option Asked) → Asks received a → Asks received b → a ≡ b
 asks_one received None None x y = refl
 asks_one received None (Some b) x y = absurd (x.none y.0 y.1)
 asks_one received (Some a) None x y = absurd (y.none x.0 x.1)

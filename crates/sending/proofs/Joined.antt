@@ -62,7 +62,7 @@ length_zero : (l : List ℕ) (n : ℕ) → length l ≡ n → (n == 0) ≡ is_no
 length_zero [] n e = ap (λ k. k == 0) (sym e)
 length_zero (x ∷ l) n e = ne_eqb n 0 (λ z. omega (arith, e, z))
 
-pub empty_is : (committed : List ℕ) (body : Body) (rest : List ℕ) → IsBodyLeft committed body rest → is_empty_body body ≡ is_nothing rest
+empty_is : (committed : List ℕ) (body : Body) (rest : List ℕ) → IsBodyLeft committed body rest → is_empty_body body ≡ is_nothing rest
 empty_is committed Nothing rest e = ap is_nothing (sym e)
 empty_is committed (Part place count) rest (inside, e) =
     length_zero rest count (ap length e ∙ (let n : length (part_at place count committed) ≡ count = grind (arith, length-take, length-drop, inside) in n))

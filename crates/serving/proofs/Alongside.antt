@@ -23,7 +23,7 @@ use Rattle.serving.specs.Keeping.{KeepsAll}
 use Rattle.serving.proofs.Moves.{OthersStay, NumbersStay, all_none, all_both}
 
 -- what the law of committed bytes says
-abbrev pub BytesGrow : Type 0
+abbrev BytesGrow : Type 0
 BytesGrow = (start : HubState) (steps : List Step) → AreSteps start steps → AllByRecursion (λ (step : Step). Extends start.committed step.after.committed) steps
 
 module _ (others : OthersStay) (numbers : NumbersStay) (grow : BytesGrow) where

@@ -10,16 +10,16 @@ use Rattle.serving.specs.Keeping.{KeepsAll, KeepsOthers, OnlyServes}
 abbrev pub OthersStay : Type 0
 OthersStay = (old new : HubState) (event : Event) (id : ℕ) → hub_step old event new → session_of event ≢ Some id → phase_of new id ≡ phase_of old id
 
-abbrev pub FileStays : Type 0
+abbrev FileStays : Type 0
 FileStays = (old new : HubState) (event : Event) (id : ℕ) → hub_step old event new → session_of event ≡ Some id → KeepsFile old new
 
 abbrev pub NumbersStay : Type 0
 NumbersStay = (old new : HubState) (event : Event) → hub_step old event new → AreNumbered old → AreNumbered new
 
-pub extends_itself : (bytes : List ℕ) → Extends bytes bytes
+extends_itself : (bytes : List ℕ) → Extends bytes bytes
 extends_itself bytes = ([], sym (append-nil bytes))
 
-pub same_committed : (old new : HubState) → KeepsFile old new → Extends old.committed new.committed
+same_committed : (old new : HubState) → KeepsFile old new → Extends old.committed new.committed
 same_committed old new file = ([], ap (λ (hub : HubState). hub.committed) file ∙ sym (append-nil old.committed))
 
 -- one call
@@ -37,7 +37,7 @@ only_serves others file numbers old new event id step own =
     }
 
 -- no call
-pub others_none : (id : ℕ) (hub : HubState) → KeepsOthers id hub hub
+others_none : (id : ℕ) (hub : HubState) → KeepsOthers id hub hub
 others_none id hub = record { others = λ other apart. refl; numbers = λ all. all; extends = extends_itself hub.committed }
 
 pub none : (id : ℕ) (hub : HubState) → OnlyServes id hub hub

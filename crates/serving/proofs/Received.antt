@@ -1,7 +1,7 @@
 -- How far the head of a session's request has come.
 use Rattle.std.proofs.Common.{◌≡◌, ℕ, Option, Some, Ok, List, [], ◌++◌, refl, sym, ◌∙◌, ap, subst, inl, inr, append-nil}
-use Rattle.std.specs.Io.KnownBytes.{Consumes, Keeps, IsAtEnd}
-use Rattle.std.proofs.KnownBytes.{Consumes-nil, Consumes-trans, Consumes-kept}
+use Rattle.std.specs.Io.KnownBytes.{Consumes, IsAtEnd}
+use Rattle.std.proofs.KnownBytes.{Consumes-nil, Consumes-trans}
 use Rattle.responses.specs.Response.{IsResponse}
 use Rattle.sessions.specs.declared.answers.Progress.{Progress}
 use Rattle.sessions.specs.declared.answers.Progress.TheVariants.{More, Ready}
@@ -61,10 +61,6 @@ ended id coming left next before now piece r read nothing at_end =
 pub some_read : (id : ℕ) (coming left next : Option (List ℕ)) (before now : HubState) (piece : List ℕ) → (r : IsReading id coming left before now)
     → Consumes left next piece → HasReadSome coming next
 some_read id coming left next before now piece r read = (r.received ++ piece, Consumes-trans coming left next r.received piece r.read read)
-
-pub kept_read : (id : ℕ) (coming left next : Option (List ℕ)) (before now : HubState) → (r : IsReading id coming left before now)
-    → Keeps left next → HasReadSome coming next
-kept_read id coming left next before now r keeps = (r.received, Consumes-kept coming left next r.received r.read keeps)
 
 -- the same answer, as it was told
 pub taken : (old new : HubState) (id : ℕ) (bytes : List ℕ) (some other : Progress) → some ≡ other

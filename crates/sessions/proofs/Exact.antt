@@ -40,12 +40,12 @@ pub full_exactly : (old new : HubState) (answer : Result ℕ HubFault) → conne
 full_exactly old new answer step = (λ e. full_is old (said_full old new answer step e), λ full. when_full old new answer step (is_full_by old full))
 
 -- ---- receive
-abbrev pub RefusedExactly : {T : Type 0} → Option Phase → Bool → Result T HubFault → Type 0
+abbrev RefusedExactly : {T : Type 0} → Option Phase → Bool → Result T HubFault → Type 0
 RefusedExactly phase has_file answer =
     ((answer ≡ Err NoSession) ↔ (phase ≡ None)) × ((answer ≡ Err NoFile) ↔ (IsSome phase × (has_file ≡ false)))
 
 -- neither
-abbrev pub NeitherRefused : {T : Type 0} → Result T HubFault → Type 0
+abbrev NeitherRefused : {T : Type 0} → Result T HubFault → Type 0
 NeitherRefused answer = (answer ≢ Err NoSession) × (answer ≢ Err NoFile)
 
 without_either : {T : Type 0} (phase : Phase) (answer : Result T HubFault) → NeitherRefused answer → RefusedExactly (Some phase) true answer

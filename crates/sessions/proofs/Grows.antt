@@ -55,7 +55,7 @@ grows_reopen old new (Some found) step =
 kept_rest : (old new : HubState) → KeepsTheRest old new → new.committed ≡ old.committed
 kept_rest old new keeps = ap (λ (h : HubState). h.committed) keeps.1
 
-pub grows_step : (old new : HubState) (event : Event) → hub_step old event new → Extends old.committed new.committed
+grows_step : (old new : HubState) (event : Event) → hub_step old event new → Extends old.committed new.committed
 grows_step old new (Connect answer) step = stays old new (grows_connect old new answer step)
 grows_step old new (Receive id bytes answer) step = stays old new (kept_rest old new (receive_keeps old new id (phase_of old id) old.has_file bytes answer step))
 grows_step old new (Pull id size answer) step = stays old new (kept_rest old new (pull_keeps old new id (phase_of old id) old.has_file size answer step))
@@ -68,7 +68,7 @@ grows_step old new (Reopen found) step = grows_reopen old new found step
 longer : (first second third : List ℕ) → Extends first second → Extends second third → Extends first third
 longer first second third a b = (a.0 ++ b.0, b.1 ∙ ap (λ l. l ++ b.0) a.1 ∙ append_assoc first a.0 b.0)
 
-pub each_weaker : (P Q : Step → Type 0) → ((s : Step) → P s → Q s) → (steps : List Step) → AllByRecursion P steps → AllByRecursion Q steps
+each_weaker : (P Q : Step → Type 0) → ((s : Step) → P s → Q s) → (steps : List Step) → AllByRecursion P steps → AllByRecursion Q steps
 each_weaker P Q weaker [] all = tt
 each_weaker P Q weaker (step ∷ steps) all = (weaker step all.0, each_weaker P Q weaker steps all.1)
 

@@ -52,7 +52,7 @@ close_keeps old new id (Some phase) answer step = (without_in id old.sessions, s
 
 -- ---- numbers
 -- a step gives the next number, or none
-abbrev pub GivesNumber : HubState → Event → HubState → Type 0
+abbrev GivesNumber : HubState → Event → HubState → Type 0
 GivesNumber old event new =
     ((connected event ≡ []) × (new.next_id ≡ old.next_id))
     ⊎ ((connected event ≡ old.next_id ∷ []) × (new.next_id ≡ old.next_id + 1) × (old.next_id < 2 ^ 64))

@@ -1,8 +1,8 @@
 -- Parts of bytes by their places.
-use Rattle.std.proofs.Common.{◌≡◌, ℕ, ◌+◌, ◌-◌, ◌≤◌, ◌<◌, true, false, List, [], ◌∷◌, ◌++◌, length, take, drop, refl, sym, ◌∙◌, ap, subst, arith, inl, inr, append_assoc, length-append, length-drop, length-take, drop_of_length-le, drop-drop, min}
+use Rattle.std.proofs.Common.{◌≡◌, ℕ, ◌+◌, ◌-◌, ◌≤◌, ◌<◌, true, false, List, [], ◌∷◌, ◌++◌, length, take, drop, refl, sym, ◌∙◌, ap, subst, arith, append_assoc, length-append, length-drop, drop-drop}
 use Rattle.std.specs.Prelude.{nat_eq}
 use Rattle.std.specs.List.{AllByRecursion}
-use Rattle.std.proofs.lemmas.Bool.{cond-true, cond-false, cases_lt}
+use Rattle.std.proofs.lemmas.Bool.{cond-true, cond-false}
 use Rattle.std.proofs.lemmas.List.{take-append-le, drop-append-le, drop-take, take-take, drop_at}
 use Rattle.ogg_page.specs.Page.{Page, IsPage, page_bytes, bytes_of_pages}
 use Rattle.link_chain.specs.Links.{pages_with}
@@ -23,7 +23,7 @@ pub part_rest : (place n m : ℕ) (bytes : List ℕ) → drop n (part_at place (
 part_rest place n m bytes = drop-take n m (drop place bytes) ∙ ap (take m) (drop-drop n place bytes ∙ ap (λ k. drop k bytes) (omega arith))
 
 -- a part of what follows a front
-pub part_behind : (skip count : ℕ) (front bytes : List ℕ) → part_at (length front + skip) count (front ++ bytes) ≡ part_at skip count bytes
+part_behind : (skip count : ℕ) (front bytes : List ℕ) → part_at (length front + skip) count (front ++ bytes) ≡ part_at skip count bytes
 part_behind skip count front bytes =
     ap (take count) (sym (drop-drop skip (length front) (front ++ bytes) ∙ ap (λ k. drop k (front ++ bytes)) (omega arith))
     ∙ ap (drop skip) (drop_at front bytes (length front) refl))
@@ -146,21 +146,3 @@ module _ (prefix_free : (p q : Page) (x y : List ℕ) → IsPage p → IsPage q 
               rest_is = r.rest_is ∙ ap (λ (ps : List Page). part_at skip count (bytes_of_pages (pages_with serial ps))) now;
             },
           )
-
--- ---- what a buffer leaves of a part
-short_part : (size count place : ℕ) (bytes : List ℕ) → count ≤ size → drop size (part_at place count bytes) ≡ []
-short_part size count place bytes le =
-    let long = length-take count (drop place bytes) in
-    drop_of_length-le (part_at place count bytes) (omega (arith, long, le))
-
-pub part_left : (place count size n : ℕ) (bytes : List ℕ) → n ≡ min count size → part_at (place + n) (count - n) bytes ≡ drop size (part_at place count bytes)
-part_left place count size n bytes is =
-    elim (cases_lt size count) [
-      | inl less ↦
-          let whole : n ≡ size = omega (arith, is, less) in
-          let sum : n + (count - n) ≡ count = omega (arith, is, less) in
-          sym (part_rest place n (count - n) bytes) ∙ ap (λ k. drop n (part_at place k bytes)) sum ∙ ap (λ k. drop k (part_at place count bytes)) whole
-      | inr more ↦
-          let none : count - n ≡ 0 = omega (arith, is, more) in
-          ap (λ k. part_at (place + n) k bytes) none ∙ sym (short_part size count place bytes more)
-    ]

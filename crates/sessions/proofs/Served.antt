@@ -136,7 +136,7 @@ rest id old (step ∷ steps) left are is below =
     (λ more sending. rest id step.after steps more are.1 sending next)
 
 -- ---- a session whose head is coming
-abbrev pub IsServedBehind : List ℕ → ℕ → List Step → Type 0
+abbrev IsServedBehind : List ℕ → ℕ → List Step → Type 0
 IsServedBehind received id steps = MatchOption (head_after received (own_calls id steps)) (GetsNothing id steps) (GetsResponse id steps)
 
 served_over : (id : ℕ) (step : Step) (steps : List Step) (received more : List ℕ) → given_by id step.event ≡ [] → says_done id step.event ≡ false → completes id step.event ≡ false
@@ -212,7 +212,7 @@ served_by id old step steps received (Finishes before bytes response was own giv
 served_by id old step steps received (Ignores left bytes was own given not_done now) is below over sends later = absurd (two_phases (phase_of old id) received left is was)
 served_by id old step steps received (Sends left size was own given done not_complete now) is below over sends later = absurd (two_phases (phase_of old id) received left is was)
 
-pub served_reading : (id : ℕ) (old : HubState) (steps : List Step) (received : List ℕ) → AreSteps old steps → phase_of old id ≡ Some (Reading received) → id < old.next_id → IsServedBehind received id steps
+served_reading : (id : ℕ) (old : HubState) (steps : List Step) (received : List ℕ) → AreSteps old steps → phase_of old id ≡ Some (Reading received) → id < old.next_id → IsServedBehind received id steps
 served_reading id old [] received are is below = record { moment = refl; nothing = refl; not_done = refl }
 served_reading id old (step ∷ steps) received are is below =
     let next : id < step.after.next_id = omega (arith, below, numbers_rise old step.after step.event are.0) in

@@ -17,7 +17,7 @@ abbrev pub pieces_left : Bool → List ℕ → List (List ℕ)
 pieces_left done rest = cond done [] (slice_split is_feed rest)
 
 -- one piece is taken off
-pub one_piece : (rest piece behind : List ℕ) (done : Bool) → MatchBool done (rest ≡ piece) ((y : ℕ) × (rest ≡ piece ++ (y ∷ behind)))
+one_piece : (rest piece behind : List ℕ) (done : Bool) → MatchBool done (rest ≡ piece) ((y : ℕ) × (rest ≡ piece ++ (y ∷ behind)))
     → IsFirstMatchOrLen is_feed rest (length piece) → slice_split is_feed rest ≡ piece ∷ pieces_left done behind
 one_piece rest piece behind true e h =
     ap (slice_split is_feed) e

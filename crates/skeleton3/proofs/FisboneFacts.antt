@@ -1,5 +1,5 @@
 -- The packet of a fisbone holds no other, and has no fault.
-use Rattle.std.proofs.Common.{◌≡◌, ℕ, ◌+◌, ◌<◌, ◌≤◌, ◌^◌, List, [], ◌∷◌, ◌++◌, length, take, drop, Bool, false, cond, not, Option, Some, None, unwrap_or, codes, refl, sym, ap, ◌∙◌, arith, length-append}
+use Rattle.std.proofs.Common.{◌≡◌, ℕ, ◌+◌, ◌<◌, ◌≤◌, ◌^◌, List, [], ◌∷◌, ◌++◌, length, take, drop, Bool, false, cond, not, Option, Some, None, unwrap_or, refl, sym, ap, ◌∙◌, arith, length-append}
 use Rattle.std.proofs.Math.Seq.{drop-append_seam}
 use Rattle.std.proofs.lemmas.List.{append-nil}
 use Rattle.std.proofs.lemmas.Bool.{le-ltb}
@@ -22,19 +22,6 @@ use Rattle.skeleton3.proofs.WrittenFields.{media_is_read}
 length-fixed_part : (offset : ℕ) (padding : List ℕ) (fisbone : Fisbone) → length padding ≡ 3 → length (fixed_part offset padding fisbone) ≡ 52
 unfolding fixed_part u32_bytes i64_bytes
 length-fixed_part offset padding fisbone three = omega (arith, three)
-
-length-content_type : (media : List ℕ) → length (content_type media) ≡ 16 + length media
-length-content_type media = omega (arith, length-append media (13 ∷ 10 ∷ []), length-append (codes "Content-Type: ") media, length-append (codes "Content-Type: " ++ media) (13 ∷ 10 ∷ []))
-
--- 52 bytes, and the field of the media type
-pub length-fisbone_bytes : (fisbone : Fisbone) → length (fisbone_bytes fisbone) ≡ 52 + 16 + length fisbone.media
-length-fisbone_bytes fisbone =
-    omega (
-      arith,
-      length-append (fixed_part 44 (0 ∷ 0 ∷ 0 ∷ []) fisbone) (content_type fisbone.media),
-      length-fixed_part 44 (0 ∷ 0 ∷ 0 ∷ []) fisbone refl,
-      length-content_type fisbone.media,
-    )
 
 -- the message fields stand from byte 52 on
 behind_fixed_part : (offset : ℕ) (padding message : List ℕ) (fisbone : Fisbone) → length padding ≡ 3 → drop 52 (fixed_part offset padding fisbone ++ message) ≡ message

@@ -4,7 +4,7 @@ use Rattle.std.proofs.lemmas.Bool.{eq-eqb, false_from_ne_true}
 use Rattle.std.proofs.lemmas.Slice.Eq.{bytes_eq-Decides}
 use Rattle.std.specs.Str.{bytes_eq}
 use Rattle.ogg_page.specs.Numbers.{u16_bytes, i64_bytes, fraction_bytes, IsFraction}
-use Rattle.skeleton3.specs.Fishead.{HoldsFishead, IsFishead, fishead_name, fishead_with, fishead_bytes, fishead_fault}
+use Rattle.skeleton3.specs.Fishead.{HoldsFishead, IsFishead, fishead_name, fishead_with, fishead_fault}
 use Rattle.skeleton3.specs.declared.fishead.Fishead.{Fishead}
 use Rattle.skeleton3.specs.declared.fault.SkeletonFault.{SkeletonFault}
 use Rattle.skeleton3.specs.declared.fault.SkeletonFault.TheVariants.{Length, Name, Version}
@@ -21,9 +21,6 @@ fault_of_size right packet =
 length-fishead_with : (minor : ℕ) (fishead : Fishead) → length fishead.utc ≡ 20 → length (fishead_with minor fishead) ≡ 64
 unfolding fishead_with u16_bytes i64_bytes
 length-fishead_with minor fishead size = omega (arith, size)
-
-pub length-fishead_bytes : (fishead : Fishead) → IsFishead fishead → length (fishead_bytes fishead) ≡ 64
-length-fishead_bytes fishead is = length-fishead_with 0 fishead is.utc_size
 
 pub no_fault : (minor : ℕ) (fishead : Fishead) → length fishead.utc ≡ 20 → fishead_fault (fishead_with minor fishead) ≡ None
 unfolding fishead_with u16_bytes i64_bytes

@@ -1,20 +1,17 @@
 -- Message fields that are written are read as they were.
-use Rattle.std.proofs.Common.{◌≡◌, ◌≢◌, ℕ, suc, ◌+◌, ◌-◌, List, [], ◌∷◌, ◌++◌, length, take, drop, get_or, Bool, false, cond, not, ◌==◌, Some, None, option_map, codes, refl, sym, ap, ◌∙◌, arith, rules, append_assoc, length-append}
+use Rattle.std.proofs.Common.{◌≡◌, ◌≢◌, ℕ, suc, ◌+◌, ◌-◌, List, [], ◌∷◌, ◌++◌, length, take, drop, get_or, false, cond, not, ◌==◌, Some, None, option_map, codes, refl, sym, ap, ◌∙◌, arith, rules, append_assoc, length-append}
 use Rattle.std.proofs.Math.Seq.{take-append_seam, get_or-append_seam}
 use Rattle.std.proofs.lemmas.Bool.{lt-ltb, ne_eqb, eq-eqb, cond-true}
 use Rattle.std.proofs.lemmas.Grind.{common_steps}
 use Rattle.std.proofs.lemmas.List.Elements.{All-append, All-from_recursion}
 use Rattle.std.proofs.lemmas.List.Splits.{slice_split_at}
 use Rattle.std.proofs.lemmas.List.Sums.{position_or_len_is}
-use Rattle.std.specs.List.{All, AllByRecursion, position, position_or_len, slice_split, flat_map}
+use Rattle.std.specs.List.{All, AllByRecursion, position, position_or_len, flat_map}
 use Rattle.std.specs.Option.{option_and_then}
 use Rattle.std.specs.Str.Lines.{strip_carriage_return}
-use Rattle.skeleton3.specs.Fields.{NamedValue, IsField, IsFieldName, IsFieldValue, trimmed, content_type, field_line, field_of, fields_of, fields_of_lines, first_colon, kept_line, lines_of, media_in, message_of}
+use Rattle.skeleton3.specs.Fields.{NamedValue, IsField, IsFieldName, IsFieldValue, trimmed, field_line, field_of, fields_of, fields_of_lines, kept_line, lines_of, media_in, message_of}
 use Rattle.skeleton3.proofs.FieldFacts.{is_feed, lines_of_pieces}
 use Rattle.skeleton3.proofs.MediaFacts.{trimmed_behind_space}
-
-is_colon : ℕ → Bool
-is_colon b = b == 58
 
 -- a field's line without its end
 abbrev line_of : NamedValue → List ℕ

@@ -14,9 +14,6 @@ taken_more start [] page after t none =
     (ap (λ (l : List (List Page)). fault_of_page (chain_state_of l) page) (sym t) ∙ none, ap (λ (l : List (List Page)). links_with l page) t)
 taken_more start (p ∷ pages) page after t none = (t.0, taken_more (links_with start p) pages page after t.1 none)
 
-pub takes_none : (links : List (List Page)) (bytes : List ℕ) (chain : ChainState) → chain ≡ chain_state_of links → TakesSome links bytes chain bytes
-takes_none links bytes chain is = record { pages = []; after = links; are_pages = tt; spelled = refl; taken = refl; state = is }
-
 pub takes_more : (links : List (List Page)) (bytes rest more : List ℕ) (chain next : ChainState) (page : Page) → TakesSome links bytes chain rest →
     IsPage page → rest ≡ page_bytes page ++ more → fault_of_page chain page ≡ None →
     ((after : List (List Page)) → chain ≡ chain_state_of after → next ≡ chain_state_of (links_with after page)) → TakesSome links bytes next more
