@@ -11,6 +11,7 @@ ghost use Rattle.link_chain.specs.Places.{HaveOwnSerials};
 ghost use Rattle.link_chain.specs.Progress.{next_in};
 ghost use Rattle.link_chain.specs.Size.{has_no_number, size_of_pages};
 ghost use Rattle.ogg_command.specs.declared.command.Entry.{Entry as EntryOf};
+ghost use Rattle.ogg_page.specs.Sizes.{fixed_size};
 
 use crate::Memory;
 use crate::limits::FEW_STREAMS;
@@ -61,7 +62,7 @@ fn lay_end(streams: &[StreamState], serial: u32, out: &mut Vec<u8>) -> Result<()
     requires { next_in streams.now serial < 2 ^ 32 }
     ensures ok { (chain : ChainState) → chain.streams ≡ streams.now → OnOk result (out.new.items ≡ out.old.items ++ bytes_of_pages (end_page chain serial ∷ [])) }
     ensures err { OnErr result (out.new.items ≡ out.old.items) }
-    ensures full { OnErr result (vec_capacity out.old < vec_len out.old + 27) }
+    ensures full { OnErr result (vec_capacity out.old < vec_len out.old + fixed_size) }
 {
     write_page(&end_head(streams, serial), &[], &[], out)
 }

@@ -7,7 +7,8 @@ ghost use Rattle.command_pages.specs.CommandPages.{pages_of_parts, timed_item};
 ghost use Rattle.command_pages.specs.Encoding.{header, first_pages, header_pages, fishead_pages, fisbone_pages, fisbone_packet};
 ghost use Rattle.command_pages.specs.Encoding.{pages_of_begin, pages_of_command, pages_of_runs, runs_of};
 ghost use Rattle.command_pages.specs.Fits.{header_bytes, has_many_headers, has_long_message, BeginFits, PutFits, CommandFits};
-ghost use Rattle.command_pages.specs.Limits.{longest_batch, longest_described, most_headers, most_streams, most_entries};
+ghost use Rattle.command_pages.specs.Limits.{longest_batch, most_headers, most_streams, most_entries};
+ghost use Rattle.ogg_page.specs.Sizes.{longest_whole};
 
 use crate::Memory;
 use crate::laying::{FIRST, LAST, end_head};
@@ -84,7 +85,7 @@ fn add_packet(
     flags: u8,
     packet: &[u8],
 ) -> Result<(), Memory>
-    requires short { length packet.now ≤ longest_described }
+    requires short { length packet.now ≤ longest_whole }
     requires flags { flags < 255 }
     ensures pages { OnOk result (pages_of_parts parts.new.items ≡ pages_of_parts parts.old.items
         ++ flagged flags (pages_of_run serial sequence (header packet.now ∷ []))) }

@@ -4,7 +4,7 @@ ghost use Rattle.std.specs.List.{list_any, flat_map};
 ghost use Rattle.link_chain.specs.Size.{has_no_number, size_of_pages};
 ghost use Rattle.command_pages.specs.Encoding.{first_pages, header_pages, pages_of_begin};
 ghost use Rattle.command_pages.specs.Fits.{header_bytes, has_many_headers, BeginFits};
-ghost use Rattle.command_pages.specs.Limits.{longest_batch, longest_headers, longest_begin, most_headers, most_streams};
+ghost use Rattle.command_pages.specs.Limits.{longest_batch, longest_headers, longest_begin, most_headers, most_streams, most_for_each};
 
 use crate::skeleton::size_of_skeleton;
 use ogg_command::{Listed, NewStream, SkeletonHead};
@@ -23,7 +23,7 @@ fn size_of_stream(stream: &NewStream) -> u64
     requires short { header_bytes stream.now ≤ longest_batch }
     requires few { length stream.now.headers ≤ most_headers }
     ensures value { result ≡ size_of_pages (first_pages stream.now) + size_of_pages (header_pages stream.now) }
-    ensures small { result ≤ 29 * (header_bytes stream.now + length stream.now.headers) }
+    ensures small { result ≤ most_for_each * (header_bytes stream.now + length stream.now.headers) }
 {
     let (first, others) = split_headers(stream.headers.as_slice());
     size_of_run(first) + size_of_run(others)

@@ -4,10 +4,11 @@ ghost use Rattle.std.specs.List.{list_any};
 ghost use Rattle.ogg_page.specs.Page.{bytes_of_pages};
 ghost use Rattle.packetiser.specs.Run.{pages_of_run, flagged};
 ghost use Rattle.skeleton3.specs.Fisbone.{fisbone_of as lent_fisbone};
-ghost use Rattle.command_pages.specs.Limits.{longest_described, longest_skeleton, most_headers, most_streams};
+ghost use Rattle.command_pages.specs.Limits.{longest_skeleton, most_headers, most_streams, longest_fishead_page, longest_fisbone_page};
 ghost use Rattle.command_pages.specs.Fits.{has_many_headers, has_long_message};
 ghost use Rattle.command_pages.specs.Encoding.{header, fishead_of, fisbone_of, fisbone_packet, fishead_pages, fisbone_pages, skeleton_end};
 ghost use Rattle.link_chain.specs.Size.{size_of_pages};
+ghost use Rattle.ogg_page.specs.Sizes.{empty_packet_page, longest_whole};
 
 use crate::laying::{FIRST, LAST, append_run};
 use ogg_command::{NewStream, SkeletonHead};
@@ -44,10 +45,10 @@ pub fn fisbone_of(stream: &NewStream) -> Fisbone<'_>
 
 /// How many bytes the page of a packet of `len` bytes has, at position 0.
 fn size_of_packet(len: u64) -> u64
-    requires { len ≤ longest_described }
+    requires { len ≤ longest_whole }
     ensures value { (serial first : ℕ) (packet : List ℕ) → length packet ≡ len
         → result ≡ size_of_pages (pages_of_run serial first (header packet ∷ [])) }
-    ensures small { result ≤ 28 + 2 * len }
+    ensures small { result ≤ empty_packet_page + 2 * len }
 {
     size_of(values_of(len), len)
 }
@@ -55,7 +56,7 @@ fn size_of_packet(len: u64) -> u64
 /// How many bytes the first page of a Skeleton has.
 fn size_of_fishead(head: &SkeletonHead) -> u64
     ensures value { result ≡ size_of_pages (fishead_pages head.now) }
-    ensures small { result ≤ 200 }
+    ensures small { result ≤ longest_fishead_page }
     ensures time { length head.now.utc ≡ 20 }
 {
     size_of_packet(fishead_of(head).size())
@@ -66,7 +67,7 @@ fn size_of_fisbone(stream: &NewStream) -> u64
     requires few { length stream.now.headers ≤ most_headers }
     requires message { has_long_message stream.now ≡ false }
     ensures value { (serial first : ℕ) → result ≡ size_of_pages (pages_of_run serial first (header (fisbone_packet stream.now) ∷ [])) }
-    ensures small { result ≤ 11100 }
+    ensures small { result ≤ longest_fisbone_page }
 {
     size_of_packet(fisbone_of(stream).size_with(stream.fields.as_slice()))
 }
@@ -74,7 +75,7 @@ fn size_of_fisbone(stream: &NewStream) -> u64
 /// How many bytes the last page of a Skeleton has.
 fn size_of_skeleton_end() -> u64
     ensures value { (serial first : ℕ) → result ≡ size_of_pages (skeleton_end serial first) }
-    ensures small { result ≤ 28 }
+    ensures small { result ≤ empty_packet_page }
 {
     size_of_packet(0)
 }
@@ -85,7 +86,7 @@ fn size_of_fisbones(streams: &[NewStream]) -> u64
     requires few { list_any has_many_headers streams.now ≡ false }
     requires message { list_any has_long_message streams.now ≡ false }
     ensures value { (serial : ℕ) → result ≡ size_of_pages (fisbone_pages serial 1 streams.now) }
-    ensures small { result ≤ 11100 * 64 }
+    ensures small { result ≤ longest_fisbone_page * most_streams }
 {
     let mut size = 0;
     for stream in streams {
@@ -110,7 +111,7 @@ pub fn size_of_skeleton(head: &SkeletonHead, streams: &[NewStream]) -> u64
 
 /// Appends the page of a packet at position 0, for which there is room.
 fn lay_packet(serial: u32, sequence: u32, flags: u8, packet: &[u8], out: &mut Vec<u8>)
-    requires short { length packet.now ≤ longest_described }
+    requires short { length packet.now ≤ longest_whole }
     requires flags { flags < 255 }
     requires room { vec_len out.old + size_of_pages (pages_of_run serial sequence (header packet.now ∷ [])) ≤ vec_capacity out.old }
     ensures items { out.new.items ≡ out.old.items ++ bytes_of_pages (flagged flags (pages_of_run serial sequence (header packet.now ∷ []))) }

@@ -2,9 +2,10 @@
 ghost use Rattle.std.specs.Prelude.{◌≡◌, ◌≤◌, ◌*◌, ◌++◌, ◌∷◌, [], ℕ, IfOk, OnOk, length, sum};
 ghost use Rattle.ogg_page.specs.Page.{IsPage};
 ghost use Rattle.gathering.specs.Cutting.{CutsInto, EndIn, first_size};
+ghost use Rattle.ogg_page.specs.Sizes.{most_values, full_value, longest_body};
 
 use ogg_command::{Listed, Memory};
-use ogg_page::Page;
+use ogg_page::{FULL_VALUE, Page};
 use std::alloc::Global;
 use std::mem;
 
@@ -28,7 +29,7 @@ fn cut(
     body: &[u8],
 ) -> Result<Vec<Listed<u8>>, Memory>
     requires { sum lacing.now ≡ length body.now }
-    ensures { IfOk result (λ packets. (segments : ℕ) → length rest.old.items ≡ 255 * segments
+    ensures { IfOk result (λ packets. (segments : ℕ) → length rest.old.items ≡ full_value * segments
         → CutsInto segments rest.old.items lacing.now body.now packets.items rest.new.items) }
 {
     let mut packets = Vec::new(alloc);
@@ -36,7 +37,7 @@ fn cut(
     for value in lacing {
         let (piece, others) = left.split_at(usize::from(*value));
         rest.extend_from_slice(piece)?;
-        if *value < 255 {
+        if *value < FULL_VALUE {
             end_packet(alloc, rest, &mut packets)?;
         }
         left = others;
@@ -61,21 +62,21 @@ fn end_packet(
 /// How many bytes a page has of the first packet in it.
 pub fn first_size(page: &Page<'_>) -> usize
     ensures value { result ≡ first_size page.now.lacing }
-    ensures bound { result ≤ 65025 }
+    ensures bound { result ≤ longest_body }
 {
     let _bytes = page.whole();
     first_size_of(page.lacing())
 }
 
 fn first_size_of(lacing: &[u8]) -> usize
-    requires { length lacing.now ≤ 255 }
+    requires { length lacing.now ≤ most_values }
     ensures value { result ≡ first_size lacing.now }
-    ensures bound { result ≤ 255 * length lacing.now }
+    ensures bound { result ≤ full_value * length lacing.now }
 {
     let mut size = 0;
     for value in lacing {
         size += usize::from(*value);
-        if *value < u8::MAX {
+        if *value < FULL_VALUE {
             break;
         }
     }

@@ -12,6 +12,7 @@ ghost use Rattle.link_chain.specs.Taking.{fault_of_page};
 ghost use Rattle.gathering.specs.Giving.{IsPlain, TakesOn, begin_if};
 ghost use Rattle.gathering.specs.Kept.{KeptLink, waits};
 ghost use Rattle.gathering.specs.Gathered.{Gathered, HasGathered};
+ghost use Rattle.ogg_page.specs.Sizes.{full_value};
 
 /// Once no link waits, the commands given hold the recording that the pages hold.
 pub fn gathered_commands_hold_the_recording()
@@ -24,7 +25,7 @@ pub fn gathered_commands_hold_the_recording()
 /// page, nor the one that goes on after it.
 pub fn packets_are_short()
     ensures { (rest : List ℕ) (segments : ℕ) (page : Page) (packets : List (List ℕ)) (left : List ℕ)
-        → IsPage page → length rest ≡ 255 * segments → EndIn rest page packets left
+        → IsPage page → length rest ≡ full_value * segments → EndIn rest page packets left
         → length rest + first_size page.lacing ≤ longest_packet →
         AllByRecursion (λ packet. length packet ≤ longest_packet) (packets ++ left ∷ []) }
 {}

@@ -3,6 +3,7 @@ use Rattle.std.specs.Prelude.{◌≡◌, ◌≢◌, ℕ, ◌<◌, ◌≤◌, Boo
 use Rattle.std.specs.List.{flat_map, list_all, list_any, AllByRecursion, IsDistinct}
 use Rattle.ogg_page.specs.Page.{Page, IsPage, bytes_of_pages}
 use Rattle.ogg_page.specs.LogicalStream.{FlagsFit, EachBehind, is_first, is_last}
+use Rattle.link_chain.specs.Limits.{most_streams, most_links}
 
 -- the pages of the stream with this serial
 abbrev pub pages_with : ℕ → List Page → List Page
@@ -31,7 +32,7 @@ pub record IsLink (pages : List Page) : Type 0 where
   pub split : pages ≡ first_pages ++ others
   pub marked : AllByRecursion (λ page. IsTrue (is_first page)) first_pages
   pub some : 0 < length first_pages
-  pub few : length first_pages ≤ 64
+  pub few : length first_pages ≤ most_streams
   pub distinct : IsDistinct nat_eq (serials_of pages)
   pub unmarked : AllByRecursion (λ page. is_first page ≡ false) others
   pub known : AllByRecursion (λ page. has_stream pages page.serial ≡ true) others
@@ -49,7 +50,7 @@ AllButLast P (link ∷ next ∷ links) = P link × AllButLast P (next ∷ links)
 pub record AreLinks (bytes : List ℕ) (links : List (List Page)) : Type 0 where
   pub spelled : bytes ≡ flat_map bytes_of_pages links
   pub pages : AllByRecursion (AllByRecursion IsPage) links
-  pub few : length links ≤ 65536
+  pub few : length links ≤ most_links
   pub each : AllByRecursion IsLink links
   pub ended : AllButLast (λ link. all_ended link ≡ true) links
 

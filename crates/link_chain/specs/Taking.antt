@@ -14,6 +14,7 @@ use Rattle.link_chain.specs.Links.{with_pages}
 use Rattle.link_chain.specs.Limits.{most_streams, most_links}
 use Rattle.link_chain.specs.Rules.{Rule, first_broken}
 use Rattle.link_chain.specs.Room.{ChainWithRoom}
+use Rattle.ogg_page.specs.Sizes.{full_value}
 
 -- ---- the links with a page more
 -- a stream's first page begins a link where there is none yet, or where all streams of the last one have ended
@@ -24,11 +25,11 @@ abbrev pub links_with : List (List Page) → Page → List (List Page)
 links_with links page = if begins_link (chain_state_of links) page then links ++ (page ∷ []) ∷ [] else with_pages links (page ∷ [])
 
 -- ---- a stream's first page
--- the lacing values are those of exactly one whole packet: values of 255, and then one below
+-- the lacing values are those of exactly one whole packet: full ones, and then another
 abbrev pub is_one_packet : List ℕ → Bool
 is_one_packet [] = false
-is_one_packet (value ∷ []) = nat_lt value 255
-is_one_packet (value ∷ next ∷ values) = nat_eq value 255 && is_one_packet (next ∷ values)
+is_one_packet (value ∷ []) = nat_lt value full_value
+is_one_packet (value ∷ next ∷ values) = nat_eq value full_value && is_one_packet (next ∷ values)
 
 abbrev pub is_whole_packet : Page → Bool
 is_whole_packet page = not (is_continued page) && is_one_packet page.lacing

@@ -1,6 +1,8 @@
 //! The chain of the links so far.
 ghost use Rattle.std.specs.Prelude.{◌≡◌, ◌≤◌, ◌<◌, ◌+◌, ◌^◌, ℕ, List, [], OnOk, OnErr, Err, Some, None, length};
 ghost use Rattle.ogg_page.specs.Page.{Page as PageValue, page_size};
+ghost use Rattle.ogg_page.specs.Sizes.{fixed_size};
+ghost use Rattle.link_chain.specs.Limits.{most_streams, most_links};
 
 use crate::Memory;
 use crate::chain_fault::ChainFault;
@@ -8,7 +10,7 @@ use crate::serials::Serials;
 use crate::stream_state::StreamState;
 use crate::streams::{end_stream, first_unfinished, is_open};
 use crate::taking::{add_serials, broken_by_page, follow, join_link, open_link};
-use ogg_page::Page;
+use ogg_page::{FIXED_SIZE, Page};
 use std::alloc::Global;
 use std::marker::Model;
 
@@ -27,6 +29,7 @@ impl Model for Chain {
     ghost use Rattle.std.specs.Prelude.{◌≤◌, ◌<◌, ◌^◌, vec_len, vec_capacity};
     ghost use Rattle.link_chain.specs.Places.{HaveOwnSerials};
     ghost use Rattle.link_chain.specs.Room.{ChainWithRoom};
+    ghost use Rattle.link_chain.specs.Limits.{most_streams};
 
     ghost Value = { ChainWithRoom };
 
@@ -42,7 +45,7 @@ impl Model for Chain {
       serial_room = s.serials.room;
     } };
 
-    ghost invariant = { λ s. (vec_len s.streams ≤ 64) × (s.bytes < 2 ^ 63) × HaveOwnSerials s.streams.items };
+    ghost invariant = { λ s. (vec_len s.streams ≤ most_streams) × (s.bytes < 2 ^ 63) × HaveOwnSerials s.streams.items };
 }
 
 impl Chain {
@@ -69,7 +72,7 @@ impl Chain {
     /// The streams of the last link, in the order of their first pages.
     pub fn streams(&self) -> &[StreamState]
         ensures value { result.now ≡ self.now.chain.streams }
-        ensures few { length self.now.chain.streams ≤ 64 }
+        ensures few { length self.now.chain.streams ≤ most_streams }
         ensures own { HaveOwnSerials self.now.chain.streams }
     {
         self.streams.as_slice()
@@ -144,7 +147,7 @@ impl Chain {
 
     fn join_link(&mut self, page: &Page<'_>) -> Result<(), Memory>
         requires long { self.old.chain.length_of + page_size page.now < 2 ^ 63 }
-        requires few { length self.old.chain.streams < 64 }
+        requires few { length self.old.chain.streams < most_streams }
         requires fresh { stream_in self.old.chain.streams page.now.serial ≡ None }
         ensures ok { OnOk result (self.new.chain ≡ joined self.old.chain page.now) }
         ensures err { OnErr result (self.new.chain ≡ self.old.chain) }
@@ -157,7 +160,7 @@ impl Chain {
 
     fn open_link(&mut self, page: &Page<'_>) -> Result<(), Memory>
         requires long { self.old.chain.length_of + page_size page.now < 2 ^ 63 }
-        requires few { self.old.chain.links < 65536 }
+        requires few { self.old.chain.links < most_links }
         ensures ok { OnOk result (self.new.chain ≡ opened self.old.chain page.now) }
         ensures err { OnErr result (self.new.chain ≡ self.old.chain) }
         ensures full { OnErr result (1 ≤ self.old.stream_room → 1 ≤ self.old.serial_room → ⊥) }
@@ -187,11 +190,11 @@ impl Chain {
     /// Adds a link of these streams, whose pages have so many bytes, and of which some are no stream's
     /// first where it has data. It takes no memory: `reserve_link` has made the room.
     pub fn add_link(&mut self, streams: &[StreamState], has_data: bool, bytes: u64)
-        requires few { length streams.now ≤ 64 }
+        requires few { length streams.now ≤ most_streams }
         requires own { HaveOwnSerials streams.now }
         requires stream_room { length streams.now ≤ self.old.stream_room }
         requires serial_room { length streams.now ≤ self.old.serial_room }
-        requires links { self.old.chain.links < 65536 }
+        requires links { self.old.chain.links < most_links }
         requires long { self.old.chain.length_of + bytes < 2 ^ 63 }
         ensures { self.new.chain ≡ with_link self.old.chain streams.now has_data bytes }
     {
@@ -221,12 +224,12 @@ impl Chain {
     /// Ends the stream with this serial by a page without packets. It takes no memory.
     pub fn end_stream(&mut self, serial: u32)
         requires numbered { next_in self.old.chain.streams serial < 2 ^ 32 }
-        requires long { self.old.chain.length_of + 27 < 2 ^ 63 }
-        ensures { self.new.chain ≡ moved_by self.old.chain serial (ended_by (next_in self.old.chain.streams serial + 1)) 27 }
+        requires long { self.old.chain.length_of + fixed_size < 2 ^ 63 }
+        ensures { self.new.chain ≡ moved_by self.old.chain serial (ended_by (next_in self.old.chain.streams serial + 1)) fixed_size }
     {
         end_stream(self.streams.as_mut_slice(), serial);
         self.has_data = true;
-        self.bytes += 27;
+        self.bytes += FIXED_SIZE as u64;
     }
 
     /// The serial of the first stream of the last link, in the order of their first pages, that has

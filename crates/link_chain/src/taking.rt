@@ -8,6 +8,7 @@ ghost use Rattle.link_chain.specs.Taking.{is_one_packet, is_whole_packet, openin
 ghost use Rattle.link_chain.specs.declared.stream_state.StreamState.{StreamState as State};
 ghost use Rattle.link_chain.specs.Followed.{followed, entered};
 ghost use Rattle.ogg_page.specs.Lacing.{ends_open};
+ghost use Rattle.ogg_page.specs.Sizes.{full_value};
 
 use crate::Memory;
 use crate::chain_fault::ChainFault;
@@ -15,23 +16,23 @@ use crate::limits::{MOST_LINKS, MOST_STREAMS, POSITIONS};
 use crate::serials::Serials;
 use crate::stream_state::StreamState;
 use crate::streams::{is_open, stream_in};
-use ogg_page::Page;
+use ogg_page::{FULL_VALUE, Page};
 
 /// Whether the lacing values are those of exactly one whole packet.
 fn is_one_packet(lacing: &[u8]) -> bool
     ensures { result ≡ is_one_packet lacing.now }
 {
     match lacing {
-        [full @ .., last] => are_full(full) && *last < 255,
+        [full @ .., last] => are_full(full) && *last < FULL_VALUE,
         [] => false,
     }
 }
 
 /// Whether all of the lacing values are those of whole segments.
 fn are_full(values: &[u8]) -> bool
-    ensures { result ≡ list_all (λ (value : ℕ). nat_eq value 255) values.now }
+    ensures { result ≡ list_all (λ (value : ℕ). nat_eq value full_value) values.now }
 {
-    values.iter().all(|value| *value == 255)
+    values.iter().all(|value| *value == FULL_VALUE)
 }
 
 fn is_whole_packet(page: &Page<'_>) -> bool
@@ -44,7 +45,7 @@ fn is_whole_packet(page: &Page<'_>) -> bool
 fn ends_open(lacing: &[u8]) -> bool
     ensures { result ≡ ends_open lacing.now }
 {
-    lacing.last() == Some(&255)
+    lacing.last() == Some(&FULL_VALUE)
 }
 
 /// Whether a packet of the stream goes on behind the page.

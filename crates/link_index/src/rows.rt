@@ -3,6 +3,7 @@ ghost use Rattle.std.specs.Prelude.{◌≡◌, ◌≤◌, ◌<◌, ◌+◌, ◌+
 ghost use Rattle.ogg_page.specs.Page.{page_bytes};
 ghost use Rattle.link_index.specs.Growth.{first_info, counted, opened_entry, joined_entry, continued_entry, change_last};
 ghost use Rattle.link_index.specs.Rows.{ArePacked, AreWithin, entry_of, entries_of, last_count};
+ghost use Rattle.link_chain.specs.Limits.{most_streams};
 
 use crate::info::{LinkInfo, StreamInfo};
 use ogg_page::Page;
@@ -68,7 +69,7 @@ pub fn open_link(rows: &mut Vec<Row>, streams: &mut Vec<StreamInfo>, start: u64,
 pub fn join_link(rows: &mut Vec<Row>, streams: &mut Vec<StreamInfo>, page: &Page<'_>)
     requires packed { ArePacked 0 rows.old.items (length streams.old.items) }
     requires some { 0 < vec_len rows.old }
-    requires few { last_count rows.old.items < 64 }
+    requires few { last_count rows.old.items < most_streams }
     requires within { (total : ℕ) × AreWithin total rows.old.items streams.old.items × (total + length (page_bytes page.now) < 2 ^ 63) }
     requires room { vec_len streams.old < vec_capacity streams.old }
     ensures entries { entries_of streams.new.items rows.new.items

@@ -9,6 +9,7 @@ ghost use Rattle.ogg_split.specs.Asked.{AreIndexed};
 ghost use Rattle.ogg_split.specs.Copying.{IsCopy, IsThere};
 ghost use Rattle.ogg_finish.specs.Ends.{ends_after, finished_by, without_pages};
 ghost use Rattle.ogg_finish.specs.Finishing.{finished_link, finished_links};
+ghost use Rattle.link_chain.specs.Limits.{most_streams};
 
 use crate::passes::{find_ends, write_finished};
 use crate::stream_end::StreamEnd;
@@ -106,7 +107,7 @@ fn find_link_ends<S: PageSource>(
         → AreIndexed links index.now (S.bytes window.old.source) → slice_get links link ≡ Some pages
         → IfOk result (λ ends. ends.items ≡ ends_after pages (map without_pages streams.now)) }
     ensures cause { (links : List (List PageValue)) → S.is_honest window.old.source
-        → AreIndexed links index.now (S.bytes window.old.source) → length streams.now ≤ 64 → OnErr result
+        → AreIndexed links index.now (S.bytes window.old.source) → length streams.now ≤ most_streams → OnErr result
         ((S.failures window.old.source < S.failures window.new.source) ⊎ (S.failures window.new.source ≡ 2 ^ 64 - 1)) }
     ensures err { IfErr result (λ fault. fault ≡ SplitFault.Source) }
     ensures later { S.failures window.old.source ≤ S.failures window.new.source }
@@ -154,7 +155,7 @@ fn write_link<S: PageSource, W: Write>(
 
 /// The streams before their first pages.
 fn ends_of(streams: &[StreamInfo]) -> ArrayVec<StreamEnd, MOST_STREAMS>
-    requires { length streams.now ≤ 64 }
+    requires { length streams.now ≤ most_streams }
     ensures { result.items ≡ map without_pages streams.now }
 {
     let mut ends = ArrayVec::new();

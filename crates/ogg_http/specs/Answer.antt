@@ -9,6 +9,10 @@ abbrev pub AnswerFits : Answer → Type 0
 AnswerFits (Part first last len) = (first ≤ last) × (last < len)
 AnswerFits _ = ⊤
 
+-- ours: the room for a head, in bytes
+abbrev pub head_room : ℕ
+head_room = 256
+
 -- a line and its end (RFC 9112, section 2.2)
 abbrev pub line : List ℕ → List ℕ
 line text = text ++ codes "\r\n"

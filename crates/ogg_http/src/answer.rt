@@ -2,7 +2,7 @@
 ghost use Rattle.std.specs.Prelude.{◌≡◌, ◌+◌, ◌≤◌, ◌<◌, [], ◌++◌, length, vec_len, vec_capacity, codes, OnOk, OnErr};
 ghost use Rattle.std.specs.Fmt.{decimal};
 ghost use Rattle.arrayvec.specs.ArrayVec.{array_vec_len};
-ghost use Rattle.ogg_http.specs.Answer.{AnswerFits, answer_head, content_length, content_range, line};
+ghost use Rattle.ogg_http.specs.Answer.{AnswerFits, answer_head, content_length, content_range, line, head_room};
 
 use arrayvec::ArrayVec;
 use itoa::Buffer;
@@ -24,11 +24,13 @@ pub enum Answer {
     NotAllowed,
 }
 
-/// Room for each head. The longest, of a part with numbers of 20 digits, has 227 bytes.
-type Text = ArrayVec<u8, 256>;
+/// Bytes of the room for a head. The longest head, of a part with numbers of 20 digits, has 227.
+const HEAD_ROOM: usize = 256;
+
+type Text = ArrayVec<u8, HEAD_ROOM>;
 
 fn push(text: &mut Text, more: &[u8])
-    requires { array_vec_len text.old + length more.now ≤ 256 }
+    requires { array_vec_len text.old + length more.now ≤ head_room }
     ensures items { text.new.items ≡ text.old.items ++ more.now }
     ensures len { array_vec_len text.new ≡ array_vec_len text.old + length more.now }
 {
@@ -36,7 +38,7 @@ fn push(text: &mut Text, more: &[u8])
 }
 
 fn push_number(text: &mut Text, number: u64)
-    requires { array_vec_len text.old + 20 ≤ 256 }
+    requires { array_vec_len text.old + 20 ≤ head_room }
     ensures items { text.new.items ≡ text.old.items ++ decimal number }
     ensures len { array_vec_len text.new ≤ array_vec_len text.old + 20 }
 {
@@ -45,7 +47,7 @@ fn push_number(text: &mut Text, number: u64)
 }
 
 fn push_line(text: &mut Text, more: &[u8])
-    requires { array_vec_len text.old + length more.now + 2 ≤ 256 }
+    requires { array_vec_len text.old + length more.now + 2 ≤ head_room }
     ensures items { text.new.items ≡ text.old.items ++ line more.now }
     ensures len { array_vec_len text.new ≡ array_vec_len text.old + length more.now + 2 }
 {
@@ -54,7 +56,7 @@ fn push_line(text: &mut Text, more: &[u8])
 }
 
 fn push_content_length(text: &mut Text, len: u64)
-    requires { array_vec_len text.old + 38 ≤ 256 }
+    requires { array_vec_len text.old + 38 ≤ head_room }
     ensures items { text.new.items ≡ text.old.items ++ content_length len }
     ensures len { array_vec_len text.new ≤ array_vec_len text.old + 38 }
 {
@@ -64,7 +66,7 @@ fn push_content_length(text: &mut Text, len: u64)
 }
 
 fn push_content_range(text: &mut Text, first: u64, last: u64, len: u64)
-    requires { array_vec_len text.old + 85 ≤ 256 }
+    requires { array_vec_len text.old + 85 ≤ head_room }
     ensures items { text.new.items ≡ text.old.items ++ content_range first last len }
     ensures len { array_vec_len text.new ≤ array_vec_len text.old + 85 }
 {
@@ -78,7 +80,7 @@ fn push_content_range(text: &mut Text, first: u64, last: u64, len: u64)
 }
 
 fn push_no_range(text: &mut Text, len: u64)
-    requires { array_vec_len text.old + 45 ≤ 256 }
+    requires { array_vec_len text.old + 45 ≤ head_room }
     ensures items { text.new.items
         ≡ text.old.items ++ line (codes "Content-Range: bytes */" ++ decimal len) }
     ensures len { array_vec_len text.new ≤ array_vec_len text.old + 45 }
@@ -89,7 +91,7 @@ fn push_no_range(text: &mut Text, len: u64)
 }
 
 fn push_end(text: &mut Text)
-    requires { array_vec_len text.old + 21 ≤ 256 }
+    requires { array_vec_len text.old + 21 ≤ head_room }
     ensures { text.new.items ≡ text.old.items ++ line (codes "Connection: close") ++ line [] }
 {
     push_line(text, b"Connection: close");

@@ -2,6 +2,7 @@
 ghost use Rattle.std.specs.Prelude.{◌≡◌, ◌≤◌, length, map, option_copied, All};
 ghost use Rattle.httparse.specs.Spans.{IsHeaderWithin, header_bytes};
 ghost use Rattle.ogg_http.specs.Fields.{is_named, count_of, first_of_name, range_in};
+ghost use Rattle.ogg_http.specs.Head.{most_fields};
 
 use httparse::spans::HeaderSpan;
 
@@ -13,7 +14,7 @@ fn is_named(name: &[u8], wanted: &[u8]) -> bool
 
 /// How many fields have this name. The spans are of the first `len` bytes of `bytes`.
 pub fn count_of(bytes: &[u8], len: usize, fields: &[HeaderSpan], wanted: &[u8]) -> u32
-    requires room { length fields.now ≤ 64 }
+    requires room { length fields.now ≤ most_fields }
     requires inside { len ≤ length bytes.now }
     requires within { All (IsHeaderWithin len) fields.now }
     ensures { result ≡ count_of wanted.now (map (header_bytes bytes.now) fields.now) }
@@ -48,7 +49,7 @@ fn first_of_name<'b>(
 
 /// The value of the one `Range` field, where there is no `If-Range`.
 pub fn range_in<'b>(bytes: &'b [u8], len: usize, fields: &[HeaderSpan]) -> Option<&'b [u8]>
-    requires room { length fields.now ≤ 64 }
+    requires room { length fields.now ≤ most_fields }
     requires inside { len ≤ length bytes.now }
     requires within { All (IsHeaderWithin len) fields.now }
     ensures { option_copied result ≡ range_in (map (header_bytes bytes.now) fields.now) }

@@ -1,3 +1,4 @@
+pub mod Sizes
 pub mod Checksum
 pub mod Numbers
 pub mod Page

@@ -3,6 +3,7 @@ use Rattle.std.specs.Prelude.{◌≡◌, ◌≢◌, ◌↔◌, ℕ, ◌+◌, ◌
 use Rattle.std.specs.List.{flat_map, concat, fold, list_any}
 use Rattle.ogg_page.specs.Page.{Page}
 use Rattle.ogg_page.specs.Lacing.{lace, ends_open}
+use Rattle.ogg_page.specs.Sizes.{full_value}
 
 -- the three flags: the page begins with a continued packet, it is the stream's first page, it is the stream's last
 abbrev pub is_continued : Page → Bool
@@ -22,9 +23,9 @@ joined_bodies pages = flat_map (λ page. page.body) pages
 
 -- The pages hold these whole packets, and then so many whole segments, with these bytes, of a packet that goes on.
 pub record HoldsPackets (pages : List Page) (packets : List (List ℕ)) (segments : ℕ) (rest : List ℕ) : Type 0 where
-  pub lacing : joined_lacing pages ≡ flat_map lace packets ++ replicate segments 255
+  pub lacing : joined_lacing pages ≡ flat_map lace packets ++ replicate segments full_value
   pub bodies : joined_bodies pages ≡ concat packets ++ rest
-  pub rest_size : length rest ≡ 255 * segments
+  pub rest_size : length rest ≡ full_value * segments
 
 -- one more than the number of the last page
 abbrev pub number_behind : List Page → ℕ

@@ -5,6 +5,7 @@ use Rattle.std.specs.Prelude.{codes}
 use Rattle.byteorder.specs.Endian.{little_bytes}
 use Rattle.ogg_page.specs.declared.head.PageHead.{PageHead}
 use Rattle.ogg_page.specs.Checksum.{checksum_of}
+use Rattle.ogg_page.specs.Sizes.{fixed_size, most_values}
 
 -- a page, without where it lies in memory
 pub record Page : Type 0 where
@@ -28,7 +29,7 @@ pub record IsPage (p : Page) : Type 0 where
   pub position : p.position < 2 ^ 64
   pub serial : p.serial < 2 ^ 32
   pub sequence : p.sequence < 2 ^ 32
-  pub values : length p.lacing ≤ 255
+  pub values : length p.lacing ≤ most_values
   pub lacing : AllByRecursion IsByte p.lacing
   pub body : AllByRecursion IsByte p.body
   pub whole : sum p.lacing ≡ length p.body
@@ -49,7 +50,7 @@ page_bytes p = bytes_with (checksum_of (bytes_with 0 p)) p
 
 -- how many bytes a page has
 abbrev pub page_size : Page → ℕ
-page_size page = 27 + length page.lacing + length page.body
+page_size page = fixed_size + length page.lacing + length page.body
 
 -- the bytes of pages, one after the other
 abbrev pub bytes_of_pages : List Page → List ℕ

@@ -2,6 +2,7 @@
 use Rattle.std.specs.Prelude.{◌≡◌, ℕ, ◌+◌, ◌≤◌, Option, Some, None, List, [], ◌∷◌, ◌++◌, length, sum, take, drop, ⊤}
 use Rattle.ogg_page.specs.Page.{Page, page_bytes, page_of}
 use Rattle.ogg_page.specs.declared.head.PageHead.{PageHead}
+use Rattle.ogg_page.specs.Sizes.{fixed_size, most_values, longest_body, room_size}
 
 -- its lacing values, its body so far, and the page, once it is finished
 pub record PageInWork : Type 0 where
@@ -14,10 +15,10 @@ started lacing = record { lacing = lacing; body = []; finished = None }
 
 -- where the values and the body lie in the room
 abbrev pub lacing_in : ℕ → List ℕ → List ℕ
-lacing_in values room = take values (drop 27 room)
+lacing_in values room = take values (drop fixed_size room)
 
 abbrev pub body_in : ℕ → ℕ → List ℕ → List ℕ
-body_in values size room = take size (drop (27 + values) room)
+body_in values size room = take size (drop (fixed_size + values) room)
 
 abbrev pub page_in : PageHead → ℕ → ℕ → List ℕ → Page
 page_in head values size room = page_of head (lacing_in values room) (body_in values size room)
@@ -30,12 +31,12 @@ finished_in (Some head) values size room = Some (page_in head values size room)
 abbrev pub IsClosed : Option PageHead → ℕ → ℕ → List ℕ → Type 0
 IsClosed None values size room = ⊤
 IsClosed (Some head) values size room =
-    (size ≡ sum (lacing_in values room)) × (take (28 + values + size) room ≡ page_bytes (page_in head values size room) ++ 0 ∷ [])
+    (size ≡ sum (lacing_in values room)) × (take (fixed_size + 1 + values + size) room ≡ page_bytes (page_in head values size room) ++ 0 ∷ [])
 
 -- the room holds a page in work
 pub record IsInRoom (head : Option PageHead) (values size : ℕ) (room : List ℕ) : Type 0 where
-  pub whole : length room ≡ 65308
-  pub few : values ≤ 255
-  pub small : sum (lacing_in values room) ≤ 65025
+  pub whole : length room ≡ room_size
+  pub few : values ≤ most_values
+  pub small : sum (lacing_in values room) ≤ longest_body
   pub fits : size ≤ sum (lacing_in values room)
   pub closed : IsClosed head values size room

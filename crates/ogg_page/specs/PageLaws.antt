@@ -5,12 +5,13 @@ use Rattle.ogg_page.specs.Page.{Page, IsPage, IsByte, AreBytes, page_bytes, page
 use Rattle.ogg_page.specs.Laws.PageBytes
 use Rattle.ogg_page.specs.Laws.Prefixes
 use Rattle.ogg_page.specs.Laws.ReadAgain
+use Rattle.ogg_page.specs.Sizes.{longest_page}
 
 -- how many bytes a page has, and at most
 pub length-page_bytes : (page : Page) → length (page_bytes page) ≡ page_size page
 length-page_bytes page = ReadAgain.length-page_bytes page
 
-pub page_fits : (page : Page) → IsPage page → page_size page ≤ 65307
+pub page_fits : (page : Page) → IsPage page → page_size page ≤ longest_page
 page_fits page is = PageBytes.page_fits page is
 
 -- each of them is below 256

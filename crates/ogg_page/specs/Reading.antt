@@ -6,17 +6,18 @@ use Rattle.ogg_page.specs.Checksum.{checksum_of}
 use Rattle.ogg_page.specs.Page.{Page}
 use Rattle.ogg_page.specs.declared.fault.PageFault.{PageFault}
 use Rattle.ogg_page.specs.declared.fault.PageFault.TheVariants.{Short, Pattern, Version, Checksum}
+use Rattle.ogg_page.specs.Sizes.{fixed_size}
 
 -- the lacing values, of which byte 26 gives the number
 abbrev pub lacing_at : List ℕ → List ℕ
-lacing_at bytes = take (slice_index bytes 26) (drop 27 bytes)
+lacing_at bytes = take (slice_index bytes 26) (drop fixed_size bytes)
 
 abbrev pub behind_lacing : List ℕ → List ℕ
-behind_lacing bytes = drop (slice_index bytes 26) (drop 27 bytes)
+behind_lacing bytes = drop (slice_index bytes 26) (drop fixed_size bytes)
 
 -- how many bytes the page has that begins with this head and these lacing values
 abbrev pub size_at : List ℕ → ℕ
-size_at bytes = 27 + slice_index bytes 26 + sum (lacing_at bytes)
+size_at bytes = fixed_size + slice_index bytes 26 + sum (lacing_at bytes)
 
 -- the page with the fields at their places
 abbrev pub fields_at : List ℕ → Page
@@ -37,10 +38,10 @@ blanked bytes = take 22 bytes ++ 0 ∷ 0 ∷ 0 ∷ 0 ∷ [] ++ drop 26 bytes
 -- the page, or the first fault in this order
 unfoldable pub page_at : List ℕ → Result Page PageFault
 page_at bytes =
-    if nat_lt (length bytes) 27 then Err Short
+    if nat_lt (length bytes) fixed_size then Err Short
     else (if not (starts_with nat_eq bytes (codes "OggS")) then Err Pattern
     else (if not (nat_eq (slice_index bytes 4) 0) then Err Version
-    else (if nat_lt (length bytes) (27 + slice_index bytes 26) then Err Short
+    else (if nat_lt (length bytes) (fixed_size + slice_index bytes 26) then Err Short
     else (if nat_lt (length (behind_lacing bytes)) (sum (lacing_at bytes)) then Err Short
     else (if not (nat_eq (little_number 4 (drop 22 bytes)) (checksum_of (blanked (take (size_at bytes) bytes)))) then Err Checksum
     else Ok (fields_at bytes))))))
@@ -50,4 +51,4 @@ pub record IsPageOf (bytes : List ℕ) (values size : ℕ) : Type 0 where
   pub page : page_at bytes ≡ Ok (fields_at bytes)
   pub table : values ≡ slice_index bytes 26
   pub body : size ≡ sum (lacing_at bytes)
-  pub whole : 27 + values + size ≤ length bytes
+  pub whole : fixed_size + values + size ≤ length bytes

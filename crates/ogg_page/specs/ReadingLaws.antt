@@ -5,6 +5,7 @@ use Rattle.ogg_page.specs.Reading.{page_at}
 use Rattle.ogg_page.specs.declared.fault.PageFault.{PageFault}
 use Rattle.ogg_page.specs.Laws.Sight
 use Rattle.ogg_page.specs.Laws.ReadAgain
+use Rattle.ogg_page.specs.Sizes.{longest_page}
 
 -- a page's bytes are read as that page, whatever follows
 pub page_is_read : (page : Page) (more : List ℕ) → IsPage page → page_at (page_bytes page ++ more) ≡ Ok page
@@ -20,8 +21,8 @@ pub fault_is_no_page : (bytes : List ℕ) (fault : PageFault) → page_at bytes 
     → (page : Page) (more : List ℕ) → IsPage page → bytes ≢ page_bytes page ++ more
 fault_is_no_page bytes fault read page more is = Sight.no_page bytes fault read page more is
 
--- what stands in front shows in the first 65,307 bytes, or in all of them
-pub shows_in_front : (n : ℕ) (bytes : List ℕ) → AreBytes (take n bytes) → 65307 ≤ n → page_at (take n bytes) ≡ page_at bytes
+-- what stands in front shows in as many bytes as the longest page has, or in all of them
+pub shows_in_front : (n : ℕ) (bytes : List ℕ) → AreBytes (take n bytes) → longest_page ≤ n → page_at (take n bytes) ≡ page_at bytes
 shows_in_front n bytes small long = Sight.shows_in_front n bytes small long
 
 -- a page shows in as many bytes as it has

@@ -7,6 +7,7 @@ use Rattle.ogg_page.specs.declared.fault.WindowFault.{WindowFault}
 use Rattle.ogg_page.specs.declared.fault.WindowFault.TheVariants.{Source, Page}
 use Rattle.ogg_page.specs.declared.held.Held.{Held}
 use Rattle.ogg_page.specs.declared.held.Lent.{Lent}
+use Rattle.ogg_page.specs.Sizes.{longest_page, room_size}
 
 -- the bytes of the room that are held
 abbrev pub held_of : List ℕ → Held → List ℕ
@@ -14,9 +15,9 @@ held_of room held = take (held.end - held.start) (drop held.start room)
 
 -- Of the room the bytes from `start` to `end` are those of the source from `at` on.
 pub record HoldsBytes (bytes : List ℕ) (honest : Type 0) (size : ℕ) (room : List ℕ) (held : Held) (at to : ℕ) : Type 0 where
-  pub whole : length room ≡ 65308
+  pub whole : length room ≡ room_size
   pub ordered : held.start ≤ held.end
-  pub fits : held.end ≤ 65307
+  pub fits : held.end ≤ longest_page
   pub inside : to ≤ size
   pub span : at + (held.end - held.start) ≤ to
   pub same : honest → held_of room held ≡ take (held.end - held.start) (drop at bytes)
@@ -47,5 +48,5 @@ lent_of room (Some lent) = Some (lent.offset, fields_at (lent_bytes room lent))
 abbrev pub IsLent : List ℕ → Option Lent → Type 0
 IsLent room None = ⊤
 IsLent room (Some lent) =
-    (lent.start ≤ lent.end) × (lent.end ≤ 65307) × (page_at (lent_bytes room lent) ≡ Ok (fields_at (lent_bytes room lent)))
+    (lent.start ≤ lent.end) × (lent.end ≤ longest_page) × (page_at (lent_bytes room lent) ≡ Ok (fields_at (lent_bytes room lent)))
     × (lent.end - lent.start ≡ size_at (lent_bytes room lent))

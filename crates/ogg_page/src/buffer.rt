@@ -2,15 +2,17 @@
 ghost use Rattle.std.specs.Prelude.{◌≡◌, ◌+◌, ◌≤◌, ◌++◌, ◌∷◌, [], Some, IfOk, IsSome, length, sum};
 ghost use Rattle.ogg_page.specs.Page.{Page, page_bytes, page_of};
 ghost use Rattle.ogg_page.specs.PageInWork.{PageInWork, started};
+ghost use Rattle.ogg_page.specs.Sizes.{most_values, room_size};
 
 use crate::Memory;
-use crate::head::{FIXED, PageHead};
+use crate::head::PageHead;
 use crate::placing::{close_room, put_at};
+use crate::sizes::{FIXED_SIZE, LONGEST_PAGE};
 use std::alloc::Global;
 use std::marker::Model;
 
 /// The longest page, and the byte that closes a file behind it.
-pub(crate) const ROOM: usize = 65_308;
+pub(crate) const ROOM: usize = LONGEST_PAGE + 1;
 
 /// Room for one page, made once. A page is made in it: [`start`](PageBuffer::start) with its lacing
 /// values, [`put`](PageBuffer::put) its body, [`finish`](PageBuffer::finish) with its head.
@@ -49,7 +51,7 @@ impl PageBuffer {
 
     /// A buffer in this room.
     pub(crate) fn over(room: Vec<u8>) -> PageBuffer
-        requires { length room.items ≡ 65308 }
+        requires { length room.items ≡ room_size }
         ensures { result ≡ started [] }
     {
         PageBuffer {
@@ -62,17 +64,17 @@ impl PageBuffer {
 
     /// The room, whatever lies in it.
     pub(crate) fn into_room(self) -> Vec<u8>
-        ensures { length result.items ≡ 65308 }
+        ensures { length result.items ≡ room_size }
     {
         self.room
     }
 
     /// Begins a page with these lacing values, at most 255.
     pub fn start(&mut self, lacing: &[u8])
-        requires { length lacing.now ≤ 255 }
+        requires { length lacing.now ≤ most_values }
         ensures { self.new ≡ started lacing.now }
     {
-        put_at(&mut self.room, FIXED, lacing);
+        put_at(&mut self.room, FIXED_SIZE, lacing);
         self.values = lacing.len();
         self.size = 0;
         self.head = None;
@@ -83,7 +85,7 @@ impl PageBuffer {
         requires { length self.old.body + length bytes.now ≤ sum self.old.lacing }
         ensures { self.new ≡ record { lacing = self.old.lacing; body = self.old.body ++ bytes.now; finished = self.old.finished } }
     {
-        put_at(&mut self.room, FIXED + self.values + self.size, bytes);
+        put_at(&mut self.room, FIXED_SIZE + self.values + self.size, bytes);
         self.size += bytes.len();
     }
 
@@ -105,7 +107,7 @@ impl PageBuffer {
         requires { IsSome self.now.finished }
         ensures { (page : Page) → self.now.finished ≡ Some page → result.now ≡ page_bytes page }
     {
-        &self.room[..FIXED + self.values + self.size]
+        &self.room[..FIXED_SIZE + self.values + self.size]
     }
 
     /// The bytes of the finished page, and the byte 0 that closes a file behind it.
@@ -113,6 +115,6 @@ impl PageBuffer {
         requires { IsSome self.now.finished }
         ensures { (page : Page) → self.now.finished ≡ Some page → result.now ≡ page_bytes page ++ 0 ∷ [] }
     {
-        &self.room[..FIXED + self.values + self.size + 1]
+        &self.room[..FIXED_SIZE + self.values + self.size + 1]
     }
 }

@@ -3,14 +3,13 @@ ghost use Rattle.std.specs.Prelude.{◌≡◌, ◌-◌, take, drop, min, OnOk};
 ghost use Rattle.ogg_page.specs.Source.{HasCause};
 ghost use Rattle.ogg_page.specs.Room.{HoldsBytes, IsFoundAt, held_of};
 ghost use Rattle.ogg_page.specs.Window.{KeepsSource, HasSourceCause};
+ghost use Rattle.ogg_page.specs.Sizes.{longest_page};
 
 use crate::fault::{SourceFault, WindowFault};
 use crate::held::Held;
 use crate::reading::size_in_front;
+use crate::sizes::LONGEST_PAGE;
 use crate::source::PageSource;
-
-/// No page has more bytes.
-pub(crate) const LONGEST: usize = 65_307;
 
 /// Moves what is held to the front of the room, and reads behind it as much as the longest page
 /// has, or up to the end of the range. After a fault nothing is held.
@@ -23,12 +22,12 @@ fn read_on<S: PageSource>(
 ) -> Result<(), SourceFault>
     requires { HoldsBytes (S.bytes source.old) (S.is_honest source.old) (S.size source.old) room.old held.old at to }
     ensures holds { HoldsBytes (S.bytes source.new) (S.is_honest source.new) (S.size source.new) room.new held.new at to }
-    ensures all { OnOk result (held.new.end - held.new.start ≡ min (to - at) 65307) }
+    ensures all { OnOk result (held.new.end - held.new.start ≡ min (to - at) longest_page) }
     ensures source { KeepsSource S.bytes S.is_honest S.size S.only_reads source.old source.new }
     ensures cause { HasCause (S.failures source.old) (S.failures source.new) result }
 {
     let kept = held.end - held.start;
-    let wanted = (to - at).min(LONGEST as u64) as usize;
+    let wanted = (to - at).min(LONGEST_PAGE as u64) as usize;
     room.copy_within(held.start..held.end, 0);
     *held = Held { start: 0, end: 0 };
     let (_, behind) = room.split_at_mut(kept);
@@ -55,7 +54,7 @@ pub(crate) fn find<S: PageSource>(
     match size_in_front(&room[held.start..held.end]) {
         Ok(size) => Ok(size),
         Err(fault) => {
-            if (held.end - held.start) as u64 == (to - at).min(LONGEST as u64) {
+            if (held.end - held.start) as u64 == (to - at).min(LONGEST_PAGE as u64) {
                 return Err(WindowFault::Page(at, fault));
             }
             match read_on(source, room, held, at, to) {

@@ -1,8 +1,5 @@
 //! The numbers of a page that its writer chooses.
 
-/// How many bytes come before the lacing values.
-pub(crate) const FIXED: usize = 27;
-
 /// The flag of a page that begins with a continued packet (RFC 3533, section 6, field 3).
 pub const CONTINUED: u8 = 1;
 

@@ -7,6 +7,7 @@ ghost use Rattle.ogg_page.specs.Pages.{AreFoundIn, BeginsWithPages, FoundPage, N
 ghost use Rattle.ogg_page.specs.Window.{AreAll, IsRun, LentAt};
 ghost use Rattle.ogg_page.specs.declared.fault.WindowFault.{WindowFault};
 ghost use Rattle.ogg_page.specs.Reading.{page_at};
+ghost use Rattle.ogg_page.specs.Sizes.{longest_page};
 
 /// Where two pages begin the same bytes, they are one page, and the same bytes follow. So the bytes
 /// of no page are a proper prefix of another's.
@@ -34,7 +35,7 @@ pub fn pages_are_found_in_turn()
 /// No page is longer than 65,307 bytes, so the first 65,307 bytes, or all of them, show what stands
 /// in front: the page, or the first fault.
 pub fn page_shows_in_its_front()
-    ensures { (n : ℕ) (bytes : List ℕ) → AreBytes (take n bytes) → 65307 ≤ n → page_at (take n bytes) ≡ page_at bytes }
+    ensures { (n : ℕ) (bytes : List ℕ) → AreBytes (take n bytes) → longest_page ≤ n → page_at (take n bytes) ≡ page_at bytes }
 {}
 
 /// What a window lends, call by call up to its end or its first fault, is what is found in the

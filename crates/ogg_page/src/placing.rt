@@ -2,9 +2,11 @@
 ghost use Rattle.std.specs.Prelude.{◌≡◌, ◌+◌, ◌<◌, ◌≤◌, ◌++◌, ◌∷◌, List, ℕ, length, drop};
 ghost use Rattle.ogg_page.specs.Page.{page_bytes};
 ghost use Rattle.ogg_page.specs.PageInWork.{page_in};
+ghost use Rattle.ogg_page.specs.Sizes.{fixed_size, most_values};
 
 use crate::crc::checksum;
-use crate::head::{FIXED, PageHead};
+use crate::head::PageHead;
+use crate::sizes::FIXED_SIZE;
 use crate::writing::blank_fixed_part;
 
 /// Puts bytes over those at `at`.
@@ -21,11 +23,11 @@ pub(crate) fn put_at(room: &mut [u8], at: usize, bytes: &[u8])
 /// Makes a page of the lacing values and the body that lie in the room: its head in front of them,
 /// with the checksum, and the byte 0 behind them.
 pub(crate) fn close_room(room: &mut [u8], head: &PageHead, values: usize, size: usize)
-    requires few { values ≤ 255 }
-    requires room { 27 + values + size < length room.old }
-    ensures { room.new ≡ page_bytes (page_in head.now values size room.old) ++ 0 ∷ drop (28 + values + size) room.old }
+    requires few { values ≤ most_values }
+    requires room { fixed_size + values + size < length room.old }
+    ensures { room.new ≡ page_bytes (page_in head.now values size room.old) ++ 0 ∷ drop (fixed_size + 1 + values + size) room.old }
 {
-    let end = FIXED + values + size;
+    let end = FIXED_SIZE + values + size;
     put_at(room, 0, &blank_fixed_part(head, values as u8));
     let sum = checksum(room.split_at(end).0);
     put_at(room, 22, &sum.to_le_bytes());

@@ -5,12 +5,14 @@ ghost use Rattle.ogg_page.specs.Page.{Page as PageValue, IsPage, AreBytes, page_
 ghost use Rattle.ogg_page.specs.Reading.{page_at, fields_at, size_at, blanked, IsPageOf};
 ghost use Rattle.ogg_page.specs.Room.{BeginsWithPage};
 ghost use Rattle.ogg_page.specs.Checksum.{checksum_of};
+ghost use Rattle.ogg_page.specs.Sizes.{fixed_size};
 
 use crate::crc::{checksum, checksum_on, checksum_on_words};
 use crate::fault::PageFault;
-use crate::head::{FIXED, PageHead};
+use crate::head::PageHead;
 use crate::lacing::body_size;
 use crate::page::Page;
+use crate::sizes::FIXED_SIZE;
 use byteorder::{ByteOrder, LittleEndian};
 
 /// Reads the page at the front of the bytes (RFC 3533, section 6), and lends its parts. Bytes
@@ -52,9 +54,9 @@ pub fn split_known_page(bytes: &[u8]) -> (Page<'_>, &[u8])
     ensures { IsPage result.0 × (bytes.now ≡ page_bytes result.0 ++ result.1.now) }
 {
     let values = usize::from(bytes[26]);
-    let size = body_size(bytes.split_at(FIXED).1.split_at(values).0);
+    let size = body_size(bytes.split_at(FIXED_SIZE).1.split_at(values).0);
     let page = page_in_front(bytes, values, size);
-    (page, bytes.split_at(FIXED + values + size).1)
+    (page, bytes.split_at(FIXED_SIZE + values + size).1)
 }
 
 /// The size of the page that the bytes begin with.
@@ -73,7 +75,7 @@ pub(crate) fn known_page(bytes: &[u8]) -> Page<'_>
     ensures { result ≡ fields_at bytes.now }
 {
     let values = usize::from(bytes[26]);
-    page_in_front(bytes, values, bytes.len() - FIXED - values)
+    page_in_front(bytes, values, bytes.len() - FIXED_SIZE - values)
 }
 
 /// How many lacing values and how many bytes of body the page at the front has.
@@ -81,7 +83,7 @@ pub(crate) fn known_page(bytes: &[u8]) -> Page<'_>
 fn sizes_of_page(bytes: &[u8]) -> Result<(usize, usize), PageFault>
     ensures { MatchResult result (λ (values, size). IsPageOf bytes.now values size) (λ fault. page_at bytes.now ≡ Err fault) }
 {
-    if bytes.len() < FIXED {
+    if bytes.len() < FIXED_SIZE {
         return Err(PageFault::Short);
     }
     if !bytes.starts_with(b"OggS") {
@@ -91,15 +93,15 @@ fn sizes_of_page(bytes: &[u8]) -> Result<(usize, usize), PageFault>
         return Err(PageFault::Version);
     }
     let values = usize::from(bytes[26]);
-    if bytes.len() < FIXED + values {
+    if bytes.len() < FIXED_SIZE + values {
         return Err(PageFault::Short);
     }
-    let (lacing, rest) = bytes.split_at(FIXED).1.split_at(values);
+    let (lacing, rest) = bytes.split_at(FIXED_SIZE).1.split_at(values);
     let size = body_size(lacing);
     if rest.len() < size {
         return Err(PageFault::Short);
     }
-    let whole = bytes.split_at(FIXED + values + size).0;
+    let whole = bytes.split_at(FIXED_SIZE + values + size).0;
     if u32_at(bytes, 22) != blanked_checksum(whole) {
         return Err(PageFault::Checksum);
     }
@@ -117,15 +119,20 @@ fn page_in_front(bytes: &[u8], values: usize, size: usize) -> Page<'_>
         serial: u32_at(bytes, 14),
         sequence: u32_at(bytes, 18),
     };
-    let (lacing, rest) = bytes.split_at(FIXED).1.split_at(values);
+    let (lacing, rest) = bytes.split_at(FIXED_SIZE).1.split_at(values);
     let body = rest.split_at(size).0;
-    Page::new(head, lacing, body, bytes.split_at(FIXED + values + size).0)
+    Page::new(
+        head,
+        lacing,
+        body,
+        bytes.split_at(FIXED_SIZE + values + size).0,
+    )
 }
 
 /// The checksum of a page's bytes with zeros in the checksum's place. The first 32 bytes go as one
 /// piece, so that the look-ups go on from there in whole pieces of sixteen bytes.
 fn blanked_checksum(whole: &[u8]) -> u32
-    requires { 27 ≤ length whole.now }
+    requires { fixed_size ≤ length whole.now }
     ensures { result ≡ checksum_of (blanked whole.now) }
 {
     match whole.split_first_chunk::<32>() {

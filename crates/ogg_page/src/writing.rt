@@ -2,10 +2,12 @@
 ghost use Rattle.std.specs.Prelude.{◌≡◌, ◌+◌, ◌≤◌, ◌<◌, ◌++◌, length, sum, OnOk, OnErr, List, ℕ, vec_len, vec_capacity};
 ghost use Rattle.byteorder.specs.Endian.{little_bytes};
 ghost use Rattle.ogg_page.specs.Page.{Page, page_of, page_bytes, bytes_with, fixed_part};
+ghost use Rattle.ogg_page.specs.Sizes.{fixed_size, most_values};
 
 use crate::Memory;
 use crate::crc::checksum;
-use crate::head::{FIXED, PageHead};
+use crate::head::PageHead;
+use crate::sizes::FIXED_SIZE;
 use byteorder::{ByteOrder, LittleEndian};
 
 /// Appends a page (RFC 3533, section 6). After `Memory` the vector is unchanged.
@@ -15,14 +17,14 @@ pub fn write_page(
     body: &[u8],
     out: &mut Vec<u8>,
 ) -> Result<(), Memory>
-    requires values { length lacing.now ≤ 255 }
+    requires values { length lacing.now ≤ most_values }
     requires whole { sum lacing.now ≡ length body.now }
     ensures ok { OnOk result (out.new.items ≡ out.old.items ++ page_bytes (page_of head.now lacing.now body.now)) }
     ensures err { OnErr result (out.new.items ≡ out.old.items) }
-    ensures full { OnErr result (vec_capacity out.old < vec_len out.old + (27 + length lacing.now + length body.now)) }
+    ensures full { OnErr result (vec_capacity out.old < vec_len out.old + (fixed_size + length lacing.now + length body.now)) }
     ensures capacity { vec_capacity out.old ≤ vec_capacity out.new }
 {
-    out.reserve(FIXED + lacing.len() + body.len())?;
+    out.reserve(FIXED_SIZE + lacing.len() + body.len())?;
     let start = out.len();
     open_page(head, lacing, out);
     append(out, body);
@@ -33,11 +35,11 @@ pub fn write_page(
 /// Appends what a page has before its body, with zero as the checksum, and for which there is room.
 /// The body belongs behind it, and then `close_page` makes them the page.
 pub fn open_page(head: &PageHead, lacing: &[u8], out: &mut Vec<u8>)
-    requires values { length lacing.now ≤ 255 }
-    requires room { vec_len out.old + (27 + length lacing.now) ≤ vec_capacity out.old }
+    requires values { length lacing.now ≤ most_values }
+    requires room { vec_len out.old + (fixed_size + length lacing.now) ≤ vec_capacity out.old }
     ensures items { (body : List ℕ) →
         out.new.items ≡ out.old.items ++ (fixed_part 0 (page_of head.now lacing.now body) ++ lacing.now) }
-    ensures len { vec_len out.new ≡ vec_len out.old + (27 + length lacing.now) }
+    ensures len { vec_len out.new ≡ vec_len out.old + (fixed_size + length lacing.now) }
     ensures capacity { vec_capacity out.old ≤ vec_capacity out.new }
 {
     append(out, &blank_fixed_part(head, lacing.len() as u8));
@@ -46,7 +48,7 @@ pub fn open_page(head: &PageHead, lacing: &[u8], out: &mut Vec<u8>)
 
 /// Puts its checksum into the page that begins at `start` and ends with the vector.
 pub fn close_page(start: usize, out: &mut Vec<u8>)
-    requires { start + 27 ≤ vec_len out.old }
+    requires { start + fixed_size ≤ vec_len out.old }
     ensures items { (front : List ℕ) (page : Page) → length front ≡ start →
         out.old.items ≡ front ++ bytes_with 0 page → out.new.items ≡ front ++ page_bytes page }
     ensures len { vec_len out.new ≡ vec_len out.old }
@@ -84,10 +86,10 @@ fn append(out: &mut Vec<u8>, bytes: &[u8])
 
 /// The bytes of a page before its lacing values, with zero as the checksum.
 #[tactic(auto, unfolding(crate::specs::Page::fixed_part))]
-pub(crate) fn blank_fixed_part(head: &PageHead, values: u8) -> [u8; FIXED]
+pub(crate) fn blank_fixed_part(head: &PageHead, values: u8) -> [u8; FIXED_SIZE]
     ensures { (lacing body : List ℕ) → length lacing ≡ values → result ≡ fixed_part 0 (page_of head.now lacing body) }
 {
-    let mut bytes = [0u8; FIXED];
+    let mut bytes = [0u8; FIXED_SIZE];
     bytes[..4].copy_from_slice(b"OggS");
     bytes[5] = head.flags;
     LittleEndian::write_u64(&mut bytes[6..], head.position);

@@ -3,7 +3,7 @@ ghost use Rattle.std.specs.Prelude.{◌≡◌, ◌≢◌, ◌≤◌, ◌<◌, �
 ghost use Rattle.ogg_page.specs.Page.{Page};
 ghost use Rattle.link_chain.specs.Links.{AreLinks};
 ghost use Rattle.ogg_recorder.specs.Recorder.{RecorderState, committed};
-ghost use Rattle.sessions.specs.Hub.{HubState, IsNew, Connect, Receive, Pull, Close, Record, Flush, Group, Reopen};
+ghost use Rattle.sessions.specs.Hub.{HubState, IsNew, Connect, Receive, Pull, Close, Record, Flush, Group, Reopen, most_sessions};
 ghost use Rattle.sessions.specs.Calls.{Steps, found_by, given_in};
 ghost use Rattle.ogg_serve.specs.Parts.{next_of};
 ghost use Rattle.ogg_serve.specs.Images.{IfFile, Records, Flushes, Reads, Fails, Reopens, disk_in};
@@ -46,13 +46,14 @@ pub struct Hub<D: Disk> {
 
 impl<D: Disk> Model for Hub<D> {
     ghost use Rattle.std.specs.Prelude.{◌≤◌, IsSome, vec_capacity};
+    ghost use Rattle.sessions.specs.Hub.{most_sessions};
     ghost use Rattle.ogg_serve.specs.Parts.{HubParts, IsHub, hub_parts};
 
     ghost Value = { HubParts D };
 
     ghost view = { λ h. hub_parts h.file h.lost h.index h.sessions.items h.next h.most };
 
-    ghost invariant = { λ h. IsHub (hub_parts h.file h.lost h.index h.sessions.items h.next h.most) × IsSome h.room × (64 ≤ vec_capacity h.sessions) };
+    ghost invariant = { λ h. IsHub (hub_parts h.file h.lost h.index h.sessions.items h.next h.most) × IsSome h.room × (most_sessions ≤ vec_capacity h.sessions) };
 }
 
 /// What holds of all steps of the machine holds of a hub's calls.
@@ -65,7 +66,7 @@ impl<D: Disk> SeenAsHub for Hub<D> {
 /// Room for all sessions that there may be, and for a page.
 fn rooms(alloc: Global) -> Result<(Vec<Session>, PageBuffer), Memory>
     ensures none { IfOk result (λ made. made.0.items ≡ []) }
-    ensures all { IfOk result (λ made. 64 ≤ vec_capacity made.0) }
+    ensures all { IfOk result (λ made. most_sessions ≤ vec_capacity made.0) }
 {
     let room = PageBuffer::new(alloc)?;
     let sessions = Vec::with_capacity(alloc, MOST_SESSIONS)?;

@@ -4,11 +4,12 @@ use Rattle.packet_view.specs.Packets.{Part, PacketParts, with_part, ends_packet,
 use Rattle.packet_view.specs.declared.unread.Unread.{Unread}
 use Rattle.packet_view.specs.declared.unread.Front.{Front}
 use Rattle.packet_view.specs.declared.unread.Front.TheVariants.{Ends, GoesOn}
+use Rattle.ogg_page.specs.Sizes.{full_value}
 
 -- how many bytes the first packet in a page has there
 unfoldable pub front_size : List ℕ → ℕ
 front_size [] = 0
-front_size (value ∷ lacing) = if nat_eq value 255 then 255 + front_size lacing else value
+front_size (value ∷ lacing) = if nat_eq value full_value then full_value + front_size lacing else value
 
 -- the packets that end in what is left of a page, and the parts of the one that goes on
 abbrev pub packets_left : Unread → List Part → List PacketParts

@@ -7,6 +7,7 @@ use Rattle.ogg_page.specs.LogicalStream.{is_continued, is_last}
 use Rattle.packet_view.specs.declared.place.Behind.{Behind}
 use Rattle.packet_view.specs.declared.fault.ViewFault.{ViewFault}
 use Rattle.packet_view.specs.declared.fault.ViewFault.TheVariants.{Page as PageIsAtFault, Sequence, Continued, AfterEos, Unfinished}
+use Rattle.ogg_page.specs.Sizes.{fixed_size, full_value}
 
 -- bytes of a packet that lie together, and the place of the first of them in the source
 pub record Part : Type 0 where
@@ -29,14 +30,14 @@ with_part parts place (byte ∷ bytes) = parts ++ record { place = place; bytes 
 
 -- whether a packet ends in these lacing values
 abbrev pub ends_packet : List ℕ → Bool
-ends_packet lacing = list_any (λ value. not (nat_eq value 255)) lacing
+ends_packet lacing = list_any (λ value. not (nat_eq value full_value)) lacing
 
 -- The packets that end in a page with these lacing values and this body. The first of them has `parts` of the pages before
 -- and `size` bytes of this page. The last of them has the page's position.
 unfoldable pub packets_in : Option ℕ → List Part → ℕ → ℕ → List ℕ → List ℕ → List PacketParts
 packets_in position parts place size [] body = []
 packets_in position parts place size (value ∷ lacing) body =
-    if nat_eq value 255 then packets_in position parts place (size + 255) lacing body
+    if nat_eq value full_value then packets_in position parts place (size + full_value) lacing body
     else record { parts = with_part parts place (take (size + value) body); position = if ends_packet lacing then None else position }
     ∷ packets_in position [] (place + (size + value)) 0 lacing (drop (size + value) body)
 
@@ -44,7 +45,7 @@ packets_in position parts place size (value ∷ lacing) body =
 unfoldable pub parts_behind : List Part → ℕ → ℕ → List ℕ → List ℕ → List Part
 parts_behind parts place size [] body = with_part parts place (take size body)
 parts_behind parts place size (value ∷ lacing) body =
-    if nat_eq value 255 then parts_behind parts place (size + 255) lacing body
+    if nat_eq value full_value then parts_behind parts place (size + full_value) lacing body
     else parts_behind [] (place + (size + value)) 0 lacing (drop (size + value) body)
 
 -- what the stream's next page must fit
@@ -77,7 +78,7 @@ position_in page = if nat_eq page.position (2 ^ 64 - 1) then None else Some page
 
 -- the place of the body of the page at this offset
 abbrev pub body_place : ℕ → Page → ℕ
-body_place offset page = offset + 27 + length page.lacing
+body_place offset page = offset + fixed_size + length page.lacing
 
 -- packets, and the fault that comes instead of the next, if any does
 pub record PacketsLeft : Type 0 where

@@ -5,6 +5,7 @@ use Rattle.packet_view.specs.Packets.{PacketParts, PacketsLeft, joined_parts, en
 use Rattle.packet_view.specs.declared.place.Behind.{Behind}
 use Rattle.packet_view.specs.declared.fault.ViewFault.{ViewFault}
 use Rattle.packet_view.specs.declared.fault.ViewFault.TheVariants.{Page as PageIsAtFault, Unfinished}
+use Rattle.ogg_page.specs.Sizes.{full_value}
 
 -- what one page has of a packet: the bytes, whether the packet begins and ends with them, and its position if it ends
 pub record PagePart : Type 0 where
@@ -20,7 +21,7 @@ unfoldable pub page_parts : Option ℕ → Bool → ℕ → List ℕ → List �
 page_parts position first size [] body =
     if nat_eq size 0 then [] else record { bytes = take size body; first = first; last = false; position = None } ∷ []
 page_parts position first size (value ∷ lacing) body =
-    if nat_eq value 255 then page_parts position first (size + 255) lacing body
+    if nat_eq value full_value then page_parts position first (size + full_value) lacing body
     else record {
       bytes = take (size + value) body;
       first = first;
@@ -31,7 +32,7 @@ page_parts position first size (value ∷ lacing) body =
 -- whether a packet goes on after these lacing values, if one goes on before them or not
 unfoldable pub goes_on : Bool → List ℕ → Bool
 goes_on unfinished [] = unfinished
-goes_on unfinished (value ∷ lacing) = goes_on (nat_eq value 255) lacing
+goes_on unfinished (value ∷ lacing) = goes_on (nat_eq value full_value) lacing
 
 -- parts, and the fault that comes instead of the next, if any does
 pub record PartsLeft : Type 0 where

@@ -6,7 +6,7 @@ ghost use Rattle.packet_view.specs.Cut.{CutFits, CutsFront, HasCut, IsCut, rest_
 use crate::front::{ends_packet, full_values};
 use crate::place::Behind;
 use crate::walking::position_in;
-use ogg_page::{Page, PageSource, Window};
+use ogg_page::{Page, PageSource, SEGMENT, Window};
 
 /// How far a page is read.
 #[derive(Clone, Copy)]
@@ -80,7 +80,7 @@ fn cut_front(page: &Page<'_>, progress: Progress, cut: Cut) -> (Given, Progress)
         );
     }
     let left = lacing.split_at(full + 1).1;
-    let end = cut.bytes + (255 * full + usize::from(lacing[full]));
+    let end = cut.bytes + (SEGMENT * full + usize::from(lacing[full]));
     let given = Given {
         start: cut.bytes,
         end,

@@ -7,7 +7,7 @@ ghost use Rattle.packet_view.specs.Walking.{IsBefore, Leads, Reaches};
 use crate::fault::ViewFault;
 use crate::place::{Behind, Place};
 use crate::unread::Unread;
-use ogg_page::{Page, split_page};
+use ogg_page::{FIXED_SIZE, Page, split_page};
 
 /// Goes to the stream's next page, or to the end of the bytes.
 pub(crate) fn next_page<'a>(
@@ -78,7 +78,7 @@ fn enter<'a>(page: &Page<'a>, offset: u64, rest: &'a [u8], end: u64) -> Place<'a
         unread: Unread {
             lacing,
             body: page.body(),
-            place: offset + 27 + lacing.len() as u64,
+            place: offset + FIXED_SIZE as u64 + lacing.len() as u64,
             position: position_in(page),
         },
         rest,

@@ -3,6 +3,7 @@ use Rattle.std.specs.Prelude.{ℕ, zero, suc, ◌+◌, ◌-◌, ◌*◌, ◌<◌
 use Rattle.ogg_page.specs.Page.{Page}
 use Rattle.ogg_page.specs.Lacing.{lacing_of, ends_open}
 use Rattle.packetiser.specs.Run.{Timed, run_lacing, run_bytes, values_before, packets_ended, position_of}
+use Rattle.ogg_page.specs.Sizes.{most_values}
 
 -- the lacing values that are left, where so many bytes of the first packet are done
 abbrev pub values_left : ℕ → List Timed → List ℕ
@@ -20,7 +21,7 @@ IsWithin done (item ∷ rest) = done ≤ length item.packet
 
 -- the lacing values of the next page
 abbrev pub next_values : ℕ → List Timed → List ℕ
-next_values done rest = take 255 (values_left done rest)
+next_values done rest = take most_values (values_left done rest)
 
 -- the next page, with flags added to its own
 abbrev pub next_page : ℕ → ℕ → ℕ → ℕ → List Timed → Page
@@ -36,7 +37,7 @@ next_page serial sequence flags done rest =
 
 -- these packets are left behind the next page, and so many bytes of the first of them are done
 pub record IsBehind (done : ℕ) (rest : List Timed) (done' : ℕ) (rest' : List Timed) : Type 0 where
-  pub values : values_left done' rest' ≡ drop 255 (values_left done rest)
+  pub values : values_left done' rest' ≡ drop most_values (values_left done rest)
   pub bytes : bytes_left done' rest' ≡ drop (sum (next_values done rest)) (bytes_left done rest)
   pub ended : rest' ≡ drop (packets_ended (next_values done rest)) rest
   pub within : IsWithin done' rest'
@@ -49,7 +50,7 @@ added flags (suc k) = 0
 
 -- so many bytes of the first of these packets stand before page k
 pub record IsAt (run : List Timed) (k done : ℕ) (rest : List Timed) : Type 0 where
-  pub values : drop (255 * k) (run_lacing run) ≡ values_left done rest
+  pub values : drop (most_values * k) (run_lacing run) ≡ values_left done rest
   pub bytes : drop (sum (values_before k (run_lacing run))) (run_bytes run) ≡ bytes_left done rest
   pub ended : rest ≡ drop (packets_ended (values_before k (run_lacing run))) run
   pub open_is : ends_open (values_before k (run_lacing run)) ≡ nat_lt 0 done

@@ -4,6 +4,7 @@ use Rattle.std.specs.Prelude.{ℕ, zero, suc, ◌+◌, ◌-◌, ◌*◌, ◌/◌
 use Rattle.std.specs.List.{flat_map, AllByRecursion}
 use Rattle.ogg_page.specs.Page.{Page, IsByte}
 use Rattle.ogg_page.specs.Lacing.{lace, ends_open}
+use Rattle.ogg_page.specs.Sizes.{fixed_size, most_values, full_value}
 
 -- a packet with its position
 pub record Timed : Type 0 where
@@ -31,17 +32,17 @@ run_lacing run = flat_map (λ item. lace item.packet) run
 unfoldable pub run_bytes : List Timed → List ℕ
 run_bytes run = flat_map (λ item. item.packet) run
 
--- page k has the lacing values from 255 k on, at most 255
+-- page k has as many lacing values as a page can have, from those of the pages before it on
 unfoldable pub values_at : ℕ → List ℕ → List ℕ
-values_at k values = take 255 (drop (255 * k) values)
+values_at k values = take most_values (drop (most_values * k) values)
 
 -- the values of the pages before page k
 unfoldable pub values_before : ℕ → List ℕ → List ℕ
-values_before k values = take (255 * k) values
+values_before k values = take (most_values * k) values
 
 -- so many packets end in these values
 abbrev pub packets_ended : List ℕ → ℕ
-packets_ended values = count_by (λ value. nat_lt value 255) values
+packets_ended values = count_by (λ value. nat_lt value full_value) values
 
 -- the position of the n-th packet of the run, from 1 on
 abbrev pub position_of : ℕ → List Timed → ℕ
@@ -71,7 +72,7 @@ page_of_run serial first_sequence run k =
 
 -- how many pages so many lacing values take
 abbrev pub pages_for : ℕ → ℕ
-pages_for values = (values + 254) / 255
+pages_for values = (values + (most_values - 1)) / most_values
 
 -- the pages of a run
 unfoldable pub pages_of_run : ℕ → ℕ → List Timed → List Page
@@ -79,7 +80,7 @@ pages_of_run serial first_sequence run = map (page_of_run serial first_sequence 
 
 -- how many bytes the pages of a run have, by the numbers of its lacing values and of its packets' bytes
 abbrev pub size_for : ℕ → ℕ → ℕ
-size_for values bytes = 27 * pages_for values + values + bytes
+size_for values bytes = fixed_size * pages_for values + values + bytes
 
 -- the pages with flags added to the first
 abbrev pub flagged : ℕ → List Page → List Page

@@ -3,12 +3,13 @@ ghost use Rattle.std.specs.Prelude.{◌≡◌, ◌≤◌, ◌<◌, ◌+◌, ◌+
 ghost use Rattle.ogg_page.specs.Page.{bytes_of_pages, page_bytes};
 ghost use Rattle.packetiser.specs.Run.{pages_of_run, pages_for, run_lacing, run_bytes, size_for, flagged, lengths};
 ghost use Rattle.packetiser.specs.Place.{bytes_left, next_values, next_page, added, IsWithin, IsBehind};
+ghost use Rattle.ogg_page.specs.Sizes.{fixed_size};
 
 use crate::Memory;
 use crate::item::TimedPacket;
-use crate::place::{MOST_VALUES, fill};
+use crate::place::fill;
 use crate::size::{pages_of, size_of, values_and_bytes};
-use ogg_page::{PageHead, close_page, open_page};
+use ogg_page::{MOST_VALUES, PageHead, close_page, open_page};
 
 /// Appends the pages of a run, and gives their number. `flags` are added to those of the first page.
 /// After `Memory` the vector is unchanged.
@@ -86,9 +87,9 @@ fn append_page<'a, T: TimedPacket>(
 ) -> (&'a [T], usize)
     requires within { IsWithin begun (map T.timed from.now) }
     requires flags { flags < 255 }
-    requires room { vec_len out.old + (27 + length (next_values begun (map T.timed from.now)) + sum (next_values begun (map T.timed from.now))) ≤ vec_capacity out.old }
+    requires room { vec_len out.old + (fixed_size + length (next_values begun (map T.timed from.now)) + sum (next_values begun (map T.timed from.now))) ≤ vec_capacity out.old }
     ensures items { out.new.items ≡ out.old.items ++ page_bytes (next_page serial sequence flags begun (map T.timed from.now)) }
-    ensures len { vec_len out.new ≡ vec_len out.old + (27 + length (next_values begun (map T.timed from.now)) + sum (next_values begun (map T.timed from.now))) }
+    ensures len { vec_len out.new ≡ vec_len out.old + (fixed_size + length (next_values begun (map T.timed from.now)) + sum (next_values begun (map T.timed from.now))) }
     ensures capacity { vec_capacity out.old ≤ vec_capacity out.new }
     ensures behind { IsBehind begun (map T.timed from.now) result.1 (map T.timed result.0.now) }
 {

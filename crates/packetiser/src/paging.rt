@@ -7,9 +7,9 @@ ghost use Rattle.packetiser.specs.RunPages.{NextPage};
 
 use crate::encoding::added_flags;
 use crate::item::TimedPacket;
-use crate::place::{MOST_VALUES, fill};
+use crate::place::fill;
 use crate::size::{pages_of, values_and_bytes};
-use ogg_page::{PageBuffer, PageHead};
+use ogg_page::{MOST_VALUES, PageBuffer, PageHead};
 use std::marker::Model;
 
 /// The pages of a run that are still to come. They are made one at a time, in the caller's buffer.

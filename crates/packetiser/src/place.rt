@@ -3,11 +3,10 @@ ghost use Rattle.std.specs.Prelude.{◌≡◌, ◌≤◌, ◌<◌, ◌+◌, ◌*
 ghost use Rattle.ogg_page.specs.Lacing.{ends_open};
 ghost use Rattle.packetiser.specs.Run.{packets_ended, position_of};
 ghost use Rattle.packetiser.specs.Place.{values_left, bytes_left, next_values, IsWithin};
+ghost use Rattle.ogg_page.specs.Sizes.{most_values, full_value};
 
 use crate::item::TimedPacket;
-
-/// How many lacing values a page has at most (RFC 3533, section 6, field 8).
-pub const MOST_VALUES: usize = 255;
+use ogg_page::{FULL_VALUE, MOST_VALUES, SEGMENT};
 
 /// The position of a page in which no packet ends: -1 (RFC 3533, section 6, field 4).
 pub const NO_POSITION: u64 = u64::MAX;
@@ -36,9 +35,9 @@ pub fn fill<'a, T: TimedPacket>(
 ) -> Filled<'a, T>
     requires within { IsWithin begun (map T.timed from.now) }
     ensures values { take result.count lacing.new ≡ next_values begun (map T.timed from.now) }
-    ensures count { result.count ≤ 255 }
+    ensures count { result.count ≤ most_values }
     ensures size { result.size ≡ sum (take result.count lacing.new) }
-    ensures values_behind { values_left result.done (map T.timed result.rest.now) ≡ drop 255 (values_left begun (map T.timed from.now)) }
+    ensures values_behind { values_left result.done (map T.timed result.rest.now) ≡ drop most_values (values_left begun (map T.timed from.now)) }
     ensures bytes_behind { bytes_left result.done (map T.timed result.rest.now)
         ≡ drop (sum (take result.count lacing.new)) (bytes_left begun (map T.timed from.now)) }
     ensures ended { map T.timed result.rest.now ≡ drop (packets_ended (take result.count lacing.new)) (map T.timed from.now) }
@@ -68,9 +67,9 @@ pub fn fill<'a, T: TimedPacket>(
             rest = others;
             done = 0;
         } else {
-            lacing[count] = 255;
-            size += 255;
-            done += 255;
+            lacing[count] = FULL_VALUE;
+            size += SEGMENT;
+            done += SEGMENT;
         }
     }
     Filled {
@@ -82,10 +81,10 @@ pub fn fill<'a, T: TimedPacket>(
     }
 }
 
-/// Whether a packet of which so many bytes are left ends with the next lacing value, which is then less than 255
+/// Whether a packet of which `left` bytes are left ends with the next lacing value, which then isn't a full one
 /// (RFC 3533, section 5).
 fn ends_here(left: usize) -> bool
-    ensures { result ≡ nat_lt left 255 }
+    ensures { result ≡ nat_lt left full_value }
 {
-    left < 255
+    left < SEGMENT
 }

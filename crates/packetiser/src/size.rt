@@ -1,21 +1,23 @@
 //! How many lacing values, pages and bytes a run takes.
 ghost use Rattle.std.specs.Prelude.{◌≡◌, ◌≤◌, ◌+◌, ◌*◌, ◌/◌, ◌^◌, ℕ, length, map};
 ghost use Rattle.packetiser.specs.Run.{pages_for, run_lacing, run_bytes, size_for, lengths};
+ghost use Rattle.ogg_page.specs.Sizes.{full_value};
 
 use crate::item::TimedPacket;
+use ogg_page::{FIXED_SIZE, MOST_VALUES, SEGMENT};
 
 /// How many lacing values a packet of so many bytes has (RFC 3533, section 5).
 pub fn values_of(len: u64) -> u64
-    ensures { result ≡ len / 255 + 1 }
+    ensures { result ≡ len / full_value + 1 }
 {
-    len / 255 + 1
+    len / SEGMENT as u64 + 1
 }
 
 /// How many pages so many lacing values take.
 pub fn pages_of(values: u64) -> u64
     ensures { result ≡ pages_for values }
 {
-    values.div_ceil(255)
+    values.div_ceil(MOST_VALUES as u64)
 }
 
 /// How many bytes the pages of a run have, which has so many lacing values and packet bytes.
@@ -23,7 +25,7 @@ pub fn size_of(values: u64, bytes: u64) -> u64
     requires { values + bytes ≤ 2 ^ 63 }
     ensures { result ≡ size_for values bytes }
 {
-    27 * pages_of(values) + values + bytes
+    FIXED_SIZE as u64 * pages_of(values) + values + bytes
 }
 
 /// How many pages a run takes.

@@ -8,15 +8,16 @@ use Rattle.page_reader.specs.Reader.{HasFault}
 use Rattle.page_reader.specs.declared.held.Held.{Held}
 use Rattle.page_reader.specs.declared.held.Lent.{Lent}
 use Rattle.page_reader.specs.declared.fault.PageReaderFault.{PageReaderFault}
+use Rattle.ogg_page.specs.Sizes.{longest_page}
 
 -- of the room the bytes that are held
 abbrev pub held_of : List ℕ → Held → List ℕ
 held_of room held = take (held.end - held.start) (drop held.start room)
 
 pub record IsHeld (room : List ℕ) (held : Held) : Type 0 where
-  pub whole : length room ≡ 65307
+  pub whole : length room ≡ longest_page
   pub ordered : held.start ≤ held.end
-  pub fits : held.end ≤ 65307
+  pub fits : held.end ≤ longest_page
 
 -- These bytes begin with a page of this size.
 pub record BeginsWithPage (bytes : List ℕ) (size : ℕ) : Type 0 where
@@ -60,4 +61,4 @@ lent_of room (Some lent) = Some (lent.offset, fields_at (lent_bytes room lent))
 abbrev pub IsLent : List ℕ → Option Lent → Type 0
 IsLent room None = ⊤
 IsLent room (Some lent) =
-    (lent.start ≤ lent.end) × (lent.end ≤ 65307) × (page_at (lent_bytes room lent) ≡ Ok (fields_at (lent_bytes room lent)))
+    (lent.start ≤ lent.end) × (lent.end ≤ longest_page) × (page_at (lent_bytes room lent) ≡ Ok (fields_at (lent_bytes room lent)))

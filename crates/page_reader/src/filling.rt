@@ -2,24 +2,23 @@
 ghost use Rattle.std.specs.Prelude.{◌≡◌, ◌<◌, ◌-◌, IfOk, OnErr};
 ghost use Rattle.std.specs.Io.KnownBytes.{Keeps};
 ghost use Rattle.page_reader.specs.Room.{IsHeld, ReadsMore, held_of};
+ghost use Rattle.ogg_page.specs.Sizes.{longest_page};
 
 use crate::fault::PageReaderFault;
 use crate::held::Held;
+use ogg_page::LONGEST_PAGE;
 use std::io::Read;
-
-/// No page has more bytes.
-pub(crate) const LONGEST: usize = 65_307;
 
 /// Moves what is held to the front of the room if no byte behind it is free. What is held then is the beginning of
 /// one page, which fits from there on: so no byte is moved twice.
 fn make_room(room: &mut [u8], held: &mut Held)
     requires held { IsHeld room.old held.old }
-    requires part { held.old.end - held.old.start < 65307 }
+    requires part { held.old.end - held.old.start < longest_page }
     ensures held { IsHeld room.new held.new }
-    ensures free { held.new.end < 65307 }
+    ensures free { held.new.end < longest_page }
     ensures same { held_of room.new held.new ≡ held_of room.old held.old }
 {
-    if held.end == LONGEST {
+    if held.end == LONGEST_PAGE {
         room.copy_within(held.start..held.end, 0);
         *held = Held {
             start: 0,
@@ -35,7 +34,7 @@ fn read_behind<R: Read + Drop>(
     held: &mut Held,
 ) -> Result<usize, PageReaderFault>
     requires held { IsHeld room.old held.old }
-    requires free { held.old.end < 65307 }
+    requires free { held.old.end < longest_page }
     ensures held { IsHeld room.new held.new }
     ensures ok { IfOk result (λ count. ReadsMore (held_of room.old held.old) (R.remaining reader.old) count
         (held_of room.new held.new) (R.remaining reader.new)) }
@@ -59,7 +58,7 @@ pub(crate) fn read_more<R: Read + Drop>(
     held: &mut Held,
 ) -> Result<usize, PageReaderFault>
     requires held { IsHeld room.old held.old }
-    requires part { held.old.end - held.old.start < 65307 }
+    requires part { held.old.end - held.old.start < longest_page }
     ensures held { IsHeld room.new held.new }
     ensures ok { IfOk result (λ count. ReadsMore (held_of room.old held.old) (R.remaining reader.old) count
         (held_of room.new held.new) (R.remaining reader.new)) }

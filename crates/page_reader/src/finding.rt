@@ -2,9 +2,10 @@
 ghost use Rattle.std.specs.Prelude.{◌≡◌, ◌≢◌, ◌<◌, ◌-◌, Err};
 ghost use Rattle.ogg_page.specs.Reading.{page_at};
 ghost use Rattle.page_reader.specs.Room.{Finds, IsHeld, held_of};
+ghost use Rattle.ogg_page.specs.Sizes.{longest_page};
 
 use crate::fault::PageReaderFault;
-use crate::filling::{LONGEST, read_more};
+use crate::filling::read_more;
 use crate::front::{is_short, size_in_front};
 use crate::held::Held;
 use ogg_page::PageFault;
@@ -37,11 +38,11 @@ fn read_on<R: Read + Drop>(
 ) -> Result<Option<usize>, PageReaderFault>
     requires held { IsHeld room.old held.old }
     requires short { page_at (held_of room.old held.old) ≡ Err PageFault.Short }
-    requires part { held.old.end - held.old.start < 65307 }
+    requires part { held.old.end - held.old.start < longest_page }
     ensures held { IsHeld room.new held.new }
     ensures found { Finds (held_of room.old held.old) (R.remaining reader.old) result (held_of room.new held.new) (R.remaining reader.new) }
 {
-    for _ in 0..LONGEST {
+    for _ in 0..LONGEST_PAGE {
         match read_more(reader, room, held) {
             Ok(0) if held.start == held.end => return Ok(None),
             Ok(0) => return Err(PageReaderFault::Page(PageFault::Short)),

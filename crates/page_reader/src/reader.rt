@@ -5,11 +5,10 @@ ghost use Rattle.page_reader.specs.Reader.{HasAdvanced, started};
 
 use crate::Memory;
 use crate::fault::PageReaderFault;
-use crate::filling::LONGEST;
 use crate::finding::find;
 use crate::front::known_page;
 use crate::held::{Held, Lent};
-use ogg_page::{Page, PageFault};
+use ogg_page::{LONGEST_PAGE, Page, PageFault};
 use std::alloc::Global;
 use std::io::Read;
 use std::marker::Model;
@@ -47,8 +46,8 @@ impl PageReader {
     pub fn new(alloc: Global) -> Result<PageReader, Memory>
         ensures { IfOk result (λ reader. reader ≡ started) }
     {
-        let mut room = Vec::with_capacity(alloc, LONGEST)?;
-        room.resize(LONGEST, 0)?;
+        let mut room = Vec::with_capacity(alloc, LONGEST_PAGE)?;
+        room.resize(LONGEST_PAGE, 0)?;
         Ok(PageReader {
             room,
             held: Held { start: 0, end: 0 },

@@ -5,14 +5,12 @@ ghost use Rattle.ogg_page.specs.Window.{KeepsSource};
 ghost use Rattle.sending.specs.Sending.{HasFailed};
 ghost use Rattle.sending.specs.declared.extent.Extent.{Extent as ExtentOf};
 ghost use Rattle.sending.specs.Extent.{Stands, extent_of, head_size};
+ghost use Rattle.ogg_page.specs.Sizes.{most_values, full_value};
 
-use ogg_page::{PageSource, SourceFault, take_u32};
+use ogg_page::{FIXED_SIZE, MOST_VALUES, PageSource, SourceFault, take_u32};
 
-/// Each page begins with this many bytes, the last of which is the number of its lacing values (RFC 3533, section 6).
-const FIXED: usize = 27;
-
-/// No head is longer, with its 255 lacing values.
-const LONGEST_HEAD: usize = 282;
+/// No head is longer, with its lacing values.
+const LONGEST_HEAD: usize = FIXED_SIZE + MOST_VALUES;
 
 /// The stream that a page is of, and how many bytes the page has.
 #[derive(Clone, Copy, Debug, PartialEq, Eq)]
@@ -23,9 +21,9 @@ pub struct Extent {
 
 /// How many bytes the lacing values stand for.
 fn body_size(lacing: &[u8]) -> u64
-    requires { length lacing.now ≤ 255 }
+    requires { length lacing.now ≤ most_values }
     ensures value { result ≡ sum lacing.now }
-    ensures bound { result ≤ 255 * length lacing.now }
+    ensures bound { result ≤ full_value * length lacing.now }
 {
     let mut size = 0;
     for value in lacing {
@@ -40,11 +38,11 @@ fn extent_of(head: &[u8]) -> Option<Extent>
         → result ≡ Some (extent_of page) }
     ensures some { (extent : ExtentOf) → result ≡ Some extent → 0 < extent.size }
 {
-    if head.len() < FIXED {
+    if head.len() < FIXED_SIZE {
         return None;
     }
     let values = usize::from(head[26]);
-    let (_, table) = head.split_at(FIXED);
+    let (_, table) = head.split_at(FIXED_SIZE);
     if table.len() < values {
         return None;
     }
@@ -53,7 +51,7 @@ fn extent_of(head: &[u8]) -> Option<Extent>
     let (serial, _) = take_u32(numbers);
     Some(Extent {
         serial,
-        size: (FIXED + values) as u64 + body_size(lacing),
+        size: (FIXED_SIZE + values) as u64 + body_size(lacing),
     })
 }
 

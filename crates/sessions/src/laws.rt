@@ -10,7 +10,7 @@ ghost use Rattle.responses.specs.Response.{Asked, Asks, AsksOrWaits, IsResponse}
 ghost use Rattle.sessions.specs.declared.fault.HubFault.{HubFault as HubFaultOf};
 ghost use Rattle.sessions.specs.declared.fault.HubFault.TheVariants.{NoSession, SessionsFull, Source, Memory, NoFile};
 ghost use Rattle.sessions.specs.declared.answers.Progress.{Progress as ProgressOf};
-ghost use Rattle.sessions.specs.Hub.{HubState, IsNew, Given, Event, Reading, Sending, Connect, Receive, Pull, Close, Record, Flush, Reopen, MayBeFound, hub_step, phase_of};
+ghost use Rattle.sessions.specs.Hub.{HubState, IsNew, Given, Event, Reading, Sending, Connect, Receive, Pull, Close, Record, Flush, Reopen, MayBeFound, hub_step, phase_of, most_sessions};
 ghost use Rattle.sessions.specs.Run.{Step, AreSteps, IsUnused, own_calls, committed_at_head, pulled, session_of, IsServed, all_connected};
 ghost use Rattle.sessions.specs.Own.{AreNumbered, HasReceived, HasPulled, KeepsFile};
 ghost use Rattle.sessions.specs.Sound.{Extends, HasCommand, IsSound};
@@ -77,8 +77,8 @@ pub fn sessions_are_numbered()
 
 /// There are never more than 64 sessions.
 pub fn sessions_are_few()
-    ensures { (start : HubState) (steps : List Step) → length start.sessions ≤ 64 → AreSteps start steps
-        → AllByRecursion (λ (step : Step). length step.after.sessions ≤ 64) steps }
+    ensures { (start : HubState) (steps : List Step) → length start.sessions ≤ most_sessions → AreSteps start steps
+        → AllByRecursion (λ (step : Step). length step.after.sessions ≤ most_sessions) steps }
 {}
 
 /// A call of a session is refused for what the hub is exactly if the hub is so: `SessionsFull`, `NoSession` and

@@ -5,6 +5,7 @@ use Rattle.std.specs.Borrow.{Bor}
 use Rattle.std.specs.List.{list_all, list_any, prefix_len, suffix_len, slice_split, flat_map}
 use Rattle.std.specs.Str.{bytes_eq, byte}
 use Rattle.std.specs.Str.Lines.{strip_carriage_return}
+use Rattle.skeleton3.specs.Sizes.{longest_value, longest_name}
 
 -- Ours: a text is cut at each LF, a piece that ends with CR loses it, and empty pieces are passed over. So a line may
 -- also end with LF alone, or with the text.
@@ -89,7 +90,7 @@ IsField field = IsFieldName field.0 × IsFieldValue field.1
 -- ours: a media type is 1 to 255 printing ASCII characters, with a space at neither end
 abbrev pub is_media_type : List ℕ → Bool
 is_media_type media =
-    nat_le 1 (length media) && nat_le (length media) 255 && list_all (λ c. nat_le 0x20 c && nat_le c 0x7e) media
+    nat_le 1 (length media) && nat_le (length media) longest_value && list_all (λ c. nat_le 0x20 c && nat_le c 0x7e) media
     && not (list_any (nat_eq 0x20) (take 1 media)) && not (list_any (nat_eq 0x20) (drop (length media - 1) media))
 
 -- an ASCII letter, a digit or `-`
@@ -100,7 +101,7 @@ is_name_byte c = nat_le 0x41 c && nat_le c 0x5a || nat_le 0x61 c && nat_le c 0x7
 -- follows the rule for media types.
 abbrev pub is_field_name : List ℕ → Bool
 is_field_name name =
-    nat_le 1 (length name) && nat_le (length name) 64 && list_all is_name_byte name && not (is_content_type name)
+    nat_le 1 (length name) && nat_le (length name) longest_name && list_all is_name_byte name && not (is_content_type name)
 
 abbrev pub is_field : NamedValue → Bool
 is_field field = is_field_name field.0 && is_media_type field.1

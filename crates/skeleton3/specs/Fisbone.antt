@@ -9,6 +9,7 @@ use Rattle.skeleton3.specs.Fields.{NamedValue, content_type, media_in, message_o
 use Rattle.skeleton3.specs.declared.fault.SkeletonFault.{SkeletonFault}
 use Rattle.skeleton3.specs.declared.fault.SkeletonFault.TheVariants.{Length, Name, Fields}
 use Rattle.skeleton3.specs.declared.fisbone.Fisbone.{Fisbone as LentFisbone}
+use Rattle.skeleton3.specs.Sizes.{fixed_size, message_offset}
 
 -- a fisbone, without where its media type lies in memory
 pub record Fisbone : Type 0 where
@@ -48,11 +49,11 @@ fisbone_with offset padding message fisbone = fixed_part offset padding fisbone 
 
 -- the packet as it is written: the media type is the one message field, the padding is zero
 abbrev pub fisbone_bytes : Fisbone → List ℕ
-fisbone_bytes fisbone = fisbone_with 44 (0 ∷ 0 ∷ 0 ∷ []) (content_type fisbone.media) fisbone
+fisbone_bytes fisbone = fisbone_with message_offset (0 ∷ 0 ∷ 0 ∷ []) (content_type fisbone.media) fisbone
 
 -- the packet as it is written with further message fields
 abbrev pub fisbone_bytes_with : List NamedValue → Fisbone → List ℕ
-fisbone_bytes_with fields fisbone = fisbone_with 44 (0 ∷ 0 ∷ 0 ∷ []) (message_of fisbone.media fields) fisbone
+fisbone_bytes_with fields fisbone = fisbone_with message_offset (0 ∷ 0 ∷ 0 ∷ []) (message_of fisbone.media fields) fisbone
 
 -- each number is in its field's range, as it is in every fisbone of a program
 pub record IsFisbone (fisbone : Fisbone) : Type 0 where
@@ -78,7 +79,7 @@ pub record HoldsFisbone (packet : List ℕ) (fisbone : Fisbone) : Type 0 where
 -- Ours: what is wrong with a packet as a fisbone, the first fault in this order, if it has one.
 abbrev pub fisbone_fault : List ℕ → Option SkeletonFault
 fisbone_fault packet =
-    if nat_lt (length packet) 52 then Some Length
+    if nat_lt (length packet) fixed_size then Some Length
     else if not (bytes_eq (take 8 packet) fisbone_name) then Some Name
-    else if not (is_some (media_in (drop 52 packet))) then Some Fields
+    else if not (is_some (media_in (drop fixed_size packet))) then Some Fields
     else None

@@ -7,6 +7,7 @@ use Rattle.ogg_page.specs.Page.{IsByte}
 use Rattle.skeleton3.specs.declared.fault.SkeletonFault.{SkeletonFault}
 use Rattle.skeleton3.specs.declared.fault.SkeletonFault.TheVariants.{Length, Name, Version}
 use Rattle.skeleton3.specs.declared.fishead.Fishead.{Fishead}
+use Rattle.skeleton3.specs.Sizes.{fishead_size, major_version, time_size}
 
 -- what the packet begins with
 abbrev pub fishead_name : List ℕ
@@ -16,7 +17,7 @@ fishead_name = codes "fishead" ++ 0 ∷ []
 -- numerator and a denominator, and the time in UTC as a text of 20 bytes.
 unfoldable pub fishead_with : ℕ → Fishead → List ℕ
 fishead_with minor fishead =
-    fishead_name ++ (u16_bytes 3 ++ (u16_bytes minor ++ (fraction_bytes fishead.presentation ++ (fraction_bytes fishead.base ++ fishead.utc))))
+    fishead_name ++ (u16_bytes major_version ++ (u16_bytes minor ++ (fraction_bytes fishead.presentation ++ (fraction_bytes fishead.base ++ fishead.utc))))
 
 -- the packet as it is written: of version 3.0
 abbrev pub fishead_bytes : Fishead → List ℕ
@@ -27,7 +28,7 @@ pub record IsFishead (fishead : Fishead) : Type 0 where
   pub presentation : IsFraction fishead.presentation
   pub base : IsFraction fishead.base
   pub utc : AllByRecursion IsByte fishead.utc
-  pub utc_size : length fishead.utc ≡ 20
+  pub utc_size : length fishead.utc ≡ time_size
 
 -- the packet is this fishead's, of a version 3 with any minor number
 abbrev pub HoldsFishead : List ℕ → Fishead → Type 0
@@ -36,7 +37,7 @@ HoldsFishead packet fishead = (minor : ℕ) × (minor < 2 ^ 16) × (packet ≡ f
 -- Ours: what is wrong with a packet as a fishead, the first fault in this order, if it has one.
 abbrev pub fishead_fault : List ℕ → Option SkeletonFault
 fishead_fault packet =
-    if not (length packet == 64) then Some Length
+    if not (length packet == fishead_size) then Some Length
     else if not (bytes_eq (take 8 packet) fishead_name) then Some Name
-    else if not (bytes_eq (slice_range packet 8 10) (u16_bytes 3)) then Some Version
+    else if not (bytes_eq (slice_range packet 8 10) (u16_bytes major_version)) then Some Version
     else None

@@ -1,3 +1,4 @@
+pub mod Sizes
 pub mod SkeletonFault
 pub mod Fields
 pub mod Fishead

@@ -5,6 +5,7 @@ ghost use Rattle.std.specs.Result.{result_err};
 ghost use Rattle.arrayvec.specs.ArrayVec.{array_vec_len};
 ghost use Rattle.skeleton3.specs.Fields.{NamedValue, IsField, IsFieldValue, field_line, fields_of};
 ghost use Rattle.skeleton3.specs.Fisbone.{Fisbone as FisboneValue, HoldsFisbone, IsFisbone, fisbone_of, fisbone_bytes, fisbone_bytes_with, fisbone_fault, fixed_part};
+ghost use Rattle.skeleton3.specs.Sizes.{fixed_size, message_offset, longest_fisbone};
 
 use crate::Memory;
 use crate::fault::SkeletonFault;
@@ -144,7 +145,7 @@ impl<'a> Fisbone<'a> {
     /// The packet with these message fields after the media type's, if it has at most 5,491 bytes: as many as 16
     /// fields make it whose names have 64 and whose values have 255. It takes no memory.
     pub fn packet_with(&self, fields: &[Field]) -> ArrayVec<u8, MOST>
-        requires { length (fisbone_bytes_with fields.now (fisbone_of self.now)) ≤ 5491 }
+        requires { length (fisbone_bytes_with fields.now (fisbone_of self.now)) ≤ longest_fisbone }
         ensures { result.items ≡ fisbone_bytes_with fields.now (fisbone_of self.now) }
     {
         let mut packet = ArrayVec::new();
@@ -162,7 +163,7 @@ impl<'a> Fisbone<'a> {
         // It accepts exactly the packets that `read` accepts, and of the others it gives the same fault.
         ensures fault { result_err result ≡ fisbone_fault packet.now }
         // The fields are those of the bytes after the first 52.
-        ensures fields { IfOk result (λ fields. fields_of (drop 52 packet.now) ≡ Some fields) }
+        ensures fields { IfOk result (λ fields. fields_of (drop fixed_size packet.now) ≡ Some fields) }
         // What was written is read so.
         ensures written { (fisbone : FisboneValue) (fields : List NamedValue) → IsFieldValue fisbone.media
             → AllByRecursion IsField fields → packet.now ≡ fisbone_bytes_with fields fisbone
@@ -186,7 +187,7 @@ impl<'a> Fisbone<'a> {
 
     #[tactic(auto, unfolding(crate::specs::Fisbone::fixed_part, ogg_page::specs::Numbers::u32_bytes, ogg_page::specs::Numbers::i64_bytes))]
     fn fixed_part(&self) -> [u8; FIXED]
-        ensures { result ≡ fixed_part 44 (0 ∷ 0 ∷ 0 ∷ []) (fisbone_of self.now) }
+        ensures { result ≡ fixed_part message_offset (0 ∷ 0 ∷ 0 ∷ []) (fisbone_of self.now) }
     {
         let mut bytes = [0; FIXED];
         bytes[..8].copy_from_slice(NAME);
@@ -238,7 +239,7 @@ fn append_field(field: &Field, out: &mut Vec<u8>)
 
 /// Appends the lines of fields for which a packet has room.
 fn push_fields(fields: &[Field], packet: &mut ArrayVec<u8, MOST>)
-    requires { array_vec_len packet.old + length (flat_map field_line fields.now) ≤ 5491 }
+    requires { array_vec_len packet.old + length (flat_map field_line fields.now) ≤ longest_fisbone }
     ensures { packet.new.items ≡ packet.old.items ++ flat_map field_line fields.now }
 {
     for field in fields {
@@ -248,7 +249,7 @@ fn push_fields(fields: &[Field], packet: &mut ArrayVec<u8, MOST>)
 
 /// Appends the line of a field for which a packet has room.
 fn push_field(field: &Field, packet: &mut ArrayVec<u8, MOST>)
-    requires { array_vec_len packet.old + length (field_line field.now) ≤ 5491 }
+    requires { array_vec_len packet.old + length (field_line field.now) ≤ longest_fisbone }
     ensures items { packet.new.items ≡ packet.old.items ++ field_line field.now }
     ensures len { array_vec_len packet.new ≡ array_vec_len packet.old + length (field_line field.now) }
 {
@@ -270,7 +271,7 @@ fn append(out: &mut Vec<u8>, bytes: &[u8])
 
 /// Appends bytes for which a packet has room.
 fn push(packet: &mut ArrayVec<u8, MOST>, bytes: &[u8])
-    requires { array_vec_len packet.old + length bytes.now ≤ 5491 }
+    requires { array_vec_len packet.old + length bytes.now ≤ longest_fisbone }
     ensures items { packet.new.items ≡ packet.old.items ++ bytes.now }
     ensures len { array_vec_len packet.new ≡ array_vec_len packet.old + length bytes.now }
 {

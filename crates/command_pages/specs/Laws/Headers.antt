@@ -6,6 +6,7 @@ use Rattle.packetiser.specs.Run.{pages_for, run_lacing, lengths}
 use Rattle.packetiser.specs.Laws.Sizes.{bytes_in, sum_by-map}
 use Rattle.command_pages.specs.Encoding.{header}
 use Rattle.command_pages.specs.Laws.Runs.{few_values}
+use Rattle.command_pages.specs.Limits.{longest_batch, most_headers}
 
 abbrev pub header_lengths : List (List ℕ) → ℕ
 header_lengths headers = sum_by length headers
@@ -14,7 +15,7 @@ pub lengths_of_headers : (headers : List (List ℕ)) → lengths (map header hea
 lengths_of_headers headers = sum_by-map bytes_in header headers
 
 -- their pages are few
-pub few_pages : (headers : List (List ℕ)) → header_lengths headers ≤ 16777216 → length headers ≤ 256 → pages_for (length (run_lacing (map header headers))) < 2 ^ 31
+pub few_pages : (headers : List (List ℕ)) → header_lengths headers ≤ longest_batch → length headers ≤ most_headers → pages_for (length (run_lacing (map header headers))) < 2 ^ 31
 few_pages headers s f = omega (arith, few_values (map header headers), lengths_of_headers headers, length-map headers header)
 
 pub split_lengths : (headers : List (List ℕ)) → header_lengths (take 1 headers) + header_lengths (drop 1 headers) ≡ header_lengths headers

@@ -4,10 +4,10 @@ use Rattle.ogg_page.specs.Page.{page_size}
 use Rattle.sending.proofs.Heads.{told}
 use Rattle.sending.proofs.extent.extent_of.Goals as goal
 
-pub returns-then-head-lt-FIXED-clause-told : goal.returns-then-head-lt-FIXED-clause-told
-returns-then-head-lt-FIXED-clause-told c bytes page n s le is =
+pub returns-then-head-lt-FIXED_SIZE-clause-told : goal.returns-then-head-lt-FIXED_SIZE-clause-told
+returns-then-head-lt-FIXED_SIZE-clause-told c bytes page n s le is =
     let t = told bytes c.args.head.now page n s le is in
-    absurd (omega (arith, t.long, c.if-head-lt-FIXED.true))
+    absurd (omega (arith, t.long, c.if-head-lt-FIXED_SIZE.true))
 
 pub returns-then-table-values-clause-told : goal.returns-then-table-values-clause-told
 returns-then-table-values-clause-told c bytes page n s le is =
