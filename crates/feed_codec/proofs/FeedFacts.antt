@@ -14,6 +14,7 @@ use Rattle.feed_codec.specs.declared.item.Item.{Item}
 use Rattle.feed_codec.specs.declared.item.Item.TheVariants.{Announcement, Record as RecordItem}
 use Rattle.feed_codec.specs.Record.{HasItem, announcement, item_bytes, kind_in, most_payload, payload_in}
 use Rattle.feed_codec.specs.RecordKind.{number_of}
+use Rattle.feed_codec.specs.Room.{FeedRoom, LacksRoomFor}
 use Rattle.feed_codec.specs.Feed.{GivesEnd, HasFaultAt, HasItemFault, TakesItemPart, head_fault, is_kind, payload_length}
 use Rattle.feed_codec.specs.Reading.{HasHeadFault, IsHead, IsShort, head_bytes}
 use Rattle.feed_codec.specs.Payload.{IsItem, IsPayload}
@@ -141,38 +142,52 @@ read_record first v old mid new head payload item is c d whole held kind spelled
     )
 
 -- memory was refused where a payload was to be read
-no_payload : (first : Bool) (v : Version) (old new : Option (List ℕ)) (head : Head) → IsHead first head → Consumes old new (head_bytes head) → TakesItemPart first v old new
-no_payload first v old new head is c =
+no_payload : (room : FeedRoom) (first : Bool) (v : Version) (old new : Option (List ℕ)) (head : Head) → IsHead first head → Consumes old new (head_bytes head)
+    → room.payload < head.length → TakesItemPart room first v old new
+no_payload room first v old new head is c short =
+    let whole : number_of head.kind ∷ (u32_bytes head.length ++ []) ≡ head_bytes head = ap (λ l. number_of head.kind ∷ l) (append-nil (u32_bytes head.length)) in
+    let size : payload_length (head_bytes head) ≡ head.length =
+    ap payload_length (sym whole) ∙ length_field (number_of head.kind) head.length [] (omega (arith, is.fits)) in
     inl (
       head_bytes head,
       omega (arith, length-u32_bytes head.length),
       ap (λ l. head_fault first (number_of head.kind ∷ l)) (sym (append-nil (u32_bytes head.length))) ∙ head_is_fine first head.kind head.length [] is.kind is.fits,
+      omega (arith, short, size),
       c,
     )
 
 -- why a payload wasn't read
-abbrev PayloadFault : FeedFault → Type 0 → Type 0 → Type 0
-PayloadFault fault Untouched Short = (fault ≡ Read) ⊎ ((fault ≡ Memory) × Untouched) ⊎ ((fault ≡ Truncated) × Short)
+abbrev PayloadFault : FeedFault → Type 0 → Type 0 → Type 0 → Type 0
+PayloadFault fault Untouched Small Short = (fault ≡ Read) ⊎ ((fault ≡ Memory) × Untouched × Small) ⊎ ((fault ≡ Truncated) × Short)
 
-pub payload_fault : (first : Bool) (v : Version) (old mid : Option (List ℕ)) (head : Head) (fault : FeedFault) (Untouched : Type 0) → IsHead first head → Consumes old mid (head_bytes head)
-    → fault ≢ Read → fault ≢ Memory → PayloadFault fault Untouched (IsShort mid head.length) → HasItemFault first v old fault
-payload_fault first v old mid head fault Untouched is c read memory (inl same) = absurd (read same)
-payload_fault first v old mid head fault Untouched is c read memory (inr (inl (same, stays))) = absurd (memory same)
-payload_fault first v old mid head fault Untouched is c read memory (inr (inr (same, short))) = subst (HasItemFault first v old) (sym same) (short_payload first v old mid head is c short)
+pub payload_fault : (first : Bool) (v : Version) (old mid : Option (List ℕ)) (head : Head) (fault : FeedFault) (Untouched Small : Type 0) → IsHead first head → Consumes old mid (head_bytes head)
+    → fault ≢ Read → fault ≢ Memory → PayloadFault fault Untouched Small (IsShort mid head.length) → HasItemFault first v old fault
+payload_fault first v old mid head fault Untouched Small is c read memory (inl same) = absurd (read same)
+payload_fault first v old mid head fault Untouched Small is c read memory (inr (inl (same, stays, small))) = absurd (memory same)
+payload_fault first v old mid head fault Untouched Small is c read memory (inr (inr (same, short))) = subst (HasItemFault first v old) (sym same) (short_payload first v old mid head is c short)
 
-pub payload_memory : (first : Bool) (v : Version) (old mid new : Option (List ℕ)) (head : Head) (fault : FeedFault) (Untouched : Type 0) → IsHead first head → Consumes old mid (head_bytes head)
-    → (Untouched → new ≡ mid) → fault ≡ Memory → PayloadFault fault Untouched (IsShort mid head.length) → TakesItemPart first v old new
-payload_memory first v old mid new head fault Untouched is c same memory (inl found) = let both = sym found ∙ memory in absurd (cc both)
-payload_memory first v old mid new head fault Untouched is c same memory (inr (inl (found, untouched))) =
-    no_payload first v old new head is (subst (λ m. Consumes old m (head_bytes head)) (sym (same untouched)) c)
-payload_memory first v old mid new head fault Untouched is c same memory (inr (inr (found, short))) = let both = sym found ∙ memory in absurd (cc both)
+pub payload_memory : (room : FeedRoom) (first : Bool) (v : Version) (old mid new : Option (List ℕ)) (head : Head) (fault : FeedFault) (Untouched : Type 0) → IsHead first head
+    → Consumes old mid (head_bytes head) → (Untouched → new ≡ mid) → fault ≡ Memory
+    → PayloadFault fault Untouched (room.payload < head.length) (IsShort mid head.length) → TakesItemPart room first v old new
+payload_memory room first v old mid new head fault Untouched is c same memory (inl found) = let both = sym found ∙ memory in absurd (cc both)
+payload_memory room first v old mid new head fault Untouched is c same memory (inr (inl (found, untouched, small))) =
+    no_payload room first v old new head is (subst (λ m. Consumes old m (head_bytes head)) (sym (same untouched)) c) small
+payload_memory room first v old mid new head fault Untouched is c same memory (inr (inr (found, short))) = let both = sym found ∙ memory in absurd (cc both)
 
 -- memory was refused for a command
-pub no_command : (first : Bool) (v : Version) (old mid new : Option (List ℕ)) (head : Head) (payload : List ℕ) → IsHead first head → Consumes old mid (head_bytes head) → Consumes mid new payload
-    → length payload ≡ head.length → IsPayload v (number_of head.kind) payload → TakesItemPart first v old new
-no_command first v old mid new head payload is c d whole (item, held, kind, spelled) =
+pub no_command : (room : FeedRoom) (first : Bool) (v : Version) (old mid new : Option (List ℕ)) (head : Head) (payload : List ℕ) (item : Item) → IsHead first head
+    → Consumes old mid (head_bytes head) → Consumes mid new payload → length payload ≡ head.length → IsItem v item → kind_in item ≡ number_of head.kind
+    → payload_in v item ≡ payload → LacksRoomFor room.entries room.packets item → TakesItemPart room first v old new
+no_command room first v old mid new head payload item is c d whole held kind spelled lacks =
     let taken = read_record first v old mid new head payload item is c d whole held kind spelled in
-    inr (item, taken.0, taken.1)
+    inr (item, taken.0, lacks, taken.1)
+
+-- a feed that has read its announcement has as much room for a payload as before, or more
+pub later_room : (was now : FeedRoom) (first : Bool) (v : Version) (old new : Option (List ℕ)) → was.payload ≤ now.payload → now.entries ≡ was.entries → now.packets ≡ was.packets
+    → TakesItemPart now first v old new → TakesItemPart was first v old new
+later_room was now first v old new grows entries packets (inl (head, long, fine, short, c)) = inl (head, long, fine, omega (arith, grows, short), c)
+later_room was now first v old new grows entries packets (inr (item, held, lacks, c)) =
+    inr (item, held, subst (λ rooms. LacksRoomFor was.entries rooms item) packets (subst (λ n. LacksRoomFor n now.packets item) entries lacks), c)
 
 -- ---- the end
 

@@ -2,6 +2,7 @@ pub mod Lists
 pub mod Spellings
 pub mod PayloadFacts
 pub mod HeadFacts
+pub mod RoomFacts
 pub mod FeedFacts
 pub mod SizeFacts
 pub mod WritingFacts

@@ -1,5 +1,5 @@
 -- What a feed answers. Ours.
-use Rattle.std.specs.Prelude.{◌≡◌, ◌≢◌, ◌⊎◌, ℕ, ◌+◌, Bool, true, false, nat_eq, nat_lt, nat_le, not, ◌&&◌, ◌||◌, if◌then◌else◌, unwrap_or, Option, Some, None, Result, Ok, Err, List, [], ◌++◌, length, drop, slice_index, ⊤}
+use Rattle.std.specs.Prelude.{◌≡◌, ◌≢◌, ◌⊎◌, ℕ, ◌+◌, Bool, true, false, nat_eq, nat_lt, nat_le, not, ◌&&◌, ◌||◌, if◌then◌else◌, unwrap_or, Option, Some, None, Result, Ok, Err, List, [], ◌++◌, ◌<◌, length, drop, slice_index, ⊤}
 use Rattle.std.specs.Io.KnownBytes.{Consumes, IsAtEnd, Keeps}
 use Rattle.byteorder.specs.Endian.{little_number}
 use Rattle.feed_codec.specs.declared.fault.FeedFault.{FeedFault}
@@ -8,6 +8,7 @@ use Rattle.feed_codec.specs.declared.version.Version.{Version}
 use Rattle.feed_codec.specs.declared.version.Version.TheVariants.{One, Two}
 use Rattle.feed_codec.specs.declared.item.Item.{Item}
 use Rattle.feed_codec.specs.declared.item.Record.{Record as RecordOf}
+use Rattle.feed_codec.specs.Room.{FeedRoom, LacksRoomFor}
 use Rattle.feed_codec.specs.Record.{BeginsNoItem, HasItem, HasRecord, announcement, item_bytes, most_payload, opening, record_of}
 
 -- a record's head: one byte for the kind, and the payload's length
@@ -53,21 +54,26 @@ HasFault None (Some bytes) fault =
 
 -- What was taken from a reader where memory was refused: a head without a fault, as there was no room for its payload,
 -- or a whole record, as there was none for its command.
-abbrev pub TakesItemPart : Bool → Version → Option (List ℕ) → Option (List ℕ) → Type 0
-TakesItemPart first version old new =
-    ((head : List ℕ) × (length head ≡ head_size) × (head_fault first head ≡ None) × Consumes old new head)
-    ⊎ ((item : Item) × HasItem first version item × Consumes old new (item_bytes version item))
+abbrev pub TakesItemPart : FeedRoom → Bool → Version → Option (List ℕ) → Option (List ℕ) → Type 0
+TakesItemPart room first version old new =
+    ((head : List ℕ) × (length head ≡ head_size) × (head_fault first head ≡ None) × (room.payload < payload_length head) × Consumes old new head)
+    ⊎ ((item : Item) × HasItem first version item × LacksRoomFor room.entries room.packets item × Consumes old new (item_bytes version item))
 
 -- the same of a feed, of which an announcement may have been taken before
-abbrev pub TakesWhereMemoryEnds : Option Version → Option (List ℕ) → Option (List ℕ) → Type 0
-TakesWhereMemoryEnds (Some version) old new = TakesItemPart false version old new
-TakesWhereMemoryEnds None old new =
-    TakesItemPart true One old new ⊎ ((mid : Option (List ℕ)) × Consumes old mid announcement × TakesItemPart false Two mid new)
+abbrev pub TakesWhereMemoryEnds : FeedRoom → Option Version → Option (List ℕ) → Option (List ℕ) → Type 0
+TakesWhereMemoryEnds room (Some version) old new = TakesItemPart room false version old new
+TakesWhereMemoryEnds room None old new =
+    TakesItemPart room true One old new ⊎ ((mid : Option (List ℕ)) × Consumes old mid announcement × TakesItemPart room false Two mid new)
 
 -- A feed: the version of its records, once it is known, and how it has ended, if it has.
 pub record FeedState : Type 0 where
   pub version : Option Version
   pub outcome : Option (Result (Unit {0}) FeedFault)
+
+-- a feed, and the memory that it keeps
+pub record FeedWithRoom : Type 0 where
+  pub feed : FeedState
+  pub room : FeedRoom
 
 -- what stands in front of the next record, if it turns out to be of this version
 abbrev pub front_of : Option Version → Version → List ℕ

@@ -3,6 +3,7 @@ pub mod RecordKind
 pub mod Feed
 pub mod FeedFault
 pub mod Reading
+pub mod Room
 pub mod Writing
 pub mod RunFault
 pub mod Reply

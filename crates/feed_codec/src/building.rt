@@ -1,5 +1,8 @@
 //! Records, built from payloads that have been looked through.
-ghost use Rattle.std.specs.Prelude.{◌≡◌, ◌++◌, [], IfOk, List, ℕ};
+ghost use Rattle.std.specs.Prelude.{◌≡◌, ◌++◌, [], IfOk, OnErr, Ok, List, ℕ, vec_capacity};
+ghost use Rattle.feed_codec.specs.Room.{LacksEntryRoom, LacksRoomFor, rooms_of};
+ghost use Rattle.feed_codec.specs.declared.item.Item.{Item as ItemOf};
+ghost use Rattle.ogg_command.specs.declared.command.Entry.{Entry as EntryOf};
 ghost use Rattle.std.specs.List.{flat_map};
 ghost use Rattle.feed_codec.specs.Record.{packet_bytes, field_bytes, fields_bytes, entry_bytes, stream_bytes, kind_in, kind_of, payload_in, payload_of, FitsFields};
 ghost use Rattle.feed_codec.specs.RecordKind.{number_of};
@@ -26,8 +29,12 @@ pub fn item_of(
     payload: &[u8],
 ) -> Result<Item, Memory>
     requires { IsPayload version (number_of kind) payload.now }
-    ensures { IfOk result (λ item. IsItem version item
+    ensures ok { IfOk result (λ item. IsItem version item
         × (kind_in item ≡ number_of kind) × (payload_in version item ≡ payload.now)) }
+    ensures full { OnErr result ((item : ItemOf) × IsItem version item
+        × (kind_in item ≡ number_of kind) × (payload_in version item ≡ payload.now)
+        × LacksRoomFor (vec_capacity spare.old.entries) (rooms_of spare.old.packets.items) item) }
+    ensures spare { result ≡ Ok Item.Announcement → spare.new ≡ spare.old }
 {
     let command = match kind {
         RecordKind::Announcement => return Ok(Item::Announcement),
@@ -66,8 +73,12 @@ fn put_of(
     payload: &[u8],
 ) -> Result<Command, Memory>
     requires { IsPayload _version 2 payload.now }
-    ensures { IfOk result (λ command. IsCommand command × FitsFields _version command
+    ensures ok { IfOk result (λ command. IsCommand command × FitsFields _version command
         × (kind_of command ≡ 2) × (payload_of _version command ≡ payload.now)) }
+    ensures full { OnErr result ((entries : List EntryOf) × IsCommand (Command.Put (record { entries = entries }))
+        × FitsFields _version (Command.Put (record { entries = entries }))
+        × (payload_of _version (Command.Put (record { entries = entries })) ≡ payload.now)
+        × LacksEntryRoom (vec_capacity spare.old.entries) (rooms_of spare.old.packets.items) entries) }
 {
     let (count, rest) = take_u16(payload);
     let entries = entries_of(alloc, spare, count, rest)?;
@@ -82,7 +93,9 @@ fn entries_of(
     bytes: &[u8],
 ) -> Result<Listed<Entry>, Memory>
     requires { Begins (AreMany IsEntryOfFeed count) (flat_map entry_bytes) bytes.now [] }
-    ensures { IfOk result (λ entries. AreMany IsEntryOfFeed count entries × (bytes.now ≡ flat_map entry_bytes entries)) }
+    ensures ok { IfOk result (λ entries. AreMany IsEntryOfFeed count entries × (bytes.now ≡ flat_map entry_bytes entries)) }
+    ensures full { OnErr result ((entries : List EntryOf) × AreMany IsEntryOfFeed count entries × (bytes.now ≡ flat_map entry_bytes entries)
+        × LacksEntryRoom (vec_capacity spare.old.entries) (rooms_of spare.old.packets.items) entries) }
 {
     let mut entries = spare.room_for(alloc, usize::from(count))?;
     let mut rest = bytes;

@@ -1,5 +1,6 @@
 //! Feeds, read one record at a time.
-ghost use Rattle.std.specs.Prelude.{◌≡◌, ◌≢◌, ◌≤◌, ◌<◌, ◌⊎◌, ◌∷◌, false, IfOk, IfErr, IfSome, IfNone, OnOk, length, take, vec_len, Some, None, Err, Ok};
+ghost use Rattle.std.specs.Prelude.{◌≡◌, ◌≢◌, ◌≤◌, ◌<◌, ◌⊎◌, ◌∷◌, false, IfOk, IfErr, IfSome, IfNone, OnOk, length, take, vec_len, vec_capacity, Some, None, Err, Ok};
+ghost use Rattle.feed_codec.specs.Room.{feed_room};
 ghost use Rattle.std.specs.Io.KnownBytes.{Consumes, Keeps, IsAtEnd};
 ghost use Rattle.feed_codec.specs.Record.{HasItem, HasRecord, item_bytes, record_of};
 ghost use Rattle.feed_codec.specs.Feed.{FeedState, GivesEnd, GivesRecord, HasFault, HasItemFault, TakesItemPart, TakesWhereMemoryEnds, answer_at};
@@ -30,17 +31,21 @@ pub struct Feed {
 }
 
 impl Model for Feed {
-    ghost use Rattle.feed_codec.specs.Feed.{FeedState};
+    ghost use Rattle.feed_codec.specs.Feed.{FeedWithRoom};
+    ghost use Rattle.feed_codec.specs.Room.{feed_room};
 
-    ghost Value = { FeedState };
+    ghost Value = { FeedWithRoom };
 
-    ghost view = { λ feed. record { version = feed.version; outcome = feed.outcome } };
+    ghost view = { λ feed. record {
+      feed = record { version = feed.version; outcome = feed.outcome };
+      room = feed_room feed.payload feed.spare.entries feed.spare.packets.items;
+    } };
 }
 
 impl Feed {
     /// A feed that hasn't been read yet. It takes no memory.
     pub fn new(alloc: Global) -> Self
-        ensures { result ≡ record { version = None; outcome = None } }
+        ensures { result.feed ≡ record { version = None; outcome = None } }
     {
         Feed {
             alloc,
@@ -53,7 +58,7 @@ impl Feed {
 
     /// The version of the feed, once its first record was read.
     pub fn version(&self) -> Option<Version>
-        ensures { result ≡ self.now.version }
+        ensures { result ≡ self.now.feed.version }
     {
         self.version
     }
@@ -62,23 +67,26 @@ impl Feed {
     /// end or a fault the answer stays, and nothing is read.
     pub fn next<R: Read + Drop>(&mut self, reader: &mut R) -> Result<Option<Record>, FeedFault>
         // The record is consumed, with the announcement if it is the first, and no more.
-        ensures record { IfOk result (λ found. IfSome found (λ given. (self.old.outcome ≡ None) × (self.new.outcome ≡ None)
-            × GivesRecord self.old.version self.new.version (R.remaining reader.old) (R.remaining reader.new) given)) }
+        ensures record { IfOk result (λ found. IfSome found (λ given. (self.old.feed.outcome ≡ None) × (self.new.feed.outcome ≡ None)
+            × GivesRecord self.old.feed.version self.new.feed.version (R.remaining reader.old) (R.remaining reader.new) given)) }
 
         // The end is where no byte is left.
-        ensures end { IfOk result (λ found. IfNone found (self.old.outcome ≡ None
-            → GivesEnd self.old.version (R.remaining reader.old) (R.remaining reader.new))) }
+        ensures end { IfOk result (λ found. IfNone found (self.old.feed.outcome ≡ None
+            → GivesEnd self.old.feed.version (R.remaining reader.old) (R.remaining reader.new))) }
 
-        // A fault is the first of bytes that begin with no record, or the reader failed, or memory was refused.
-        ensures fault { IfErr result (λ fault. self.old.outcome ≡ None → fault ≢ FeedFault.Read → fault ≢ FeedFault.Memory
-            → HasFault self.old.version (R.remaining reader.old) fault) }
-        ensures memory { result ≡ Err FeedFault.Memory → self.old.outcome ≡ None
-            → TakesWhereMemoryEnds self.old.version (R.remaining reader.old) (R.remaining reader.new) }
+        // A fault is the first of bytes that begin with no record, or the reader failed, or memory was refused, and then
+        // the feed had too little room.
+        ensures fault { IfErr result (λ fault. self.old.feed.outcome ≡ None → fault ≢ FeedFault.Read → fault ≢ FeedFault.Memory
+            → HasFault self.old.feed.version (R.remaining reader.old) fault) }
+        ensures memory { result ≡ Err FeedFault.Memory → self.old.feed.outcome ≡ None
+            → TakesWhereMemoryEnds self.old.room self.old.feed.version (R.remaining reader.old) (R.remaining reader.new) }
+
+        ensures room { self.old.room.payload ≤ self.new.room.payload }
 
         // The end and each fault stay.
-        ensures ends { IfOk result (λ found. IfNone found (self.new.outcome ≡ Some (Ok tt))) }
-        ensures fails { IfErr result (λ fault. self.new.outcome ≡ Some (Err fault)) }
-        ensures stays { IfSome self.old.outcome (λ outcome. (result ≡ answer_at outcome)
+        ensures ends { IfOk result (λ found. IfNone found (self.new.feed.outcome ≡ Some (Ok tt))) }
+        ensures fails { IfErr result (λ fault. self.new.feed.outcome ≡ Some (Err fault)) }
+        ensures stays { IfSome self.old.feed.outcome (λ outcome. (result ≡ answer_at outcome)
             × (self.new ≡ self.old) × (reader.new ≡ reader.old)) }
     {
         match self.outcome {
@@ -110,7 +118,7 @@ impl Feed {
     /// as it goes: of a put's, up to 4,096 packets of up to 4,096 bytes each are kept. It never fails;
     /// where the list of what is kept has no room, the memory goes back to the system.
     pub fn give_back(&mut self, command: Command)
-        ensures { self.new ≡ self.old }
+        ensures { self.new.feed ≡ self.old.feed }
     {
         self.spare.keep(command);
     }
@@ -130,7 +138,8 @@ fn next_record<R: Read + Drop>(
     ensures fault { IfErr result (λ fault. fault ≢ FeedFault.Read → fault ≢ FeedFault.Memory
         → HasFault version.old (R.remaining reader.old) fault) }
     ensures memory { IfErr result (λ fault. fault ≡ FeedFault.Memory
-        → TakesWhereMemoryEnds version.old (R.remaining reader.old) (R.remaining reader.new)) }
+        → TakesWhereMemoryEnds (feed_room payload.old spare.old.entries spare.old.packets.items) version.old (R.remaining reader.old) (R.remaining reader.new)) }
+    ensures room { vec_capacity payload.old ≤ vec_capacity payload.new }
 {
     match *version {
         None => first_record(alloc, spare, payload, version, reader),
@@ -157,7 +166,8 @@ fn first_record<R: Read + Drop>(
     ensures fault { IfErr result (λ fault. fault ≢ FeedFault.Read → fault ≢ FeedFault.Memory
         → HasFault None (R.remaining reader.old) fault) }
     ensures memory { IfErr result (λ fault. fault ≡ FeedFault.Memory
-        → TakesWhereMemoryEnds None (R.remaining reader.old) (R.remaining reader.new)) }
+        → TakesWhereMemoryEnds (feed_room payload.old spare.old.entries spare.old.packets.items) None (R.remaining reader.old) (R.remaining reader.new)) }
+    ensures room { vec_capacity payload.old ≤ vec_capacity payload.new }
 {
     match next_item(alloc, spare, payload, true, Version::One, reader) {
         Ok(Some(Item::Record(record))) => {
@@ -191,7 +201,8 @@ fn later_record<R: Read + Drop>(
     ensures fault { IfErr result (λ fault. fault ≢ FeedFault.Read → fault ≢ FeedFault.Memory
         → HasItemFault false version (R.remaining reader.old) fault) }
     ensures memory { IfErr result (λ fault. fault ≡ FeedFault.Memory
-        → TakesItemPart false version (R.remaining reader.old) (R.remaining reader.new)) }
+        → TakesItemPart (feed_room payload.old spare.old.entries spare.old.packets.items) false version (R.remaining reader.old) (R.remaining reader.new)) }
+    ensures room { vec_capacity payload.old ≤ vec_capacity payload.new }
 {
     match next_item(alloc, spare, payload, false, version, reader) {
         Ok(Some(Item::Record(record))) => Ok(Some(record)),
@@ -218,7 +229,9 @@ fn next_item<R: Read + Drop>(
     ensures fault { IfErr result (λ fault. fault ≢ FeedFault.Read → fault ≢ FeedFault.Memory
         → HasItemFault first version (R.remaining reader.old) fault) }
     ensures memory { IfErr result (λ fault. fault ≡ FeedFault.Memory
-        → TakesItemPart first version (R.remaining reader.old) (R.remaining reader.new)) }
+        → TakesItemPart (feed_room payload.old spare.old.entries spare.old.packets.items) first version (R.remaining reader.old) (R.remaining reader.new)) }
+    ensures room { vec_capacity payload.old ≤ vec_capacity payload.new }
+    ensures spare { result ≡ Ok (Some Item.Announcement) → spare.new ≡ spare.old }
 {
     let head = match next_head(first, reader) {
         Ok(Some(head)) => head,
@@ -270,8 +283,9 @@ fn read_payload<R: Read + Drop>(
     ensures ok { OnOk result ((wanted ≤ vec_len payload.new)
         × Consumes (R.remaining reader.old) (R.remaining reader.new) (take wanted payload.new.items)) }
     ensures fault { IfErr result (λ fault. (fault ≡ FeedFault.Read)
-        ⊎ ((fault ≡ FeedFault.Memory) × (reader.new ≡ reader.old))
+        ⊎ ((fault ≡ FeedFault.Memory) × (reader.new ≡ reader.old) × (vec_capacity payload.old < wanted))
         ⊎ ((fault ≡ FeedFault.Truncated) × IsShort (R.remaining reader.old) wanted)) }
+    ensures room { vec_capacity payload.old ≤ vec_capacity payload.new }
 {
     // What was initialised once isn't filled with zeros again.
     if payload.len() < wanted && payload.resize(wanted, 0).is_err() {

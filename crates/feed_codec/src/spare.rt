@@ -1,5 +1,6 @@
 //! Memory of commands that were given back, for the next ones.
-ghost use Rattle.std.specs.Prelude.{◌≡◌, ◌≤◌, [], IfOk, vec_len, vec_capacity};
+ghost use Rattle.std.specs.Prelude.{◌≡◌, ◌≤◌, ◌<◌, [], drop, length, slice_index, IfOk, OnErr, vec_len, vec_capacity};
+ghost use Rattle.feed_codec.specs.Room.{rooms_of};
 
 use ogg_command::{Command, Entry, Listed, Memory};
 use std::alloc::Global;
@@ -33,6 +34,8 @@ impl Spare {
         ensures items { IfOk result (λ entries. entries.items ≡ []) }
         ensures len { IfOk result (λ entries. vec_len entries ≡ 0) }
         ensures room { IfOk result (λ entries. count ≤ vec_capacity entries) }
+        ensures full { OnErr result (vec_capacity self.old.entries < count) }
+        ensures packets { self.new.packets ≡ self.old.packets }
     {
         let mut entries = mem::replace(&mut self.entries, Vec::new(alloc));
         entries.clear();
@@ -42,7 +45,9 @@ impl Spare {
 
     /// A copy of a packet's bytes.
     pub fn packet_of(&mut self, alloc: Global, bytes: &[u8]) -> Result<Listed<u8>, Memory>
-        ensures { IfOk result (λ packet. packet ≡ bytes.now) }
+        ensures ok { IfOk result (λ packet. packet ≡ bytes.now) }
+        ensures full { OnErr result (slice_index (rooms_of self.old.packets.items) 0 < length bytes.now) }
+        ensures packets { rooms_of self.new.packets.items ≡ drop 1 (rooms_of self.old.packets.items) }
     {
         let mut packet = match self.packets.pop() {
             Some(packet) => packet,

@@ -52,7 +52,7 @@ pub fn answer<T: Runner, P: Write, W: Write>(
     requires count { T.counted runner.old < 2 ^ 63 }
     requires adds_up { counts.kept + counts.waiting ≤ counts.commands }
     requires few { counts.commands < 2 ^ 32 }
-    ensures feed { feed.new ≡ feed.old }
+    ensures feed { feed.new.feed ≡ feed.old.feed }
     ensures ok { (before : T.State) → T.is_in before runner.old → IfOk result (λ (reply, now). (own : List ℕ) × (after : T.State)
         × T.answers before given reply own after × T.is_in after runner.new
         × Appends (P.contents pages.old) (P.contents pages.new) own

@@ -28,10 +28,10 @@ impl Model for FeedRun {
 
     ghost Value = { RunState };
 
-    ghost view = { λ run. record { version = run.feed.version; records = run.records; counts = run.counts; outcome = run.outcome } };
+    ghost view = { λ run. record { version = run.feed.feed.version; records = run.records; counts = run.counts; outcome = run.outcome } };
 
     ghost invariant = { λ run. (run.records ≤ 4294967295) × (run.counts.commands ≤ run.records)
-        × (run.counts.kept + run.counts.waiting ≤ run.counts.commands) × (run.outcome ≡ None → run.feed.outcome ≡ None) };
+        × (run.counts.kept + run.counts.waiting ≤ run.counts.commands) × (run.outcome ≡ None → run.feed.feed.outcome ≡ None) };
 }
 
 impl FeedRun {

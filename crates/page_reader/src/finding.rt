@@ -8,7 +8,7 @@ use crate::fault::PageReaderFault;
 use crate::filling::read_more;
 use crate::front::{is_short, size_in_front};
 use crate::held::Held;
-use ogg_page::PageFault;
+use ogg_page::{LONGEST_PAGE, PageFault};
 use std::io::Read;
 
 /// The size of the page at the front of what is held, or none at the end of the input. What is held is looked at

@@ -2,7 +2,7 @@ use Rattle.std.proofs.Common.{◌≡◌, ◌+◌, ◌++◌, [], ◌∷◌, ℕ, 
 use Rattle.std.proofs.lemmas.List.{take_more}
 use Rattle.gathering.proofs.Cuts.{CutSoFar, cut_same, cut_full, cut_end, cut_all, whole_on, nothing_left}
 use Rattle.gathering.proofs.cutting.cut.Goals as goal
-use Rattle.gathering.proofs.cutting.cut.Goals.{then-value-lt255+in_ok-end_packet, else-value-lt255}
+use Rattle.gathering.proofs.cutting.cut.Goals.{then-value-lt-FULL_VALUE+in_ok-end_packet, else-value-lt-FULL_VALUE}
 
 pub loop-value-preserved : goal.loop-value-preserved
 loop-value-preserved c =
@@ -19,30 +19,30 @@ loop-value-preserved c =
     let more : c.extend_from_slice.new.self.items ≡ c.loop-value.rest.items ++ piece = c.in_ok-extend_from_slice.ensures.items in
     let next : take (i + 1) lacing ≡ take i lacing ++ value ∷ [] = take_more lacing i 0 c.loop-value-test.true in
     let whole : sum (drop (i + 1) lacing) ≡ length others = whole_on lacing left piece others i value c.loop-value-test.true refl c.loop-value.invariant.whole size split in
-    elim c.if-value-lt255.branch [
-      | then-value-lt255+in_ok-end_packet w ↦
-          (let lefts : c.if-value-lt255.left.now ≡ others = ap (λ (l : Bor (List ℕ)). l.now) w.left-is in
-          let rests : c.if-value-lt255.rest.items ≡ [] = ap (λ (l : Vec ℕ Global). l.items) w.rest-is ∙ w.end_packet.ensures.rest in
-          let packets : c.if-value-lt255.packets.items ≡ c.loop-value.packets.items ++ (c.loop-value.rest.items ++ piece) ∷ [] =
+    elim c.if-value-lt-FULL_VALUE.branch [
+      | then-value-lt-FULL_VALUE+in_ok-end_packet w ↦
+          (let lefts : c.if-value-lt-FULL_VALUE.left.now ≡ others = ap (λ (l : Bor (List ℕ)). l.now) w.left-is in
+          let rests : c.if-value-lt-FULL_VALUE.rest.items ≡ [] = ap (λ (l : Vec ℕ Global). l.items) w.rest-is ∙ w.end_packet.ensures.rest in
+          let packets : c.if-value-lt-FULL_VALUE.packets.items ≡ c.loop-value.packets.items ++ (c.loop-value.rest.items ++ piece) ∷ [] =
           ap (λ (l : Vec (List ℕ) Global). l.items) w.packets-is ∙ w.in_ok-end_packet.ensures.packets ∙ ap (λ l. c.loop-value.packets.items ++ l ∷ []) more in
           record {
             whole = whole ∙ ap length (sym lefts);
             cut = λ segments e.
                 cut_same segments rest c.args.body.now (take i lacing ++ value ∷ []) (take (i + 1) lacing) (c.loop-value.packets.items ++ (c.loop-value.rest.items ++ piece) ∷ [])
-                c.if-value-lt255.packets.items [] c.if-value-lt255.rest.items others c.if-value-lt255.left.now next packets rests lefts
-                (cut_end segments rest (take i lacing) c.args.body.now c.loop-value.packets.items c.loop-value.rest.items left piece others value w.if-value-lt255.true size split
+                c.if-value-lt-FULL_VALUE.packets.items [] c.if-value-lt-FULL_VALUE.rest.items others c.if-value-lt-FULL_VALUE.left.now next packets rests lefts
+                (cut_end segments rest (take i lacing) c.args.body.now c.loop-value.packets.items c.loop-value.rest.items left piece others value w.if-value-lt-FULL_VALUE.true size split
                 (c.loop-value.invariant.cut segments e));
           })
-      | else-value-lt255 w ↦
-          (let lefts : c.if-value-lt255.left.now ≡ others = ap (λ (l : Bor (List ℕ)). l.now) w.left-is in
-          let rests : c.if-value-lt255.rest.items ≡ c.loop-value.rest.items ++ piece = ap (λ (l : Vec ℕ Global). l.items) w.rest-is ∙ more in
-          let packets : c.if-value-lt255.packets.items ≡ c.loop-value.packets.items = ap (λ (l : Vec (List ℕ) Global). l.items) w.packets-is in
-          let full : value ≡ 255 = omega (arith, w.if-value-lt255.false, c.type_inv.lacing i) in
+      | else-value-lt-FULL_VALUE w ↦
+          (let lefts : c.if-value-lt-FULL_VALUE.left.now ≡ others = ap (λ (l : Bor (List ℕ)). l.now) w.left-is in
+          let rests : c.if-value-lt-FULL_VALUE.rest.items ≡ c.loop-value.rest.items ++ piece = ap (λ (l : Vec ℕ Global). l.items) w.rest-is ∙ more in
+          let packets : c.if-value-lt-FULL_VALUE.packets.items ≡ c.loop-value.packets.items = ap (λ (l : Vec (List ℕ) Global). l.items) w.packets-is in
+          let full : value ≡ 255 = omega (arith, w.if-value-lt-FULL_VALUE.false, c.type_inv.lacing i) in
           record {
             whole = whole ∙ ap length (sym lefts);
             cut = λ segments e.
-                cut_same segments rest c.args.body.now (take i lacing ++ value ∷ []) (take (i + 1) lacing) c.loop-value.packets.items c.if-value-lt255.packets.items
-                (c.loop-value.rest.items ++ piece) c.if-value-lt255.rest.items others c.if-value-lt255.left.now next packets rests lefts
+                cut_same segments rest c.args.body.now (take i lacing ++ value ∷ []) (take (i + 1) lacing) c.loop-value.packets.items c.if-value-lt-FULL_VALUE.packets.items
+                (c.loop-value.rest.items ++ piece) c.if-value-lt-FULL_VALUE.rest.items others c.if-value-lt-FULL_VALUE.left.now next packets rests lefts
                 (cut_full segments rest (take i lacing) c.args.body.now c.loop-value.packets.items c.loop-value.rest.items left piece others value full size split
                 (c.loop-value.invariant.cut segments e));
           })

@@ -22,15 +22,15 @@ returns-in-Ok-clause-replied g c = λ before is_in is_open.
       is_in_after,
       inl record {
         given = c.in-Run.given;
-        known = c.next_in.new.feed.version;
+        known = c.next_in.new.feed.feed.version;
         own = own;
         few = subst (λ n. n < most_records) (ap (λ (s : RunState). s.records) c.self.view_is) c.in-Run.ensures.0;
-        read = subst (λ v. GivesRecord v c.next_in.new.feed.version (g.R.Read.remaining c.args.reader.now) (g.R.Read.remaining c.next_in.new.reader) c.in-Run.given) (ap (λ (s : RunState). s.version) c.self.view_is) c.in-Run.ensures.2;
+        read = subst (λ v. GivesRecord v c.next_in.new.feed.feed.version (g.R.Read.remaining c.args.reader.now) (g.R.Read.remaining c.next_in.new.reader) c.in-Run.given) (ap (λ (s : RunState). s.version) c.self.view_is) c.in-Run.ensures.2;
         answers_it = answered;
         pages = pages;
         lines = lines;
         now_is =
             ap (λ (f : FeedState). state f.version (c.self.inside.records + 1) c.in-Ok.counts c.self.inside.outcome) c.in-Ok.ensures.feed
-            ∙ has_record c.args.self.now c.self.inside.feed.version c.next_in.new.feed.version c.self.inside.records c.self.inside.counts c.in-Ok.counts c.self.inside.outcome c.in-Run.given c.in-Ok.reply (sym c.self.view_is) is_open c.in-Ok.ensures.counts;
+            ∙ has_record c.args.self.now c.self.inside.feed.feed.version c.next_in.new.feed.feed.version c.self.inside.records c.self.inside.counts c.in-Ok.counts c.self.inside.outcome c.in-Run.given c.in-Ok.reply (sym c.self.view_is) is_open c.in-Ok.ensures.counts;
       },
     )

@@ -1,0 +1,63 @@
+-- Packets for which no room is kept.
+use Rattle.std.proofs.Common.{◌≡◌, ◌<◌, ◌+◌, ◌-◌, ◌++◌, ℕ, suc, List, [], ◌∷◌, ◌∙◌, ap, inl, inr, drop, length, arith, append-nil, append_assoc, length-append, subst, sym}
+use Rattle.std.specs.Prelude.{slice_index}
+use Rattle.std.specs.List.{flat_map}
+use Rattle.std.proofs.lemmas.Grind.{flat_map-append}
+use Rattle.std.proofs.lemmas.List.{drop-drop}
+use Rattle.ogg_command.specs.declared.command.Entry.{Entry}
+use Rattle.ogg_command.specs.declared.command.Command.TheVariants.{Begin as BeginOf, Put as PutOf, End as EndOf}
+use Rattle.feed_codec.specs.declared.item.Record.TheVariants.{Command as CommandOf, Flush}
+use Rattle.feed_codec.specs.declared.item.Item.{Item}
+use Rattle.feed_codec.specs.declared.item.Item.TheVariants.{Announcement, Record as RecordItem}
+use Rattle.ogg_command.specs.Command.{IsCommand}
+use Rattle.feed_codec.specs.declared.version.Version.{Version}
+use Rattle.feed_codec.specs.Record.{FitsFields, entry_bytes, kind_in, payload_in, payload_of}
+use Rattle.feed_codec.specs.Payload.{AreMany, Begins, IsEntryOfFeed, IsItem}
+use Rattle.feed_codec.proofs.Lists.{all_joined}
+use Rattle.feed_codec.specs.Room.{LacksEntryRoom, LacksPacketRoom, LacksRoomFor}
+
+-- a packet is too long for its room, after those that stand before it
+pub lacks_later : (rooms : List ℕ) (front : List Entry) (entry : Entry) (more : List Entry) → slice_index (drop (length front) rooms) 0 < length entry.packet
+    → LacksPacketRoom rooms (front ++ entry ∷ more)
+lacks_later rooms [] entry more short = inl short
+lacks_later rooms (first ∷ front) entry more short =
+    let one : suc (length front) ≡ 1 + length front = omega arith in
+    let same : drop (suc (length front)) rooms ≡ drop (length front) (drop 1 rooms) = ap (λ n. drop n rooms) one ∙ sym (drop-drop (length front) 1 rooms) in
+    inr (lacks_later (drop 1 rooms) front entry more (subst (λ l. slice_index l 0 < length entry.packet) same short))
+
+-- no room can be kept for a new stream
+pub begin_lacks : (room : ℕ) (rooms : List ℕ) (item : Item) → kind_in item ≡ 1 → LacksRoomFor room rooms item
+begin_lacks room rooms (RecordItem (CommandOf (BeginOf begin))) kind = tt
+begin_lacks room rooms (RecordItem (CommandOf (PutOf put))) kind = absurd (omega (arith, kind))
+begin_lacks room rooms (RecordItem (CommandOf (EndOf serial))) kind = absurd (omega (arith, kind))
+begin_lacks room rooms (RecordItem Flush) kind = absurd (omega (arith, kind))
+begin_lacks room rooms Announcement kind = absurd (omega (arith, kind))
+
+-- what a put lacks
+pub put_lacks : (v : Version) (payload : List ℕ) (room : ℕ) (rooms : List ℕ) (number : ℕ) → number ≡ 2
+    → ((entries : List Entry) × IsCommand (PutOf (record { entries = entries })) × FitsFields v (PutOf (record { entries = entries }))
+    × (payload_of v (PutOf (record { entries = entries })) ≡ payload) × LacksEntryRoom room rooms entries)
+    → (item : Item) × IsItem v item × (kind_in item ≡ number) × (payload_in v item ≡ payload) × LacksRoomFor room rooms item
+put_lacks v payload room rooms number two (entries, is, fits, spelled, lacks) =
+    (RecordItem (CommandOf (PutOf (record { entries = entries }))), (is, fits), sym two, spelled, lacks)
+
+-- a put's entries, of which one is too long for its room
+pub entry_lacks : (room : ℕ) (rooms bytes behind : List ℕ) (done count : ℕ) (front : List Entry) (entry : Entry) → done < count → length front ≡ done
+    → AreMany IsEntryOfFeed (done + 1) (front ++ entry ∷ []) → bytes ≡ flat_map entry_bytes (front ++ entry ∷ []) ++ behind
+    → Begins (AreMany IsEntryOfFeed (count - (done + 1))) (flat_map entry_bytes) behind [] → slice_index (drop done rooms) 0 < length entry.packet
+    → (entries : List Entry) × AreMany IsEntryOfFeed count entries × (bytes ≡ flat_map entry_bytes entries) × LacksEntryRoom room rooms entries
+entry_lacks room rooms bytes behind done count front entry less long many spelled (later, more, rest) short =
+    let short_here : slice_index (drop (length front) rooms) 0 < length entry.packet = subst (λ n. slice_index (drop n rooms) 0 < length entry.packet) (sym long) short in (
+      (front ++ entry ∷ []) ++ later,
+      (omega (arith, less, many.0, more.0, length-append (front ++ entry ∷ []) later), all_joined IsEntryOfFeed (front ++ entry ∷ []) later many.1 more.1),
+      spelled
+          ∙ ap (λ l. flat_map entry_bytes (front ++ entry ∷ []) ++ l) (rest ∙ append-nil (flat_map entry_bytes later))
+          ∙ sym (flat_map-append entry_bytes (front ++ entry ∷ []) later),
+      inr (subst (LacksPacketRoom rooms) (sym (append_assoc front (entry ∷ []) later)) (lacks_later rooms front entry later short_here)),
+    )
+
+-- a put's entries, of which there are too many
+pub count_lacks : (room : ℕ) (rooms bytes : List ℕ) (count : ℕ) → Begins (AreMany IsEntryOfFeed count) (flat_map entry_bytes) bytes [] → room < count
+    → (entries : List Entry) × AreMany IsEntryOfFeed count entries × (bytes ≡ flat_map entry_bytes entries) × LacksEntryRoom room rooms entries
+count_lacks room rooms bytes count (entries, many, spelled) few =
+    (entries, many, spelled ∙ append-nil (flat_map entry_bytes entries), inl (omega (arith, many.0, few)))
