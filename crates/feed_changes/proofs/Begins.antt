@@ -14,7 +14,7 @@ use Rattle.feed_changes.specs.Naming.{named, serials_of, stream_named}
 use Rattle.feed_changes.specs.Renumbered.{serials}
 use Rattle.feed_changes.specs.Links.{HasReason, those}
 use Rattle.feed_changes.specs.Changed.{stream_under}
-use Rattle.feed_changes.specs.Skeletons.{AreOthers, IsDescribed, described, is_other, is_skeleton, leaves_out, made_for, staying}
+use Rattle.feed_changes.specs.Skeletons.{AreOthers, IsDescribed, described, headers_of, is_other, is_skeleton, leaves_out, made_for, staying}
 use Rattle.feed_changes.proofs.Renumbers.{clash}
 
 -- ---- which streams stay
@@ -86,6 +86,14 @@ begun_described (stream ∷ streams) = ap (λ l. begun stream ∷ l) (begun_desc
 pub described_serials : (streams : List NewStream) → serials_of (map described streams) ≡ serials_of streams
 described_serials [] = refl
 described_serials (stream ∷ streams) = ap (λ l. stream.serial ∷ l) (described_serials streams)
+
+pub headers_named : (names : List (ℕ × ℕ)) (streams : List NewStream) → headers_of (map (stream_named names) streams) ≡ headers_of streams
+headers_named names [] = refl
+headers_named names (stream ∷ streams) = ap (λ l. stream.headers ∷ l) (headers_named names streams)
+
+pub headers_described : (streams : List NewStream) → headers_of (map described streams) ≡ headers_of streams
+headers_described [] = refl
+headers_described (stream ∷ streams) = ap (λ l. stream.headers ∷ l) (headers_described streams)
 
 -- ---- what is said of the streams that are begun
 skeletons_named : (names : List (ℕ × ℕ)) (streams : List NewStream) → list_all is_skeleton (map (stream_named names) streams) ≡ list_all is_skeleton streams

@@ -49,6 +49,12 @@ pub map_same : {A : Type 0} (xs : List A) → map (λ x. x) xs ≡ xs
 map_same [] = refl
 map_same (x ∷ xs) = ap (λ l. x ∷ l) (map_same xs)
 
+pub zip_push : {A B : Type 0} (R : A → B → Type 0) (xs : List A) (ys : List B) (x : A) (y : B) → AllZip R xs ys → R x y → AllZip R (xs ++ x ∷ []) (ys ++ y ∷ [])
+zip_push R [] [] x y all p = (p, tt)
+zip_push R [] (b ∷ ys) x y all p = absurd all
+zip_push R (a ∷ xs) [] x y all p = absurd all
+zip_push R (a ∷ xs) (b ∷ ys) x y (q, all) p = (q, zip_push R xs ys x y all p)
+
 -- ---- of distinct serials those that stay are distinct
 those_apart : (serial : ℕ) (stays : List Bool) (link : List Stream) → AllByRecursion (λ y. nat_eq serial y ≡ false) (serials link) → AllByRecursion (λ y. nat_eq serial y ≡ false) (serials (those stays link))
 those_apart serial [] link all = tt

@@ -1,8 +1,9 @@
 -- Each command changed, over those before it.
 use Rattle.std.proofs.Common.{◌≡◌, ℕ, Bool, true, false, List, [], ◌∷◌, ◌++◌, map, refl, sym, ◌∙◌, ap, subst, append-nil, append_assoc, inl}
 use Rattle.std.specs.Prelude.{nat_eq, nat_le, Option, Some, None, ◌||◌, if◌then◌else◌, length}
-use Rattle.std.specs.List.{AllByRecursion, IsDistinct, cons_option, flat_map, fold, list_all, list_any}
+use Rattle.std.specs.List.{AllByRecursion, AllZip, IsDistinct, cons_option, flat_map, fold, list_all, list_any}
 use Rattle.std.specs.Map.{values_of}
+use Rattle.std.proofs.lemmas.List.Elements.{filter_map-append}
 use Rattle.std.proofs.lemmas.List.Sums.{fold-append}
 use Rattle.link_chain.specs.Limits.{most_streams}
 use Rattle.chain_rules.specs.Recording.{Stream, Recording, add, after, begun, begun_link, change_last, ended_skeleton, with_packet, with_end}
@@ -20,14 +21,14 @@ use Rattle.feed_changes.specs.Options.{is_none, is_none_with}
 use Rattle.feed_changes.specs.Naming.{AreNamed, AreNames, entries_named, entry_with, is_had, name_of, named, serials_of, stream_named, IsFirstFree}
 use Rattle.feed_changes.specs.Renumbered.{avoided, serials}
 use Rattle.feed_changes.specs.Links.{IsBefore, IsMadeFor, those}
-use Rattle.feed_changes.specs.Skeletons.{AreOthers, HasHead, IsBegunAs, described, head_with, is_skeleton, made_for, staying}
+use Rattle.feed_changes.specs.Skeletons.{AreOthers, BeginThose, BeginsThose, HasHead, IsBegunAs, begin_of, begins_of, described, head_with, headers_of, is_skeleton, made_for, staying}
 use Rattle.feed_changes.specs.Changed.{ChangeState, Follows, FollowsIf, HasChanged, IsChanged, IsChangedIf, IsFollowed, IsNoName, IsPlain, IsUnderNames, stream_under}
 use Rattle.feed_changes.specs.Steps.{Begins, BeginsAs, BeginsDescribed, BeginsPlain, Names, end_of, option_list, put_of}
 use Rattle.feed_changes.proofs.Names.{all_push, or_right}
 use Rattle.feed_changes.proofs.Renumbers.{clash, end_named, end_other, ended, ended_serial, grown, grown_serial, names_are, packet_named, packet_other}
-use Rattle.feed_changes.proofs.Lists.{same_serials}
+use Rattle.feed_changes.proofs.Lists.{same_serials, zip_push}
 use Rattle.feed_changes.proofs.Links.{begin_step, change_step, followed_changed, same_last, under_only, under_step}
-use Rattle.feed_changes.proofs.Begins.{are_described, begun_described, begun_named, begun_serials, begun_staying, described_apart, described_serials, left_of, made_described, named_apart, stays_of}
+use Rattle.feed_changes.proofs.Begins.{are_described, begun_described, begun_named, begun_serials, begun_staying, described_apart, described_serials, headers_described, headers_named, left_of, made_described, named_apart, stays_of}
 
 after_push : (commands : List Command) (command : Command) → after [] (commands ++ command ∷ []) ≡ add (after [] commands) command
 after_push commands command = fold-append add [] commands (command ∷ [])
@@ -40,16 +41,46 @@ followed_of false state recording now e f = f
 pub by_of : (state : ChangeState) (commands given : List Command) → is_none state.options ≡ false → HasChanged state commands given → IsFollowed state (after [] commands) (after [] given)
 by_of state commands given e h = followed_of (is_none state.options) state (after [] commands) (after [] given) e h.follows
 
-pub of_by : (state : ChangeState) (commands given : List Command) → is_none state.options ≡ false → AllByRecursion (IsBegunAs state.options) given
+pub of_by : (state : ChangeState) (commands given : List Command) → is_none state.options ≡ false → BeginThose state.options commands given → AllByRecursion (IsBegunAs state.options) given
     → IsFollowed state (after [] commands) (after [] given) → HasChanged state commands given
-of_by state commands given e begun by =
+of_by state commands given e stay begun by =
     let recording : Recording = after [] commands in
     let now : Recording = after [] given in
     record {
       changed = subst (λ b. IsChangedIf b state.options recording now) (sym e) (followed_changed state recording now by);
+      stay = stay;
       begun = begun;
       follows = subst (λ b. FollowsIf b state recording now) (sym e) by;
     }
+
+-- ---- which streams begin
+begins_push : (commands : List Command) (command : Command) → begins_of (commands ++ command ∷ []) ≡ begins_of commands ++ cons_option (begin_of command) []
+begins_push commands command = filter_map-append begin_of commands (command ∷ [])
+
+stay_push : (options : ChangeOptions) (commands given : List Command) (command now : Command) (begin begin_now : Begin) → begin_of command ≡ Some begin → begin_of now ≡ Some begin_now
+    → BeginThose options commands given → BeginsThose options begin begin_now → BeginThose options (commands ++ command ∷ []) (given ++ now ∷ [])
+stay_push options commands given command now begin begin_now is now_is all those =
+    subst (λ l. AllZip (BeginsThose options) l (begins_of (given ++ now ∷ []))) (ap (λ o. begins_of commands ++ cons_option o []) (sym is) ∙ sym (begins_push commands command))
+    (subst (AllZip (BeginsThose options) (begins_of commands ++ begin ∷ [])) (ap (λ o. begins_of given ++ cons_option o []) (sym now_is) ∙ sym (begins_push given now))
+    (zip_push (BeginsThose options) (begins_of commands) (begins_of given) begin begin_now all those))
+
+-- these begin none
+none_begin : (commands : List Command) (command : Command) → begin_of command ≡ None → begins_of commands ≡ begins_of (commands ++ command ∷ [])
+none_begin commands command is = sym (append-nil (begins_of commands)) ∙ ap (λ o. begins_of commands ++ cons_option o []) (sym is) ∙ sym (begins_push commands command)
+
+stay_on : (options : ChangeOptions) (commands given : List Command) (command : Command) (now : Option Command) → begin_of command ≡ None → begins_of given ≡ begins_of (given ++ option_list now)
+    → BeginThose options commands given → BeginThose options (commands ++ command ∷ []) (given ++ option_list now)
+stay_on options commands given command now is now_is all =
+    subst (λ l. AllZip (BeginsThose options) l (begins_of (given ++ option_list now))) (none_begin commands command is)
+    (subst (AllZip (BeginsThose options) (begins_of commands)) now_is all)
+
+put_begins : (given : List Command) (entries : List Entry) → begins_of given ≡ begins_of (given ++ option_list (put_of entries))
+put_begins given [] = ap begins_of (sym (append-nil given))
+put_begins given (entry ∷ entries) = none_begin given (PutOf (record { entries = entry ∷ entries })) refl
+
+end_begins : (given : List Command) (serial : Option ℕ) → begins_of given ≡ begins_of (given ++ option_list (end_of serial))
+end_begins given None = ap begins_of (sym (append-nil given))
+end_begins given (Some serial) = none_begin given (EndOf serial) refl
 
 -- ---- a `Begin`
 under_of : (options : ChangeOptions) (given : List ℕ) (names : List (ℕ × ℕ)) (streams now : List NewStream) (earlier : List ℕ) (before link_now : List Stream)
@@ -84,15 +115,20 @@ under_new old state new streams now earlier before link_now named given options 
 
 begin_as : (old new : ChangeState) (begin : Begin) (now : Command) (link_now : List Stream) (commands given : List Command) → is_none old.options ≡ false → begin.skeleton ≡ None
     → HasChanged old commands given → new.options ≡ old.options → new.given ≡ old.given ++ serials link_now → ((recording : Recording) → add recording now ≡ recording ++ link_now ∷ [])
-    → IsUnderNames new (flat_map serials (after [] given)) (map begun begin.streams) link_now → IsBegunAs old.options now
-    → HasChanged new (commands ++ BeginOf begin ∷ []) (given ++ now ∷ [])
-begin_as old new begin now link_now commands given is plain h same given_is added under begun_as =
+    → IsUnderNames new (flat_map serials (after [] given)) (map begun begin.streams) link_now → (begin_now : Begin) → now ≡ BeginOf begin_now → BeginsThose old.options begin begin_now
+    → IsBegunAs old.options now → HasChanged new (commands ++ BeginOf begin ∷ []) (given ++ now ∷ [])
+begin_as old new begin now link_now commands given is plain h same given_is added under begin_now now_is those begun_as =
     of_by new (commands ++ BeginOf begin ∷ []) (given ++ now ∷ []) (ap is_none same ∙ is)
+    (subst (λ o. BeginThose o (commands ++ BeginOf begin ∷ []) (given ++ now ∷ [])) (sym same)
+    (stay_push old.options commands given (BeginOf begin) now begin begin_now refl (ap begin_of now_is) h.stay those))
     (subst (λ o. AllByRecursion (IsBegunAs o) (given ++ now ∷ [])) (sym same) (all_push (IsBegunAs old.options) given now h.begun begun_as))
     (subst (λ r. IsFollowed new r (after [] (given ++ now ∷ [])))
     (ap (λ s. after [] commands ++ begun_link s begin.streams ∷ []) (sym plain) ∙ sym (after_push commands (BeginOf begin)))
     (subst (IsFollowed new (after [] commands ++ map begun begin.streams ∷ [])) (sym (added (after [] given)) ∙ sym (after_push given now))
     (begin_step old new (after [] commands) (after [] given) (map begun begin.streams) link_now (by_of old commands given is h) same under given_is)))
+
+stay_headers : (old state : ChangeState) (begin : Begin) (streams : List NewStream) → Names old state begin.streams streams → headers_of streams ≡ headers_of (staying old.options.skeletons begin.streams)
+stay_headers old state begin streams named = ap headers_of named.now_is ∙ headers_named state.names (staying old.options.skeletons begin.streams)
 
 plain_changed : (old state new : ChangeState) (begin : Begin) (streams : List NewStream) (now : Command) (commands given : List Command) → is_none old.options ≡ false → begin.skeleton ≡ None
     → HasChanged old commands given → Names old state begin.streams streams → made_for old.options.skeletons streams ≡ None → BeginsPlain state new begin.skeleton streams now
@@ -104,6 +140,7 @@ plain_changed old state new begin streams now commands given is plain h named no
     (b.given ∙ ap (λ l. l ++ serials_of streams) named.given ∙ ap (λ l. old.given ++ l) (sym (begun_serials streams)))
     (λ recording. ap (add recording) b.now_is ∙ ap (λ s. recording ++ begun_link s streams ∷ []) plain)
     (under_new old state new begin.streams streams (flat_map serials (after [] given)) [] (map begun streams) named by.given b.options b.names tt tt refl)
+    (record { skeleton = begin.skeleton; streams = streams }) b.now_is (stay_headers old state begin streams named)
     (subst (IsBegunAs old.options) (sym b.now_is) (
       subst (AreOthers skeletons) (sym named.now_is) (named_apart state.names skeletons begin.streams),
       subst (λ o. HasHead o (record { skeleton = begin.skeleton; streams = streams })) (sym none) plain,
@@ -174,6 +211,7 @@ made_changed old state new begin streams now commands given from is plain h name
     (under_new old state new begin.streams streams earlier (skeleton ∷ []) (skeleton ∷ map begun more) named by.given b.options b.names
     (is_before skeletons streams from earlier (serials_of streams) skeleton some made)
     (or_right (list_any (nat_eq b.serial) state.given) (list_any (nat_eq b.serial) (values_of state.names)) b.first.free, tt) (ap (λ l. skeleton ∷ l) (begun_described streams)))
+    (record { skeleton = Some (head_with b.serial); streams = more }) b.now_is (headers_described streams ∙ stay_headers old state begin streams named)
     (subst (IsBegunAs old.options) (sym b.now_is) (
       described_apart skeletons streams (subst (AreOthers skeletons) (sym named.now_is) (named_apart state.names skeletons begin.streams)),
       subst (λ o. HasHead o (record { skeleton = Some (head_with b.serial); streams = more })) (sym (made_described skeletons streams ∙ some))
@@ -220,7 +258,8 @@ pub put_changed : (state : ChangeState) (put : Put) (commands given : List Comma
     HasChanged state (commands ++ PutOf put ∷ []) (given ++ option_list (put_of (entries_named state.names put.entries)))
 put_changed state put commands given is h =
     let now : List Entry = entries_named state.names put.entries in
-    of_by state (commands ++ PutOf put ∷ []) (given ++ option_list (put_of now)) is (none_begun state.options given now h.begun)
+    of_by state (commands ++ PutOf put ∷ []) (given ++ option_list (put_of now)) is
+    (stay_on state.options commands given (PutOf put) (put_of now) refl (put_begins given now) h.stay) (none_begun state.options given now h.begun)
     (subst (λ r. IsFollowed state r (after [] (given ++ option_list (put_of now)))) (sym (after_push commands (PutOf put)))
     (subst (IsFollowed state (change_last (λ link. fold with_packet link put.entries) (after [] commands))) (sym (put_list given now))
     (change_step state (λ link. fold with_packet link put.entries) (λ link. fold with_packet link now) (after [] commands) (after [] given)
@@ -256,7 +295,8 @@ pub end_changed : (state : ChangeState) (serial : ℕ) (commands given : List Co
     HasChanged state (commands ++ EndOf serial ∷ []) (given ++ option_list (end_of (name_of state.names serial)))
 end_changed state serial commands given is h =
     let now : Option ℕ = name_of state.names serial in
-    of_by state (commands ++ EndOf serial ∷ []) (given ++ option_list (end_of now)) is (end_begun state.options given now h.begun)
+    of_by state (commands ++ EndOf serial ∷ []) (given ++ option_list (end_of now)) is
+    (stay_on state.options commands given (EndOf serial) (end_of now) refl (end_begins given now) h.stay) (end_begun state.options given now h.begun)
     (subst (λ r. IsFollowed state r (after [] (given ++ option_list (end_of now)))) (sym (after_push commands (EndOf serial)))
     (subst (IsFollowed state (change_last (with_end serial) (after [] commands))) (sym (end_after given now))
     (change_step state (with_end serial) (end_list now) (after [] commands) (after [] given) (end_serials now)
@@ -269,6 +309,19 @@ plain_begun LeftOut renumber (BeginOf begin) e plain = clash e refl
 plain_begun (Made from) renumber (BeginOf begin) e plain = clash e refl
 plain_begun skeletons renumber (PutOf put) e plain = tt
 plain_begun skeletons renumber (EndOf serial) e plain = tt
+
+begins_same : (options : ChangeOptions) (commands given : List Command) (command : Command) → is_none options ≡ true → BeginThose options commands given → BeginThose options (commands ++ command ∷ []) (given ++ command ∷ [])
+begins_same options commands given command is all = by command
+  where
+    same : (skeletons : Skeletons) (renumber : Bool) (streams : List NewStream) → is_none_with skeletons renumber ≡ true → headers_of streams ≡ headers_of (staying skeletons streams)
+    same Kept renumber streams e = refl
+    same LeftOut renumber streams e = clash e refl
+    same (Made from) renumber streams e = clash e refl
+
+    by : (command : Command) → BeginThose options (commands ++ command ∷ []) (given ++ command ∷ [])
+    by (BeginOf begin) = stay_push options commands given (BeginOf begin) (BeginOf begin) begin begin refl refl all (same options.skeletons options.renumber begin.streams is)
+    by (PutOf put) = stay_on options commands given (PutOf put) (Some (PutOf put)) refl (none_begin given (PutOf put) refl) all
+    by (EndOf serial) = stay_on options commands given (EndOf serial) (Some (EndOf serial)) refl (none_begin given (EndOf serial) refl) all
 
 same_if : (b : Bool) (state : ChangeState) (recording now : Recording) → b ≡ true → now ≡ recording → IsChangedIf b state.options recording now × FollowsIf b state recording now
 same_if true state recording now e same = (same, same)
@@ -290,6 +343,7 @@ same_command state command commands given is h plain =
     ∙ sym (after_push commands command)) in
     record {
       changed = both.0;
+      stay = begins_same state.options commands given command is h.stay;
       begun = all_push (IsBegunAs state.options) given command h.begun (plain_begun state.options.skeletons state.options.renumber command is plain);
       follows = both.1;
     }
@@ -320,7 +374,7 @@ same_commands state before given (command ∷ commands) is h (p, plain) =
 pub no_commands : (state : ChangeState) → state.given ≡ [] → HasChanged state [] []
 no_commands state given =
     let both : IsChangedIf (is_none state.options) state.options [] [] × FollowsIf (is_none state.options) state [] [] = by (is_none state.options) in
-    record { changed = both.0; begun = tt; follows = both.1 }
+    record { changed = both.0; stay = tt; begun = tt; follows = both.1 }
   where
     by : (b : Bool) → IsChangedIf b state.options [] [] × FollowsIf b state [] []
     by true = (refl, refl)

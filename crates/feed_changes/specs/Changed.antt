@@ -10,7 +10,7 @@ use Rattle.feed_changes.specs.Options.{is_none}
 use Rattle.feed_changes.specs.Naming.{AreNamed, AreNames, named}
 use Rattle.feed_changes.specs.Renumbered.{avoided, serials}
 use Rattle.feed_changes.specs.Links.{ChangedFrom, IsBefore, HasReason, those}
-use Rattle.feed_changes.specs.Skeletons.{IsBegunAs}
+use Rattle.feed_changes.specs.Skeletons.{BeginThose, IsBegunAs}
 
 -- the recording is changed as asked
 abbrev pub IsChangedIf : Bool → ChangeOptions → Recording → Recording → Type 0
@@ -79,5 +79,6 @@ Follows state recording now = FollowsIf (is_none state.options) state recording 
 -- These commands were given for those.
 pub record HasChanged (state : ChangeState) (commands given : List Command) : Type 0 where
   pub changed : IsChanged state.options (after [] commands) (after [] given)
+  pub stay : BeginThose state.options commands given
   pub begun : AllByRecursion (IsBegunAs state.options) given
   pub follows : Follows state (after [] commands) (after [] given)

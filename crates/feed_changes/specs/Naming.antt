@@ -87,4 +87,5 @@ pub record IsFirstFree (from : ℕ) (earlier serials : List ℕ) (serial : ℕ) 
 abbrev pub IsFreeFrom : ℕ → List ℕ → List ℕ → Option ℕ → Type 0
 IsFreeFrom from earlier serials None = (other : ℕ) → from ≤ other → other < 2 ^ 32 → is_had earlier serials other ≡ true
 IsFreeFrom from earlier serials (Some serial) =
-    (is_had earlier serials serial ≡ false) × (from ≤ serial) × ((other : ℕ) → from ≤ other → other < serial → is_had earlier serials other ≡ true)
+    (is_had earlier serials serial ≡ false) × (from ≤ serial)
+    × ((other : ℕ) → from ≤ other → other < serial → is_had earlier serials other ≡ true)

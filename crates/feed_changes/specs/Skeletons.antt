@@ -1,7 +1,8 @@
 -- Skeletons of the input, which are left out, and those that are made (Ogg Skeleton 3.0). Ours, but for the name that a
 -- Skeleton's first packet begins with.
-use Rattle.std.specs.Prelude.{◌≡◌, ℕ, ◌<◌, Bool, true, false, not, ◌||◌, nat_le, if◌then◌else◌, Option, Some, None, pos, List, [], ◌∷◌, length, replicate, map, ⊤, ◌⊎◌}
-use Rattle.std.specs.List.{AllByRecursion, filter, list_all}
+use Rattle.std.specs.Prelude.{◌≡◌, ◌⊎◌, ⊤, ℕ, nat_le, pos, Bool, true, false, not, ◌||◌, if◌then◌else◌, Option, Some, None}
+use Rattle.std.specs.Prelude.{List, [], ◌∷◌, length, replicate, map}
+use Rattle.std.specs.List.{AllByRecursion, AllZip, filter, filter_map, list_all}
 use Rattle.ogg_command.specs.declared.command.Command.{Command}
 use Rattle.ogg_command.specs.declared.command.Command.TheVariants.{Begin as BeginOf, Put as PutOf, End as EndOf}
 use Rattle.ogg_command.specs.declared.command.Begin.{Begin}
@@ -94,3 +95,22 @@ IsBegunAs options (BeginOf begin) =
     AreOthers options.skeletons begin.streams × HasHead (made_for options.skeletons begin.streams) begin
 IsBegunAs options (PutOf put) = ⊤
 IsBegunAs options (EndOf serial) = ⊤
+
+-- ---- the commands given, and those for which they are
+abbrev pub begin_of : Command → Option Begin
+begin_of (BeginOf begin) = Some begin
+begin_of (PutOf put) = None
+begin_of (EndOf serial) = None
+
+abbrev pub begins_of : List Command → List Begin
+begins_of commands = filter_map begin_of commands
+
+abbrev pub headers_of : List NewStream → List (List (List ℕ))
+headers_of streams = map (λ (stream : NewStream). stream.headers) streams
+
+-- of a link's streams those begin that stay
+abbrev pub BeginsThose : ChangeOptions → Begin → Begin → Type 0
+BeginsThose options begin now = headers_of now.streams ≡ headers_of (staying options.skeletons begin.streams)
+
+abbrev pub BeginThose : ChangeOptions → List Command → List Command → Type 0
+BeginThose options commands given = AllZip (BeginsThose options) (begins_of commands) (begins_of given)

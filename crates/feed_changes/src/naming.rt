@@ -2,7 +2,8 @@
 ghost use Rattle.std.specs.Prelude.{◌≡◌, ◌∷◌, ◌++◌, [], false, true, nat_eq, IfOk, OnOk, length};
 ghost use Rattle.std.specs.List.{AllByRecursion, list_any};
 ghost use Rattle.std.specs.Map.{keys_of, values_of};
-ghost use Rattle.feed_changes.specs.Naming.{AreNamed, AreNames, AreOnlyOf, IsFirstFree, IsFreeFrom, Keeps, KeepsAll, Renames, name_of, serials_of};
+ghost use Rattle.feed_changes.specs.Naming.{AreNamed, AreNames, AreOnlyOf, Keeps, KeepsAll, Renames, name_of, serials_of};
+ghost use Rattle.feed_changes.specs.Naming.{IsFirstFree, IsFreeFrom};
 
 use link_chain::Serials;
 use ogg_command::{Memory, NewStream};
