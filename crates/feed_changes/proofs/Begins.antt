@@ -1,16 +1,13 @@
 -- The streams of a new link: those that stay, under their names, perhaps with a Skeleton before them.
-use Rattle.std.proofs.Common.{◌≡◌, ℕ, suc, Bool, true, false, List, [], ◌∷◌, ◌++◌, map, refl, sym, ◌∙◌, ap, subst, length, inl, inr}
-use Rattle.std.specs.Prelude.{nat_eq, nat_le, not, ◌||◌, ◌&&◌, if◌then◌else◌, Option, Some, None, ◌⊎◌}
-use Rattle.std.specs.List.{AllByRecursion, AllZip, filter, list_all, list_any}
-use Rattle.std.specs.Map.{keys_of}
-use Rattle.std.proofs.lemmas.List.Folds.{list_all-map}
-use Rattle.chain_rules.specs.Recording.{Stream, begun}
-use Rattle.ogg_command.specs.declared.command.Begin.{Begin}
+use Rattle.std.proofs.Common.{◌≡◌, ℕ, suc, Bool, true, false, List, [], ◌∷◌, map, refl, ◌∙◌, ap, length, inl, inr}
+use Rattle.std.specs.Prelude.{nat_le, not, ◌||◌, ◌&&◌, if◌then◌else◌, Some, None, ◌⊎◌}
+use Rattle.std.specs.List.{AllByRecursion, AllZip, filter, list_all}
+use Rattle.chain_rules.specs.Recording.{begun}
 use Rattle.ogg_command.specs.declared.command.NewStream.{NewStream}
 use Rattle.link_chain.specs.Limits.{most_streams}
 use Rattle.feed_changes.specs.declared.options.Skeletons.{Skeletons}
 use Rattle.feed_changes.specs.declared.options.Skeletons.TheVariants.{Kept, LeftOut, Made}
-use Rattle.feed_changes.specs.Naming.{named, serials_of, stream_named}
+use Rattle.feed_changes.specs.Naming.{serials_of, stream_named}
 use Rattle.feed_changes.specs.Renumbered.{serials}
 use Rattle.feed_changes.specs.Links.{HasReason, those}
 use Rattle.feed_changes.specs.Changed.{stream_under}
@@ -36,18 +33,21 @@ begun_others : (streams : List NewStream) → those (map is_other streams) (map 
 begun_others [] = refl
 begun_others (stream ∷ streams) = by (begun_others streams) (is_other stream)
   where
-    by : those (map is_other streams) (map begun streams) ≡ map begun (filter is_other streams) → (b : Bool) → those (b ∷ map is_other streams) (begun stream ∷ map begun streams) ≡ map begun (if b then stream ∷ filter is_other streams else filter is_other streams)
+    by : those (map is_other streams) (map begun streams) ≡ map begun (filter is_other streams) → (b : Bool)
+        → those (b ∷ map is_other streams) (begun stream ∷ map begun streams) ≡ map begun (if b then stream ∷ filter is_other streams else filter is_other streams)
     by rest true = ap (λ l. begun stream ∷ l) rest
     by rest false = rest
 
-pub begun_staying : (skeletons : Skeletons) (streams : List NewStream) → those (stays_of skeletons streams) (map begun streams) ≡ map begun (staying skeletons streams)
+pub begun_staying : (skeletons : Skeletons) (streams : List NewStream)
+    → those (stays_of skeletons streams) (map begun streams) ≡ map begun (staying skeletons streams)
 begun_staying skeletons streams = by (all_stay skeletons streams)
   where
     by : (b : Bool) → those (stays_if b streams) (map begun streams) ≡ map begun (if b then streams else filter is_other streams)
     by true = begun_all streams
     by false = begun_others streams
 
-none_left : (skeletons : Skeletons) (streams : List NewStream) → AllZip (HasReason skeletons) (map (λ stream. true) streams) (map begun streams)
+none_left : (skeletons : Skeletons) (streams : List NewStream)
+    → AllZip (HasReason skeletons) (map (λ stream. true) streams) (map begun streams)
 none_left skeletons [] = tt
 none_left skeletons (stream ∷ streams) = ((λ e. clash refl e), none_left skeletons streams)
 
@@ -55,7 +55,8 @@ not_other : (b : Bool) → not b ≡ false → b ≡ true
 not_other true e = refl
 not_other false e = absurd (clash refl e)
 
-others_left : (skeletons : Skeletons) (streams : List NewStream) → leaves_out skeletons ≡ true → AllZip (HasReason skeletons) (map is_other streams) (map begun streams)
+others_left : (skeletons : Skeletons) (streams : List NewStream) → leaves_out skeletons ≡ true
+    → AllZip (HasReason skeletons) (map is_other streams) (map begun streams)
 others_left skeletons [] asked = tt
 others_left skeletons (stream ∷ streams) asked = ((λ e. record { asked = asked; skeleton = not_other (is_skeleton stream) e }), others_left skeletons streams asked)
 
@@ -63,7 +64,8 @@ left_asked : (a b : Bool) → (not a || b) ≡ false → a ≡ true
 left_asked true b e = refl
 left_asked false b e = absurd (clash refl e)
 
-pub left_of : (skeletons : Skeletons) (streams : List NewStream) → AllZip (HasReason skeletons) (stays_of skeletons streams) (map begun streams)
+pub left_of : (skeletons : Skeletons) (streams : List NewStream)
+    → AllZip (HasReason skeletons) (stays_of skeletons streams) (map begun streams)
 left_of skeletons streams = by (all_stay skeletons streams) refl
   where
     by : (b : Bool) → all_stay skeletons streams ≡ b → AllZip (HasReason skeletons) (stays_if b streams) (map begun streams)
@@ -71,7 +73,8 @@ left_of skeletons streams = by (all_stay skeletons streams) refl
     by false e = others_left skeletons streams (left_asked (leaves_out skeletons) (list_all is_skeleton streams) e)
 
 -- ---- under their names
-pub begun_named : (names : List (ℕ × ℕ)) (streams : List NewStream) → map begun (map (stream_named names) streams) ≡ map (stream_under names) (map begun streams)
+pub begun_named : (names : List (ℕ × ℕ)) (streams : List NewStream)
+    → map begun (map (stream_named names) streams) ≡ map (stream_under names) (map begun streams)
 begun_named names [] = refl
 begun_named names (stream ∷ streams) = ap (λ l. stream_under names (begun stream) ∷ l) (begun_named names streams)
 
@@ -96,7 +99,8 @@ headers_described [] = refl
 headers_described (stream ∷ streams) = ap (λ l. stream.headers ∷ l) (headers_described streams)
 
 -- ---- what is said of the streams that are begun
-skeletons_named : (names : List (ℕ × ℕ)) (streams : List NewStream) → list_all is_skeleton (map (stream_named names) streams) ≡ list_all is_skeleton streams
+skeletons_named : (names : List (ℕ × ℕ)) (streams : List NewStream)
+    → list_all is_skeleton (map (stream_named names) streams) ≡ list_all is_skeleton streams
 skeletons_named names [] = refl
 skeletons_named names (stream ∷ streams) = ap (λ b. is_skeleton stream && b) (skeletons_named names streams)
 
@@ -108,7 +112,8 @@ described_length : (streams : List NewStream) → length (map described streams)
 described_length [] = refl
 described_length (stream ∷ streams) = ap suc (described_length streams)
 
-pub made_described : (skeletons : Skeletons) (streams : List NewStream) → made_for skeletons (map described streams) ≡ made_for skeletons streams
+pub made_described : (skeletons : Skeletons) (streams : List NewStream)
+    → made_for skeletons (map described streams) ≡ made_for skeletons streams
 made_described Kept streams = refl
 made_described LeftOut streams = refl
 made_described (Made from) streams =
@@ -123,28 +128,34 @@ are_described (stream ∷ streams) = (record { media = refl; fields = refl; rate
 abbrev pub AreApart : List NewStream → Type 0
 AreApart streams = (list_all is_skeleton streams ≡ true) ⊎ AllByRecursion (λ stream. is_skeleton stream ≡ false) streams
 
-others_named : (names : List (ℕ × ℕ)) (streams : List NewStream) → AllByRecursion (λ stream. is_skeleton stream ≡ false) (map (stream_named names) (filter is_other streams))
+others_named : (names : List (ℕ × ℕ)) (streams : List NewStream)
+    → AllByRecursion (λ stream. is_skeleton stream ≡ false) (map (stream_named names) (filter is_other streams))
 others_named names [] = tt
 others_named names (stream ∷ streams) = by (others_named names streams) (is_skeleton stream) refl
   where
-    by : AllByRecursion (λ stream. is_skeleton stream ≡ false) (map (stream_named names) (filter is_other streams)) → (b : Bool) → is_skeleton stream ≡ b →
+    by : AllByRecursion (λ stream. is_skeleton stream ≡ false) (map (stream_named names) (filter is_other streams)) → (b : Bool)
+        → is_skeleton stream ≡ b →
         AllByRecursion (λ stream. is_skeleton stream ≡ false) (map (stream_named names) (if not b then stream ∷ filter is_other streams else filter is_other streams))
     by rest true e = rest
     by rest false e = (e, rest)
 
-pub named_apart : (names : List (ℕ × ℕ)) (skeletons : Skeletons) (streams : List NewStream) → AreOthers skeletons (map (stream_named names) (staying skeletons streams))
+pub named_apart : (names : List (ℕ × ℕ)) (skeletons : Skeletons) (streams : List NewStream)
+    → AreOthers skeletons (map (stream_named names) (staying skeletons streams))
 named_apart names skeletons streams asked = by (leaves_out skeletons) asked (list_all is_skeleton streams) refl
   where
-    by : (a : Bool) → a ≡ true → (b : Bool) → list_all is_skeleton streams ≡ b → AreApart (map (stream_named names) (if not a || b then streams else filter is_other streams))
+    by : (a : Bool) → a ≡ true → (b : Bool) → list_all is_skeleton streams ≡ b
+        → AreApart (map (stream_named names) (if not a || b then streams else filter is_other streams))
     by false asked b e = clash asked refl
     by true asked true e = inl (skeletons_named names streams ∙ e)
     by true asked false e = inr (others_named names streams)
 
-others_described : (streams : List NewStream) → AllByRecursion (λ stream. is_skeleton stream ≡ false) streams → AllByRecursion (λ stream. is_skeleton stream ≡ false) (map described streams)
+others_described : (streams : List NewStream) → AllByRecursion (λ stream. is_skeleton stream ≡ false) streams
+    → AllByRecursion (λ stream. is_skeleton stream ≡ false) (map described streams)
 others_described [] all = tt
 others_described (stream ∷ streams) (p, all) = (p, others_described streams all)
 
-pub described_apart : (skeletons : Skeletons) (streams : List NewStream) → AreOthers skeletons streams → AreOthers skeletons (map described streams)
+pub described_apart : (skeletons : Skeletons) (streams : List NewStream) → AreOthers skeletons streams
+    → AreOthers skeletons (map described streams)
 described_apart skeletons streams apart asked = by (apart asked)
   where
     by : AreApart streams → AreApart (map described streams)

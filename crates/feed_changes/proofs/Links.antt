@@ -1,6 +1,6 @@
 -- The last link under its names, a change of it, and a new one.
 use Rattle.std.proofs.Common.{◌≡◌, ℕ, Bool, true, false, cond, List, [], ◌∷◌, ◌++◌, map, refl, sym, ◌∙◌, ap, subst, append-nil, append_assoc}
-use Rattle.std.specs.Prelude.{nat_eq, Some, None, Option, ◌⊎◌}
+use Rattle.std.specs.Prelude.{nat_eq, Some, None, ◌⊎◌}
 use Rattle.std.proofs.Common.{inl, inr}
 use Rattle.std.specs.List.{AllByRecursion, AllZip, IsDistinct, flat_map, list_any}
 use Rattle.std.specs.Map.{keys_of, values_of}
@@ -13,17 +13,19 @@ use Rattle.feed_changes.specs.declared.options.Skeletons.{Skeletons}
 use Rattle.feed_changes.specs.declared.options.Skeletons.TheVariants.{Kept, LeftOut, Made}
 use Rattle.feed_changes.specs.Naming.{AreNamed, AreNames, IsFreshName, name_of, named}
 use Rattle.feed_changes.specs.Renumbered.{IsRenumberedStream, avoided, serials}
-use Rattle.feed_changes.specs.Links.{ChangedFrom, IsBefore, IsChangedLink, IsMadeFor, those}
+use Rattle.feed_changes.specs.Links.{ChangedFrom, IsBefore, IsChangedLink, those}
 use Rattle.feed_changes.specs.Changed.{AreNone, ChangeState, IsFollowed, IsUnderNames, IsUpTo, stream_under}
 use Rattle.feed_changes.proofs.Renumbers.{GoesWith, HasName, eq_named, has_name, serials_under}
 use Rattle.feed_changes.proofs.Lists.{apart_still, left_out_still, map_same, no_serial, same_serials, those_distinct, those_map, under_still}
 
 -- ---- the last link changes
-staying_serials : (change : Stream → Stream) → ((stream : Stream) → (change stream).serial ≡ stream.serial) → (stays : List Bool) (link : List Stream)
+staying_serials : (change : Stream → Stream) → ((stream : Stream) → (change stream).serial ≡ stream.serial)
+    → (stays : List Bool) (link : List Stream)
     → serials (those stays (map change link)) ≡ serials (those stays link)
 staying_serials change same stays link = ap serials (those_map change stays link) ∙ same_serials change same (those stays link)
 
-pub under_step : (state : ChangeState) (earlier : List ℕ) (link link_now : List Stream) (change now : Stream → Stream) → GoesWith state.names change now
+pub under_step : (state : ChangeState) (earlier : List ℕ) (link link_now : List Stream) (change now : Stream → Stream)
+    → GoesWith state.names change now
     → IsUnderNames state earlier link link_now → IsUnderNames state earlier (map change link) (map now link_now)
 under_step state earlier link link_now change now with by =
     let names : List (ℕ × ℕ) = state.names in
@@ -43,13 +45,15 @@ under_step state earlier link link_now change now with by =
           ∙ ap (λ l. by.before ++ l) (under_still names change now with stay by.named ∙ ap (map (stream_under names)) (sym (those_map change by.stays link)));
     }
 
-pub under_only : (state : ChangeState) (earlier : List ℕ) (link link_now : List Stream) (change : Stream → Stream) → GoesWith state.names change (λ stream. stream)
+pub under_only : (state : ChangeState) (earlier : List ℕ) (link link_now : List Stream) (change : Stream → Stream)
+    → GoesWith state.names change (λ stream. stream)
     → IsUnderNames state earlier link link_now → IsUnderNames state earlier (map change link) link_now
 under_only state earlier link link_now change with by =
     subst (IsUnderNames state earlier (map change link)) (map_same link_now) (under_step state earlier link link_now change (λ stream. stream) with by)
 
 -- ---- the link is changed as asked
-fresh : (given : List ℕ) (names : List (ℕ × ℕ)) (serial now : ℕ) → AllByRecursion (IsFreshName given) names → name_of names serial ≡ Some now → IsFreshName given (serial, now)
+fresh : (given : List ℕ) (names : List (ℕ × ℕ)) (serial now : ℕ) → AllByRecursion (IsFreshName given) names
+    → name_of names serial ≡ Some now → IsFreshName given (serial, now)
 fresh given [] serial now all e = absurd (none e)
   where
     none : None ≡ Some now → ⊥
@@ -59,11 +63,13 @@ fresh given ((k, v) ∷ names) serial now (p, all) e = by (fresh given names ser
     value : Some v ≡ Some now → v ≡ now
     value f = cc
 
-    by : (name_of names serial ≡ Some now → IsFreshName given (serial, now)) → (b : Bool) → nat_eq serial k ≡ b → cond b (Some v) (name_of names serial) ≡ Some now → IsFreshName given (serial, now)
+    by : (name_of names serial ≡ Some now → IsFreshName given (serial, now)) → (b : Bool) → nat_eq serial k ≡ b
+        → cond b (Some v) (name_of names serial) ≡ Some now → IsFreshName given (serial, now)
     by rest true q f = subst (λ n. IsFreshName given (n, now)) (sym (eqb-true serial k q)) (subst (λ n. IsFreshName given (k, n)) (value f) p)
     by rest false q f = rest f
 
-pub new_streams : (given : List ℕ) (names : List (ℕ × ℕ)) (link : List Stream) → AreNames given names → AreNamed names (serials link) → AllZip (IsRenumberedStream given) link (map (stream_under names) link)
+pub new_streams : (given : List ℕ) (names : List (ℕ × ℕ)) (link : List Stream) → AreNames given names → AreNamed names (serials link)
+    → AllZip (IsRenumberedStream given) link (map (stream_under names) link)
 new_streams given names [] are all = tt
 new_streams given names (stream ∷ link) are (key, all) =
     let h : HasName names stream.serial = has_name names stream.serial key in
@@ -77,20 +83,23 @@ new_streams given names (stream ∷ link) are (key, all) =
       new_streams given names link are all,
     )
 
-names_apart : (names : List (ℕ × ℕ)) (serial : ℕ) (others : List ℕ) → IsDistinct nat_eq (values_of names) → list_any (nat_eq serial) (keys_of names) ≡ true → AreNamed names others
+names_apart : (names : List (ℕ × ℕ)) (serial : ℕ) (others : List ℕ) → IsDistinct nat_eq (values_of names)
+    → list_any (nat_eq serial) (keys_of names) ≡ true → AreNamed names others
     → AllByRecursion (λ y. nat_eq serial y ≡ false) others → AllByRecursion (λ y. nat_eq (named names serial) y ≡ false) (map (named names) others)
 names_apart names serial [] d key all apart = tt
 names_apart names serial (y ∷ others) d key (other, all) (p, apart) =
     let h : HasName names y = has_name names y other in
     (ap (nat_eq (named names serial)) h.named_is ∙ eq_named names serial y h.now d key h.is ∙ p, names_apart names serial others d key all apart)
 
-pub names_distinct : (names : List (ℕ × ℕ)) (serials : List ℕ) → IsDistinct nat_eq (values_of names) → AreNamed names serials → IsDistinct nat_eq serials → IsDistinct nat_eq (map (named names) serials)
+pub names_distinct : (names : List (ℕ × ℕ)) (serials : List ℕ) → IsDistinct nat_eq (values_of names) → AreNamed names serials
+    → IsDistinct nat_eq serials → IsDistinct nat_eq (map (named names) serials)
 unfolding IsDistinct
 names_distinct names [] d all distinct = tt
 names_distinct names (serial ∷ serials) d (key, all) (apart, distinct) = (names_apart names serial serials d key all apart, names_distinct names serials d all distinct)
 
 -- the serials of a link that has a Skeleton before its streams
-distinct_before : (skeletons : Skeletons) (earlier : List ℕ) (streams before : List Stream) → IsBefore skeletons earlier (serials streams) before
+distinct_before : (skeletons : Skeletons) (earlier : List ℕ) (streams before : List Stream)
+    → IsBefore skeletons earlier (serials streams) before
     → IsDistinct nat_eq (serials streams) → IsDistinct nat_eq (serials (before ++ streams))
 unfolding IsDistinct
 distinct_before skeletons earlier streams [] made d = d
@@ -100,7 +109,8 @@ distinct_before (Made from) earlier streams (skeleton ∷ next ∷ more) made d 
 distinct_before (Made from) earlier streams (skeleton ∷ []) made d =
     (subst (λ (s : Stream). AllByRecursion (λ y. nat_eq s.serial y ≡ false) (serials streams)) (sym made.is) (no_serial made.serial (serials streams) (or_parts (list_any (nat_eq made.serial) earlier) (list_any (nat_eq made.serial) (serials streams)) made.first.free).1), d)
 
-pub link_changed : (state : ChangeState) (earlier : List ℕ) (link now : List Stream) → IsUnderNames state earlier link now → IsChangedLink state.options earlier link now
+pub link_changed : (state : ChangeState) (earlier : List ℕ) (link now : List Stream) → IsUnderNames state earlier link now
+    → IsChangedLink state.options earlier link now
 link_changed state earlier link now by =
     let names : List (ℕ × ℕ) = state.names in
     let stay : List Stream = those by.stays link in
@@ -119,8 +129,10 @@ link_changed state earlier link now by =
           (subst (IsDistinct nat_eq) (sym (serials_under names stay)) (names_distinct names (serials stay) by.names.distinct by.named (those_distinct by.stays link d))));
     }
 
-from_push : (options : ChangeOptions) (earlier : List ℕ) (recording now : Recording) (link more : List Stream) → ChangedFrom options earlier recording now
-    → IsChangedLink options (earlier ++ flat_map serials now) link more → ChangedFrom options earlier (recording ++ link ∷ []) (now ++ more ∷ [])
+from_push : (options : ChangeOptions) (earlier : List ℕ) (recording now : Recording) (link more : List Stream)
+    → ChangedFrom options earlier recording now
+    → IsChangedLink options (earlier ++ flat_map serials now) link more
+    → ChangedFrom options earlier (recording ++ link ∷ []) (now ++ more ∷ [])
 from_push options earlier [] [] link more r p = (subst (λ e. IsChangedLink options e link more) (append-nil earlier) p, tt)
 from_push options earlier [] (m ∷ now) link more r p = absurd r
 from_push options earlier (l ∷ recording) [] link more r p = absurd r
@@ -130,7 +142,8 @@ from_push options earlier (l ∷ recording) (m ∷ now) link more (q, r) p = (
       (subst (λ e. IsChangedLink options e link more) (sym (append_assoc earlier (serials m) (flat_map serials now))) p),
 )
 
-pub up_to_changed : (state : ChangeState) (recording now : Recording) → IsUpTo state recording now → ChangedFrom state.options [] recording now
+pub up_to_changed : (state : ChangeState) (recording now : Recording) → IsUpTo state recording now
+    → ChangedFrom state.options [] recording now
 up_to_changed state recording now by =
     subst (λ r. ChangedFrom state.options [] r now) (sym by.recording_is)
     (subst (ChangedFrom state.options [] (by.links ++ by.link ∷ [])) (sym by.now_is)
@@ -140,7 +153,8 @@ up_to_changed state recording now by =
 none_changed : (options : ChangeOptions) (recording now : Recording) → AreNone recording now → ChangedFrom options [] recording now
 none_changed options recording now (a, b) = subst (λ r. ChangedFrom options [] r now) (sym a) (subst (ChangedFrom options [] []) (sym b) tt)
 
-pub followed_changed : (state : ChangeState) (recording now : Recording) → IsFollowed state recording now → ChangedFrom state.options [] recording now
+pub followed_changed : (state : ChangeState) (recording now : Recording) → IsFollowed state recording now
+    → ChangedFrom state.options [] recording now
 followed_changed state recording now by = pick by.up_to
   where
     pick : AreNone recording now ⊎ IsUpTo state recording now → ChangedFrom state.options [] recording now
@@ -148,7 +162,8 @@ followed_changed state recording now by = pick by.up_to
     pick (inr up) = up_to_changed state recording now up
 
 -- ---- a change of the last link
-last_changes : (change : List Stream → List Stream) (links : Recording) (link : List Stream) → change_last change (links ++ link ∷ []) ≡ links ++ change link ∷ []
+last_changes : (change : List Stream → List Stream) (links : Recording) (link : List Stream)
+    → change_last change (links ++ link ∷ []) ≡ links ++ change link ∷ []
 last_changes change [] link = refl
 last_changes change (l ∷ []) link = refl
 last_changes change (l ∷ k ∷ links) link = ap (λ r. l ∷ r) (last_changes change (k ∷ links) link)
@@ -165,7 +180,8 @@ all_serials change same [] = refl
 all_serials change same (l ∷ []) = ap (λ s. s ++ []) (same l)
 all_serials change same (l ∷ k ∷ recording) = ap (λ s. serials l ++ s) (all_serials change same (k ∷ recording))
 
-pub change_step : (state : ChangeState) (change now_change : List Stream → List Stream) (recording now : Recording) → ((link : List Stream) → serials (now_change link) ≡ serials link)
+pub change_step : (state : ChangeState) (change now_change : List Stream → List Stream) (recording now : Recording)
+    → ((link : List Stream) → serials (now_change link) ≡ serials link)
     → ((earlier : List ℕ) (link link_now : List Stream) → IsUnderNames state earlier link link_now → IsUnderNames state earlier (change link) (now_change link_now))
     → IsFollowed state recording now → IsFollowed state (change_last change recording) (change_last now_change now)
 change_step state change now_change recording now same step by = record {
@@ -173,7 +189,8 @@ change_step state change now_change recording now same step by = record {
   given = by.given ∙ sym (all_serials now_change same now);
 }
   where
-    pick : AreNone recording now ⊎ IsUpTo state recording now → AreNone (change_last change recording) (change_last now_change now) ⊎ IsUpTo state (change_last change recording) (change_last now_change now)
+    pick : AreNone recording now ⊎ IsUpTo state recording now
+        → AreNone (change_last change recording) (change_last now_change now) ⊎ IsUpTo state (change_last change recording) (change_last now_change now)
     pick (inl (a, b)) = inl (ap (change_last change) a, ap (change_last now_change) b)
     pick (inr up) = inr (record {
       links = up.links;
@@ -187,8 +204,10 @@ change_step state change now_change recording now same step by = record {
     })
 
 -- ---- a new link
-pub begin_step : (old new : ChangeState) (recording now : Recording) (link link_now : List Stream) → IsFollowed old recording now → new.options ≡ old.options
-    → IsUnderNames new (flat_map serials now) link link_now → new.given ≡ old.given ++ serials link_now → IsFollowed new (recording ++ link ∷ []) (now ++ link_now ∷ [])
+pub begin_step : (old new : ChangeState) (recording now : Recording) (link link_now : List Stream) → IsFollowed old recording now
+    → new.options ≡ old.options
+    → IsUnderNames new (flat_map serials now) link link_now → new.given ≡ old.given ++ serials link_now
+    → IsFollowed new (recording ++ link ∷ []) (now ++ link_now ∷ [])
 begin_step old new recording now link link_now by same last given = record {
   up_to = inr (record {
     links = recording;

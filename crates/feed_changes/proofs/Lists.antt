@@ -1,5 +1,5 @@
 -- Elements that stay, and streams changed one by one.
-use Rattle.std.proofs.Common.{◌≡◌, ℕ, Bool, true, false, List, [], ◌∷◌, ◌++◌, map, refl, sym, ◌∙◌, ap, subst}
+use Rattle.std.proofs.Common.{◌≡◌, ℕ, Bool, true, false, List, [], ◌∷◌, ◌++◌, map, refl, ◌∙◌, ap}
 use Rattle.std.specs.Prelude.{nat_eq}
 use Rattle.std.specs.List.{AllByRecursion, AllZip, IsDistinct, list_any}
 use Rattle.std.proofs.lemmas.Bool.{or_parts}
@@ -17,12 +17,14 @@ those_map f (stay ∷ stays) [] = refl
 those_map f (true ∷ stays) (x ∷ xs) = ap (λ l. f x ∷ l) (those_map f stays xs)
 those_map f (false ∷ stays) (x ∷ xs) = those_map f stays xs
 
-pub same_serials : (change : Stream → Stream) → ((stream : Stream) → (change stream).serial ≡ stream.serial) → (link : List Stream) → serials (map change link) ≡ serials link
+pub same_serials : (change : Stream → Stream) → ((stream : Stream) → (change stream).serial ≡ stream.serial) → (link : List Stream)
+    → serials (map change link) ≡ serials link
 same_serials change same [] = refl
 same_serials change same (stream ∷ link) =
     ap (λ n. n ∷ serials (map change link)) (same stream) ∙ ap (λ l. stream.serial ∷ l) (same_serials change same link)
 
-pub left_out_still : (skeletons : Skeletons) (names : List (ℕ × ℕ)) (change now : Stream → Stream) → GoesWith names change now → (stays : List Bool) (link : List Stream)
+pub left_out_still : (skeletons : Skeletons) (names : List (ℕ × ℕ)) (change now : Stream → Stream) → GoesWith names change now
+    → (stays : List Bool) (link : List Stream)
     → AllZip (HasReason skeletons) stays link → AllZip (HasReason skeletons) stays (map change link)
 left_out_still skeletons names change now with [] [] all = tt
 left_out_still skeletons names change now with [] (stream ∷ link) all = absurd all
@@ -32,14 +34,16 @@ left_out_still skeletons names change now with (stay ∷ stays) (stream ∷ link
   left_out_still skeletons names change now with stays link all,
 )
 
-pub under_still : (names : List (ℕ × ℕ)) (change now : Stream → Stream) → GoesWith names change now → (link : List Stream) → AreNamed names (serials link)
+pub under_still : (names : List (ℕ × ℕ)) (change now : Stream → Stream) → GoesWith names change now → (link : List Stream)
+    → AreNamed names (serials link)
     → map now (map (stream_under names) link) ≡ map (stream_under names) (map change link)
 under_still names change now with [] all = refl
 under_still names change now with (stream ∷ link) (key, all) =
     ap (λ s. s ∷ map now (map (stream_under names) link)) (with.under stream key)
     ∙ ap (λ l. stream_under names (change stream) ∷ l) (under_still names change now with link all)
 
-pub apart_still : (names : List (ℕ × ℕ)) (change now : Stream → Stream) → GoesWith names change now → (before : List Stream) → AllByRecursion (IsNoName names) (serials before)
+pub apart_still : (names : List (ℕ × ℕ)) (change now : Stream → Stream) → GoesWith names change now → (before : List Stream)
+    → AllByRecursion (IsNoName names) (serials before)
     → map now before ≡ before
 apart_still names change now with [] all = refl
 apart_still names change now with (stream ∷ before) (none, all) =
@@ -49,27 +53,31 @@ pub map_same : {A : Type 0} (xs : List A) → map (λ x. x) xs ≡ xs
 map_same [] = refl
 map_same (x ∷ xs) = ap (λ l. x ∷ l) (map_same xs)
 
-pub zip_push : {A B : Type 0} (R : A → B → Type 0) (xs : List A) (ys : List B) (x : A) (y : B) → AllZip R xs ys → R x y → AllZip R (xs ++ x ∷ []) (ys ++ y ∷ [])
+pub zip_push : {A B : Type 0} (R : A → B → Type 0) (xs : List A) (ys : List B) (x : A) (y : B) → AllZip R xs ys → R x y
+    → AllZip R (xs ++ x ∷ []) (ys ++ y ∷ [])
 zip_push R [] [] x y all p = (p, tt)
 zip_push R [] (b ∷ ys) x y all p = absurd all
 zip_push R (a ∷ xs) [] x y all p = absurd all
 zip_push R (a ∷ xs) (b ∷ ys) x y (q, all) p = (q, zip_push R xs ys x y all p)
 
 -- ---- of distinct serials those that stay are distinct
-those_apart : (serial : ℕ) (stays : List Bool) (link : List Stream) → AllByRecursion (λ y. nat_eq serial y ≡ false) (serials link) → AllByRecursion (λ y. nat_eq serial y ≡ false) (serials (those stays link))
+those_apart : (serial : ℕ) (stays : List Bool) (link : List Stream) → AllByRecursion (λ y. nat_eq serial y ≡ false) (serials link)
+    → AllByRecursion (λ y. nat_eq serial y ≡ false) (serials (those stays link))
 those_apart serial [] link all = tt
 those_apart serial (stay ∷ stays) [] all = tt
 those_apart serial (true ∷ stays) (stream ∷ link) (p, all) = (p, those_apart serial stays link all)
 those_apart serial (false ∷ stays) (stream ∷ link) (p, all) = those_apart serial stays link all
 
-pub those_distinct : (stays : List Bool) (link : List Stream) → IsDistinct nat_eq (serials link) → IsDistinct nat_eq (serials (those stays link))
+pub those_distinct : (stays : List Bool) (link : List Stream) → IsDistinct nat_eq (serials link)
+    → IsDistinct nat_eq (serials (those stays link))
 unfolding IsDistinct
 those_distinct [] link d = tt
 those_distinct (stay ∷ stays) [] d = tt
 those_distinct (true ∷ stays) (stream ∷ link) (apart, d) = (those_apart stream.serial stays link apart, those_distinct stays link d)
 those_distinct (false ∷ stays) (stream ∷ link) (apart, d) = those_distinct stays link d
 
-pub no_serial : (serial : ℕ) (serials : List ℕ) → list_any (nat_eq serial) serials ≡ false → AllByRecursion (λ y. nat_eq serial y ≡ false) serials
+pub no_serial : (serial : ℕ) (serials : List ℕ) → list_any (nat_eq serial) serials ≡ false
+    → AllByRecursion (λ y. nat_eq serial y ≡ false) serials
 no_serial serial [] e = tt
 no_serial serial (y ∷ serials) e =
     let parts : (nat_eq serial y ≡ false) × (list_any (nat_eq serial) serials ≡ false) = or_parts (nat_eq serial y) (list_any (nat_eq serial) serials) e in

@@ -19,10 +19,13 @@ use Rattle.ogg_command.specs.declared.command.NewStream.{NewStream}
 pub any_more : (p : ℕ → Bool) (xs ys : List ℕ) → list_any p xs ≡ true → list_any p (xs ++ ys) ≡ true
 any_more p xs ys e = list_any-append p xs ys ∙ ap (λ b. b || list_any p ys) e
 
-pub keyed_more : (serial : ℕ) (names more : List (ℕ × ℕ)) → list_any (nat_eq serial) (keys_of names) ≡ true → list_any (nat_eq serial) (keys_of (names ++ more)) ≡ true
-keyed_more serial names more e = ap (list_any (nat_eq serial)) (map-append (λ (e : ℕ × ℕ). e.0) names more) ∙ any_more (nat_eq serial) (keys_of names) (keys_of more) e
+pub keyed_more : (serial : ℕ) (names more : List (ℕ × ℕ)) → list_any (nat_eq serial) (keys_of names) ≡ true
+    → list_any (nat_eq serial) (keys_of (names ++ more)) ≡ true
+keyed_more serial names more e = ap (list_any (nat_eq serial)) (map-append (λ (e : ℕ × ℕ). e.0) names more)
+    ∙ any_more (nat_eq serial) (keys_of names) (keys_of more) e
 
-pub kept_more : (given : List ℕ) (names more : List (ℕ × ℕ)) (serials : List ℕ) → AllByRecursion (IsKept given names) serials → AllByRecursion (IsKept given (names ++ more)) serials
+pub kept_more : (given : List ℕ) (names more : List (ℕ × ℕ)) (serials : List ℕ) → AllByRecursion (IsKept given names) serials
+    → AllByRecursion (IsKept given (names ++ more)) serials
 kept_more given names more [] all = tt
 kept_more given names more (serial ∷ serials) (kept, all) = ((λ new. keyed_more serial names more (kept new)), kept_more given names more serials all)
 
@@ -53,8 +56,10 @@ distinct_push (x ∷ xs) y (apart, d) none = (
   distinct_push xs y d (or_right (nat_eq y x) (list_any (nat_eq y) xs) none),
 )
 
-pub names_push : (given : List ℕ) (names : List (ℕ × ℕ)) (serial now : ℕ) → AreNames given names → list_any (nat_eq serial) (keys_of names) ≡ false → list_any (nat_eq now) given ≡ false
-    → (list_any (nat_eq serial) given ≡ false → now ≡ serial) → list_any (nat_eq now) (values_of names) ≡ false → AreNames given (names ++ (serial, now) ∷ [])
+pub names_push : (given : List ℕ) (names : List (ℕ × ℕ)) (serial now : ℕ) → AreNames given names
+    → list_any (nat_eq serial) (keys_of names) ≡ false → list_any (nat_eq now) given ≡ false
+    → (list_any (nat_eq serial) given ≡ false → now ≡ serial) → list_any (nat_eq now) (values_of names) ≡ false
+    → AreNames given (names ++ (serial, now) ∷ [])
 names_push given names serial now are new free kept none = record {
   once = subst (IsDistinct nat_eq) (sym (map-append (λ (e : ℕ × ℕ). e.0) names ((serial, now) ∷ []))) (distinct_push (keys_of names) serial are.once new);
   distinct = subst (IsDistinct nat_eq) (sym (map-append (λ (e : ℕ × ℕ). e.1) names ((serial, now) ∷ []))) (distinct_push (values_of names) now are.distinct none);
@@ -62,7 +67,8 @@ names_push given names serial now are new free kept none = record {
 }
 
 -- ---- one stream's name
-pub keyed : (names : List (ℕ × ℕ)) (serial : ℕ) (some : Bool) → is_some (name_of names serial) ≡ some → list_any (nat_eq serial) (keys_of names) ≡ some
+pub keyed : (names : List (ℕ × ℕ)) (serial : ℕ) (some : Bool) → is_some (name_of names serial) ≡ some
+    → list_any (nat_eq serial) (keys_of names) ≡ some
 keyed names serial some e = sym (is_some-lookup (nat_eq serial) names) ∙ e
 
 pub keeps_none : (given : List ℕ) (serial : ℕ) (names : List (ℕ × ℕ)) → IsKept given names serial → Keeps given serial names names
@@ -86,12 +92,14 @@ own_key names serial now =
     ∙ ap (λ b. list_any (nat_eq serial) (keys_of names) || (b || false)) (eq-eqb serial serial refl)
     ∙ or_true (list_any (nat_eq serial) (keys_of names))
 
-only_push : (names : List (ℕ × ℕ)) (serial now : ℕ) (serials : List ℕ) → list_any (nat_eq serial) serials ≡ true → AreOnlyOf names serials → AreOnlyOf (names ++ (serial, now) ∷ []) serials
+only_push : (names : List (ℕ × ℕ)) (serial now : ℕ) (serials : List ℕ) → list_any (nat_eq serial) serials ≡ true → AreOnlyOf names serials
+    → AreOnlyOf (names ++ (serial, now) ∷ []) serials
 only_push names serial now serials is only =
     subst (AllByRecursion (λ key. list_any (nat_eq key) serials ≡ true)) (sym (map-append (λ (e : ℕ × ℕ). e.0) names ((serial, now) ∷ [])))
     (all_push (λ key. list_any (nat_eq key) serials ≡ true) (keys_of names) serial only is)
 
-pub keeps_one : (given : List ℕ) (serial : ℕ) (names : List (ℕ × ℕ)) → list_any (nat_eq serial) given ≡ false → list_any (nat_eq serial) (keys_of names) ≡ false →
+pub keeps_one : (given : List ℕ) (serial : ℕ) (names : List (ℕ × ℕ)) → list_any (nat_eq serial) given ≡ false
+    → list_any (nat_eq serial) (keys_of names) ≡ false →
     Keeps given serial names (names ++ (serial, serial) ∷ [])
 keeps_one given serial names free none = record {
   more = (serial, serial) ∷ [];
@@ -104,7 +112,8 @@ keeps_one given serial names free none = record {
   only = λ serials is only. only_push names serial serial serials is only;
 }
 
-pub renames_none : (given : List ℕ) (serial : ℕ) (names : List (ℕ × ℕ)) → list_any (nat_eq serial) (keys_of names) ≡ true → Renames given serial names names
+pub renames_none : (given : List ℕ) (serial : ℕ) (names : List (ℕ × ℕ)) → list_any (nat_eq serial) (keys_of names) ≡ true
+    → Renames given serial names names
 renames_none given serial names is = record {
   more = [];
   appended = sym (append-nil names);
@@ -123,7 +132,8 @@ clash t f = absurd (true_false (sym t ∙ f))
 kept_given : (b : Bool) (k : Bool) (now serial : ℕ) → (b ≡ false → k ≡ true) → k ≡ false → b ≡ false → now ≡ serial
 kept_given b k now serial kept none new = clash (kept new) none
 
-pub renames_one : (given : List ℕ) (serial now : ℕ) (names : List (ℕ × ℕ)) → list_any (nat_eq serial) (keys_of names) ≡ false → list_any (nat_eq now) given ≡ false
+pub renames_one : (given : List ℕ) (serial now : ℕ) (names : List (ℕ × ℕ)) → list_any (nat_eq serial) (keys_of names) ≡ false
+    → list_any (nat_eq now) given ≡ false
     → list_any (nat_eq now) (values_of names) ≡ false → Renames given serial names (names ++ (serial, now) ∷ [])
 renames_one given serial now names none free unused = record {
   more = (serial, now) ∷ [];
@@ -141,11 +151,13 @@ any_own serials serial =
     list_any-append (nat_eq serial) serials (serial ∷ []) ∙ ap (λ b. list_any (nat_eq serial) serials || (b || false)) (eq-eqb serial serial refl)
     ∙ or_true (list_any (nat_eq serial) serials)
 
-only_more : (serials more keys : List ℕ) → AllByRecursion (λ key. list_any (nat_eq key) serials ≡ true) keys → AllByRecursion (λ key. list_any (nat_eq key) (serials ++ more) ≡ true) keys
+only_more : (serials more keys : List ℕ) → AllByRecursion (λ key. list_any (nat_eq key) serials ≡ true) keys
+    → AllByRecursion (λ key. list_any (nat_eq key) (serials ++ more) ≡ true) keys
 only_more serials more [] all = tt
 only_more serials more (key ∷ keys) (p, all) = (any_more (nat_eq key) serials more p, only_more serials more keys all)
 
-pub keeps_next : (given : List ℕ) (old new : List (ℕ × ℕ)) (serials : List ℕ) (serial : ℕ) → KeepsAll given old serials → Keeps given serial old new → KeepsAll given new (serials ++ serial ∷ [])
+pub keeps_next : (given : List ℕ) (old new : List (ℕ × ℕ)) (serials : List ℕ) (serial : ℕ) → KeepsAll given old serials
+    → Keeps given serial old new → KeepsAll given new (serials ++ serial ∷ [])
 keeps_next given old new serials serial all next = record {
   are = next.are all.are all.own;
   own = next.own all.own;
@@ -154,10 +166,12 @@ keeps_next given old new serials serial all next = record {
   only = next.only (serials ++ serial ∷ []) (any_own serials serial) (only_more serials (serial ∷ []) (keys_of old) all.only);
 }
 
-pub kept_next : (given : List ℕ) (old new : List (ℕ × ℕ)) (serials : List ℕ) (serial : ℕ) → AllByRecursion (IsKept given old) serials → Renames given serial old new → AllByRecursion (IsKept given new) serials
+pub kept_next : (given : List ℕ) (old new : List (ℕ × ℕ)) (serials : List ℕ) (serial : ℕ) → AllByRecursion (IsKept given old) serials
+    → Renames given serial old new → AllByRecursion (IsKept given new) serials
 kept_next given old new serials serial all next = subst (λ l. AllByRecursion (IsKept given l) serials) (sym next.appended) (kept_more given old next.more serials all)
 
-pub named_next : (given : List ℕ) (old new : List (ℕ × ℕ)) (serials : List ℕ) (serial : ℕ) → AreNamed old serials → Renames given serial old new → AreNamed new (serials ++ serial ∷ [])
+pub named_next : (given : List ℕ) (old new : List (ℕ × ℕ)) (serials : List ℕ) (serial : ℕ) → AreNamed old serials
+    → Renames given serial old new → AreNamed new (serials ++ serial ∷ [])
 named_next given old new serials serial all next =
     all_push (λ serial. list_any (nat_eq serial) (keys_of new) ≡ true) serials serial
     (subst (λ l. AreNamed l serials) (sym next.appended) (named_more old next.more serials all)) next.is_named
@@ -166,17 +180,20 @@ pub no_names : (given : List ℕ) → KeepsAll given [] []
 unfolding IsDistinct
 no_names given = record { are = record { once = tt; distinct = tt; each = tt }; own = refl; all = tt; only = tt }
 
-pub kept_at : (given : List ℕ) (names : List (ℕ × ℕ)) (streams : List NewStream) (i : ℕ) (d : NewStream) → i < length streams → AllByRecursion (IsKept given names) (serials_of streams) →
+pub kept_at : (given : List ℕ) (names : List (ℕ × ℕ)) (streams : List NewStream) (i : ℕ) (d : NewStream) → i < length streams
+    → AllByRecursion (IsKept given names) (serials_of streams) →
     IsKept given names (get_or streams i d).serial
 kept_at given names [] i d less all = absurd (omega (arith, less))
 kept_at given names (stream ∷ streams) zero d less (p, all) = p
 kept_at given names (stream ∷ streams) (suc i) d less (p, all) = kept_at given names streams i d (omega (arith, less)) all
 
-pub serial_at : (streams : List NewStream) (i : ℕ) (d : NewStream) → i < length streams → list_any (nat_eq (get_or streams i d).serial) (serials_of streams) ≡ true
+pub serial_at : (streams : List NewStream) (i : ℕ) (d : NewStream) → i < length streams
+    → list_any (nat_eq (get_or streams i d).serial) (serials_of streams) ≡ true
 serial_at [] i d less = absurd (omega (arith, less))
 serial_at (stream ∷ streams) zero d less = ap (λ b. b || list_any (nat_eq stream.serial) (serials_of streams)) (eq-eqb stream.serial stream.serial refl)
 serial_at (stream ∷ streams) (suc i) d less =
-    ap (λ b. nat_eq (get_or streams i d).serial stream.serial || b) (serial_at streams i d (omega (arith, less))) ∙ or_true (nat_eq (get_or streams i d).serial stream.serial)
+    ap (λ b. nat_eq (get_or streams i d).serial stream.serial || b) (serial_at streams i d (omega (arith, less)))
+    ∙ or_true (nat_eq (get_or streams i d).serial stream.serial)
 
 -- ---- packet after packet
 pub entries_push : (names : List (ℕ × ℕ)) (entries : List Entry) (entry : Entry) (now : Option ℕ) → name_of names entry.serial ≡ now →

@@ -22,7 +22,8 @@ clash t f = absurd (true_false (sym t ∙ f))
 
 -- ---- names tell serials apart
 -- a serial's name is one of the names
-pub named_now : (names : List (ℕ × ℕ)) (serial now : ℕ) → name_of names serial ≡ Some now → list_any (nat_eq now) (values_of names) ≡ false → ⊥
+pub named_now : (names : List (ℕ × ℕ)) (serial now : ℕ) → name_of names serial ≡ Some now → list_any (nat_eq now) (values_of names) ≡ false
+    → ⊥
 named_now [] serial now e none = absurd (nothing e)
   where
     nothing : None ≡ Some now → ⊥
@@ -37,7 +38,8 @@ named_now ((k, v) ∷ names) serial now e none =
     by rest true f = clash (eq-eqb now v (value f)) (or_parts (nat_eq now v) (list_any (nat_eq now) (values_of names)) none).0
     by rest false f = rest f
 
-no_value : (names : List (ℕ × ℕ)) (serial now : ℕ) → AllByRecursion (λ y. nat_eq now y ≡ false) (values_of names) → name_of names serial ≡ Some now → ⊥
+no_value : (names : List (ℕ × ℕ)) (serial now : ℕ) → AllByRecursion (λ y. nat_eq now y ≡ false) (values_of names)
+    → name_of names serial ≡ Some now → ⊥
 no_value [] serial now apart e = cc
 no_value ((k, v) ∷ names) serial now (head, apart) e = by (no_value names serial now apart) (nat_eq serial k) e
   where
@@ -48,7 +50,8 @@ no_value ((k, v) ∷ names) serial now (head, apart) e = by (no_value names seri
     by rest true f = clash (eq-eqb now v (value f)) head
     by rest false f = rest f
 
-pub same_key : (names : List (ℕ × ℕ)) (s t now : ℕ) → IsDistinct nat_eq (values_of names) → name_of names s ≡ Some now → name_of names t ≡ Some now → s ≡ t
+pub same_key : (names : List (ℕ × ℕ)) (s t now : ℕ) → IsDistinct nat_eq (values_of names) → name_of names s ≡ Some now
+    → name_of names t ≡ Some now → s ≡ t
 unfolding IsDistinct
 same_key [] s t now d e f = absurd (none e)
   where
@@ -80,7 +83,8 @@ has_name names serial e = by (name_of names serial) refl (is_some-lookup (nat_eq
     by (Some now) p q = record { now = now; is = p; named_is = ap (λ o. unwrap_or o serial) p }
 
 -- the names of two serials are equal where these are
-pub eq_named : (names : List (ℕ × ℕ)) (s t now : ℕ) → IsDistinct nat_eq (values_of names) → list_any (nat_eq s) (keys_of names) ≡ true → name_of names t ≡ Some now →
+pub eq_named : (names : List (ℕ × ℕ)) (s t now : ℕ) → IsDistinct nat_eq (values_of names) → list_any (nat_eq s) (keys_of names) ≡ true
+    → name_of names t ≡ Some now →
     nat_eq (named names s) now ≡ nat_eq s t
 eq_named names s t now d key is =
     let h : HasName names s = has_name names s key in
@@ -116,29 +120,37 @@ no_name names s t now is none = by (nat_eq s now) refl
     by true e = absurd (named_now names t now is (subst (IsNoName names) (eqb-true s now e) none))
 
 -- ---- the names are the serials that streams have now
-found_more : (names : List (ℕ × ℕ)) (key value : ℕ) → AllByRecursion (λ y. nat_eq key y ≡ false) (keys_of names) → (rest : List (ℕ × ℕ)) → AllByRecursion (λ y. nat_eq key y ≡ false) (keys_of rest)
-    → AllByRecursion (λ (name : ℕ × ℕ). name_of names name.0 ≡ Some name.1) rest → AllByRecursion (λ (name : ℕ × ℕ). name_of ((key, value) ∷ names) name.0 ≡ Some name.1) rest
+found_more : (names : List (ℕ × ℕ)) (key value : ℕ) → AllByRecursion (λ y. nat_eq key y ≡ false) (keys_of names) → (rest : List (ℕ × ℕ))
+    → AllByRecursion (λ y. nat_eq key y ≡ false) (keys_of rest)
+    → AllByRecursion (λ (name : ℕ × ℕ). name_of names name.0 ≡ Some name.1) rest
+    → AllByRecursion (λ (name : ℕ × ℕ). name_of ((key, value) ∷ names) name.0 ≡ Some name.1) rest
 found_more names key value apart [] others all = tt
 found_more names key value apart ((k, v) ∷ rest) (other, others) (is, all) =
     (ap (λ b. cond b (Some value) (name_of names k)) (eq_swaps k key ∙ other) ∙ is, found_more names key value apart rest others all)
 
-each_found : (names : List (ℕ × ℕ)) → IsDistinct nat_eq (keys_of names) → AllByRecursion (λ (name : ℕ × ℕ). name_of names name.0 ≡ Some name.1) names
+each_found : (names : List (ℕ × ℕ)) → IsDistinct nat_eq (keys_of names)
+    → AllByRecursion (λ (name : ℕ × ℕ). name_of names name.0 ≡ Some name.1) names
 unfolding IsDistinct
 each_found [] d = tt
 each_found ((k, v) ∷ names) (apart, d) =
     (ap (λ b. cond b (Some v) (name_of names k)) (eq-eqb k k refl), found_more names k v apart names apart (each_found names d))
 
-any_named : (names : List (ℕ × ℕ)) (serial : ℕ) (serials : List ℕ) → list_any (nat_eq serial) serials ≡ true → list_any (nat_eq (named names serial)) (map (named names) serials) ≡ true
+any_named : (names : List (ℕ × ℕ)) (serial : ℕ) (serials : List ℕ) → list_any (nat_eq serial) serials ≡ true
+    → list_any (nat_eq (named names serial)) (map (named names) serials) ≡ true
 any_named names serial [] e = e
 any_named names serial (y ∷ serials) e = by (any_named names serial serials) (nat_eq serial y) refl e
   where
-    by : (list_any (nat_eq serial) serials ≡ true → list_any (nat_eq (named names serial)) (map (named names) serials) ≡ true) → (b : Bool) → nat_eq serial y ≡ b
+    by : (list_any (nat_eq serial) serials ≡ true → list_any (nat_eq (named names serial)) (map (named names) serials) ≡ true) → (b : Bool)
+        → nat_eq serial y ≡ b
         → (b || list_any (nat_eq serial) serials) ≡ true → (nat_eq (named names serial) (named names y) || list_any (nat_eq (named names serial)) (map (named names) serials)) ≡ true
     by rest true p f = ap (λ b. b || list_any (nat_eq (named names serial)) (map (named names) serials)) (eq-eqb (named names serial) (named names y) (ap (named names) (eqb-true serial y p)))
-    by rest false p f = ap (λ b. nat_eq (named names serial) (named names y) || b) (rest f) ∙ or_true (nat_eq (named names serial) (named names y))
+    by rest false p f = ap (λ b. nat_eq (named names serial) (named names y) || b) (rest f)
+        ∙ or_true (nat_eq (named names serial) (named names y))
 
-values_had : (names : List (ℕ × ℕ)) (serials : List ℕ) (n : ℕ) → list_any (nat_eq n) (map (named names) serials) ≡ false → (rest : List (ℕ × ℕ))
-    → AllByRecursion (λ (name : ℕ × ℕ). name_of names name.0 ≡ Some name.1) rest → AllByRecursion (λ key. list_any (nat_eq key) serials ≡ true) (keys_of rest)
+values_had : (names : List (ℕ × ℕ)) (serials : List ℕ) (n : ℕ) → list_any (nat_eq n) (map (named names) serials) ≡ false
+    → (rest : List (ℕ × ℕ))
+    → AllByRecursion (λ (name : ℕ × ℕ). name_of names name.0 ≡ Some name.1) rest
+    → AllByRecursion (λ key. list_any (nat_eq key) serials ≡ true) (keys_of rest)
     → list_any (nat_eq n) (values_of rest) ≡ false
 values_had names serials n none [] found only = refl
 values_had names serials n none ((k, v) ∷ rest) (is, found) (among, only) =
@@ -149,14 +161,16 @@ values_had names serials n none ((k, v) ∷ rest) (is, found) (among, only) =
     by true e =
         clash (subst (λ m. list_any (nat_eq m) (map (named names) serials) ≡ true) (ap (λ o. unwrap_or o k) is ∙ sym (eqb-true n v e)) (any_named names k serials among)) none
 
-pub not_among : (names : List (ℕ × ℕ)) (serial : ℕ) (serials : List ℕ) → AreNamed names serials → IsNoName names serial → list_any (nat_eq serial) (map (named names) serials) ≡ false
+pub not_among : (names : List (ℕ × ℕ)) (serial : ℕ) (serials : List ℕ) → AreNamed names serials → IsNoName names serial
+    → list_any (nat_eq serial) (map (named names) serials) ≡ false
 not_among names serial [] all none = refl
 not_among names serial (y ∷ serials) (key, all) none =
     let h : HasName names y = has_name names y key in
     or_from (nat_eq serial (named names y)) (list_any (nat_eq serial) (map (named names) serials))
     (ap (nat_eq serial) h.named_is ∙ no_name names serial y h.now h.is none) (not_among names serial serials all none)
 
-pub names_are : (names : List (ℕ × ℕ)) (serials : List ℕ) → IsDistinct nat_eq (keys_of names) → AreNamed names serials → AreOnlyOf names serials → (n : ℕ)
+pub names_are : (names : List (ℕ × ℕ)) (serials : List ℕ) → IsDistinct nat_eq (keys_of names) → AreNamed names serials
+    → AreOnlyOf names serials → (n : ℕ)
     → list_any (nat_eq n) (values_of names) ≡ list_any (nat_eq n) (map (named names) serials)
 names_are names serials once all only n = by (list_any (nat_eq n) (values_of names)) (list_any (nat_eq n) (map (named names) serials)) refl refl
   where
@@ -170,7 +184,8 @@ names_are names serials once all only n = by (list_any (nat_eq n) (values_of nam
 pub record GoesWith (names : List (ℕ × ℕ)) (change now : Stream → Stream) : Type 0 where
   pub serial : (stream : Stream) → (change stream).serial ≡ stream.serial
   pub fishead : (stream : Stream) → is_fishead (first_of stream.packets) ≡ true → is_fishead (first_of (change stream).packets) ≡ true
-  pub under : (stream : Stream) → list_any (nat_eq stream.serial) (keys_of names) ≡ true → now (stream_under names stream) ≡ stream_under names (change stream)
+  pub under : (stream : Stream) → list_any (nat_eq stream.serial) (keys_of names) ≡ true
+      → now (stream_under names stream) ≡ stream_under names (change stream)
   pub apart : (stream : Stream) → IsNoName names stream.serial → now stream ≡ stream
 
 abbrev pub grown_if : List ℕ → Stream → Bool → Stream
@@ -193,30 +208,36 @@ pub ended_serial : (stream : Stream) (b : Bool) → (ended_if stream b).serial �
 ended_serial stream true = refl
 ended_serial stream false = refl
 
-first_stays : (packets : List (List ℕ)) (packet : List ℕ) → is_fishead (first_of packets) ≡ true → is_fishead (first_of (packets ++ packet ∷ [])) ≡ true
+first_stays : (packets : List (List ℕ)) (packet : List ℕ) → is_fishead (first_of packets) ≡ true
+    → is_fishead (first_of (packets ++ packet ∷ [])) ≡ true
 first_stays [] packet e = absurd (none e)
   where
     none : is_fishead [] ≡ true → ⊥
     none e = cc
 first_stays (first ∷ packets) packet e = e
 
-grown_fishead : (packet : List ℕ) (stream : Stream) (b : Bool) → is_fishead (first_of stream.packets) ≡ true → is_fishead (first_of (grown_if packet stream b).packets) ≡ true
+grown_fishead : (packet : List ℕ) (stream : Stream) (b : Bool) → is_fishead (first_of stream.packets) ≡ true
+    → is_fishead (first_of (grown_if packet stream b).packets) ≡ true
 grown_fishead packet stream true e = first_stays stream.packets packet e
 grown_fishead packet stream false e = e
 
-ended_fishead : (stream : Stream) (b : Bool) → is_fishead (first_of stream.packets) ≡ true → is_fishead (first_of (ended_if stream b).packets) ≡ true
+ended_fishead : (stream : Stream) (b : Bool) → is_fishead (first_of stream.packets) ≡ true
+    → is_fishead (first_of (ended_if stream b).packets) ≡ true
 ended_fishead stream true e = e
 ended_fishead stream false e = e
 
-grown_under : (names : List (ℕ × ℕ)) (packet : List ℕ) (stream : Stream) (b : Bool) → grown_if packet (stream_under names stream) b ≡ stream_under names (grown_if packet stream b)
+grown_under : (names : List (ℕ × ℕ)) (packet : List ℕ) (stream : Stream) (b : Bool)
+    → grown_if packet (stream_under names stream) b ≡ stream_under names (grown_if packet stream b)
 grown_under names packet stream true = refl
 grown_under names packet stream false = refl
 
-ended_under : (names : List (ℕ × ℕ)) (stream : Stream) (b : Bool) → ended_if (stream_under names stream) b ≡ stream_under names (ended_if stream b)
+ended_under : (names : List (ℕ × ℕ)) (stream : Stream) (b : Bool)
+    → ended_if (stream_under names stream) b ≡ stream_under names (ended_if stream b)
 ended_under names stream true = refl
 ended_under names stream false = refl
 
-pub packet_named : (names : List (ℕ × ℕ)) (entry : Entry) (now : ℕ) → IsDistinct nat_eq (values_of names) → name_of names entry.serial ≡ Some now →
+pub packet_named : (names : List (ℕ × ℕ)) (entry : Entry) (now : ℕ) → IsDistinct nat_eq (values_of names)
+    → name_of names entry.serial ≡ Some now →
     GoesWith names (grown entry) (grown (record entry { serial = now }))
 packet_named names entry now d is = record {
   serial = λ stream. grown_serial entry.packet stream (nat_eq stream.serial entry.serial);
@@ -227,7 +248,8 @@ packet_named names entry now d is = record {
   apart = λ stream none. ap (grown_if entry.packet stream) (no_name names stream.serial entry.serial now is none);
 }
 
-pub end_named : (names : List (ℕ × ℕ)) (serial now : ℕ) → IsDistinct nat_eq (values_of names) → name_of names serial ≡ Some now → GoesWith names (ended serial) (ended now)
+pub end_named : (names : List (ℕ × ℕ)) (serial now : ℕ) → IsDistinct nat_eq (values_of names) → name_of names serial ≡ Some now
+    → GoesWith names (ended serial) (ended now)
 end_named names serial now d is = record {
   serial = λ stream. ended_serial stream (nat_eq stream.serial serial);
   fishead = λ stream. ended_fishead stream (nat_eq stream.serial serial);
@@ -238,7 +260,8 @@ end_named names serial now d is = record {
 }
 
 -- a change of a stream that isn't named goes with none
-pub packet_other : (names : List (ℕ × ℕ)) (entry : Entry) → name_of names entry.serial ≡ None → GoesWith names (grown entry) (λ stream. stream)
+pub packet_other : (names : List (ℕ × ℕ)) (entry : Entry) → name_of names entry.serial ≡ None
+    → GoesWith names (grown entry) (λ stream. stream)
 packet_other names entry none = record {
   serial = λ stream. grown_serial entry.packet stream (nat_eq stream.serial entry.serial);
   fishead = λ stream. grown_fishead entry.packet stream (nat_eq stream.serial entry.serial);

@@ -1,7 +1,7 @@
 -- Each command changed, over those before it.
 use Rattle.std.proofs.Common.{◌≡◌, ℕ, Bool, true, false, List, [], ◌∷◌, ◌++◌, map, refl, sym, ◌∙◌, ap, subst, append-nil, append_assoc, inl}
 use Rattle.std.specs.Prelude.{nat_eq, nat_le, Option, Some, None, ◌||◌, if◌then◌else◌, length}
-use Rattle.std.specs.List.{AllByRecursion, AllZip, IsDistinct, cons_option, flat_map, fold, list_all, list_any}
+use Rattle.std.specs.List.{AllByRecursion, AllZip, cons_option, flat_map, fold, list_all, list_any}
 use Rattle.std.specs.Map.{values_of}
 use Rattle.std.proofs.lemmas.List.Elements.{filter_map-append}
 use Rattle.std.proofs.lemmas.List.Sums.{fold-append}
@@ -12,7 +12,6 @@ use Rattle.ogg_command.specs.declared.command.Command.TheVariants.{Begin as Begi
 use Rattle.ogg_command.specs.declared.command.Begin.{Begin}
 use Rattle.ogg_command.specs.declared.command.Put.{Put}
 use Rattle.ogg_command.specs.declared.command.NewStream.{NewStream}
-use Rattle.ogg_command.specs.declared.command.SkeletonHead.{SkeletonHead}
 use Rattle.ogg_command.specs.declared.command.Entry.{Entry}
 use Rattle.feed_changes.specs.declared.options.ChangeOptions.{ChangeOptions}
 use Rattle.feed_changes.specs.declared.options.Skeletons.{Skeletons}
@@ -22,7 +21,7 @@ use Rattle.feed_changes.specs.Naming.{AreNamed, AreNames, entries_named, entry_w
 use Rattle.feed_changes.specs.Renumbered.{avoided, serials}
 use Rattle.feed_changes.specs.Links.{IsBefore, IsMadeFor, those}
 use Rattle.feed_changes.specs.Skeletons.{AreOthers, BeginThose, BeginsThose, HasHead, IsBegunAs, begin_of, begins_of, described, head_with, headers_of, is_skeleton, made_for, staying}
-use Rattle.feed_changes.specs.Changed.{ChangeState, Follows, FollowsIf, HasChanged, IsChanged, IsChangedIf, IsFollowed, IsNoName, IsPlain, IsUnderNames, stream_under}
+use Rattle.feed_changes.specs.Changed.{ChangeState, FollowsIf, HasChanged, IsChangedIf, IsFollowed, IsNoName, IsPlain, IsUnderNames, stream_under}
 use Rattle.feed_changes.specs.Steps.{Begins, BeginsAs, BeginsDescribed, BeginsPlain, Names, end_of, option_list, put_of}
 use Rattle.feed_changes.proofs.Names.{all_push, or_right}
 use Rattle.feed_changes.proofs.Renumbers.{clash, end_named, end_other, ended, ended_serial, grown, grown_serial, names_are, packet_named, packet_other}
@@ -34,14 +33,17 @@ after_push : (commands : List Command) (command : Command) → after [] (command
 after_push commands command = fold-append add [] commands (command ∷ [])
 
 -- ---- where something is changed
-followed_of : (b : Bool) (state : ChangeState) (recording now : Recording) → b ≡ false → FollowsIf b state recording now → IsFollowed state recording now
+followed_of : (b : Bool) (state : ChangeState) (recording now : Recording) → b ≡ false → FollowsIf b state recording now
+    → IsFollowed state recording now
 followed_of true state recording now e f = clash refl e
 followed_of false state recording now e f = f
 
-pub by_of : (state : ChangeState) (commands given : List Command) → is_none state.options ≡ false → HasChanged state commands given → IsFollowed state (after [] commands) (after [] given)
+pub by_of : (state : ChangeState) (commands given : List Command) → is_none state.options ≡ false → HasChanged state commands given
+    → IsFollowed state (after [] commands) (after [] given)
 by_of state commands given e h = followed_of (is_none state.options) state (after [] commands) (after [] given) e h.follows
 
-pub of_by : (state : ChangeState) (commands given : List Command) → is_none state.options ≡ false → BeginThose state.options commands given → AllByRecursion (IsBegunAs state.options) given
+pub of_by : (state : ChangeState) (commands given : List Command) → is_none state.options ≡ false → BeginThose state.options commands given
+    → AllByRecursion (IsBegunAs state.options) given
     → IsFollowed state (after [] commands) (after [] given) → HasChanged state commands given
 of_by state commands given e stay begun by =
     let recording : Recording = after [] commands in
@@ -57,18 +59,23 @@ of_by state commands given e stay begun by =
 begins_push : (commands : List Command) (command : Command) → begins_of (commands ++ command ∷ []) ≡ begins_of commands ++ cons_option (begin_of command) []
 begins_push commands command = filter_map-append begin_of commands (command ∷ [])
 
-stay_push : (options : ChangeOptions) (commands given : List Command) (command now : Command) (begin begin_now : Begin) → begin_of command ≡ Some begin → begin_of now ≡ Some begin_now
-    → BeginThose options commands given → BeginsThose options begin begin_now → BeginThose options (commands ++ command ∷ []) (given ++ now ∷ [])
+stay_push : (options : ChangeOptions) (commands given : List Command) (command now : Command) (begin begin_now : Begin)
+    → begin_of command ≡ Some begin → begin_of now ≡ Some begin_now
+    → BeginThose options commands given → BeginsThose options begin begin_now
+    → BeginThose options (commands ++ command ∷ []) (given ++ now ∷ [])
 stay_push options commands given command now begin begin_now is now_is all those =
     subst (λ l. AllZip (BeginsThose options) l (begins_of (given ++ now ∷ []))) (ap (λ o. begins_of commands ++ cons_option o []) (sym is) ∙ sym (begins_push commands command))
     (subst (AllZip (BeginsThose options) (begins_of commands ++ begin ∷ [])) (ap (λ o. begins_of given ++ cons_option o []) (sym now_is) ∙ sym (begins_push given now))
     (zip_push (BeginsThose options) (begins_of commands) (begins_of given) begin begin_now all those))
 
 -- these begin none
-none_begin : (commands : List Command) (command : Command) → begin_of command ≡ None → begins_of commands ≡ begins_of (commands ++ command ∷ [])
-none_begin commands command is = sym (append-nil (begins_of commands)) ∙ ap (λ o. begins_of commands ++ cons_option o []) (sym is) ∙ sym (begins_push commands command)
+none_begin : (commands : List Command) (command : Command) → begin_of command ≡ None
+    → begins_of commands ≡ begins_of (commands ++ command ∷ [])
+none_begin commands command is = sym (append-nil (begins_of commands)) ∙ ap (λ o. begins_of commands ++ cons_option o []) (sym is)
+    ∙ sym (begins_push commands command)
 
-stay_on : (options : ChangeOptions) (commands given : List Command) (command : Command) (now : Option Command) → begin_of command ≡ None → begins_of given ≡ begins_of (given ++ option_list now)
+stay_on : (options : ChangeOptions) (commands given : List Command) (command : Command) (now : Option Command) → begin_of command ≡ None
+    → begins_of given ≡ begins_of (given ++ option_list now)
     → BeginThose options commands given → BeginThose options (commands ++ command ∷ []) (given ++ option_list now)
 stay_on options commands given command now is now_is all =
     subst (λ l. AllZip (BeginsThose options) l (begins_of (given ++ option_list now))) (none_begin commands command is)
@@ -84,8 +91,10 @@ end_begins given (Some serial) = none_begin given (EndOf serial) refl
 
 -- ---- a `Begin`
 under_of : (options : ChangeOptions) (given : List ℕ) (names : List (ℕ × ℕ)) (streams now : List NewStream) (earlier : List ℕ) (before link_now : List Stream)
-    → AreNames (avoided options.renumber earlier) names → AreNamed names (serials_of (staying options.skeletons streams)) → now ≡ map (stream_named names) (staying options.skeletons streams)
-    → IsBefore options.skeletons earlier (serials_of now) before → AllByRecursion (IsNoName names) (serials before) → link_now ≡ before ++ map begun now
+    → AreNames (avoided options.renumber earlier) names → AreNamed names (serials_of (staying options.skeletons streams))
+    → now ≡ map (stream_named names) (staying options.skeletons streams)
+    → IsBefore options.skeletons earlier (serials_of now) before → AllByRecursion (IsNoName names) (serials before)
+    → link_now ≡ before ++ map begun now
     → IsUnderNames (record { options = options; given = given; names = names }) earlier (map begun streams) link_now
 under_of options given names streams now earlier before link_now are named now_is made apart is =
     let skeletons : Skeletons = options.skeletons in
@@ -104,8 +113,10 @@ under_of options given names streams now earlier before link_now are named now_i
       is = is ∙ ap (λ l. before ++ l) (sym under_are);
     }
 
-under_new : (old state new : ChangeState) (streams now : List NewStream) (earlier : List ℕ) (before link_now : List Stream) → Names old state streams now → old.given ≡ earlier
-    → new.options ≡ state.options → new.names ≡ state.names → IsBefore old.options.skeletons earlier (serials_of now) before → AllByRecursion (IsNoName state.names) (serials before)
+under_new : (old state new : ChangeState) (streams now : List NewStream) (earlier : List ℕ) (before link_now : List Stream)
+    → Names old state streams now → old.given ≡ earlier
+    → new.options ≡ state.options → new.names ≡ state.names → IsBefore old.options.skeletons earlier (serials_of now) before
+    → AllByRecursion (IsNoName state.names) (serials before)
     → link_now ≡ before ++ map begun now → IsUnderNames new earlier (map begun streams) link_now
 under_new old state new streams now earlier before link_now named given options names made apart is =
     subst (λ o. IsUnderNames (record { options = o; given = new.given; names = new.names }) earlier (map begun streams) link_now) (sym (options ∙ named.options))
@@ -113,9 +124,12 @@ under_new old state new streams now earlier before link_now named given options 
     (under_of old.options new.given state.names streams now earlier before link_now (subst (λ e. AreNames (avoided old.options.renumber e) state.names) given named.names)
     named.named named.now_is made apart is))
 
-begin_as : (old new : ChangeState) (begin : Begin) (now : Command) (link_now : List Stream) (commands given : List Command) → is_none old.options ≡ false → begin.skeleton ≡ None
-    → HasChanged old commands given → new.options ≡ old.options → new.given ≡ old.given ++ serials link_now → ((recording : Recording) → add recording now ≡ recording ++ link_now ∷ [])
-    → IsUnderNames new (flat_map serials (after [] given)) (map begun begin.streams) link_now → (begin_now : Begin) → now ≡ BeginOf begin_now → BeginsThose old.options begin begin_now
+begin_as : (old new : ChangeState) (begin : Begin) (now : Command) (link_now : List Stream) (commands given : List Command)
+    → is_none old.options ≡ false → begin.skeleton ≡ None
+    → HasChanged old commands given → new.options ≡ old.options → new.given ≡ old.given ++ serials link_now
+    → ((recording : Recording) → add recording now ≡ recording ++ link_now ∷ [])
+    → IsUnderNames new (flat_map serials (after [] given)) (map begun begin.streams) link_now → (begin_now : Begin)
+    → now ≡ BeginOf begin_now → BeginsThose old.options begin begin_now
     → IsBegunAs old.options now → HasChanged new (commands ++ BeginOf begin ∷ []) (given ++ now ∷ [])
 begin_as old new begin now link_now commands given is plain h same given_is added under begin_now now_is those begun_as =
     of_by new (commands ++ BeginOf begin ∷ []) (given ++ now ∷ []) (ap is_none same ∙ is)
@@ -127,11 +141,15 @@ begin_as old new begin now link_now commands given is plain h same given_is adde
     (subst (IsFollowed new (after [] commands ++ map begun begin.streams ∷ [])) (sym (added (after [] given)) ∙ sym (after_push given now))
     (begin_step old new (after [] commands) (after [] given) (map begun begin.streams) link_now (by_of old commands given is h) same under given_is)))
 
-stay_headers : (old state : ChangeState) (begin : Begin) (streams : List NewStream) → Names old state begin.streams streams → headers_of streams ≡ headers_of (staying old.options.skeletons begin.streams)
-stay_headers old state begin streams named = ap headers_of named.now_is ∙ headers_named state.names (staying old.options.skeletons begin.streams)
+stay_headers : (old state : ChangeState) (begin : Begin) (streams : List NewStream) → Names old state begin.streams streams
+    → headers_of streams ≡ headers_of (staying old.options.skeletons begin.streams)
+stay_headers old state begin streams named = ap headers_of named.now_is
+    ∙ headers_named state.names (staying old.options.skeletons begin.streams)
 
-plain_changed : (old state new : ChangeState) (begin : Begin) (streams : List NewStream) (now : Command) (commands given : List Command) → is_none old.options ≡ false → begin.skeleton ≡ None
-    → HasChanged old commands given → Names old state begin.streams streams → made_for old.options.skeletons streams ≡ None → BeginsPlain state new begin.skeleton streams now
+plain_changed : (old state new : ChangeState) (begin : Begin) (streams : List NewStream) (now : Command) (commands given : List Command)
+    → is_none old.options ≡ false → begin.skeleton ≡ None
+    → HasChanged old commands given → Names old state begin.streams streams → made_for old.options.skeletons streams ≡ None
+    → BeginsPlain state new begin.skeleton streams now
     → HasChanged new (commands ++ BeginOf begin ∷ []) (given ++ now ∷ [])
 plain_changed old state new begin streams now commands given is plain h named none b =
     let skeletons : Skeletons = old.options.skeletons in
@@ -147,14 +165,17 @@ plain_changed old state new begin streams now commands given is plain h named no
     ))
 
 -- ---- and with a Skeleton
-named_serials : (names : List (ℕ × ℕ)) (streams : List NewStream) → serials_of (map (stream_named names) streams) ≡ map (named names) (serials_of streams)
+named_serials : (names : List (ℕ × ℕ)) (streams : List NewStream)
+    → serials_of (map (stream_named names) streams) ≡ map (named names) (serials_of streams)
 named_serials names [] = refl
 named_serials names (stream ∷ streams) = ap (λ l. named names stream.serial ∷ l) (named_serials names streams)
 
-had_alike : (earlier xs ys : List ℕ) → ((n : ℕ) → list_any (nat_eq n) xs ≡ list_any (nat_eq n) ys) → (n : ℕ) → is_had earlier xs n ≡ is_had earlier ys n
+had_alike : (earlier xs ys : List ℕ) → ((n : ℕ) → list_any (nat_eq n) xs ≡ list_any (nat_eq n) ys) → (n : ℕ)
+    → is_had earlier xs n ≡ is_had earlier ys n
 had_alike earlier xs ys same n = ap (λ b. list_any (nat_eq n) earlier || b) (same n)
 
-first_alike : (from : ℕ) (earlier xs ys : List ℕ) (serial : ℕ) → ((n : ℕ) → list_any (nat_eq n) xs ≡ list_any (nat_eq n) ys) → IsFirstFree from earlier xs serial → IsFirstFree from earlier ys serial
+first_alike : (from : ℕ) (earlier xs ys : List ℕ) (serial : ℕ) → ((n : ℕ) → list_any (nat_eq n) xs ≡ list_any (nat_eq n) ys)
+    → IsFirstFree from earlier xs serial → IsFirstFree from earlier ys serial
 first_alike from earlier xs ys serial same is = record {
   free = sym (had_alike earlier xs ys same serial) ∙ is.free;
   first = λ n low high. sym (had_alike earlier xs ys same n) ∙ is.first n low high;
@@ -162,7 +183,8 @@ first_alike from earlier xs ys serial same is = record {
   least = λ less n high. sym (had_alike earlier xs ys same n) ∙ is.least less n high;
 }
 
-is_before : (skeletons : Skeletons) (streams : List NewStream) (from : ℕ) (earlier serials : List ℕ) (skeleton : Stream) → made_for skeletons streams ≡ Some from
+is_before : (skeletons : Skeletons) (streams : List NewStream) (from : ℕ) (earlier serials : List ℕ) (skeleton : Stream)
+    → made_for skeletons streams ≡ Some from
     → IsMadeFor from earlier serials skeleton → IsBefore skeletons earlier serials (skeleton ∷ [])
 is_before Kept streams from earlier serials skeleton e made = absurd (none e)
   where
@@ -186,7 +208,8 @@ is_before (Made first) streams from earlier serials skeleton e made =
     by false f = value f
 
 made_changed : (old state new : ChangeState) (begin : Begin) (streams : List NewStream) (now : Command) (commands given : List Command) (from : ℕ) → is_none old.options ≡ false → begin.skeleton ≡ None
-    → HasChanged old commands given → Names old state begin.streams streams → made_for old.options.skeletons streams ≡ Some from → BeginsDescribed from state new streams now
+    → HasChanged old commands given → Names old state begin.streams streams → made_for old.options.skeletons streams ≡ Some from
+    → BeginsDescribed from state new streams now
     → HasChanged new (commands ++ BeginOf begin ∷ []) (given ++ now ∷ [])
 made_changed old state new begin streams now commands given from is plain h named some b =
     let skeletons : Skeletons = old.options.skeletons in
@@ -218,11 +241,13 @@ made_changed old state new begin streams now commands given from is plain h name
           (record { serial = b.serial; head = refl; described = are_described streams }),
     ))
 
-pub begin_changed : (old new : ChangeState) (begin : Begin) (now : Command) (commands given : List Command) → is_none old.options ≡ false → begin.skeleton ≡ None
+pub begin_changed : (old new : ChangeState) (begin : Begin) (now : Command) (commands given : List Command) → is_none old.options ≡ false
+    → begin.skeleton ≡ None
     → Begins old new begin now → HasChanged old commands given → HasChanged new (commands ++ BeginOf begin ∷ []) (given ++ now ∷ [])
 begin_changed old new begin now commands given is plain b h = by (made_for old.options.skeletons b.streams) refl b.begins
   where
-    by : (o : Option ℕ) → made_for old.options.skeletons b.streams ≡ o → BeginsAs o b.state new begin.skeleton b.streams now → HasChanged new (commands ++ BeginOf begin ∷ []) (given ++ now ∷ [])
+    by : (o : Option ℕ) → made_for old.options.skeletons b.streams ≡ o → BeginsAs o b.state new begin.skeleton b.streams now
+        → HasChanged new (commands ++ BeginOf begin ∷ []) (given ++ now ∷ [])
     by None e begins = plain_changed old b.state new begin b.streams now commands given is plain h b.named e begins
     by (Some from) e begins = made_changed old b.state new begin b.streams now commands given from is plain h b.named e begins
 
@@ -236,7 +261,8 @@ put_serials link [] = refl
 put_serials link (entry ∷ entries) =
     put_serials (with_packet link entry) entries ∙ same_serials (grown entry) (λ stream. grown_serial entry.packet stream (nat_eq stream.serial entry.serial)) link
 
-put_under : (state : ChangeState) (earlier : List ℕ) (entries : List Entry) (link link_now : List Stream) → IsUnderNames state earlier link link_now
+put_under : (state : ChangeState) (earlier : List ℕ) (entries : List Entry) (link link_now : List Stream)
+    → IsUnderNames state earlier link link_now
     → IsUnderNames state earlier (fold with_packet link entries) (fold with_packet link_now (entries_named state.names entries))
 put_under state earlier [] link link_now by = by
 put_under state earlier (entry ∷ entries) link link_now by =
@@ -250,11 +276,13 @@ put_under state earlier (entry ∷ entries) link link_now by =
         rest (with_packet link_now (record entry { serial = now }))
         (under_step state earlier link link_now (grown entry) (grown (record entry { serial = now })) (packet_named state.names entry now by.names.distinct e) by)
 
-none_begun : (options : ChangeOptions) (given : List Command) (entries : List Entry) → AllByRecursion (IsBegunAs options) given → AllByRecursion (IsBegunAs options) (given ++ option_list (put_of entries))
+none_begun : (options : ChangeOptions) (given : List Command) (entries : List Entry) → AllByRecursion (IsBegunAs options) given
+    → AllByRecursion (IsBegunAs options) (given ++ option_list (put_of entries))
 none_begun options given [] all = subst (AllByRecursion (IsBegunAs options)) (sym (append-nil given)) all
 none_begun options given (entry ∷ entries) all = all_push (IsBegunAs options) given (PutOf (record { entries = entry ∷ entries })) all tt
 
-pub put_changed : (state : ChangeState) (put : Put) (commands given : List Command) → is_none state.options ≡ false → HasChanged state commands given →
+pub put_changed : (state : ChangeState) (put : Put) (commands given : List Command) → is_none state.options ≡ false
+    → HasChanged state commands given →
     HasChanged state (commands ++ PutOf put ∷ []) (given ++ option_list (put_of (entries_named state.names put.entries)))
 put_changed state put commands given is h =
     let now : List Entry = entries_named state.names put.entries in
@@ -280,18 +308,21 @@ unfolding end_list
 end_serials None link = refl
 end_serials (Some serial) link = same_serials (ended serial) (λ stream. ended_serial stream (nat_eq stream.serial serial)) link
 
-end_under : (state : ChangeState) (earlier : List ℕ) (serial : ℕ) (o : Option ℕ) → name_of state.names serial ≡ o → (link link_now : List Stream) → IsUnderNames state earlier link link_now
+end_under : (state : ChangeState) (earlier : List ℕ) (serial : ℕ) (o : Option ℕ) → name_of state.names serial ≡ o
+    → (link link_now : List Stream) → IsUnderNames state earlier link link_now
     → IsUnderNames state earlier (with_end serial link) (end_list o link_now)
 unfolding end_list
 end_under state earlier serial None e link link_now by = under_only state earlier link link_now (ended serial) (end_other state.names serial e) by
 end_under state earlier serial (Some now) e link link_now by =
     under_step state earlier link link_now (ended serial) (ended now) (end_named state.names serial now by.names.distinct e) by
 
-end_begun : (options : ChangeOptions) (given : List Command) (serial : Option ℕ) → AllByRecursion (IsBegunAs options) given → AllByRecursion (IsBegunAs options) (given ++ option_list (end_of serial))
+end_begun : (options : ChangeOptions) (given : List Command) (serial : Option ℕ) → AllByRecursion (IsBegunAs options) given
+    → AllByRecursion (IsBegunAs options) (given ++ option_list (end_of serial))
 end_begun options given None all = subst (AllByRecursion (IsBegunAs options)) (sym (append-nil given)) all
 end_begun options given (Some serial) all = all_push (IsBegunAs options) given (EndOf serial) all tt
 
-pub end_changed : (state : ChangeState) (serial : ℕ) (commands given : List Command) → is_none state.options ≡ false → HasChanged state commands given →
+pub end_changed : (state : ChangeState) (serial : ℕ) (commands given : List Command) → is_none state.options ≡ false
+    → HasChanged state commands given →
     HasChanged state (commands ++ EndOf serial ∷ []) (given ++ option_list (end_of (name_of state.names serial)))
 end_changed state serial commands given is h =
     let now : Option ℕ = name_of state.names serial in
@@ -303,17 +334,20 @@ end_changed state serial commands given is h =
     (λ earlier. end_under state earlier serial now refl) (by_of state commands given is h))))
 
 -- ---- where nothing is changed
-plain_begun : (skeletons : Skeletons) (renumber : Bool) (command : Command) → is_none_with skeletons renumber ≡ true → IsPlain command → IsBegunAs (record { renumber = renumber; skeletons = skeletons }) command
+plain_begun : (skeletons : Skeletons) (renumber : Bool) (command : Command) → is_none_with skeletons renumber ≡ true → IsPlain command
+    → IsBegunAs (record { renumber = renumber; skeletons = skeletons }) command
 plain_begun Kept renumber (BeginOf begin) e plain = ((λ asked. clash asked refl), plain)
 plain_begun LeftOut renumber (BeginOf begin) e plain = clash e refl
 plain_begun (Made from) renumber (BeginOf begin) e plain = clash e refl
 plain_begun skeletons renumber (PutOf put) e plain = tt
 plain_begun skeletons renumber (EndOf serial) e plain = tt
 
-begins_same : (options : ChangeOptions) (commands given : List Command) (command : Command) → is_none options ≡ true → BeginThose options commands given → BeginThose options (commands ++ command ∷ []) (given ++ command ∷ [])
+begins_same : (options : ChangeOptions) (commands given : List Command) (command : Command) → is_none options ≡ true
+    → BeginThose options commands given → BeginThose options (commands ++ command ∷ []) (given ++ command ∷ [])
 begins_same options commands given command is all = by command
   where
-    same : (skeletons : Skeletons) (renumber : Bool) (streams : List NewStream) → is_none_with skeletons renumber ≡ true → headers_of streams ≡ headers_of (staying skeletons streams)
+    same : (skeletons : Skeletons) (renumber : Bool) (streams : List NewStream) → is_none_with skeletons renumber ≡ true
+        → headers_of streams ≡ headers_of (staying skeletons streams)
     same Kept renumber streams e = refl
     same LeftOut renumber streams e = clash e refl
     same (Made from) renumber streams e = clash e refl
@@ -323,15 +357,18 @@ begins_same options commands given command is all = by command
     by (PutOf put) = stay_on options commands given (PutOf put) (Some (PutOf put)) refl (none_begin given (PutOf put) refl) all
     by (EndOf serial) = stay_on options commands given (EndOf serial) (Some (EndOf serial)) refl (none_begin given (EndOf serial) refl) all
 
-same_if : (b : Bool) (state : ChangeState) (recording now : Recording) → b ≡ true → now ≡ recording → IsChangedIf b state.options recording now × FollowsIf b state recording now
+same_if : (b : Bool) (state : ChangeState) (recording now : Recording) → b ≡ true → now ≡ recording
+    → IsChangedIf b state.options recording now × FollowsIf b state recording now
 same_if true state recording now e same = (same, same)
 same_if false state recording now e same = clash e refl
 
-same_of : (b : Bool) (options : ChangeOptions) (recording now : Recording) → b ≡ true → IsChangedIf b options recording now → now ≡ recording
+same_of : (b : Bool) (options : ChangeOptions) (recording now : Recording) → b ≡ true → IsChangedIf b options recording now
+    → now ≡ recording
 same_of true options recording now e c = c
 same_of false options recording now e c = clash e refl
 
-pub same_command : (state : ChangeState) (command : Command) (commands given : List Command) → is_none state.options ≡ true → HasChanged state commands given → IsPlain command →
+pub same_command : (state : ChangeState) (command : Command) (commands given : List Command) → is_none state.options ≡ true
+    → HasChanged state commands given → IsPlain command →
     HasChanged state (commands ++ command ∷ []) (given ++ command ∷ [])
 same_command state command commands given is h plain =
     let recording : Recording = after [] (commands ++ command ∷ []) in
@@ -350,7 +387,8 @@ same_command state command commands given is h plain =
 
 -- ---- one command after the other
 pub apply_step : (state : ChangeState) (before yielded given now more : List Command) (command : Command) (out : Option Command)
-    → HasChanged state ((before ++ yielded) ++ command ∷ []) ((given ++ now) ++ option_list out) → more ≡ now ++ option_list out → HasChanged state (before ++ (yielded ++ command ∷ [])) (given ++ more)
+    → HasChanged state ((before ++ yielded) ++ command ∷ []) ((given ++ now) ++ option_list out) → more ≡ now ++ option_list out
+    → HasChanged state (before ++ (yielded ++ command ∷ [])) (given ++ more)
 apply_step state before yielded given now more command out h e =
     subst (λ l. HasChanged state l (given ++ more)) (append_assoc before yielded (command ∷ []))
     (subst (HasChanged state ((before ++ yielded) ++ command ∷ [])) (append_assoc given now (option_list out) ∙ ap (λ l. given ++ l) (sym e)) h)
@@ -363,7 +401,8 @@ pub all_last : {X : Type 0} (P : X → Type 0) (xs : List X) (x : X) → AllByRe
 all_last P [] x (p, all) = p
 all_last P (y ∷ xs) x (p, all) = all_last P xs x all
 
-pub same_commands : (state : ChangeState) (before given commands : List Command) → is_none state.options ≡ true → HasChanged state before given → AllByRecursion IsPlain commands →
+pub same_commands : (state : ChangeState) (before given commands : List Command) → is_none state.options ≡ true
+    → HasChanged state before given → AllByRecursion IsPlain commands →
     HasChanged state (before ++ commands) (given ++ commands)
 same_commands state before given [] is h plain = subst (HasChanged state (before ++ [])) (sym (append-nil given)) (subst (λ l. HasChanged state l given) (sym (append-nil before)) h)
 same_commands state before given (command ∷ commands) is h (p, plain) =

@@ -1,6 +1,6 @@
 -- What changed commands have to do with those that they were. Ours.
 use Rattle.std.specs.Prelude.{◌≡◌, ℕ, Bool, true, false, nat_eq, None, List, [], ◌∷◌, ◌++◌, map, ⊤, ◌⊎◌}
-use Rattle.std.specs.List.{AllByRecursion, AllZip, IsDistinct, flat_map, list_any}
+use Rattle.std.specs.List.{AllByRecursion, AllZip, flat_map, list_any}
 use Rattle.std.specs.Map.{values_of}
 use Rattle.chain_rules.specs.Recording.{Stream, Recording, after}
 use Rattle.ogg_command.specs.declared.command.Command.{Command}

@@ -1,7 +1,6 @@
 -- A recording whose links are changed: some Skeletons are left out, others are made, and streams have other serials. Ours.
-use Rattle.std.specs.Prelude.{◌≡◌, ℕ, Bool, true, false, nat_eq, List, [], ◌∷◌, ◌++◌, ⊤, ◌⊎◌}
-use Rattle.std.specs.List.{AllZip, IsDistinct, list_any}
-use Rattle.ogg_command.specs.declared.command.SkeletonHead.{SkeletonHead}
+use Rattle.std.specs.Prelude.{◌≡◌, ℕ, Bool, true, false, nat_eq, List, [], ◌∷◌, ◌++◌, ⊤}
+use Rattle.std.specs.List.{AllZip, IsDistinct}
 use Rattle.ogg_command.specs.declared.command.NewStream.{NewStream}
 use Rattle.chain_rules.specs.Recording.{Stream, Recording, ended_skeleton}
 use Rattle.feed_changes.specs.declared.options.ChangeOptions.{ChangeOptions}

@@ -1,5 +1,5 @@
 -- What is changed. Ours.
-use Rattle.std.specs.Prelude.{Bool, true, false, not}
+use Rattle.std.specs.Prelude.{Bool, false, not}
 use Rattle.feed_changes.specs.declared.options.ChangeOptions.{ChangeOptions}
 use Rattle.feed_changes.specs.declared.options.Skeletons.{Skeletons}
 use Rattle.feed_changes.specs.declared.options.Skeletons.TheVariants.{Kept, LeftOut, Made}
