@@ -11,7 +11,8 @@ use Rattle.feed_changes.specs.Naming.{serials_of, stream_named}
 use Rattle.feed_changes.specs.Renumbered.{serials}
 use Rattle.feed_changes.specs.Links.{HasReason, those}
 use Rattle.feed_changes.specs.Changed.{stream_under}
-use Rattle.feed_changes.specs.Skeletons.{AreOthers, IsDescribed, described, headers_of, is_other, is_skeleton, leaves_out, made_for, staying}
+use Rattle.feed_changes.specs.Skeletons.{AreOthers, IsDescribed, described, headers_of, is_other, is_skeleton, leaves_out, made_for}
+use Rattle.feed_changes.specs.Skeletons.{staying}
 use Rattle.feed_changes.proofs.Renumbers.{clash}
 
 -- ---- which streams stay
@@ -34,7 +35,8 @@ begun_others [] = refl
 begun_others (stream ∷ streams) = by (begun_others streams) (is_other stream)
   where
     by : those (map is_other streams) (map begun streams) ≡ map begun (filter is_other streams) → (b : Bool)
-        → those (b ∷ map is_other streams) (begun stream ∷ map begun streams) ≡ map begun (if b then stream ∷ filter is_other streams else filter is_other streams)
+        → those (b ∷ map is_other streams) (begun stream ∷ map begun streams) ≡ map begun
+        (if b then stream ∷ filter is_other streams else filter is_other streams)
     by rest true = ap (λ l. begun stream ∷ l) rest
     by rest false = rest
 
@@ -58,7 +60,14 @@ not_other false e = absurd (clash refl e)
 others_left : (skeletons : Skeletons) (streams : List NewStream) → leaves_out skeletons ≡ true
     → AllZip (HasReason skeletons) (map is_other streams) (map begun streams)
 others_left skeletons [] asked = tt
-others_left skeletons (stream ∷ streams) asked = ((λ e. record { asked = asked; skeleton = not_other (is_skeleton stream) e }), others_left skeletons streams asked)
+others_left skeletons (stream ∷ streams) asked = (
+  (λ e. record {
+    asked = asked;
+    skeleton = not_other
+        (is_skeleton stream) e;
+  }),
+  others_left skeletons streams asked,
+)
 
 left_asked : (a b : Bool) → (not a || b) ≡ false → a ≡ true
 left_asked true b e = refl
@@ -122,7 +131,10 @@ made_described (Made from) streams =
 
 pub are_described : (streams : List NewStream) → AllByRecursion IsDescribed (map described streams)
 are_described [] = tt
-are_described (stream ∷ streams) = (record { media = refl; fields = refl; rate = refl; base_granule = refl; preroll = refl; shift = refl }, are_described streams)
+are_described (stream ∷ streams) = (
+  record { media = refl; fields = refl; rate = refl; base_granule = refl; preroll = refl; shift = refl },
+  are_described streams,
+)
 
 -- no Skeleton is among them, or nothing else
 abbrev pub AreApart : List NewStream → Type 0
@@ -135,7 +147,8 @@ others_named names (stream ∷ streams) = by (others_named names streams) (is_sk
   where
     by : AllByRecursion (λ stream. is_skeleton stream ≡ false) (map (stream_named names) (filter is_other streams)) → (b : Bool)
         → is_skeleton stream ≡ b →
-        AllByRecursion (λ stream. is_skeleton stream ≡ false) (map (stream_named names) (if not b then stream ∷ filter is_other streams else filter is_other streams))
+        AllByRecursion (λ stream. is_skeleton stream ≡ false) (map (stream_named names)
+        (if not b then stream ∷ filter is_other streams else filter is_other streams))
     by rest true e = rest
     by rest false e = (e, rest)
 

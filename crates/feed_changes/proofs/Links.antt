@@ -1,5 +1,6 @@
 -- The last link under its names, a change of it, and a new one.
-use Rattle.std.proofs.Common.{◌≡◌, ℕ, Bool, true, false, cond, List, [], ◌∷◌, ◌++◌, map, refl, sym, ◌∙◌, ap, subst, append-nil, append_assoc}
+use Rattle.std.proofs.Common.{◌≡◌, ℕ, Bool, true, false, cond, List, [], ◌∷◌, ◌++◌, map, refl, sym, ◌∙◌, ap, subst, append-nil}
+use Rattle.std.proofs.Common.{append_assoc}
 use Rattle.std.specs.Prelude.{nat_eq, Some, None, ◌⊎◌}
 use Rattle.std.proofs.Common.{inl, inr}
 use Rattle.std.specs.List.{AllByRecursion, AllZip, IsDistinct, flat_map, list_any}
@@ -16,7 +17,8 @@ use Rattle.feed_changes.specs.Renumbered.{IsRenumberedStream, avoided, serials}
 use Rattle.feed_changes.specs.Links.{ChangedFrom, IsBefore, IsChangedLink, those}
 use Rattle.feed_changes.specs.Changed.{AreNone, ChangeState, IsFollowed, IsUnderNames, IsUpTo, stream_under}
 use Rattle.feed_changes.proofs.Renumbers.{GoesWith, HasName, eq_named, has_name, serials_under}
-use Rattle.feed_changes.proofs.Lists.{apart_still, left_out_still, map_same, no_serial, same_serials, those_distinct, those_map, under_still}
+use Rattle.feed_changes.proofs.Lists.{apart_still, left_out_still, map_same, no_serial, same_serials, those_distinct, those_map}
+use Rattle.feed_changes.proofs.Lists.{under_still}
 
 -- ---- the last link changes
 staying_serials : (change : Stream → Stream) → ((stream : Stream) → (change stream).serial ≡ stream.serial)
@@ -38,18 +40,21 @@ under_step state earlier link link_now change now with by =
       named = subst (AreNamed names) (sym same) by.named;
       before = by.before;
       made = subst (λ l. IsBefore state.options.skeletons earlier l by.before)
-          (serials_under names stay ∙ ap (map (named names)) (sym same) ∙ sym (serials_under names (those by.stays (map change link)))) by.made;
+          (serials_under names stay ∙ ap (map (named names)) (sym same)
+          ∙ sym (serials_under names (those by.stays (map change link)))) by.made;
       apart = by.apart;
       is = ap (map now) by.is ∙ map-append now by.before (map (stream_under names) stay)
           ∙ ap (λ l. l ++ map now (map (stream_under names) stay)) (apart_still names change now with by.before by.apart)
-          ∙ ap (λ l. by.before ++ l) (under_still names change now with stay by.named ∙ ap (map (stream_under names)) (sym (those_map change by.stays link)));
+          ∙ ap (λ l. by.before ++ l) (under_still names change now with stay by.named
+          ∙ ap (map (stream_under names)) (sym (those_map change by.stays link)));
     }
 
 pub under_only : (state : ChangeState) (earlier : List ℕ) (link link_now : List Stream) (change : Stream → Stream)
     → GoesWith state.names change (λ stream. stream)
     → IsUnderNames state earlier link link_now → IsUnderNames state earlier (map change link) link_now
 under_only state earlier link link_now change with by =
-    subst (IsUnderNames state earlier (map change link)) (map_same link_now) (under_step state earlier link link_now change (λ stream. stream) with by)
+    subst (IsUnderNames state earlier (map change link)) (map_same link_now)
+    (under_step state earlier link link_now change (λ stream. stream) with by)
 
 -- ---- the link is changed as asked
 fresh : (given : List ℕ) (names : List (ℕ × ℕ)) (serial now : ℕ) → AllByRecursion (IsFreshName given) names
@@ -65,7 +70,8 @@ fresh given ((k, v) ∷ names) serial now (p, all) e = by (fresh given names ser
 
     by : (name_of names serial ≡ Some now → IsFreshName given (serial, now)) → (b : Bool) → nat_eq serial k ≡ b
         → cond b (Some v) (name_of names serial) ≡ Some now → IsFreshName given (serial, now)
-    by rest true q f = subst (λ n. IsFreshName given (n, now)) (sym (eqb-true serial k q)) (subst (λ n. IsFreshName given (k, n)) (value f) p)
+    by rest true q f = subst (λ n. IsFreshName given (n, now)) (sym (eqb-true serial k q))
+        (subst (λ n. IsFreshName given (k, n)) (value f) p)
     by rest false q f = rest f
 
 pub new_streams : (given : List ℕ) (names : List (ℕ × ℕ)) (link : List Stream) → AreNames given names → AreNamed names (serials link)
@@ -85,17 +91,22 @@ new_streams given names (stream ∷ link) are (key, all) =
 
 names_apart : (names : List (ℕ × ℕ)) (serial : ℕ) (others : List ℕ) → IsDistinct nat_eq (values_of names)
     → list_any (nat_eq serial) (keys_of names) ≡ true → AreNamed names others
-    → AllByRecursion (λ y. nat_eq serial y ≡ false) others → AllByRecursion (λ y. nat_eq (named names serial) y ≡ false) (map (named names) others)
+    → AllByRecursion (λ y. nat_eq serial y ≡ false) others → AllByRecursion (λ y. nat_eq (named names serial) y ≡ false)
+    (map (named names) others)
 names_apart names serial [] d key all apart = tt
 names_apart names serial (y ∷ others) d key (other, all) (p, apart) =
-    let h : HasName names y = has_name names y other in
-    (ap (nat_eq (named names serial)) h.named_is ∙ eq_named names serial y h.now d key h.is ∙ p, names_apart names serial others d key all apart)
+    let h : HasName names y = has_name names y other in (
+      ap (nat_eq (named names serial)) h.named_is ∙ eq_named names serial y h.now d key h.is
+          ∙ p,
+      names_apart names serial others d key all apart,
+    )
 
 pub names_distinct : (names : List (ℕ × ℕ)) (serials : List ℕ) → IsDistinct nat_eq (values_of names) → AreNamed names serials
     → IsDistinct nat_eq serials → IsDistinct nat_eq (map (named names) serials)
 unfolding IsDistinct
 names_distinct names [] d all distinct = tt
-names_distinct names (serial ∷ serials) d (key, all) (apart, distinct) = (names_apart names serial serials d key all apart, names_distinct names serials d all distinct)
+names_distinct names (serial ∷ serials) d (key, all) (apart, distinct) =
+    (names_apart names serial serials d key all apart, names_distinct names serials d all distinct)
 
 -- the serials of a link that has a Skeleton before its streams
 distinct_before : (skeletons : Skeletons) (earlier : List ℕ) (streams before : List Stream)
@@ -106,8 +117,12 @@ distinct_before skeletons earlier streams [] made d = d
 distinct_before Kept earlier streams (skeleton ∷ more) made d = absurd made
 distinct_before LeftOut earlier streams (skeleton ∷ more) made d = absurd made
 distinct_before (Made from) earlier streams (skeleton ∷ next ∷ more) made d = absurd made
-distinct_before (Made from) earlier streams (skeleton ∷ []) made d =
-    (subst (λ (s : Stream). AllByRecursion (λ y. nat_eq s.serial y ≡ false) (serials streams)) (sym made.is) (no_serial made.serial (serials streams) (or_parts (list_any (nat_eq made.serial) earlier) (list_any (nat_eq made.serial) (serials streams)) made.first.free).1), d)
+distinct_before (Made from) earlier streams (skeleton ∷ []) made d = (
+  subst (λ (s : Stream). AllByRecursion (λ y. nat_eq s.serial y ≡ false) (serials streams)) (sym made.is)
+      (no_serial made.serial (serials streams) (or_parts (list_any (nat_eq made.serial) earlier)
+      (list_any (nat_eq made.serial) (serials streams)) made.first.free).1),
+  d,
+)
 
 pub link_changed : (state : ChangeState) (earlier : List ℕ) (link now : List Stream) → IsUnderNames state earlier link now
     → IsChangedLink state.options earlier link now
@@ -126,7 +141,8 @@ link_changed state earlier link now by =
       distinct = λ d.
           subst (λ l. IsDistinct nat_eq (serials l)) (sym by.is)
           (distinct_before state.options.skeletons earlier streams by.before by.made
-          (subst (IsDistinct nat_eq) (sym (serials_under names stay)) (names_distinct names (serials stay) by.names.distinct by.named (those_distinct by.stays link d))));
+          (subst (IsDistinct nat_eq) (sym (serials_under names stay)) (names_distinct names (serials stay) by.names.distinct by.named
+          (those_distinct by.stays link d))));
     }
 
 from_push : (options : ChangeOptions) (earlier : List ℕ) (recording now : Recording) (link more : List Stream)
@@ -182,7 +198,8 @@ all_serials change same (l ∷ k ∷ recording) = ap (λ s. serials l ++ s) (all
 
 pub change_step : (state : ChangeState) (change now_change : List Stream → List Stream) (recording now : Recording)
     → ((link : List Stream) → serials (now_change link) ≡ serials link)
-    → ((earlier : List ℕ) (link link_now : List Stream) → IsUnderNames state earlier link link_now → IsUnderNames state earlier (change link) (now_change link_now))
+    → ((earlier : List ℕ) (link link_now : List Stream) → IsUnderNames state earlier link link_now
+    → IsUnderNames state earlier (change link) (now_change link_now))
     → IsFollowed state recording now → IsFollowed state (change_last change recording) (change_last now_change now)
 change_step state change now_change recording now same step by = record {
   up_to = pick by.up_to;
@@ -190,7 +207,8 @@ change_step state change now_change recording now same step by = record {
 }
   where
     pick : AreNone recording now ⊎ IsUpTo state recording now
-        → AreNone (change_last change recording) (change_last now_change now) ⊎ IsUpTo state (change_last change recording) (change_last now_change now)
+        → AreNone (change_last change recording) (change_last now_change now) ⊎ IsUpTo state (change_last change recording)
+        (change_last now_change now)
     pick (inl (a, b)) = inl (ap (change_last change) a, ap (change_last now_change) b)
     pick (inr up) = inr (record {
       links = up.links;

@@ -80,5 +80,6 @@ pub no_serial : (serial : ℕ) (serials : List ℕ) → list_any (nat_eq serial)
     → AllByRecursion (λ y. nat_eq serial y ≡ false) serials
 no_serial serial [] e = tt
 no_serial serial (y ∷ serials) e =
-    let parts : (nat_eq serial y ≡ false) × (list_any (nat_eq serial) serials ≡ false) = or_parts (nat_eq serial y) (list_any (nat_eq serial) serials) e in
+    let parts : (nat_eq serial y ≡ false) × (list_any (nat_eq serial) serials ≡ false) = or_parts (nat_eq serial y)
+    (list_any (nat_eq serial) serials) e in
     (parts.0, no_serial serial serials parts.1)

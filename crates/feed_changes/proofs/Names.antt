@@ -1,5 +1,6 @@
 -- Names, one more after the other.
-use Rattle.std.proofs.Common.{◌≡◌, ℕ, Bool, true, false, List, [], ◌∷◌, ◌++◌, refl, sym, ◌∙◌, ap, subst, arith, append-nil, zero, suc, get_or, length, ◌<◌}
+use Rattle.std.proofs.Common.{◌≡◌, ℕ, Bool, true, false, List, [], ◌∷◌, ◌++◌, refl, sym, ◌∙◌, ap, subst, arith, append-nil, zero, suc}
+use Rattle.std.proofs.Common.{get_or, length, ◌<◌}
 use Rattle.std.specs.Prelude.{nat_eq, ◌||◌}
 use Rattle.std.specs.List.{AllByRecursion, IsDistinct, list_any}
 use Rattle.std.specs.Map.{keys_of, values_of}
@@ -9,7 +10,8 @@ use Rattle.std.proofs.lemmas.List.Folds.{list_any-append}
 use Rattle.std.proofs.lemmas.Bool.{eq-eqb}
 use Rattle.std.proofs.lemmas.Map.Made.{is_some-lookup}
 use Rattle.std.specs.Option.{is_some}
-use Rattle.feed_changes.specs.Naming.{AreNamed, AreNames, AreOnlyOf, IsFreshName, IsKept, Keeps, KeepsAll, Renames, entries_named, entry_with, name_of, serials_of}
+use Rattle.feed_changes.specs.Naming.{AreNamed, AreNames, AreOnlyOf, IsFreshName, IsKept, Keeps, KeepsAll, Renames, entries_named}
+use Rattle.feed_changes.specs.Naming.{entry_with, name_of, serials_of}
 use Rattle.std.proofs.lemmas.List.Elements.{filter_map-append}
 use Rattle.std.specs.Prelude.{Option}
 use Rattle.std.specs.List.{cons_option}
@@ -27,7 +29,11 @@ keyed_more serial names more e = ap (list_any (nat_eq serial)) (map-append (λ (
 pub kept_more : (given : List ℕ) (names more : List (ℕ × ℕ)) (serials : List ℕ) → AllByRecursion (IsKept given names) serials
     → AllByRecursion (IsKept given (names ++ more)) serials
 kept_more given names more [] all = tt
-kept_more given names more (serial ∷ serials) (kept, all) = ((λ new. keyed_more serial names more (kept new)), kept_more given names more serials all)
+kept_more given names more (serial ∷ serials) (kept, all) = (
+  (λ new. keyed_more serial names more
+      (kept new)),
+  kept_more given names more serials all,
+)
 
 pub named_more : (names more : List (ℕ × ℕ)) (serials : List ℕ) → AreNamed names serials → AreNamed (names ++ more) serials
 named_more names more [] all = tt
@@ -61,8 +67,10 @@ pub names_push : (given : List ℕ) (names : List (ℕ × ℕ)) (serial now : �
     → (list_any (nat_eq serial) given ≡ false → now ≡ serial) → list_any (nat_eq now) (values_of names) ≡ false
     → AreNames given (names ++ (serial, now) ∷ [])
 names_push given names serial now are new free kept none = record {
-  once = subst (IsDistinct nat_eq) (sym (map-append (λ (e : ℕ × ℕ). e.0) names ((serial, now) ∷ []))) (distinct_push (keys_of names) serial are.once new);
-  distinct = subst (IsDistinct nat_eq) (sym (map-append (λ (e : ℕ × ℕ). e.1) names ((serial, now) ∷ []))) (distinct_push (values_of names) now are.distinct none);
+  once = subst (IsDistinct nat_eq) (sym (map-append (λ (e : ℕ × ℕ). e.0) names ((serial, now) ∷ [])))
+      (distinct_push (keys_of names) serial are.once new);
+  distinct = subst (IsDistinct nat_eq) (sym (map-append (λ (e : ℕ × ℕ). e.1) names ((serial, now) ∷ [])))
+      (distinct_push (values_of names) now are.distinct none);
   each = all_push (IsFreshName given) names (serial, now) are.each (record { free = free; kept = kept });
 }
 
@@ -105,7 +113,8 @@ keeps_one given serial names free none = record {
   more = (serial, serial) ∷ [];
   appended = refl;
   kept = λ new. own_key names serial serial;
-  are = λ are own. names_push given names serial serial are none free (λ e. refl) (subst (λ l. list_any (nat_eq serial) l ≡ false) own none);
+  are = λ are own. names_push given names serial serial are none free (λ e. refl)
+      (subst (λ l. list_any (nat_eq serial) l ≡ false) own none);
   own = λ own.
       map-append (λ (e : ℕ × ℕ). e.0) names ((serial, serial) ∷ []) ∙ ap (λ l. l ++ serial ∷ []) own
       ∙ sym (map-append (λ (e : ℕ × ℕ). e.1) names ((serial, serial) ∷ []));
@@ -148,7 +157,8 @@ renames_one given serial now names none free unused = record {
 -- ---- stream after stream
 any_own : (serials : List ℕ) (serial : ℕ) → list_any (nat_eq serial) (serials ++ serial ∷ []) ≡ true
 any_own serials serial =
-    list_any-append (nat_eq serial) serials (serial ∷ []) ∙ ap (λ b. list_any (nat_eq serial) serials || (b || false)) (eq-eqb serial serial refl)
+    list_any-append (nat_eq serial) serials (serial ∷ []) ∙ ap (λ b. list_any (nat_eq serial) serials || (b || false))
+    (eq-eqb serial serial refl)
     ∙ or_true (list_any (nat_eq serial) serials)
 
 only_more : (serials more keys : List ℕ) → AllByRecursion (λ key. list_any (nat_eq key) serials ≡ true) keys
@@ -168,7 +178,8 @@ keeps_next given old new serials serial all next = record {
 
 pub kept_next : (given : List ℕ) (old new : List (ℕ × ℕ)) (serials : List ℕ) (serial : ℕ) → AllByRecursion (IsKept given old) serials
     → Renames given serial old new → AllByRecursion (IsKept given new) serials
-kept_next given old new serials serial all next = subst (λ l. AllByRecursion (IsKept given l) serials) (sym next.appended) (kept_more given old next.more serials all)
+kept_next given old new serials serial all next = subst (λ l. AllByRecursion (IsKept given l) serials) (sym next.appended)
+    (kept_more given old next.more serials all)
 
 pub named_next : (given : List ℕ) (old new : List (ℕ × ℕ)) (serials : List ℕ) (serial : ℕ) → AreNamed old serials
     → Renames given serial old new → AreNamed new (serials ++ serial ∷ [])
@@ -190,7 +201,8 @@ kept_at given names (stream ∷ streams) (suc i) d less (p, all) = kept_at given
 pub serial_at : (streams : List NewStream) (i : ℕ) (d : NewStream) → i < length streams
     → list_any (nat_eq (get_or streams i d).serial) (serials_of streams) ≡ true
 serial_at [] i d less = absurd (omega (arith, less))
-serial_at (stream ∷ streams) zero d less = ap (λ b. b || list_any (nat_eq stream.serial) (serials_of streams)) (eq-eqb stream.serial stream.serial refl)
+serial_at (stream ∷ streams) zero d less = ap (λ b. b || list_any (nat_eq stream.serial) (serials_of streams))
+    (eq-eqb stream.serial stream.serial refl)
 serial_at (stream ∷ streams) (suc i) d less =
     ap (λ b. nat_eq (get_or streams i d).serial stream.serial || b) (serial_at streams i d (omega (arith, less)))
     ∙ or_true (nat_eq (get_or streams i d).serial stream.serial)

@@ -65,8 +65,10 @@ same_key ((k, v) ∷ names) s t now (apart, d) e f = by (same_key names s t now 
     by : (name_of names s ≡ Some now → name_of names t ≡ Some now → s ≡ t) → (a b : Bool) → nat_eq s k ≡ a → nat_eq t k ≡ b →
         cond a (Some v) (name_of names s) ≡ Some now → cond b (Some v) (name_of names t) ≡ Some now → s ≡ t
     by rest true true p q e f = eqb-true s k p ∙ sym (eqb-true t k q)
-    by rest true false p q e f = absurd (no_value names t now (subst (λ n. AllByRecursion (λ y. nat_eq n y ≡ false) (values_of names)) (value e) apart) f)
-    by rest false true p q e f = absurd (no_value names s now (subst (λ n. AllByRecursion (λ y. nat_eq n y ≡ false) (values_of names)) (value f) apart) e)
+    by rest true false p q e f = absurd (no_value names t now (subst (λ n. AllByRecursion (λ y. nat_eq n y ≡ false) (values_of names))
+        (value e) apart) f)
+    by rest false true p q e f = absurd (no_value names s now (subst (λ n. AllByRecursion (λ y. nat_eq n y ≡ false) (values_of names))
+        (value f) apart) e)
     by rest false false p q e f = rest e f
 
 -- a serial that is named, and its name
@@ -142,8 +144,10 @@ any_named names serial (y ∷ serials) e = by (any_named names serial serials) (
   where
     by : (list_any (nat_eq serial) serials ≡ true → list_any (nat_eq (named names serial)) (map (named names) serials) ≡ true) → (b : Bool)
         → nat_eq serial y ≡ b
-        → (b || list_any (nat_eq serial) serials) ≡ true → (nat_eq (named names serial) (named names y) || list_any (nat_eq (named names serial)) (map (named names) serials)) ≡ true
-    by rest true p f = ap (λ b. b || list_any (nat_eq (named names serial)) (map (named names) serials)) (eq-eqb (named names serial) (named names y) (ap (named names) (eqb-true serial y p)))
+        → (b || list_any (nat_eq serial) serials) ≡ true → (nat_eq (named names serial) (named names y) || list_any
+        (nat_eq (named names serial)) (map (named names) serials)) ≡ true
+    by rest true p f = ap (λ b. b || list_any (nat_eq (named names serial)) (map (named names) serials))
+        (eq-eqb (named names serial) (named names y) (ap (named names) (eqb-true serial y p)))
     by rest false p f = ap (λ b. nat_eq (named names serial) (named names y) || b) (rest f)
         ∙ or_true (nat_eq (named names serial) (named names y))
 
@@ -159,7 +163,8 @@ values_had names serials n none ((k, v) ∷ rest) (is, found) (among, only) =
     by : (b : Bool) → nat_eq n v ≡ b → b ≡ false
     by false e = refl
     by true e =
-        clash (subst (λ m. list_any (nat_eq m) (map (named names) serials) ≡ true) (ap (λ o. unwrap_or o k) is ∙ sym (eqb-true n v e)) (any_named names k serials among)) none
+        clash (subst (λ m. list_any (nat_eq m) (map (named names) serials) ≡ true) (ap (λ o. unwrap_or o k) is ∙ sym (eqb-true n v e))
+        (any_named names k serials among)) none
 
 pub not_among : (names : List (ℕ × ℕ)) (serial : ℕ) (serials : List ℕ) → AreNamed names serials → IsNoName names serial
     → list_any (nat_eq serial) (map (named names) serials) ≡ false
@@ -172,7 +177,8 @@ not_among names serial (y ∷ serials) (key, all) none =
 pub names_are : (names : List (ℕ × ℕ)) (serials : List ℕ) → IsDistinct nat_eq (keys_of names) → AreNamed names serials
     → AreOnlyOf names serials → (n : ℕ)
     → list_any (nat_eq n) (values_of names) ≡ list_any (nat_eq n) (map (named names) serials)
-names_are names serials once all only n = by (list_any (nat_eq n) (values_of names)) (list_any (nat_eq n) (map (named names) serials)) refl refl
+names_are names serials once all only n = by (list_any (nat_eq n) (values_of names))
+    (list_any (nat_eq n) (map (named names) serials)) refl refl
   where
     by : (a b : Bool) → list_any (nat_eq n) (values_of names) ≡ a → list_any (nat_eq n) (map (named names) serials) ≡ b → a ≡ b
     by true true p q = refl
@@ -265,7 +271,8 @@ pub packet_other : (names : List (ℕ × ℕ)) (entry : Entry) → name_of names
 packet_other names entry none = record {
   serial = λ stream. grown_serial entry.packet stream (nat_eq stream.serial entry.serial);
   fishead = λ stream. grown_fishead entry.packet stream (nat_eq stream.serial entry.serial);
-  under = λ stream key. ap (λ b. stream_under names (grown_if entry.packet stream b)) (sym (other names stream.serial entry.serial key none));
+  under = λ stream key. ap (λ b. stream_under names (grown_if entry.packet stream b))
+      (sym (other names stream.serial entry.serial key none));
   apart = λ stream none. refl;
 }
 

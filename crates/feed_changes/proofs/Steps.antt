@@ -6,7 +6,8 @@ use Rattle.std.specs.Map.{values_of}
 use Rattle.std.proofs.lemmas.List.Elements.{filter_map-append}
 use Rattle.std.proofs.lemmas.List.Sums.{fold-append}
 use Rattle.link_chain.specs.Limits.{most_streams}
-use Rattle.chain_rules.specs.Recording.{Stream, Recording, add, after, begun, begun_link, change_last, ended_skeleton, with_packet, with_end}
+use Rattle.chain_rules.specs.Recording.{Stream, Recording, add, after, begun, begun_link, change_last, ended_skeleton, with_packet}
+use Rattle.chain_rules.specs.Recording.{with_end}
 use Rattle.ogg_command.specs.declared.command.Command.{Command}
 use Rattle.ogg_command.specs.declared.command.Command.TheVariants.{Begin as BeginOf, Put as PutOf, End as EndOf}
 use Rattle.ogg_command.specs.declared.command.Begin.{Begin}
@@ -17,17 +18,23 @@ use Rattle.feed_changes.specs.declared.options.ChangeOptions.{ChangeOptions}
 use Rattle.feed_changes.specs.declared.options.Skeletons.{Skeletons}
 use Rattle.feed_changes.specs.declared.options.Skeletons.TheVariants.{Kept, LeftOut, Made}
 use Rattle.feed_changes.specs.Options.{is_none, is_none_with}
-use Rattle.feed_changes.specs.Naming.{AreNamed, AreNames, entries_named, entry_with, is_had, name_of, named, serials_of, stream_named, IsFirstFree}
+use Rattle.feed_changes.specs.Naming.{AreNamed, AreNames, entries_named, entry_with, is_had, name_of, named, serials_of, stream_named}
+use Rattle.feed_changes.specs.Naming.{IsFirstFree}
 use Rattle.feed_changes.specs.Renumbered.{avoided, serials}
 use Rattle.feed_changes.specs.Links.{IsBefore, IsMadeFor, those}
-use Rattle.feed_changes.specs.Skeletons.{AreOthers, BeginThose, BeginsThose, HasHead, IsBegunAs, begin_of, begins_of, described, head_with, headers_of, is_skeleton, made_for, staying}
-use Rattle.feed_changes.specs.Changed.{ChangeState, FollowsIf, HasChanged, IsChangedIf, IsFollowed, IsNoName, IsPlain, IsUnderNames, stream_under}
+use Rattle.feed_changes.specs.Skeletons.{AreOthers, BeginThose, BeginsThose, HasHead, IsBegunAs, begin_of, begins_of, described}
+use Rattle.feed_changes.specs.Skeletons.{head_with, headers_of, is_skeleton, made_for, staying}
+use Rattle.feed_changes.specs.Changed.{ChangeState, FollowsIf, HasChanged, IsChangedIf, IsFollowed, IsNoName, IsPlain, IsUnderNames}
+use Rattle.feed_changes.specs.Changed.{stream_under}
 use Rattle.feed_changes.specs.Steps.{Begins, BeginsAs, BeginsDescribed, BeginsPlain, Names, end_of, option_list, put_of}
 use Rattle.feed_changes.proofs.Names.{all_push, or_right}
-use Rattle.feed_changes.proofs.Renumbers.{clash, end_named, end_other, ended, ended_serial, grown, grown_serial, names_are, packet_named, packet_other}
+use Rattle.feed_changes.proofs.Renumbers.{clash, end_named, end_other, ended, ended_serial, grown, grown_serial, names_are, packet_named}
+use Rattle.feed_changes.proofs.Renumbers.{packet_other}
 use Rattle.feed_changes.proofs.Lists.{same_serials, zip_push}
 use Rattle.feed_changes.proofs.Links.{begin_step, change_step, followed_changed, same_last, under_only, under_step}
-use Rattle.feed_changes.proofs.Begins.{are_described, begun_described, begun_named, begun_serials, begun_staying, described_apart, described_serials, headers_described, headers_named, left_of, made_described, named_apart, stays_of}
+use Rattle.feed_changes.proofs.Begins.{are_described, begun_described, begun_named, begun_serials, begun_staying, described_apart}
+use Rattle.feed_changes.proofs.Begins.{described_serials, headers_described, headers_named, left_of, made_described, named_apart}
+use Rattle.feed_changes.proofs.Begins.{stays_of}
 
 after_push : (commands : List Command) (command : Command) → after [] (commands ++ command ∷ []) ≡ add (after [] commands) command
 after_push commands command = fold-append add [] commands (command ∷ [])
@@ -56,7 +63,8 @@ of_by state commands given e stay begun by =
     }
 
 -- ---- which streams begin
-begins_push : (commands : List Command) (command : Command) → begins_of (commands ++ command ∷ []) ≡ begins_of commands ++ cons_option (begin_of command) []
+begins_push : (commands : List Command) (command : Command) → begins_of (commands ++ command ∷ []) ≡ begins_of commands ++ cons_option
+    (begin_of command) []
 begins_push commands command = filter_map-append begin_of commands (command ∷ [])
 
 stay_push : (options : ChangeOptions) (commands given : List Command) (command now : Command) (begin begin_now : Begin)
@@ -64,8 +72,10 @@ stay_push : (options : ChangeOptions) (commands given : List Command) (command n
     → BeginThose options commands given → BeginsThose options begin begin_now
     → BeginThose options (commands ++ command ∷ []) (given ++ now ∷ [])
 stay_push options commands given command now begin begin_now is now_is all those =
-    subst (λ l. AllZip (BeginsThose options) l (begins_of (given ++ now ∷ []))) (ap (λ o. begins_of commands ++ cons_option o []) (sym is) ∙ sym (begins_push commands command))
-    (subst (AllZip (BeginsThose options) (begins_of commands ++ begin ∷ [])) (ap (λ o. begins_of given ++ cons_option o []) (sym now_is) ∙ sym (begins_push given now))
+    subst (λ l. AllZip (BeginsThose options) l (begins_of (given ++ now ∷ [])))
+    (ap (λ o. begins_of commands ++ cons_option o []) (sym is) ∙ sym (begins_push commands command))
+    (subst (AllZip (BeginsThose options) (begins_of commands ++ begin ∷ []))
+    (ap (λ o. begins_of given ++ cons_option o []) (sym now_is) ∙ sym (begins_push given now))
     (zip_push (BeginsThose options) (begins_of commands) (begins_of given) begin begin_now all those))
 
 -- these begin none
@@ -90,7 +100,8 @@ end_begins given None = ap begins_of (sym (append-nil given))
 end_begins given (Some serial) = none_begin given (EndOf serial) refl
 
 -- ---- a `Begin`
-under_of : (options : ChangeOptions) (given : List ℕ) (names : List (ℕ × ℕ)) (streams now : List NewStream) (earlier : List ℕ) (before link_now : List Stream)
+under_of : (options : ChangeOptions) (given : List ℕ) (names : List (ℕ × ℕ)) (streams now : List NewStream) (earlier : List ℕ)
+    (before link_now : List Stream)
     → AreNames (avoided options.renumber earlier) names → AreNamed names (serials_of (staying options.skeletons streams))
     → now ≡ map (stream_named names) (staying options.skeletons streams)
     → IsBefore options.skeletons earlier (serials_of now) before → AllByRecursion (IsNoName names) (serials before)
@@ -119,9 +130,12 @@ under_new : (old state new : ChangeState) (streams now : List NewStream) (earlie
     → AllByRecursion (IsNoName state.names) (serials before)
     → link_now ≡ before ++ map begun now → IsUnderNames new earlier (map begun streams) link_now
 under_new old state new streams now earlier before link_now named given options names made apart is =
-    subst (λ o. IsUnderNames (record { options = o; given = new.given; names = new.names }) earlier (map begun streams) link_now) (sym (options ∙ named.options))
-    (subst (λ m. IsUnderNames (record { options = old.options; given = new.given; names = m }) earlier (map begun streams) link_now) (sym names)
-    (under_of old.options new.given state.names streams now earlier before link_now (subst (λ e. AreNames (avoided old.options.renumber e) state.names) given named.names)
+    subst (λ o. IsUnderNames (record { options = o; given = new.given; names = new.names }) earlier (map begun streams) link_now)
+    (sym (options ∙ named.options))
+    (subst (λ m. IsUnderNames (record { options = old.options; given = new.given; names = m }) earlier (map begun streams) link_now)
+    (sym names)
+    (under_of old.options new.given state.names streams now earlier before link_now
+    (subst (λ e. AreNames (avoided old.options.renumber e) state.names) given named.names)
     named.named named.now_is made apart is))
 
 begin_as : (old new : ChangeState) (begin : Begin) (now : Command) (link_now : List Stream) (commands given : List Command)
@@ -139,7 +153,8 @@ begin_as old new begin now link_now commands given is plain h same given_is adde
     (subst (λ r. IsFollowed new r (after [] (given ++ now ∷ [])))
     (ap (λ s. after [] commands ++ begun_link s begin.streams ∷ []) (sym plain) ∙ sym (after_push commands (BeginOf begin)))
     (subst (IsFollowed new (after [] commands ++ map begun begin.streams ∷ [])) (sym (added (after [] given)) ∙ sym (after_push given now))
-    (begin_step old new (after [] commands) (after [] given) (map begun begin.streams) link_now (by_of old commands given is h) same under given_is)))
+    (begin_step old new (after [] commands) (after [] given) (map begun begin.streams) link_now
+    (by_of old commands given is h) same under given_is)))
 
 stay_headers : (old state : ChangeState) (begin : Begin) (streams : List NewStream) → Names old state begin.streams streams
     → headers_of streams ≡ headers_of (staying old.options.skeletons begin.streams)
@@ -157,7 +172,8 @@ plain_changed old state new begin streams now commands given is plain h named no
     begin_as old new begin now (map begun streams) commands given is plain h (b.options ∙ named.options)
     (b.given ∙ ap (λ l. l ++ serials_of streams) named.given ∙ ap (λ l. old.given ++ l) (sym (begun_serials streams)))
     (λ recording. ap (add recording) b.now_is ∙ ap (λ s. recording ++ begun_link s streams ∷ []) plain)
-    (under_new old state new begin.streams streams (flat_map serials (after [] given)) [] (map begun streams) named by.given b.options b.names tt tt refl)
+    (under_new old state new begin.streams streams (flat_map serials (after [] given)) []
+    (map begun streams) named by.given b.options b.names tt tt refl)
     (record { skeleton = begin.skeleton; streams = streams }) b.now_is (stay_headers old state begin streams named)
     (subst (IsBegunAs old.options) (sym b.now_is) (
       subst (AreOthers skeletons) (sym named.now_is) (named_apart state.names skeletons begin.streams),
@@ -207,7 +223,8 @@ is_before (Made first) streams from earlier serials skeleton e made =
     by true f = absurd (none f)
     by false f = value f
 
-made_changed : (old state new : ChangeState) (begin : Begin) (streams : List NewStream) (now : Command) (commands given : List Command) (from : ℕ) → is_none old.options ≡ false → begin.skeleton ≡ None
+made_changed : (old state new : ChangeState) (begin : Begin) (streams : List NewStream) (now : Command) (commands given : List Command)
+    (from : ℕ) → is_none old.options ≡ false → begin.skeleton ≡ None
     → HasChanged old commands given → Names old state begin.streams streams → made_for old.options.skeletons streams ≡ Some from
     → BeginsDescribed from state new streams now
     → HasChanged new (commands ++ BeginOf begin ∷ []) (given ++ now ∷ [])
@@ -233,11 +250,14 @@ made_changed old state new begin streams now commands given from is plain h name
     (λ recording. ap (add recording) b.now_is)
     (under_new old state new begin.streams streams earlier (skeleton ∷ []) (skeleton ∷ map begun more) named by.given b.options b.names
     (is_before skeletons streams from earlier (serials_of streams) skeleton some made)
-    (or_right (list_any (nat_eq b.serial) state.given) (list_any (nat_eq b.serial) (values_of state.names)) b.first.free, tt) (ap (λ l. skeleton ∷ l) (begun_described streams)))
-    (record { skeleton = Some (head_with b.serial); streams = more }) b.now_is (headers_described streams ∙ stay_headers old state begin streams named)
+    (or_right (list_any (nat_eq b.serial) state.given) (list_any (nat_eq b.serial) (values_of state.names)) b.first.free, tt)
+    (ap (λ l. skeleton ∷ l) (begun_described streams)))
+    (record { skeleton = Some (head_with b.serial); streams = more }) b.now_is
+    (headers_described streams ∙ stay_headers old state begin streams named)
     (subst (IsBegunAs old.options) (sym b.now_is) (
       described_apart skeletons streams (subst (AreOthers skeletons) (sym named.now_is) (named_apart state.names skeletons begin.streams)),
-      subst (λ o. HasHead o (record { skeleton = Some (head_with b.serial); streams = more })) (sym (made_described skeletons streams ∙ some))
+      subst (λ o. HasHead o (record { skeleton = Some (head_with b.serial); streams = more }))
+          (sym (made_described skeletons streams ∙ some))
           (record { serial = b.serial; head = refl; described = are_described streams }),
     ))
 
@@ -252,14 +272,16 @@ begin_changed old new begin now commands given is plain b h = by (made_for old.o
     by (Some from) e begins = made_changed old b.state new begin b.streams now commands given from is plain h b.named e begins
 
 -- ---- packets
-put_list : (given : List Command) (entries : List Entry) → after [] (given ++ option_list (put_of entries)) ≡ change_last (λ link. fold with_packet link entries) (after [] given)
+put_list : (given : List Command) (entries : List Entry) → after [] (given ++ option_list (put_of entries)) ≡ change_last
+    (λ link. fold with_packet link entries) (after [] given)
 put_list given [] = ap (after []) (append-nil given) ∙ sym (same_last (after [] given))
 put_list given (entry ∷ entries) = after_push given (PutOf (record { entries = entry ∷ entries }))
 
 put_serials : (link : List Stream) (entries : List Entry) → serials (fold with_packet link entries) ≡ serials link
 put_serials link [] = refl
 put_serials link (entry ∷ entries) =
-    put_serials (with_packet link entry) entries ∙ same_serials (grown entry) (λ stream. grown_serial entry.packet stream (nat_eq stream.serial entry.serial)) link
+    put_serials (with_packet link entry) entries ∙ same_serials (grown entry)
+    (λ stream. grown_serial entry.packet stream (nat_eq stream.serial entry.serial)) link
 
 put_under : (state : ChangeState) (earlier : List ℕ) (entries : List Entry) (link link_now : List Stream)
     → IsUnderNames state earlier link link_now
@@ -268,13 +290,17 @@ put_under state earlier [] link link_now by = by
 put_under state earlier (entry ∷ entries) link link_now by =
     pick (put_under state earlier entries (with_packet link entry)) (name_of state.names entry.serial) refl
   where
-    pick : ((now : List Stream) → IsUnderNames state earlier (with_packet link entry) now → IsUnderNames state earlier (fold with_packet (with_packet link entry) entries) (fold with_packet now (entries_named state.names entries))) →
+    pick : ((now : List Stream) → IsUnderNames state earlier (with_packet link entry) now
+        → IsUnderNames state earlier (fold with_packet (with_packet link entry) entries)
+        (fold with_packet now (entries_named state.names entries))) →
         (o : Option ℕ) → name_of state.names entry.serial ≡ o →
-        IsUnderNames state earlier (fold with_packet (with_packet link entry) entries) (fold with_packet link_now (cons_option (entry_with entry o) (entries_named state.names entries)))
+        IsUnderNames state earlier (fold with_packet (with_packet link entry) entries)
+        (fold with_packet link_now (cons_option (entry_with entry o) (entries_named state.names entries)))
     pick rest None e = rest link_now (under_only state earlier link link_now (grown entry) (packet_other state.names entry e) by)
     pick rest (Some now) e =
         rest (with_packet link_now (record entry { serial = now }))
-        (under_step state earlier link link_now (grown entry) (grown (record entry { serial = now })) (packet_named state.names entry now by.names.distinct e) by)
+        (under_step state earlier link link_now (grown entry) (grown (record entry { serial = now }))
+        (packet_named state.names entry now by.names.distinct e) by)
 
 none_begun : (options : ChangeOptions) (given : List Command) (entries : List Entry) → AllByRecursion (IsBegunAs options) given
     → AllByRecursion (IsBegunAs options) (given ++ option_list (put_of entries))
@@ -287,7 +313,8 @@ pub put_changed : (state : ChangeState) (put : Put) (commands given : List Comma
 put_changed state put commands given is h =
     let now : List Entry = entries_named state.names put.entries in
     of_by state (commands ++ PutOf put ∷ []) (given ++ option_list (put_of now)) is
-    (stay_on state.options commands given (PutOf put) (put_of now) refl (put_begins given now) h.stay) (none_begun state.options given now h.begun)
+    (stay_on state.options commands given (PutOf put) (put_of now) refl (put_begins given now) h.stay)
+    (none_begun state.options given now h.begun)
     (subst (λ r. IsFollowed state r (after [] (given ++ option_list (put_of now)))) (sym (after_push commands (PutOf put)))
     (subst (IsFollowed state (change_last (λ link. fold with_packet link put.entries) (after [] commands))) (sym (put_list given now))
     (change_step state (λ link. fold with_packet link put.entries) (λ link. fold with_packet link now) (after [] commands) (after [] given)
@@ -298,7 +325,8 @@ end_list : Option ℕ → List Stream → List Stream
 end_list None link = link
 end_list (Some serial) link = with_end serial link
 
-end_after : (given : List Command) (serial : Option ℕ) → after [] (given ++ option_list (end_of serial)) ≡ change_last (end_list serial) (after [] given)
+end_after : (given : List Command) (serial : Option ℕ) → after [] (given ++ option_list (end_of serial)) ≡ change_last (end_list serial)
+    (after [] given)
 unfolding end_list
 end_after given None = ap (after []) (append-nil given) ∙ sym (same_last (after [] given))
 end_after given (Some serial) = after_push given (EndOf serial)
@@ -312,7 +340,8 @@ end_under : (state : ChangeState) (earlier : List ℕ) (serial : ℕ) (o : Optio
     → (link link_now : List Stream) → IsUnderNames state earlier link link_now
     → IsUnderNames state earlier (with_end serial link) (end_list o link_now)
 unfolding end_list
-end_under state earlier serial None e link link_now by = under_only state earlier link link_now (ended serial) (end_other state.names serial e) by
+end_under state earlier serial None e link link_now by = under_only state earlier link link_now (ended serial)
+    (end_other state.names serial e) by
 end_under state earlier serial (Some now) e link link_now by =
     under_step state earlier link link_now (ended serial) (ended now) (end_named state.names serial now by.names.distinct e) by
 
@@ -327,7 +356,8 @@ pub end_changed : (state : ChangeState) (serial : ℕ) (commands given : List Co
 end_changed state serial commands given is h =
     let now : Option ℕ = name_of state.names serial in
     of_by state (commands ++ EndOf serial ∷ []) (given ++ option_list (end_of now)) is
-    (stay_on state.options commands given (EndOf serial) (end_of now) refl (end_begins given now) h.stay) (end_begun state.options given now h.begun)
+    (stay_on state.options commands given (EndOf serial) (end_of now) refl (end_begins given now) h.stay)
+    (end_begun state.options given now h.begun)
     (subst (λ r. IsFollowed state r (after [] (given ++ option_list (end_of now)))) (sym (after_push commands (EndOf serial)))
     (subst (IsFollowed state (change_last (with_end serial) (after [] commands))) (sym (end_after given now))
     (change_step state (with_end serial) (end_list now) (after [] commands) (after [] given) (end_serials now)
@@ -353,7 +383,8 @@ begins_same options commands given command is all = by command
     same (Made from) renumber streams e = clash e refl
 
     by : (command : Command) → BeginThose options (commands ++ command ∷ []) (given ++ command ∷ [])
-    by (BeginOf begin) = stay_push options commands given (BeginOf begin) (BeginOf begin) begin begin refl refl all (same options.skeletons options.renumber begin.streams is)
+    by (BeginOf begin) = stay_push options commands given (BeginOf begin) (BeginOf begin) begin begin refl refl all
+        (same options.skeletons options.renumber begin.streams is)
     by (PutOf put) = stay_on options commands given (PutOf put) (Some (PutOf put)) refl (none_begin given (PutOf put) refl) all
     by (EndOf serial) = stay_on options commands given (EndOf serial) (Some (EndOf serial)) refl (none_begin given (EndOf serial) refl) all
 
@@ -381,7 +412,8 @@ same_command state command commands given is h plain =
     record {
       changed = both.0;
       stay = begins_same state.options commands given command is h.stay;
-      begun = all_push (IsBegunAs state.options) given command h.begun (plain_begun state.options.skeletons state.options.renumber command is plain);
+      begun = all_push (IsBegunAs state.options) given command h.begun
+          (plain_begun state.options.skeletons state.options.renumber command is plain);
       follows = both.1;
     }
 
@@ -391,7 +423,8 @@ pub apply_step : (state : ChangeState) (before yielded given now more : List Com
     → HasChanged state (before ++ (yielded ++ command ∷ [])) (given ++ more)
 apply_step state before yielded given now more command out h e =
     subst (λ l. HasChanged state l (given ++ more)) (append_assoc before yielded (command ∷ []))
-    (subst (HasChanged state ((before ++ yielded) ++ command ∷ [])) (append_assoc given now (option_list out) ∙ ap (λ l. given ++ l) (sym e)) h)
+    (subst (HasChanged state ((before ++ yielded) ++ command ∷ [])) (append_assoc given now (option_list out)
+    ∙ ap (λ l. given ++ l) (sym e)) h)
 
 pub all_front : {X : Type 0} (P : X → Type 0) (xs : List X) (x : X) → AllByRecursion P (xs ++ x ∷ []) → AllByRecursion P xs
 all_front P [] x all = tt
@@ -404,15 +437,18 @@ all_last P (y ∷ xs) x (p, all) = all_last P xs x all
 pub same_commands : (state : ChangeState) (before given commands : List Command) → is_none state.options ≡ true
     → HasChanged state before given → AllByRecursion IsPlain commands →
     HasChanged state (before ++ commands) (given ++ commands)
-same_commands state before given [] is h plain = subst (HasChanged state (before ++ [])) (sym (append-nil given)) (subst (λ l. HasChanged state l given) (sym (append-nil before)) h)
+same_commands state before given [] is h plain = subst (HasChanged state (before ++ [])) (sym (append-nil given))
+    (subst (λ l. HasChanged state l given) (sym (append-nil before)) h)
 same_commands state before given (command ∷ commands) is h (p, plain) =
     subst (HasChanged state (before ++ command ∷ commands)) (append_assoc given (command ∷ []) commands)
     (subst (λ l. HasChanged state l ((given ++ command ∷ []) ++ commands)) (append_assoc before (command ∷ []) commands)
-    (same_commands state (before ++ command ∷ []) (given ++ command ∷ []) commands is (same_command state command before given is h p) plain))
+    (same_commands state (before ++ command ∷ []) (given ++ command ∷ []) commands is
+    (same_command state command before given is h p) plain))
 
 pub no_commands : (state : ChangeState) → state.given ≡ [] → HasChanged state [] []
 no_commands state given =
-    let both : IsChangedIf (is_none state.options) state.options [] [] × FollowsIf (is_none state.options) state [] [] = by (is_none state.options) in
+    let both : IsChangedIf (is_none state.options) state.options [] [] × FollowsIf (is_none state.options) state [] [] = by
+    (is_none state.options) in
     record { changed = both.0; stay = tt; begun = tt; follows = both.1 }
   where
     by : (b : Bool) → IsChangedIf b state.options [] [] × FollowsIf b state [] []

@@ -9,7 +9,8 @@ returns-then-is_some c =
     let names : List (ℕ × ℕ) = c.args.names.now.items in
     keeps_none c.args.given.now.listed c.args.serial names
     (λ new. keyed names c.args.serial true
-    (ap (λ l. is_some (name_of l c.args.serial)) (sym c.as_slice.ensures.value) ∙ ap is_some (sym c.name_of.ensures) ∙ sym c.is_some.ensures ∙ c.if-is_some.true))
+    (ap (λ l. is_some (name_of l c.args.serial)) (sym c.as_slice.ensures.value) ∙ ap is_some (sym c.name_of.ensures)
+    ∙ sym c.is_some.ensures ∙ c.if-is_some.true))
 
 pub returns : goal.returns
 returns c =
@@ -17,4 +18,5 @@ returns c =
     subst (Keeps c.args.given.now.listed c.args.serial names) (sym c.in_ok-push.ensures.items)
     (keeps_one c.args.given.now.listed c.args.serial names (sym c.contains.ensures ∙ c.if-contains.false)
     (keyed names c.args.serial false
-    (ap (λ l. is_some (name_of l c.args.serial)) (sym c.as_slice.ensures.value) ∙ ap is_some (sym c.name_of.ensures) ∙ sym c.is_some.ensures ∙ c.if-is_some.false)))
+    (ap (λ l. is_some (name_of l c.args.serial)) (sym c.as_slice.ensures.value) ∙ ap is_some (sym c.name_of.ensures)
+    ∙ sym c.is_some.ensures ∙ c.if-is_some.false)))

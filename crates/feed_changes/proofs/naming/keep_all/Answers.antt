@@ -13,5 +13,7 @@ loop-stream-preserved c =
     let streams : List NewStream = c.args.streams.now in
     let i : ℕ = c.loop-stream.stream-index in
     subst (KeepsAll c.args.given.now.listed c.keep.new.names.items)
-    (ap (λ (s : NewStream). serials_of (take i streams) ++ s.serial ∷ []) c.stream-item.is ∙ sym (map_more (λ (s : NewStream). s.serial) streams i c.stream-item.result c.loop-stream-test.true))
-    (keeps_next c.args.given.now.listed c.loop-stream.names.items c.keep.new.names.items (serials_of (take i streams)) c.stream-item.result.serial c.loop-stream.invariant c.in_ok-keep.ensures)
+    (ap (λ (s : NewStream). serials_of (take i streams) ++ s.serial ∷ []) c.stream-item.is
+    ∙ sym (map_more (λ (s : NewStream). s.serial) streams i c.stream-item.result c.loop-stream-test.true))
+    (keeps_next c.args.given.now.listed c.loop-stream.names.items c.keep.new.names.items
+    (serials_of (take i streams)) c.stream-item.result.serial c.loop-stream.invariant c.in_ok-keep.ensures)

@@ -24,6 +24,7 @@ loop-stream-preserved c =
           (serial_at streams i c.stream-item.result c.loop-stream-test.true))
           c.loop-stream.invariant.only;
       done = subst (AreNamed new)
-          (ap (λ (s : NewStream). serials_of (take i streams) ++ s.serial ∷ []) c.stream-item.is ∙ sym (map_more (λ (s : NewStream). s.serial) streams i c.stream-item.result c.loop-stream-test.true))
+          (ap (λ (s : NewStream). serials_of (take i streams) ++ s.serial ∷ []) c.stream-item.is
+          ∙ sym (map_more (λ (s : NewStream). s.serial) streams i c.stream-item.result c.loop-stream-test.true))
           (named_next given old new (serials_of (take i streams)) serial c.loop-stream.invariant.done c.in_ok-rename.ensures);
     }

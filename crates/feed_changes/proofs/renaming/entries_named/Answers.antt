@@ -10,7 +10,8 @@ loop-entry-preserved-in-Continue-1 c =
     let entry : Entry = c.in-Some.entry in
     let now : Entry = record entry { serial = c.in-Some-name_of.serial } in
     c.in_ok-push-in-Some-name_of.ensures.items ∙ ap (λ l. l ++ now ∷ []) c.loop-entry.invariant
-    ∙ sym (entries_push c.args.names.now c.loop-entry.yielded entry (Some c.in-Some-name_of.serial) (sym c.name_of.ensures ∙ c.in-Some-name_of.is))
+    ∙ sym (entries_push c.args.names.now c.loop-entry.yielded entry (Some c.in-Some-name_of.serial)
+    (sym c.name_of.ensures ∙ c.in-Some-name_of.is))
 
 pub loop-entry-preserved : goal.loop-entry-preserved
 loop-entry-preserved c =

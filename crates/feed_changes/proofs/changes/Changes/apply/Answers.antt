@@ -13,7 +13,8 @@ loop-command-preserved-in-Ok c =
     record {
       changed = λ before given h plain.
           apply_step c.change.new.self before yielded given now c.push.new.self.items c.in-Some.command c.in-Ok-Some.field-0
-          (c.in-Ok-Some.ensures.changed (before ++ yielded) (given ++ now) (c.loop-command.invariant.changed before given h (all_front IsPlain yielded c.in-Some.command plain))
+          (c.in-Ok-Some.ensures.changed (before ++ yielded) (given ++ now)
+          (c.loop-command.invariant.changed before given h (all_front IsPlain yielded c.in-Some.command plain))
           (all_last IsPlain yielded c.in-Some.command plain))
           (c.in-Ok.ensures.items ∙ ap (λ o. now ++ option_list o) (sym c.in-Ok-Some.field-0-is));
       options = c.change.ensures.options ∙ c.loop-command.invariant.options;
@@ -26,7 +27,8 @@ loop-command-preserved c =
     record {
       changed = λ before given h plain.
           apply_step c.change.new.self before yielded given now now c.in-Some.command c.in-Ok-None.field-0
-          (c.in-Ok-None.ensures.changed (before ++ yielded) (given ++ now) (c.loop-command.invariant.changed before given h (all_front IsPlain yielded c.in-Some.command plain))
+          (c.in-Ok-None.ensures.changed (before ++ yielded) (given ++ now)
+          (c.loop-command.invariant.changed before given h (all_front IsPlain yielded c.in-Some.command plain))
           (all_last IsPlain yielded c.in-Some.command plain))
           (sym (append-nil now) ∙ ap (λ o. now ++ option_list o) (sym c.in-Ok-None.field-0-is));
       options = c.change.ensures.options ∙ c.loop-command.invariant.options;

@@ -7,6 +7,7 @@ use Rattle.feed_changes.proofs.changes.Changes.apply.Given as goal
 -- so it is of the commands so far
 abbrev pub invariant-loop-command : goal.invariant-loop-command
 invariant-loop-command l = record {
-  changed : (before given : List Command) → HasChanged l.fn.self before given → AllByRecursion IsPlain l.yielded → HasChanged l.self (before ++ l.yielded) (given ++ l.now.items);
+  changed : (before given : List Command) → HasChanged l.fn.self before given → AllByRecursion IsPlain l.yielded
+      → HasChanged l.self (before ++ l.yielded) (given ++ l.now.items);
   options : l.self.options ≡ l.fn.self.options;
 }
