@@ -158,12 +158,14 @@ check "a recording: its pages" cmp "$work/want" "$work/recorded.ogg"
 # With a Skeleton the packets are the same, and other programs know what it is. (ffprobe doesn't read on where a chain's next
 # link begins with a Skeleton, so the chain isn't asked for its packets.)
 for name in vorbis opus flac theora chain; do
-    "$program" feed <"$work/$name.ogg" | python3 "$top/tests/described_feed.py" 5000 >"$work/$name.feed"
+    "$program" feed --skeleton 5000 <"$work/$name.ogg" >"$work/$name.feed"
     "$program" mux <"$work/$name.feed" >"$work/$name.described.ogg" 2>"$work/$name.replies"
     check "$name with a Skeleton: every command is kept" replies_keep "$work/$name.replies"
     check "$name with a Skeleton: ogginfo finds it" grep -q -i skeleton <(ogginfo "$work/$name.described.ogg")
     check "$name with a Skeleton: ogginfo warns of no more than of the encoder's file" \
         same_warnings "$work/$name.ogg" "$work/$name.described.ogg"
+    "$program" feed --no-skeleton <"$work/$name.described.ogg" | "$program" mux >"$work/$name.plain.ogg" 2>"$work/$name.replies"
+    check "$name with a Skeleton, and then without: the same pages" cmp "$work/$name.again.ogg" "$work/$name.plain.ogg"
     [ "$name" != chain ] || continue
     # Stream 0 is the Skeleton.
     packets "$work/$name.described.ogg" | awk '$1 > 0' | cut -f 2 | sort >"$work/$name.found"

@@ -65,7 +65,7 @@ pub(crate) fn size_in_front(bytes: &[u8]) -> Result<usize, PageFault>
     ensures found { MatchResult result (λ size. BeginsWithPage bytes.now size) (λ fault. page_at bytes.now ≡ Err fault) }
 {
     let (values, size) = sizes_of_page(bytes)?;
-    Ok(FIXED + values + size)
+    Ok(FIXED_SIZE + values + size)
 }
 
 /// The page that is known to be these bytes. It takes no time for its lacing values either.

@@ -1,7 +1,7 @@
 //! Pages that come through a pipe, and the feed that is made of them.
-use super::THREE_PAGES;
+use super::{FISBONE_PAGE, FISHEAD_PAGE, SKELETON_END, THREE_PAGES};
 use crate::feeds::fakes::{FakeReader, FakeWriter};
-use feed_maker::{ChangeOptions, Made, MakingFault, make_feed};
+use feed_maker::{ChangeOptions, Made, MakingFault, Skeletons, make_feed};
 use page_reader::{PageReader, PageReaderFault};
 use std::test::Fail;
 
@@ -84,5 +84,78 @@ fn what_is_whole_is_written_before_a_fault_is_told(rt: HostRuntime) -> Result<()
         assert!(rt; failed.is_err_and(|fault| fault == want));
         assert!(rt; writer.written() == written);
     }
+    Ok(())
+}
+
+/// The records of the same commands, of stream 0.
+const RECORDS_OF_STREAM_0: [u8; 91] = *b"\x01\x31\0\0\0\0\x01\0\0\0\0\0\x01\0\x03\0\0\0abc\0\0\
+    \0\0\0\0\0\0\0\0\0\0\0\0\0\0\0\0\0\0\0\0\0\0\0\0\0\0\0\0\0\0\0\
+    \x02\x17\0\0\0\x01\0\0\0\0\0\x05\0\0\0\0\0\0\0\x05\0\0\0hello\
+    \x03\x04\0\0\0\0\0\0\0";
+
+/// The announcement, and the begin of stream 1 with a Skeleton of serial 9: from 0 seconds on, no time of day, a codec that
+/// isn't known, and a rate of 1.
+const DESCRIBED: [u8; 140] = *b"\0\x01\0\0\0\x02\
+    \x01\x81\0\0\0\x01\x09\0\0\0\
+    \0\0\0\0\0\0\0\0\xE8\x03\0\0\0\0\0\0\0\0\0\0\0\0\0\0\xE8\x03\0\0\0\0\0\0\
+    \0\0\0\0\0\0\0\0\0\0\0\0\0\0\0\0\0\0\0\0\
+    \x01\0\x01\0\0\0\x01\0\x03\0\0\0abc\x18\0application/octet-stream\
+    \x01\0\0\0\0\0\0\0\x01\0\0\0\0\0\0\0\0\0\0\0\0\0\0\0\0\0\0\0\0\0\0";
+
+/// What `make_feed` writes with these options of the pieces of an input, one after the other.
+fn fed(rt: &HostRuntime, pieces: &[&[u8]], options: ChangeOptions) -> Result<Vec<u8>, Fail> {
+    let mut input = Vec::new(rt.alloc());
+    for piece in pieces {
+        input.extend_from_slice(piece)?;
+    }
+    let mut reader = FakeReader::new(input.as_slice(), 40, 0);
+    let mut writer = FakeWriter::new(Vec::new(rt.alloc()), 1000, 0);
+    make_feed(rt.alloc(), &mut reader, &mut writer, options)?;
+    let mut written = Vec::new(rt.alloc());
+    written.extend_from_slice(writer.written())?;
+    Ok(written)
+}
+
+#[test]
+fn a_second_copy_gets_a_free_serial(rt: HostRuntime) -> Result<(), Fail> {
+    let options = ChangeOptions {
+        renumber: true,
+        skeletons: Skeletons::Kept,
+    };
+    let written = fed(&rt, &[&THREE_PAGES, &THREE_PAGES], options)?;
+    let (first, second) = written.as_slice().split_at(FEED.len());
+    assert!(rt; first == FEED.as_slice());
+    assert!(rt; second == RECORDS_OF_STREAM_0.as_slice());
+    Ok(())
+}
+
+#[test]
+fn a_skeleton_is_made(rt: HostRuntime) -> Result<(), Fail> {
+    let options = ChangeOptions {
+        renumber: false,
+        skeletons: Skeletons::Made(9),
+    };
+    let written = fed(&rt, &[&THREE_PAGES], options)?;
+    let (begin, rest) = written.as_slice().split_at(DESCRIBED.len());
+    assert!(rt; begin == DESCRIBED.as_slice());
+    assert!(rt; rest == &FEED[60..]);
+    Ok(())
+}
+
+#[test]
+fn a_skeleton_is_left_out(rt: HostRuntime) -> Result<(), Fail> {
+    let options = ChangeOptions {
+        renumber: false,
+        skeletons: Skeletons::LeftOut,
+    };
+    let pieces = [
+        FISHEAD_PAGE.as_slice(),
+        &THREE_PAGES[..31],
+        &FISBONE_PAGE,
+        &SKELETON_END,
+        &THREE_PAGES[31..],
+    ];
+    let written = fed(&rt, &pieces, options)?;
+    assert!(rt; written.as_slice() == FEED.as_slice());
     Ok(())
 }
