@@ -16,12 +16,13 @@ use Rattle.ogg_page.specs.LogicalStream.{HoldsPackets, EachBehind, joined_lacing
 use Rattle.ogg_page.specs.Laws.Walk.{FoundFrom}
 use Rattle.ogg_page.specs.Laws.Found.{all_found}
 use Rattle.packet_view.specs.Packets.{Part, PacketParts, PacketsLeft, joined_parts, is_some_part, is_other_number, differ, misplaced, body_place, behind_page, position_in, no_packet, after_packets, packets_in, parts_behind, packets_from, packets_of}
-use Rattle.packet_view.specs.Held.{found_page, pages_of_stream, FitsInOrder, number_after, behind_pages, IsFaultBehind, AreHeld}
+use Rattle.packet_view.specs.Held.{found_page, pages_of_stream, FitsInOrder, number_after, behind_pages, IsFaultBehind, AreHeld, positions_of}
 use Rattle.packet_view.specs.declared.place.Behind.{Behind}
 use Rattle.packet_view.specs.declared.fault.ViewFault.{ViewFault}
 use Rattle.packet_view.specs.declared.fault.ViewFault.TheVariants.{Sequence, Continued, AfterEos, Unfinished}
 use Rattle.packet_view.proofs.Fronts.{pick_false}
 use Rattle.packet_view.proofs.Walks.{pick_true, by_place, from-page}
+use Rattle.packet_view.proofs.Positions.{positions_in}
 use Rattle.packet_view.proofs.PageHolds.{texts, Cuts, cuts}
 
 -- ---- whether a packet goes on
@@ -160,6 +161,7 @@ record HeldFrom (serial : ℕ) (earlier : List Page) (before : List (List ℕ)) 
   pub segments : ℕ
   pub unfinished : List ℕ
   pub holds : HoldsPackets (earlier ++ pages_of_stream serial good) (before ++ texts left.packets) segments unfinished
+  pub positions : map (λ (packet : PacketParts). packet.position) left.packets ≡ flat_map positions_of (pages_of_stream serial good)
   pub fit : EachBehind FitsInOrder earlier (pages_of_stream serial good)
   pub fault : IsFaultBehind serial (earlier ++ pages_of_stream serial good) segments rest left.fault
 
@@ -173,6 +175,7 @@ stops serial earlier before segments unfinished rest fault holds is = record {
   unfinished = unfinished;
   holds = subst (λ (l : List Page). HoldsPackets l (before ++ []) segments unfinished) (sym (append-nil earlier))
       (subst (λ (l : List (List ℕ)). HoldsPackets earlier l segments unfinished) (sym (append-nil before)) holds);
+  positions = refl;
   fit = tt;
   fault = subst (λ (l : List Page). IsFaultBehind serial l segments rest fault) (sym (append-nil earlier)) is;
 }
@@ -188,13 +191,15 @@ passes serial earlier before at found left other h =
       segments = h.segments;
       unfinished = h.unfinished;
       holds = subst (λ (l : List Page). HoldsPackets (earlier ++ l) (before ++ texts left.packets) h.segments h.unfinished) (sym same) h.holds;
+      positions = h.positions ∙ ap (λ (l : List Page). flat_map positions_of l) (sym same);
       fit = subst (λ (l : List Page). EachBehind FitsInOrder earlier l) (sym same) h.fit;
       fault = subst (λ (l : List Page). IsFaultBehind serial (earlier ++ l) h.segments h.rest left.fault) (sym same) h.fault;
     }
 
 adds : (serial : ℕ) (earlier : List Page) (before : List (List ℕ)) (at : ℕ × Page) (found : List FoundPage) (packets : List PacketParts) (left : PacketsLeft) → nat_eq at.1.serial serial ≡ true →
-    FitsInOrder earlier at.1 → HeldFrom serial (earlier ++ at.1 ∷ []) (before ++ texts packets) found left → HeldFrom serial earlier before (Ok at ∷ found) (after_packets packets left)
-adds serial earlier before at found packets left its fit h =
+    map (λ (packet : PacketParts). packet.position) packets ≡ positions_of at.1 → FitsInOrder earlier at.1 →
+    HeldFrom serial (earlier ++ at.1 ∷ []) (before ++ texts packets) found left → HeldFrom serial earlier before (Ok at ∷ found) (after_packets packets left)
+adds serial earlier before at found packets left its positions fit h =
     let mine : List Page = pages_of_stream serial h.good in
     let same : pages_of_stream serial (at ∷ h.good) ≡ at.1 ∷ mine = pick_true (nat_eq at.1.serial serial) _ _ its in
     let pages : (earlier ++ at.1 ∷ []) ++ mine ≡ earlier ++ pages_of_stream serial (at ∷ h.good) = append_assoc earlier (at.1 ∷ []) mine ∙ ap (λ l. earlier ++ l) (sym same) in
@@ -208,6 +213,11 @@ adds serial earlier before at found packets left its fit h =
       unfinished = h.unfinished;
       holds = subst (λ (l : List Page). HoldsPackets l (before ++ texts (packets ++ left.packets)) h.segments h.unfinished) pages
           (subst (λ (l : List (List ℕ)). HoldsPackets ((earlier ++ at.1 ∷ []) ++ mine) l h.segments h.unfinished) all h.holds);
+      positions =
+          map-append (λ (packet : PacketParts). packet.position) packets left.packets
+          ∙ ap (λ l. l ++ map (λ (packet : PacketParts). packet.position) left.packets) positions
+          ∙ ap (λ l. positions_of at.1 ++ l) h.positions
+          ∙ ap (λ (l : List Page). flat_map positions_of l) (sym same);
       fit = subst (λ (l : List Page). EachBehind FitsInOrder earlier l) (sym same) (fit, h.fit);
       fault = subst (λ (l : List Page). IsFaultBehind serial l h.segments h.rest left.fault) pages h.fault;
     }
@@ -241,7 +251,8 @@ by_misplaced serial behind parts earlier before segments at found is holds b som
     let fit : FitsInOrder earlier at.1 = fits earlier (not (nat_eq segments 0)) at.0 at.1 (goes_on_behind earlier before segments (joined_parts parts) holds) (sym same ∙ m) in
     let c : Cuts segments (joined_parts parts) at.1.lacing at.1.body (ended_in parts at) (behind_it parts at) =
     cuts at.1.lacing segments 0 0 segments (body_place at.0 at.1) (position_in at.1) parts at.1.body is.lacing (omega (arith, is.whole)) (omega arith) (omega arith) holds.rest_size some in
-    adds serial earlier before at found (ended_in parts at) (packets_from serial (behind_page at.1) (behind_it parts at) found) its fit
+    adds serial earlier before at found (ended_in parts at) (packets_from serial (behind_page at.1) (behind_it parts at) found) its
+    (positions_in at.1.lacing (position_in at.1) parts (body_place at.0 at.1) 0 at.1.body) fit
     (later c.left (holds_more earlier at.1 before segments parts (ended_in parts at) (behind_it parts at) holds c) (behind_pushed earlier at.1 fit.last) c.some)
 
 by_serial : (serial : ℕ) (earlier : List Page) (before : List (List ℕ)) (behind : Behind) (parts : List Part) (at : ℕ × Page) (found : List FoundPage) (t : Bool) → nat_eq at.1.serial serial ≡ t →
@@ -279,4 +290,4 @@ pub all_held : (serial : ℕ) (bytes : List ℕ) → AreBytes bytes → AreHeld 
 all_held serial bytes are =
     let h : HeldFrom serial [] [] (found_in 0 bytes) (packets_of serial bytes) =
     held_from (found_in 0 bytes) serial (record { number = None; ended = false }) [] [] [] 0 (all_are_pages 0 bytes are) (record { lacing = refl; bodies = refl; rest_size = refl }) refl refl in
-    record { good = h.good; rest = h.rest; split = h.split; segments = h.segments; unfinished = h.unfinished; holds = h.holds; fit = h.fit; fault = h.fault }
+    record { good = h.good; rest = h.rest; split = h.split; segments = h.segments; unfinished = h.unfinished; holds = h.holds; positions = h.positions; fit = h.fit; fault = h.fault }

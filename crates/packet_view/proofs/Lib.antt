@@ -3,6 +3,7 @@ pub mod Walks
 pub mod Opened
 pub mod Slices
 pub mod PageHolds
+pub mod Positions
 pub mod AllHeld
 pub mod Placed
 pub mod Examples

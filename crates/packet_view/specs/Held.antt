@@ -1,11 +1,12 @@
 -- The packets of a stream in the standard's words: those that its pages before the first page at fault hold.
-use Rattle.std.specs.Prelude.{◌≡◌, ◌≢◌, ℕ, not, nat_eq, if◌then◌else◌, IsSome, Option, Some, None, Ok, Err, List, [], ◌∷◌, ◌++◌, map, true, false}
-use Rattle.std.specs.List.{list_any}
+use Rattle.std.specs.Prelude.{◌≡◌, ◌≢◌, ℕ, zero, suc, count_by, replicate, not, nat_eq, if◌then◌else◌, IsSome, Option, Some, None, Ok, Err, List, [], ◌∷◌, ◌++◌, map, true, false}
+use Rattle.std.specs.List.{flat_map, list_any}
+use Rattle.ogg_page.specs.Sizes.{full_value}
 use Rattle.ogg_page.specs.Page.{Page}
 use Rattle.ogg_page.specs.Pages.{FoundPage}
 use Rattle.ogg_page.specs.Lacing.{ends_open}
 use Rattle.ogg_page.specs.LogicalStream.{HoldsPackets, EachBehind, joined_lacing, number_behind, is_continued, is_last}
-use Rattle.packet_view.specs.Packets.{PacketsLeft, joined_parts, misplaced}
+use Rattle.packet_view.specs.Packets.{PacketsLeft, joined_parts, misplaced, position_in}
 use Rattle.packet_view.specs.declared.place.Behind.{Behind}
 use Rattle.packet_view.specs.declared.fault.ViewFault.{ViewFault}
 use Rattle.packet_view.specs.declared.fault.ViewFault.TheVariants.{Page as PageIsAtFault, Unfinished}
@@ -40,7 +41,20 @@ IsFaultBehind serial before segments (Err at ∷ rest) fault = fault ≡ Some (P
 IsFaultBehind serial before segments (Ok at ∷ rest) fault =
     (nat_eq at.1.serial serial ≡ true) × (fault ≡ misplaced (behind_pages before) (not (nat_eq segments 0)) at.0 at.1) × IsSome fault
 
--- The packets are those that the stream's pages before the first page at fault hold, in order and whole.
+-- how many packets end in these lacing values
+abbrev pub packets_ended : List ℕ → ℕ
+packets_ended lacing = count_by (λ value. not (nat_eq value full_value)) lacing
+
+-- the positions of this many packets that end in one page: the last has the page's, and those before it have none
+abbrev pub last_alone : Option ℕ → ℕ → List (Option ℕ)
+last_alone position zero = []
+last_alone position (suc n) = replicate n None ++ position ∷ []
+
+abbrev pub positions_of : Page → List (Option ℕ)
+positions_of page = last_alone (position_in page) (packets_ended page.lacing)
+
+-- The packets are those that the stream's pages before the first page at fault hold, in order and whole, each with its
+-- position.
 pub record AreHeld (serial : ℕ) (found : List FoundPage) (left : PacketsLeft) : Type 0 where
   pub good : List (ℕ × Page)
   pub rest : List FoundPage
@@ -48,5 +62,6 @@ pub record AreHeld (serial : ℕ) (found : List FoundPage) (left : PacketsLeft) 
   pub segments : ℕ
   pub unfinished : List ℕ
   pub holds : HoldsPackets (pages_of_stream serial good) (map (λ packet. joined_parts packet.parts) left.packets) segments unfinished
+  pub positions : map (λ packet. packet.position) left.packets ≡ flat_map positions_of (pages_of_stream serial good)
   pub fit : EachBehind FitsInOrder [] (pages_of_stream serial good)
   pub fault : IsFaultBehind serial (pages_of_stream serial good) segments rest left.fault

@@ -8,7 +8,8 @@ ghost use Rattle.packet_view.specs.Placed.{AreInOrder, parts_of_all};
 
 /// The packets that [`Packets`](crate::Packets) gives are those that the stream's pages before the
 /// first page at fault hold, in order and whole; each of those pages fits the stream's pages before
-/// it, and the fault is that of what comes next.
+/// it, and the fault is that of what comes next. Of the packets that end in a page the last has the
+/// page's position, and those before it have none.
 pub fn packets_are_held()
     ensures { (serial : ℕ) (bytes : List ℕ) → ((i : ℕ) → slice_index bytes i < 256) → AreHeld serial (found_in 0 bytes) (packets_of serial bytes) }
 {}
