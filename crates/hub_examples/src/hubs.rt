@@ -1,5 +1,5 @@
 //! Sessions of a hub, whose file is recorded meanwhile.
-use crate::tools::{GET_ALL, OF_THREE, OF_TWO, TWO, ask, gives, hub_over};
+use crate::tools::{GET_ALL, OF_THREE, OF_TWO, TWO, ask, gives, hub_again, hub_over};
 use chain_rules::{Command, Refusal};
 use disk_model::{Disk, FuseDisk, MemDisk};
 use ogg_recorder::Kept;
@@ -133,5 +133,78 @@ fn sessions_outlive_a_disk_that_fails(rt: HostRuntime) -> Result<(), Fail> {
     let inner = FuseDisk::fail_once(MemDisk::of(rt.alloc(), TWO)?, 10);
     let mut hub = hub_over(rt.alloc(), FuseDisk::fail_once(inner, 11), 1)?;
     assert!(rt; outlives(&mut hub));
+    Ok(())
+}
+
+/// Whether the stream's end is kept: at once, when it is asked for again after memory was refused, or, where the disk
+/// was refused memory, in the file that is opened again.
+fn ends_again<D: Disk + Drop>(hub: &mut Hub<D>) -> bool {
+    let mut answer = hub.command(&Command::End(1));
+    if answer == Err(Refusal::Memory) {
+        if hub.end() != 64 {
+            return false;
+        }
+        answer = hub.command(&Command::End(1));
+    }
+    if answer == Err(Refusal::Disk) {
+        if hub.end() != 64 || !reopens(hub) {
+            return false;
+        }
+        if hub.end() == 91 {
+            return true;
+        }
+        answer = hub.command(&Command::End(1));
+    }
+    match answer {
+        Ok(Outcome::Kept(kept)) => is_whole(kept),
+        _ => false,
+    }
+}
+
+/// Whether the file is opened again, at once or when that is asked for again.
+fn reopens<D: Disk + Drop>(hub: &mut Hub<D>) -> bool {
+    hub.reopen().is_ok() || hub.reopen().is_ok()
+}
+
+/// A session that asks for all of the file. If memory is refused to its head, it has no response, and the head is
+/// received once more.
+fn ask_again<D: Disk + Drop>(hub: &mut Hub<D>) -> Option<u64> {
+    let Ok(id) = hub.connect() else {
+        return None;
+    };
+    let mut answer = hub.receive(id, GET_ALL);
+    if answer == Err(HubFault::Memory) {
+        if !gives(hub, id, 1, b"") {
+            return None;
+        }
+        answer = hub.receive(id, GET_ALL);
+    }
+    if answer == Ok(Progress::Ready) {
+        return Some(id);
+    }
+    None
+}
+
+/// Whether sessions get what was committed when their heads were complete, if each call that is refused memory is made
+/// again.
+fn keeps_its_answer_again<D: Disk + Drop>(hub: &mut Hub<D>) -> bool {
+    let (one, rest) = OF_TWO.split_at(1);
+    let Some(first) = ask_again(hub) else {
+        return false;
+    };
+    if !gives(hub, first, 1, one) || !ends_again(hub) || !gives(hub, first, 300, rest) {
+        return false;
+    }
+    match ask_again(hub) {
+        Some(second) => gives(hub, second, 300, OF_THREE),
+        None => false,
+    }
+}
+
+/// `rt try --test --fail-alloc N` refuses the `N`th request for memory.
+#[test]
+fn a_session_gets_its_answer_after_memory_was_refused(rt: HostRuntime) -> Result<(), Fail> {
+    let mut hub = hub_again(rt.alloc(), TWO)?;
+    assert!(rt; keeps_its_answer_again(&mut hub));
     Ok(())
 }

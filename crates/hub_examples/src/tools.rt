@@ -1,5 +1,5 @@
 //! Hubs and sessions for the tests.
-use disk_model::Disk;
+use disk_model::{Disk, MemDisk};
 use ogg_recorder::Recorder;
 use ogg_serve::{Hub, Progress};
 use std::alloc::Global;
@@ -39,6 +39,28 @@ pub(super) fn hub_over<D: Disk + Drop>(alloc: Global, disk: D, most: u32) -> Res
             }
         }
         Err(_) => Err(Fail::from("not opened")),
+    }
+}
+
+/// A hub over a disk of these bytes. Each of the three is made once more if memory is refused, to it or to the disk.
+pub(super) fn hub_again(alloc: Global, bytes: &[u8]) -> Result<Hub<MemDisk>, Fail> {
+    let disk = match MemDisk::of(alloc, bytes) {
+        Ok(disk) => disk,
+        Err(_) => MemDisk::of(alloc, bytes)?,
+    };
+    let recorder = match Recorder::open(alloc, disk) {
+        Ok(recorder) => recorder,
+        Err((_, disk)) => match Recorder::open(alloc, disk) {
+            Ok(recorder) => recorder,
+            Err(_) => return Err(Fail::from("not opened")),
+        },
+    };
+    match Hub::new(alloc, recorder) {
+        Ok(hub) => Ok(hub),
+        Err((_, recorder)) => match Hub::new(alloc, recorder) {
+            Ok(hub) => Ok(hub),
+            Err(_) => Err(Fail::from("no hub")),
+        },
     }
 }
 
