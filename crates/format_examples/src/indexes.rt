@@ -157,3 +157,70 @@ fn a_fault_leaves_the_pages_before_it(rt: HostRuntime) -> Result<(), Fail> {
     assert!(rt; text.as_slice() == b"committed 31\nlink 0 0 31 1\nstream 1 31 1 open\n".as_slice());
     Ok(())
 }
+
+/// The file of these pages, made once more if memory is refused.
+fn file_again(alloc: Global, pages: &[PageSpec]) -> Result<Vec<u8>, Memory> {
+    match file_of(alloc, pages) {
+        Ok(bytes) => Ok(bytes),
+        Err(_) => file_of(alloc, pages),
+    }
+}
+
+/// The index of these bytes, made once more if memory is refused.
+fn scanned(alloc: Global, bytes: &[u8]) -> Result<Index, IndexFault> {
+    match Index::scan(alloc, bytes) {
+        Err(IndexFault::Memory) => Index::scan(alloc, bytes),
+        answer => answer,
+    }
+}
+
+/// Where the pages of an index end, how many links they are, and its last link.
+fn shown(index: &Index) -> (u64, u32, Option<LinkInfo>) {
+    let links = index.links();
+    (index.end(), links, index.link(links.saturating_sub(1)))
+}
+
+/// Adds a page. If memory is refused and the index is as it was, the page is added once more.
+fn add_again(index: &mut Index, page: &[u8]) -> Result<(), IndexFault> {
+    let before = shown(index);
+    match add_small(index, page) {
+        Err(IndexFault::Memory) => {
+            if shown(index) != before {
+                return Err(IndexFault::Memory);
+            }
+            add_small(index, page)
+        }
+        answer => answer,
+    }
+}
+
+/// The listing. If memory is refused and the text is as it was, it is written once more.
+fn listing_again(alloc: Global, index: &Index) -> Result<Vec<u8>, Memory> {
+    let mut text = Vec::new(alloc);
+    if index.write_listing(&mut text).is_err() {
+        if !text.is_empty() {
+            return Err(Memory);
+        }
+        index.write_listing(&mut text)?;
+    }
+    Ok(text)
+}
+
+/// `rt try --test --fail-alloc N` refuses the `N`th request for memory.
+#[test]
+fn files_are_listed_after_memory_was_refused(rt: HostRuntime) -> Result<(), Fail> {
+    for (pages, want) in LISTINGS {
+        let mut index = Index::new(rt.alloc());
+        for page in pages {
+            let bytes = file_again(rt.alloc(), &[*page])?;
+            add_again(&mut index, &bytes)?;
+        }
+        let text = listing_again(rt.alloc(), &index)?;
+        assert!(rt; text.as_slice() == want.as_bytes());
+        let bytes = file_again(rt.alloc(), pages)?;
+        let index = scanned(rt.alloc(), &bytes)?;
+        let text = listing_again(rt.alloc(), &index)?;
+        assert!(rt; text.as_slice() == want.as_bytes());
+    }
+    Ok(())
+}

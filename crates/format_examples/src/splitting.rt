@@ -1,7 +1,7 @@
 //! Copies out of a small file, and pages of damaged bytes, with sizes counted by hand from RFC 3533, section 6.
 ghost use Rattle.std.specs.Prelude.{◌≡◌, Some};
 
-use link_index::Index;
+use link_index::{Index, IndexFault};
 use ogg_page::{FIRST, LAST, PageBuffer, PageHead, PageSource, SourceFault, Window, write_page};
 use ogg_split::*;
 use std::alloc::Global;
@@ -232,6 +232,43 @@ fn a_copy_is_the_pages_asked_for(rt: HostRuntime) -> Result<(), Fail> {
         out.clear();
         assert!(rt; copy_from(&mut window, &index, asked, &mut out) == want);
         assert!(rt; out.as_slice() == all.as_slice());
+    }
+    Ok(())
+}
+
+/// The file of those pages, made once more if memory is refused.
+fn file_again(alloc: Global) -> Result<Vec<u8>, Memory> {
+    match file_of(alloc, None) {
+        Ok(bytes) => Ok(bytes),
+        Err(_) => file_of(alloc, None),
+    }
+}
+
+/// The index of these bytes, made once more if memory is refused.
+fn scanned(alloc: Global, bytes: &[u8]) -> Result<Index, IndexFault> {
+    match Index::scan(alloc, bytes) {
+        Err(IndexFault::Memory) => Index::scan(alloc, bytes),
+        answer => answer,
+    }
+}
+
+/// A window over these bytes, made once more if memory is refused.
+fn window_again<'a>(alloc: Global, bytes: &'a [u8]) -> Result<Window<Failing<'a>>, Memory> {
+    match window_over(alloc, bytes, 0) {
+        Ok(window) => Ok(window),
+        Err(_) => window_over(alloc, bytes, 0),
+    }
+}
+
+/// `rt try --test --fail-alloc N` refuses the `N`th request for memory. Copies make none.
+#[test]
+fn copies_are_made_after_memory_was_refused(rt: HostRuntime) -> Result<(), Fail> {
+    let bytes = file_again(rt.alloc())?;
+    let index = scanned(rt.alloc(), &bytes)?;
+    let mut window = window_again(rt.alloc(), &bytes)?;
+    for (asked, want) in COPIES {
+        assert!(rt; copy(&bytes, &index, asked, &mut io::sink()) == want);
+        assert!(rt; copy_from(&mut window, &index, asked, &mut io::sink()) == want);
     }
     Ok(())
 }
