@@ -1,5 +1,6 @@
 -- What a feed answers. Ours.
-use Rattle.std.specs.Prelude.{◌≡◌, ◌≢◌, ◌⊎◌, ℕ, ◌+◌, Bool, true, false, nat_eq, nat_lt, nat_le, not, ◌&&◌, ◌||◌, if◌then◌else◌, unwrap_or, Option, Some, None, Result, Ok, Err, List, [], ◌++◌, ◌<◌, length, drop, slice_index, ⊤}
+use Rattle.std.specs.Prelude.{Bool, true, false, nat_eq, nat_lt, nat_le, not, ◌&&◌, ◌||◌, if◌then◌else◌, unwrap_or}
+use Rattle.std.specs.Prelude.{◌≡◌, ◌≢◌, ◌⊎◌, ℕ, ◌+◌, Option, Some, None, Result, Ok, Err, List, [], ◌++◌, ◌<◌, length, drop, slice_index, ⊤}
 use Rattle.std.specs.Io.KnownBytes.{Consumes, IsAtEnd, Keeps}
 use Rattle.byteorder.specs.Endian.{little_number}
 use Rattle.feed_codec.specs.declared.fault.FeedFault.{FeedFault}
@@ -56,8 +57,10 @@ HasFault None (Some bytes) fault =
 -- or a whole record, as there was none for its command.
 abbrev pub TakesItemPart : FeedRoom → Bool → Version → Option (List ℕ) → Option (List ℕ) → Type 0
 TakesItemPart room first version old new =
-    ((head : List ℕ) × (length head ≡ head_size) × (head_fault first head ≡ None) × (room.payload < payload_length head) × Consumes old new head)
-    ⊎ ((item : Item) × HasItem first version item × LacksRoomFor room.entries room.packets item × Consumes old new (item_bytes version item))
+    ((head : List ℕ) × (length head ≡ head_size) × (head_fault first head ≡ None) × (room.payload < payload_length head)
+    × Consumes old new head)
+    ⊎ ((item : Item) × HasItem first version item × LacksRoomFor room.entries room.packets item
+    × Consumes old new (item_bytes version item))
 
 -- the same of a feed, of which an announcement may have been taken before
 abbrev pub TakesWhereMemoryEnds : FeedRoom → Option Version → Option (List ℕ) → Option (List ℕ) → Type 0

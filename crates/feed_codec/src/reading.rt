@@ -20,7 +20,7 @@ use std::marker::Model;
 
 /// Reads records, one after the other, and keeps the memory of one payload between them, and that of
 /// the commands that are given back. What a contract sees of it is the version of the feed, once it is
-/// known, and how the feed has ended, if it has.
+/// known, how the feed has ended, if it has, and the room that it keeps.
 #[derive(Debug, Drop)]
 pub struct Feed {
     alloc: Global,
@@ -138,7 +138,8 @@ fn next_record<R: Read + Drop>(
     ensures fault { IfErr result (λ fault. fault ≢ FeedFault.Read → fault ≢ FeedFault.Memory
         → HasFault version.old (R.remaining reader.old) fault) }
     ensures memory { IfErr result (λ fault. fault ≡ FeedFault.Memory
-        → TakesWhereMemoryEnds (feed_room payload.old spare.old.entries spare.old.packets.items) version.old (R.remaining reader.old) (R.remaining reader.new)) }
+        → TakesWhereMemoryEnds (feed_room payload.old spare.old.entries spare.old.packets.items) version.old
+        (R.remaining reader.old) (R.remaining reader.new)) }
     ensures room { vec_capacity payload.old ≤ vec_capacity payload.new }
 {
     match *version {
@@ -166,7 +167,8 @@ fn first_record<R: Read + Drop>(
     ensures fault { IfErr result (λ fault. fault ≢ FeedFault.Read → fault ≢ FeedFault.Memory
         → HasFault None (R.remaining reader.old) fault) }
     ensures memory { IfErr result (λ fault. fault ≡ FeedFault.Memory
-        → TakesWhereMemoryEnds (feed_room payload.old spare.old.entries spare.old.packets.items) None (R.remaining reader.old) (R.remaining reader.new)) }
+        → TakesWhereMemoryEnds (feed_room payload.old spare.old.entries spare.old.packets.items) None
+        (R.remaining reader.old) (R.remaining reader.new)) }
     ensures room { vec_capacity payload.old ≤ vec_capacity payload.new }
 {
     match next_item(alloc, spare, payload, true, Version::One, reader) {
@@ -201,7 +203,8 @@ fn later_record<R: Read + Drop>(
     ensures fault { IfErr result (λ fault. fault ≢ FeedFault.Read → fault ≢ FeedFault.Memory
         → HasItemFault false version (R.remaining reader.old) fault) }
     ensures memory { IfErr result (λ fault. fault ≡ FeedFault.Memory
-        → TakesItemPart (feed_room payload.old spare.old.entries spare.old.packets.items) false version (R.remaining reader.old) (R.remaining reader.new)) }
+        → TakesItemPart (feed_room payload.old spare.old.entries spare.old.packets.items) false version
+        (R.remaining reader.old) (R.remaining reader.new)) }
     ensures room { vec_capacity payload.old ≤ vec_capacity payload.new }
 {
     match next_item(alloc, spare, payload, false, version, reader) {
@@ -229,7 +232,8 @@ fn next_item<R: Read + Drop>(
     ensures fault { IfErr result (λ fault. fault ≢ FeedFault.Read → fault ≢ FeedFault.Memory
         → HasItemFault first version (R.remaining reader.old) fault) }
     ensures memory { IfErr result (λ fault. fault ≡ FeedFault.Memory
-        → TakesItemPart (feed_room payload.old spare.old.entries spare.old.packets.items) first version (R.remaining reader.old) (R.remaining reader.new)) }
+        → TakesItemPart (feed_room payload.old spare.old.entries spare.old.packets.items) first version
+        (R.remaining reader.old) (R.remaining reader.new)) }
     ensures room { vec_capacity payload.old ≤ vec_capacity payload.new }
     ensures spare { result ≡ Ok (Some Item.Announcement) → spare.new ≡ spare.old }
 {

@@ -6,6 +6,7 @@ use Rattle.link_chain.specs.ChainState.{ChainState, chain_state_of}
 use Rattle.link_index.specs.declared.info.StreamInfo.{StreamInfo}
 use Rattle.link_index.specs.declared.rows.Row.{Row}
 use Rattle.link_index.specs.Index.{LinkEntry}
+use Rattle.link_chain.specs.Limits.{most_links}
 
 -- what a row tells of its link
 abbrev pub entry_of : List StreamInfo → Row → LinkEntry
@@ -38,6 +39,6 @@ pub record IsKept (chain : ChainState) (rows : List Row) (streams : List StreamI
   pub chain_is : chain ≡ chain_state_of links
   pub packed : ArePacked 0 rows (length streams)
   pub count : length rows ≡ chain.links
-  pub few : length rows ≤ 65536
+  pub few : length rows ≤ most_links
   pub last : last_count rows ≡ length chain.streams
   pub within : AreWithin chain.length_of rows streams

@@ -53,7 +53,8 @@ impl<D: Disk> Model for Hub<D> {
 
     ghost view = { λ h. hub_parts h.file h.lost h.index h.sessions.items h.next h.most };
 
-    ghost invariant = { λ h. IsHub (hub_parts h.file h.lost h.index h.sessions.items h.next h.most) × IsSome h.room × (most_sessions ≤ vec_capacity h.sessions) };
+    ghost invariant = { λ h. IsHub (hub_parts h.file h.lost h.index h.sessions.items h.next h.most) × IsSome h.room
+        × (most_sessions ≤ vec_capacity h.sessions) };
 }
 
 /// What holds of all steps of the machine holds of a hub's calls.

@@ -5,6 +5,7 @@ pub mod Slices
 pub mod PageHolds
 pub mod Positions
 pub mod AllHeld
+pub mod Apart
 pub mod Placed
 pub mod Examples
 pub mod Cuts

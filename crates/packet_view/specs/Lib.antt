@@ -4,6 +4,7 @@ pub mod Front
 pub mod Walking
 pub mod Packet
 pub mod Placed
+pub mod Apart
 pub mod Giving
 pub mod Reading
 pub mod Whole

@@ -1,6 +1,8 @@
 //! What always holds of the packets in bytes.
 ghost use Rattle.std.specs.Prelude.{◌<◌, List, ℕ, [], false, slice_index};
+ghost use Rattle.std.specs.List.{AllByRecursion};
 ghost use Rattle.ogg_page.specs.Pages.{found_in};
+ghost use Rattle.packet_view.specs.Apart.{LieApart, pages_found};
 ghost use Rattle.packet_view.specs.Packets.{packets_from, packets_of};
 ghost use Rattle.packet_view.specs.Held.{AreHeld};
 ghost use Rattle.packet_view.specs.StreamParts.{AreTheirParts, at_start, parts_from};
@@ -18,6 +20,13 @@ pub fn packets_are_held()
 /// before the end of the one before it, in the same packet or in an earlier one.
 pub fn parts_are_in_order()
     ensures { (serial : ℕ) (bytes : List ℕ) → ((i : ℕ) → slice_index bytes i < 256) → AreInOrder bytes 0 (parts_of_all (packets_of serial bytes).packets) }
+{}
+
+/// Each part of a packet lies in the body of a page of its stream, in the order of the pages, and no
+/// page has two parts of one packet.
+pub fn a_page_has_one_part_of_a_packet()
+    ensures { (serial : ℕ) (bytes : List ℕ) → ((i : ℕ) → slice_index bytes i < 256)
+        → AllByRecursion (λ packet. LieApart serial (pages_found (found_in 0 bytes)) packet.parts) (packets_of serial bytes).packets }
 {}
 
 /// The parts that [`Stream`](crate::Stream) gives are those of the packets that [`Packets`](crate::Packets) gives over the

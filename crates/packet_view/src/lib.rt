@@ -27,7 +27,9 @@ mod unread;
 mod walking;
 
 pub use fault::{StreamFault, ViewFault};
-pub use laws::{packets_are_held, parts_are_in_order, parts_are_of_the_packets};
+pub use laws::{
+    a_page_has_one_part_of_a_packet, packets_are_held, parts_are_in_order, parts_are_of_the_packets,
+};
 pub use packet::Packet;
 pub use packets::Packets;
 pub use part::Part;
