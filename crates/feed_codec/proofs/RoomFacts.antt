@@ -55,9 +55,3 @@ entry_lacks room rooms bytes behind done count front entry less long many spelle
           ∙ sym (flat_map-append entry_bytes (front ++ entry ∷ []) later),
       inr (subst (LacksPacketRoom rooms) (sym (append_assoc front (entry ∷ []) later)) (lacks_later rooms front entry later short_here)),
     )
-
--- a put's entries, of which there are too many
-pub count_lacks : (room : ℕ) (rooms bytes : List ℕ) (count : ℕ) → Begins (AreMany IsEntryOfFeed count) (flat_map entry_bytes) bytes [] → room < count
-    → (entries : List Entry) × AreMany IsEntryOfFeed count entries × (bytes ≡ flat_map entry_bytes entries) × LacksEntryRoom room rooms entries
-count_lacks room rooms bytes count (entries, many, spelled) few =
-    (entries, many, spelled ∙ append-nil (flat_map entry_bytes entries), inl (omega (arith, many.0, few)))

@@ -1,9 +1,9 @@
 //! Feeds, read one record at a time.
-ghost use Rattle.std.specs.Prelude.{◌≡◌, ◌≢◌, ◌≤◌, ◌<◌, ◌⊎◌, ◌∷◌, false, IfOk, IfErr, IfSome, IfNone, OnOk, length, take, vec_len, vec_capacity, Some, None, Err, Ok};
+ghost use Rattle.std.specs.Prelude.{◌≡◌, ◌≢◌, ◌≤◌, ◌<◌, ◌⊎◌, false, IfOk, IfErr, IfSome, IfNone, OnOk, length, take, vec_len, vec_capacity, Some, None, Err, Ok};
 ghost use Rattle.feed_codec.specs.Room.{feed_room};
 ghost use Rattle.std.specs.Io.KnownBytes.{Consumes, Keeps, IsAtEnd};
 ghost use Rattle.feed_codec.specs.Record.{HasItem, HasRecord, item_bytes, record_of};
-ghost use Rattle.feed_codec.specs.Feed.{FeedState, GivesEnd, GivesRecord, HasFault, HasItemFault, TakesItemPart, TakesWhereMemoryEnds, answer_at};
+ghost use Rattle.feed_codec.specs.Feed.{GivesEnd, GivesRecord, HasFault, HasItemFault, TakesItemPart, TakesWhereMemoryEnds, answer_at};
 ghost use Rattle.feed_codec.specs.Reading.{IsHead, head_bytes, HasHeadFault, IsShort};
 
 use crate::building::item_of;

@@ -1,5 +1,5 @@
 -- The positions of the packets that end in a page.
-use Rattle.std.proofs.Common.{◌≡◌, ℕ, zero, suc, ◌+◌, ◌<◌, Bool, true, false, not, List, [], ◌∷◌, drop, map, refl, sym, ◌∙◌, ap, arith, Option, None}
+use Rattle.std.proofs.Common.{◌≡◌, ℕ, zero, suc, ◌+◌, Bool, true, false, not, List, [], ◌∷◌, drop, map, refl, sym, ◌∙◌, ap, arith, Option, None}
 use Rattle.std.specs.Prelude.{cond, ◌||◌, if◌then◌else◌, nat_eq, nat_lt}
 use Rattle.std.proofs.lemmas.Bool.{lt-ltb}
 use Rattle.std.proofs.lemmas.List.Sums.{sum_by-cons}
