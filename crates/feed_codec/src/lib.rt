@@ -22,6 +22,7 @@ mod size;
 mod spare;
 mod tally;
 mod version;
+mod widths;
 mod writing;
 
 pub use fault::{FeedFault, RunFault};

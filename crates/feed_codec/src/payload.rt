@@ -10,6 +10,7 @@ ghost use Rattle.ogg_command.specs.Command.{IsSkeleton, IsSkeletonHead};
 
 use crate::head::RecordKind;
 use crate::version::Version;
+use crate::widths::{COUNT, ENTRY_FRONT, LENGTH, SERIAL, SKELETON_HEAD, STREAM_FRONT, TAIL};
 use ogg_command::SkeletonHead;
 use ogg_page::{take_fraction, take_i64, take_u8, take_u16, take_u32, take_u64};
 
@@ -54,7 +55,7 @@ fn is_announcement(_version: Version, payload: &[u8]) -> bool
 fn is_end(_version: Version, payload: &[u8]) -> bool
     ensures { IsTrue result ↔ IsPayload _version 3 payload.now }
 {
-    payload.len() == 4
+    payload.len() == SERIAL
 }
 
 /// A flush has no payload.
@@ -70,7 +71,7 @@ fn is_begin(version: Version, payload: &[u8]) -> bool
     let Some((_, rest)) = split_skeleton(payload) else {
         return false;
     };
-    if rest.len() < 2 {
+    if rest.len() < COUNT {
         return false;
     }
     let (count, rest) = take_u16(rest);
@@ -83,7 +84,7 @@ fn is_begin(version: Version, payload: &[u8]) -> bool
 fn is_put(_version: Version, payload: &[u8]) -> bool
     ensures { IsTrue result ↔ IsPayload _version 2 payload.now }
 {
-    if payload.len() < 2 {
+    if payload.len() < COUNT {
         return false;
     }
     let (count, rest) = take_u16(payload);
@@ -98,7 +99,7 @@ pub fn split_packet(bytes: &[u8]) -> Option<(&[u8], &[u8])>
     ensures { MatchOption result (BeginsNone IsPacket packet_bytes bytes.now)
         (λ (packet, rest). IsPacket packet.now × (bytes.now ≡ packet_bytes packet.now ++ rest.now)) }
 {
-    if bytes.len() < 4 {
+    if bytes.len() < LENGTH {
         return None;
     }
     let (length, rest) = take_u32(bytes);
@@ -110,7 +111,7 @@ fn split_media(bytes: &[u8]) -> Option<(&[u8], &[u8])>
     ensures { MatchOption result (BeginsNone IsMedia media_bytes bytes.now)
         (λ (media, rest). IsMedia media.now × (bytes.now ≡ media_bytes media.now ++ rest.now)) }
 {
-    if bytes.len() < 2 {
+    if bytes.len() < COUNT {
         return None;
     }
     let (length, rest) = take_u16(bytes);
@@ -132,7 +133,7 @@ pub fn split_entry(bytes: &[u8]) -> Option<(EntryPart<'_>, &[u8])>
     ensures { MatchOption result (BeginsNone IsEntryOfFeed entry_bytes bytes.now)
         (λ (part, rest). IsEntryOfFeed (entry_of part) × (bytes.now ≡ entry_bytes (entry_of part) ++ rest.now)) }
 {
-    if bytes.len() < 12 {
+    if bytes.len() < ENTRY_FRONT {
         return None;
     }
     let (serial, rest) = take_u32(bytes);
@@ -171,7 +172,7 @@ pub fn split_tail(bytes: &[u8]) -> Option<(TailPart<'_>, &[u8])>
         (λ (part, rest). IsTail (tail_of part) × (bytes.now ≡ tail_bytes (tail_of part) ++ rest.now)) }
 {
     let (media, rest) = split_media(bytes)?;
-    if rest.len() < 29 {
+    if rest.len() < TAIL {
         return None;
     }
     let (rate, rest) = take_fraction(rest);
@@ -193,7 +194,7 @@ fn split_skeleton_head(bytes: &[u8]) -> Option<(SkeletonHead, &[u8])>
     ensures { MatchOption result (BeginsNone IsSkeletonHead skeleton_head_bytes bytes.now)
         (λ (head, rest). IsSkeletonHead head × (bytes.now ≡ skeleton_head_bytes head ++ rest.now)) }
 {
-    if bytes.len() < 56 {
+    if bytes.len() < SKELETON_HEAD {
         return None;
     }
     let (serial, rest) = take_u32(bytes);
@@ -256,7 +257,7 @@ fn skip_fields(version: Version, bytes: &[u8]) -> Option<&[u8]>
     match version {
         Version::One => Some(bytes),
         Version::Two => {
-            if bytes.len() < 2 {
+            if bytes.len() < COUNT {
                 return None;
             }
             let (count, rest) = take_u16(bytes);
@@ -279,7 +280,7 @@ fn skip_stream(version: Version, bytes: &[u8]) -> Option<&[u8]>
     ensures { MatchOption result (BeginsNone (IsStreamOfFeed version) (stream_bytes version) bytes.now)
         (λ rest. Begins (IsStreamOfFeed version) (stream_bytes version) bytes.now rest.now) }
 {
-    if bytes.len() < 6 {
+    if bytes.len() < STREAM_FRONT {
         return None;
     }
     let (_, rest) = take_u32(bytes);

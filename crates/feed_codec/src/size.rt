@@ -4,6 +4,7 @@ ghost use Rattle.std.specs.List.{flat_map};
 ghost use Rattle.feed_codec.specs.Record.{FitsRecord, payload_of, packet_bytes, field_bytes, fields_bytes, skeleton_bytes, stream_bytes, entry_bytes};
 
 use crate::version::Version;
+use crate::widths::{COUNT, ENTRY, FIELD, LENGTH, SERIAL, STREAM};
 use ogg_command::{Command, Entry, Listed, NewStream, SkeletonHead};
 use skeleton3::Field;
 
@@ -14,10 +15,10 @@ pub fn payload_size(version: Version, command: &Command) -> usize
 {
     match command {
         Command::Begin(begin) => {
-            skeleton_size(&begin.skeleton) + 2 + streams_size(version, begin.streams.as_slice())
+            skeleton_size(&begin.skeleton) + COUNT + streams_size(version, begin.streams.as_slice())
         }
-        Command::Put(put) => 2 + entries_size(put.entries.as_slice()),
-        Command::End(_) => 4,
+        Command::Put(put) => COUNT + entries_size(put.entries.as_slice()),
+        Command::End(_) => SERIAL,
     }
 }
 
@@ -46,7 +47,8 @@ fn stream_size(version: Version, stream: &NewStream) -> usize
     requires { length (stream_bytes version stream.now) < 2 ^ 32 }
     ensures { result ≡ length (stream_bytes version stream.now) }
 {
-    37 + headers_size(stream.headers.as_slice())
+    STREAM
+        + headers_size(stream.headers.as_slice())
         + stream.media.len()
         + fields_size(version, stream.fields.as_slice())
 }
@@ -57,7 +59,7 @@ fn fields_size(version: Version, fields: &[Field]) -> usize
 {
     match version {
         Version::One => 0,
-        Version::Two => 2 + each_field_size(fields),
+        Version::Two => COUNT + each_field_size(fields),
     }
 }
 
@@ -76,7 +78,7 @@ fn field_size(field: &Field) -> usize
     requires { length (field_bytes field.now) < 2 ^ 32 }
     ensures { result ≡ length (field_bytes field.now) }
 {
-    4 + field.name().len() + field.value().len()
+    FIELD + field.name().len() + field.value().len()
 }
 
 fn headers_size(headers: &[Listed<u8>]) -> usize
@@ -85,7 +87,7 @@ fn headers_size(headers: &[Listed<u8>]) -> usize
 {
     let mut size = 0;
     for header in headers {
-        size += 4 + header.len();
+        size += LENGTH + header.len();
     }
     size
 }
@@ -96,7 +98,7 @@ fn entries_size(entries: &[Entry]) -> usize
 {
     let mut size = 0;
     for entry in entries {
-        size += 16 + entry.packet.len();
+        size += ENTRY + entry.packet.len();
     }
     size
 }

@@ -6,10 +6,10 @@ use Rattle.feed_codec.proofs.Spellings.{same_stream}
 use Rattle.feed_codec.proofs.PayloadFacts.{begin_behind, begin_found, counted_short, counted_cut, counted_whole, counted_found, is_nothing, nothing_is}
 use Rattle.feed_codec.proofs.payload.is_begin.Goals as goal
 
-pub returns-then-rest-lt2 : goal.returns-then-rest-lt2
-returns-then-rest-lt2 c = (
+pub returns-then-rest-lt-COUNT : goal.returns-then-rest-lt-COUNT
+returns-then-rest-lt-COUNT c = (
   λ t. absurd (cc t),
-  λ p. absurd (counted_short (IsStreamOfFeed c.args.version) (stream_bytes c.args.version) c.in-Some.rest.now c.if-rest-lt2.true
+  λ p. absurd (counted_short (IsStreamOfFeed c.args.version) (stream_bytes c.args.version) c.in-Some.rest.now c.if-rest-lt-COUNT.true
       (begin_behind c.args.version c.args.payload.now c.in-Some.rest.now c.in-Some.field-0-0 c.in-Some.ensures.0 c.in-Some.ensures.1 p)),
 )
 

@@ -6,9 +6,9 @@ use Rattle.feed_codec.proofs.Spellings.{same_entry}
 use Rattle.feed_codec.proofs.PayloadFacts.{put_behind, put_found, counted_short, counted_cut, counted_whole, counted_found, is_nothing, nothing_is}
 use Rattle.feed_codec.proofs.payload.is_put.Goals as goal
 
-pub returns-then-payload-lt2 : goal.returns-then-payload-lt2
-returns-then-payload-lt2 c =
-    (λ t. absurd (cc t), λ p. absurd (counted_short IsEntryOfFeed entry_bytes c.args.payload.now c.if-payload-lt2.true (put_behind c.args._version c.args.payload.now p)))
+pub returns-then-payload-lt-COUNT : goal.returns-then-payload-lt-COUNT
+returns-then-payload-lt-COUNT c =
+    (λ t. absurd (cc t), λ p. absurd (counted_short IsEntryOfFeed entry_bytes c.args.payload.now c.if-payload-lt-COUNT.true (put_behind c.args._version c.args.payload.now p)))
 
 pub returns-in-None : goal.returns-in-None
 returns-in-None c = (

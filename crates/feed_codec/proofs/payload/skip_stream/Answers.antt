@@ -1,8 +1,8 @@
 use Rattle.feed_codec.proofs.PayloadFacts.{stream_short, stream_cut, stream_split}
 use Rattle.feed_codec.proofs.payload.skip_stream.Goals as goal
 
-pub returns-then-bytes-lt6 : goal.returns-then-bytes-lt6
-returns-then-bytes-lt6 c = stream_short c.args.version c.args.bytes.now c.if-bytes-lt6.true
+pub returns-then-bytes-lt-STREAM_FRONT : goal.returns-then-bytes-lt-STREAM_FRONT
+returns-then-bytes-lt-STREAM_FRONT c = stream_short c.args.version c.args.bytes.now c.if-bytes-lt-STREAM_FRONT.true
 
 pub returns-in_err-rest : goal.returns-in_err-rest
 returns-in_err-rest c =

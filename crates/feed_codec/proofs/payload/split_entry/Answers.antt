@@ -1,8 +1,8 @@
 use Rattle.feed_codec.proofs.PayloadFacts.{entry_short, entry_cut, entry_found}
 use Rattle.feed_codec.proofs.payload.split_entry.Goals as goal
 
-pub returns-then-bytes-lt12 : goal.returns-then-bytes-lt12
-returns-then-bytes-lt12 c = entry_short c.args.bytes.now c.if-bytes-lt12.true
+pub returns-then-bytes-lt-ENTRY_FRONT : goal.returns-then-bytes-lt-ENTRY_FRONT
+returns-then-bytes-lt-ENTRY_FRONT c = entry_short c.args.bytes.now c.if-bytes-lt-ENTRY_FRONT.true
 
 pub returns-in_err-packet : goal.returns-in_err-packet
 returns-in_err-packet c =

@@ -3,8 +3,8 @@ use Rattle.feed_codec.proofs.Lists.{are_bytes}
 use Rattle.feed_codec.proofs.PayloadFacts.{media_short, media_split}
 use Rattle.feed_codec.proofs.payload.split_media.Goals as goal
 
-pub returns-then-bytes-lt2 : goal.returns-then-bytes-lt2
-returns-then-bytes-lt2 c = media_short c.args.bytes.now c.if-bytes-lt2.true
+pub returns-then-bytes-lt-COUNT : goal.returns-then-bytes-lt-COUNT
+returns-then-bytes-lt-COUNT c = media_short c.args.bytes.now c.if-bytes-lt-COUNT.true
 
 pub returns : goal.returns
 returns c =

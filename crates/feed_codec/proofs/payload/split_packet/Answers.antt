@@ -3,8 +3,8 @@ use Rattle.feed_codec.proofs.Lists.{are_bytes}
 use Rattle.feed_codec.proofs.PayloadFacts.{packet_short, packet_split}
 use Rattle.feed_codec.proofs.payload.split_packet.Goals as goal
 
-pub returns-then-bytes-lt4 : goal.returns-then-bytes-lt4
-returns-then-bytes-lt4 c = packet_short c.args.bytes.now c.if-bytes-lt4.true
+pub returns-then-bytes-lt-LENGTH : goal.returns-then-bytes-lt-LENGTH
+returns-then-bytes-lt-LENGTH c = packet_short c.args.bytes.now c.if-bytes-lt-LENGTH.true
 
 pub returns : goal.returns
 returns c =

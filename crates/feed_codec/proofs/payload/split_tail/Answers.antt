@@ -6,9 +6,9 @@ use Rattle.feed_codec.proofs.payload.split_tail.Goals as goal
 pub returns-in_err-media : goal.returns-in_err-media
 returns-in_err-media c = rw c.from_residual.ensures (tail_cut c.args.bytes.now c.in_err-media.ensures)
 
-pub returns-then-rest-lt29 : goal.returns-then-rest-lt29
-returns-then-rest-lt29 c =
-    tail_short c.args.bytes.now c.in_ok-media.rest.now c.in_ok-media.media.now c.in_ok-media.ensures.0 c.in_ok-media.ensures.1 c.if-rest-lt29.true
+pub returns-then-rest-lt-TAIL : goal.returns-then-rest-lt-TAIL
+returns-then-rest-lt-TAIL c =
+    tail_short c.args.bytes.now c.in_ok-media.rest.now c.in_ok-media.media.now c.in_ok-media.ensures.0 c.in_ok-media.ensures.1 c.if-rest-lt-TAIL.true
 
 pub returns : goal.returns
 returns c =
