@@ -9,7 +9,7 @@ use Rattle.feed_changes.specs.declared.options.ChangeOptions.{ChangeOptions}
 use Rattle.feed_changes.specs.Options.{is_none}
 use Rattle.feed_changes.specs.Naming.{AreNamed, AreNames, named}
 use Rattle.feed_changes.specs.Renumbered.{avoided, serials}
-use Rattle.feed_changes.specs.Links.{ChangedFrom, IsBefore, HasReason, those}
+use Rattle.feed_changes.specs.Links.{ChangedFrom, IsBefore, HasReason, the_others, those}
 use Rattle.feed_changes.specs.Skeletons.{BeginThose, IsBegunAs}
 
 -- the recording is changed as asked
@@ -48,7 +48,8 @@ pub record IsUnderNames (state : ChangeState) (earlier : List ℕ) (link now : L
   pub names : AreNames (avoided state.options.renumber earlier) state.names
   pub named : AreNamed state.names (serials (those stays link))
   pub before : List Stream
-  pub made : IsBefore state.options.skeletons earlier (serials (map (stream_under state.names) (those stays link))) before
+  pub made :
+      IsBefore state.options.skeletons (the_others stays link) earlier (serials (map (stream_under state.names) (those stays link))) before
   pub apart : AllByRecursion (IsNoName state.names) (serials before)
   pub is : now ≡ before ++ map (stream_under state.names) (those stays link)
 

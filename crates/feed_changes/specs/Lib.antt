@@ -3,5 +3,6 @@ pub mod Links
 pub mod Naming
 pub mod Options
 pub mod Renumbered
+pub mod Said
 pub mod Skeletons
 pub mod Steps

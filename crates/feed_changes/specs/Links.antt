@@ -1,14 +1,16 @@
 -- A recording whose links are changed: some Skeletons are left out, others are made, and streams have other serials. Ours.
-use Rattle.std.specs.Prelude.{◌≡◌, ℕ, Bool, true, false, nat_eq, List, [], ◌∷◌, ◌++◌, ⊤}
-use Rattle.std.specs.List.{AllZip, IsDistinct}
+use Rattle.std.specs.Prelude.{◌≡◌, ℕ, Bool, true, false, nat_eq, not, Some, List, [], ◌∷◌, ◌++◌, map, ⊤}
+use Rattle.std.specs.List.{AllZip, IsDistinct, flat_map}
 use Rattle.ogg_command.specs.declared.command.NewStream.{NewStream}
+use Rattle.ogg_command.specs.declared.command.SkeletonHead.{SkeletonHead}
 use Rattle.chain_rules.specs.Recording.{Stream, Recording, ended_skeleton}
 use Rattle.feed_changes.specs.declared.options.ChangeOptions.{ChangeOptions}
 use Rattle.feed_changes.specs.declared.options.Skeletons.{Skeletons}
 use Rattle.feed_changes.specs.declared.options.Skeletons.TheVariants.{Kept, LeftOut, Made}
 use Rattle.feed_changes.specs.Naming.{IsFirstFree, serials_of}
 use Rattle.feed_changes.specs.Renumbered.{IsRenumberedStream, avoided, serials}
-use Rattle.feed_changes.specs.Skeletons.{first_of, head_with, is_fishead, leaves_out}
+use Rattle.feed_changes.specs.Said.{IsSaidBy, first_of}
+use Rattle.feed_changes.specs.Skeletons.{is_fishead, leaves_out}
 
 -- the elements that stay, one answer for each
 abbrev pub those : {X : Type 0} → List Bool → List X → List X
@@ -16,6 +18,10 @@ those [] xs = []
 those (stays ∷ more) [] = []
 those (true ∷ more) (x ∷ xs) = x ∷ those more xs
 those (false ∷ more) (x ∷ xs) = those more xs
+
+-- those that don't
+abbrev pub the_others : {X : Type 0} → List Bool → List X → List X
+the_others stays xs = those (map not stays) xs
 
 -- a stream that is left out is a Skeleton
 pub record IsLeftOut (skeletons : Skeletons) (stream : Stream) : Type 0 where
@@ -25,21 +31,37 @@ pub record IsLeftOut (skeletons : Skeletons) (stream : Stream) : Type 0 where
 abbrev pub HasReason : Skeletons → Bool → Stream → Type 0
 HasReason skeletons stays stream = stays ≡ false → IsLeftOut skeletons stream
 
--- A Skeleton that is made for streams with these serials: it has another serial, and one that no stream of an earlier link has.
-pub record IsMadeFor (from : ℕ) (earlier serials : List ℕ) (skeleton : Stream) : Type 0 where
-  pub serial : ℕ
+-- ---- before them
+-- a stream's packets begin with these
+abbrev pub IsFrontOf : List (List ℕ) → Stream → Type 0
+IsFrontOf front stream = (more : List (List ℕ)) × (stream.packets ≡ front ++ more)
+
+-- these packets are those that the streams begin with, one stream after the other
+pub record AreFronts (streams : List Stream) (said : List (List ℕ)) : Type 0 where
+  pub fronts : List (List (List ℕ))
+  pub each : AllZip IsFrontOf fronts streams
+  pub said_is : said ≡ flat_map (λ front. front) fronts
+
+-- A Skeleton that is made for streams with these serials: it has another serial, and one that no stream of an earlier link
+-- has. It says what packets say that the streams begin with that are left out.
+pub record IsMadeFor (from : ℕ) (left : List Stream) (earlier serials : List ℕ) (skeleton : Stream) : Type 0 where
+  pub head : SkeletonHead
   pub streams : List NewStream
-  pub is : skeleton ≡ ended_skeleton (head_with serial) streams
+  pub is : skeleton ≡ ended_skeleton head streams
   pub of : serials_of streams ≡ serials
-  pub first : IsFirstFree from earlier serials serial
+  pub first : IsFirstFree from earlier serials head.serial
+  pub said : List (List ℕ)
+  pub fronts : AreFronts left said
+  pub had : List NewStream
+  pub says : IsSaidBy said had (record { skeleton = Some head; streams = streams })
 
 -- before streams with these serials there is nothing, or a Skeleton that is made
-abbrev pub IsBefore : Skeletons → List ℕ → List ℕ → List Stream → Type 0
-IsBefore skeletons earlier serials [] = ⊤
-IsBefore Kept earlier serials (skeleton ∷ more) = ⊥
-IsBefore LeftOut earlier serials (skeleton ∷ more) = ⊥
-IsBefore (Made from) earlier serials (skeleton ∷ []) = IsMadeFor from earlier serials skeleton
-IsBefore (Made from) earlier serials (skeleton ∷ next ∷ more) = ⊥
+abbrev pub IsBefore : Skeletons → List Stream → List ℕ → List ℕ → List Stream → Type 0
+IsBefore skeletons left earlier serials [] = ⊤
+IsBefore Kept left earlier serials (skeleton ∷ more) = ⊥
+IsBefore LeftOut left earlier serials (skeleton ∷ more) = ⊥
+IsBefore (Made from) left earlier serials (skeleton ∷ []) = IsMadeFor from left earlier serials skeleton
+IsBefore (Made from) left earlier serials (skeleton ∷ next ∷ more) = ⊥
 
 -- A link's streams but for Skeletons that are left out, in order, perhaps with a Skeleton before them. They have distinct
 -- serials if they had.
@@ -49,7 +71,7 @@ pub record IsChangedLink (options : ChangeOptions) (earlier : List ℕ) (link no
   pub streams : List Stream
   pub renumbered : AllZip (IsRenumberedStream (avoided options.renumber earlier)) (those stays link) streams
   pub before : List Stream
-  pub made : IsBefore options.skeletons earlier (serials streams) before
+  pub made : IsBefore options.skeletons (the_others stays link) earlier (serials streams) before
   pub is : now ≡ before ++ streams
   pub distinct : IsDistinct nat_eq (serials link) → IsDistinct nat_eq (serials now)
 

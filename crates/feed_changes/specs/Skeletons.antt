@@ -1,27 +1,21 @@
 -- Skeletons of the input, which are left out, and those that are made (Ogg Skeleton 3.0). Ours, but for the name that a
 -- Skeleton's first packet begins with.
-use Rattle.std.specs.Prelude.{◌≡◌, ◌⊎◌, ⊤, ℕ, nat_le, pos, Bool, true, false, not, ◌||◌, if◌then◌else◌, Option, Some, None}
-use Rattle.std.specs.Prelude.{List, [], ◌∷◌, length, replicate, map}
-use Rattle.std.specs.List.{AllByRecursion, AllZip, filter, filter_map, list_all}
+use Rattle.std.specs.Prelude.{◌≡◌, ◌⊎◌, ⊤, ℕ, nat_le, Bool, true, false, not, ◌||◌, if◌then◌else◌, Option, Some, None}
+use Rattle.std.specs.Prelude.{List, [], length, map}
+use Rattle.std.specs.List.{AllByRecursion, AllZip, filter, filter_map, flat_map, list_all}
 use Rattle.ogg_command.specs.declared.command.Command.{Command}
 use Rattle.ogg_command.specs.declared.command.Command.TheVariants.{Begin as BeginOf, Put as PutOf, End as EndOf}
 use Rattle.ogg_command.specs.declared.command.Begin.{Begin}
-use Rattle.ogg_command.specs.declared.command.SkeletonHead.{SkeletonHead}
 use Rattle.ogg_command.specs.declared.command.NewStream.{NewStream}
 use Rattle.link_chain.specs.Limits.{most_streams}
 use Rattle.skeleton3.specs.Fishead.{fishead_name}
 use Rattle.ogg_feed.specs.Headers.{begins}
-use Rattle.ogg_feed.specs.Codecs.{codec_of, media_type_of, preroll_of, rate_of, shift_of}
 use Rattle.feed_changes.specs.declared.options.ChangeOptions.{ChangeOptions}
 use Rattle.feed_changes.specs.declared.options.Skeletons.{Skeletons}
 use Rattle.feed_changes.specs.declared.options.Skeletons.TheVariants.{Kept, LeftOut, Made}
+use Rattle.feed_changes.specs.Said.{IsSaidBy, first_of}
 
 -- ---- which streams are Skeletons
--- a stream's first packet, or no bytes if it has none
-abbrev pub first_of : List (List ℕ) → List ℕ
-first_of [] = []
-first_of (first ∷ packets) = first
-
 abbrev pub is_fishead : List ℕ → Bool
 is_fishead packet = begins fishead_name packet
 
@@ -41,6 +35,16 @@ leaves_out (Made from) = true
 abbrev pub staying : Skeletons → List NewStream → List NewStream
 staying skeletons streams = if not (leaves_out skeletons) || list_all is_skeleton streams then streams else filter is_other streams
 
+abbrev pub left_out : Skeletons → List NewStream → List NewStream
+left_out skeletons streams = if not (leaves_out skeletons) || list_all is_skeleton streams then [] else filter is_skeleton streams
+
+abbrev pub headers_in : List NewStream → List (List ℕ)
+headers_in streams = flat_map (λ (stream : NewStream). stream.headers) streams
+
+-- the headers of those that are left out
+abbrev pub said_in : Skeletons → List NewStream → List (List ℕ)
+said_in skeletons streams = headers_in (left_out skeletons streams)
+
 -- ---- the Skeleton that is made
 -- the serial from which on its own is looked for, if one is made for these streams
 abbrev pub made_for : Skeletons → List NewStream → Option ℕ
@@ -48,37 +52,12 @@ made_for Kept streams = None
 made_for LeftOut streams = None
 made_for (Made from) streams = if list_all is_skeleton streams || nat_le most_streams (length streams) then None else Some from
 
--- It presents its link from 0 seconds on, and knows no time of day.
-abbrev pub head_with : ℕ → SkeletonHead
-head_with serial = record { serial = serial; presentation = (pos 0, pos 1000); base = (pos 0, pos 1000); utc = replicate 20 0 }
-
--- a stream described as its first header says
-abbrev pub described : NewStream → NewStream
-described stream =
-    record {
-      serial = stream.serial;
-      headers = stream.headers;
-      media = media_type_of (codec_of (first_of stream.headers));
-      fields = [];
-      rate = rate_of (first_of stream.headers);
-      base_granule = pos 0;
-      preroll = preroll_of (codec_of (first_of stream.headers));
-      shift = shift_of (first_of stream.headers);
-    }
-
 -- ---- the commands given
-pub record IsDescribed (stream : NewStream) : Type 0 where
-  pub media : stream.media ≡ media_type_of (codec_of (first_of stream.headers))
-  pub fields : stream.fields ≡ []
-  pub rate : stream.rate ≡ rate_of (first_of stream.headers)
-  pub base_granule : stream.base_granule ≡ pos 0
-  pub preroll : stream.preroll ≡ preroll_of (codec_of (first_of stream.headers))
-  pub shift : stream.shift ≡ shift_of (first_of stream.headers)
-
+-- there are a Skeleton and packets of Skeletons, as those that are left out, so that it says what they say
 pub record HasSkeleton (begin : Begin) : Type 0 where
-  pub serial : ℕ
-  pub head : begin.skeleton ≡ Some (head_with serial)
-  pub described : AllByRecursion IsDescribed begin.streams
+  pub said : List (List ℕ)
+  pub streams : List NewStream
+  pub is : IsSaidBy said streams begin
 
 abbrev pub HasHead : Option ℕ → Begin → Type 0
 HasHead None begin = begin.skeleton ≡ None
@@ -108,9 +87,17 @@ begins_of commands = filter_map begin_of commands
 abbrev pub headers_of : List NewStream → List (List (List ℕ))
 headers_of streams = map (λ (stream : NewStream). stream.headers) streams
 
--- of a link's streams those begin that stay
-abbrev pub BeginsThose : ChangeOptions → Begin → Begin → Type 0
-BeginsThose options begin now = headers_of now.streams ≡ headers_of (staying options.skeletons begin.streams)
+-- streams that stay begin with the Skeleton that is made, if one is
+abbrev pub SaysSo : Option ℕ → List (List ℕ) → List NewStream → Begin → Type 0
+SaysSo None said streams now = ⊤
+SaysSo (Some from) said streams now = IsSaidBy said streams now
+
+-- Of a link's streams those begin that stay. A Skeleton that is made says what those say that are left out.
+pub record BeginsThose (options : ChangeOptions) (begin now : Begin) : Type 0 where
+  pub headers : headers_of now.streams ≡ headers_of (staying options.skeletons begin.streams)
+  pub says :
+      SaysSo (made_for options.skeletons (staying options.skeletons begin.streams)) (said_in options.skeletons begin.streams)
+      (staying options.skeletons begin.streams) now
 
 abbrev pub BeginThose : ChangeOptions → List Command → List Command → Type 0
 BeginThose options commands given = AllZip (BeginsThose options) (begins_of commands) (begins_of given)

@@ -1,5 +1,6 @@
 -- What each command becomes. Ours.
 use Rattle.std.specs.Prelude.{◌≡◌, ℕ, Option, Some, None, List, [], ◌∷◌, ◌++◌, map}
+use Rattle.std.specs.List.{AllZip}
 use Rattle.std.specs.Map.{values_of}
 use Rattle.ogg_command.specs.declared.command.Command.{Command}
 use Rattle.ogg_command.specs.declared.command.Command.TheVariants.{Begin as BeginOf, Put as PutOf, End as EndOf}
@@ -8,9 +9,10 @@ use Rattle.ogg_command.specs.declared.command.Entry.{Entry}
 use Rattle.ogg_command.specs.declared.command.NewStream.{NewStream}
 use Rattle.ogg_command.specs.declared.command.SkeletonHead.{SkeletonHead}
 use Rattle.feed_changes.specs.Changed.{ChangeState}
-use Rattle.feed_changes.specs.Naming.{AreNamed, AreNames, AreOnlyOf, IsFirstFree, serials_of, stream_named}
+use Rattle.feed_changes.specs.Naming.{AreNamed, AreNames, AreOnlyOf, IsFirstFree, named, serials_of, stream_named}
 use Rattle.feed_changes.specs.Renumbered.{avoided}
-use Rattle.feed_changes.specs.Skeletons.{described, head_with, made_for, staying}
+use Rattle.feed_changes.specs.Said.{IsDescribedBy, IsHeadSaid}
+use Rattle.feed_changes.specs.Skeletons.{made_for, said_in, staying}
 
 abbrev pub option_list : Option Command → List Command
 option_list None = []
@@ -25,37 +27,45 @@ abbrev pub end_of : Option ℕ → Option Command
 end_of None = None
 end_of (Some serial) = Some (EndOf serial)
 
--- the streams that stay are named, and these are they under their names
-pub record Names (old new : ChangeState) (streams now : List NewStream) : Type 0 where
+-- these streams are named
+pub record Names (old new : ChangeState) (streams : List NewStream) : Type 0 where
   pub options : new.options ≡ old.options
   pub given : new.given ≡ old.given
   pub names : AreNames (avoided old.options.renumber old.given) new.names
-  pub named : AreNamed new.names (serials_of (staying old.options.skeletons streams))
-  pub only : AreOnlyOf new.names (serials_of (staying old.options.skeletons streams))
-  pub now_is : now ≡ map (stream_named new.names) (staying old.options.skeletons streams)
+  pub named : AreNamed new.names (serials_of streams)
+  pub only : AreOnlyOf new.names (serials_of streams)
 
--- these streams begin without a Skeleton, or behind one
+-- these streams begin under their names, without a Skeleton or behind one
 pub record BeginsPlain (old new : ChangeState) (skeleton : Option SkeletonHead) (streams : List NewStream) (now : Command) : Type 0 where
   pub options : new.options ≡ old.options
   pub names : new.names ≡ old.names
-  pub given : new.given ≡ old.given ++ serials_of streams
-  pub now_is : now ≡ BeginOf (record { skeleton = skeleton; streams = streams })
+  pub given : new.given ≡ old.given ++ serials_of (map (stream_named old.names) streams)
+  pub now_is : now ≡ BeginOf (record { skeleton = skeleton; streams = map (stream_named old.names) streams })
 
-pub record BeginsDescribed (from : ℕ) (old new : ChangeState) (streams : List NewStream) (now : Command) : Type 0 where
+-- a stream under its name, described as these packets say
+pub record IsDescribedUnder (names : List (ℕ × ℕ)) (said : List (List ℕ)) (stream now : NewStream) : Type 0 where
+  pub described : IsDescribedBy said stream now
+  pub named : now.serial ≡ named names stream.serial
+
+pub record BeginsDescribed (from : ℕ) (said : List (List ℕ)) (old new : ChangeState) (streams : List NewStream) (now : Command) : Type 0 where
   pub options : new.options ≡ old.options
   pub names : new.names ≡ old.names
-  pub serial : ℕ
-  pub first : IsFirstFree from old.given (values_of old.names) serial
-  pub given : new.given ≡ old.given ++ serial ∷ serials_of streams
-  pub now_is : now ≡ BeginOf (record { skeleton = Some (head_with serial); streams = map described streams })
+  pub head : SkeletonHead
+  pub first : IsFirstFree from old.given (values_of old.names) head.serial
+  pub head_said : IsHeadSaid said head
+  pub described : List NewStream
+  pub each : AllZip (IsDescribedUnder old.names said) streams described
+  pub given : new.given ≡ old.given ++ head.serial ∷ serials_of described
+  pub now_is : now ≡ BeginOf (record { skeleton = Some head; streams = described })
 
-abbrev pub BeginsAs : Option ℕ → ChangeState → ChangeState → Option SkeletonHead → List NewStream → Command → Type 0
-BeginsAs None old new skeleton streams now = BeginsPlain old new skeleton streams now
-BeginsAs (Some from) old new skeleton streams now = BeginsDescribed from old new streams now
+abbrev pub BeginsAs : Option ℕ → List (List ℕ) → ChangeState → ChangeState → Option SkeletonHead → List NewStream → Command → Type 0
+BeginsAs None said old new skeleton streams now = BeginsPlain old new skeleton streams now
+BeginsAs (Some from) said old new skeleton streams now = BeginsDescribed from said old new streams now
 
--- the link's streams are named, and begin under their names
+-- the link's streams that stay are named, and begin under their names
 pub record Begins (old new : ChangeState) (begin : Begin) (now : Command) : Type 0 where
   pub state : ChangeState
-  pub streams : List NewStream
-  pub named : Names old state begin.streams streams
-  pub begins : BeginsAs (made_for old.options.skeletons streams) state new begin.skeleton streams now
+  pub named : Names old state (staying old.options.skeletons begin.streams)
+  pub begins :
+      BeginsAs (made_for old.options.skeletons (staying old.options.skeletons begin.streams))
+      (said_in old.options.skeletons begin.streams) state new begin.skeleton (staying old.options.skeletons begin.streams) now

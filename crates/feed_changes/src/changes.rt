@@ -6,7 +6,7 @@ ghost use Rattle.feed_changes.specs.Changed.{HasChanged, IsPlain};
 ghost use Rattle.feed_changes.specs.Naming.{entries_named, name_of};
 ghost use Rattle.feed_changes.specs.Options.{is_none};
 
-use crate::describing::{all_described, head_with};
+use crate::describing::{all_described, head_said};
 use crate::naming::{free_serial, name_all, name_of};
 use crate::options::ChangeOptions;
 use crate::renaming::{entries_named, give_all, streams_named};
@@ -54,36 +54,31 @@ impl Changes {
         }
     }
 
-    /// The streams of a new link that stay, under the serials that they have now.
-    fn name(&mut self, streams: Vec<NewStream>) -> Result<Vec<NewStream>, Memory>
-        ensures names { IfOk result (λ now. Names self.old self.new streams.items now.items) }
+    /// Names the streams of a new link that stay.
+    fn name(&mut self, stay: &[NewStream]) -> Result<(), Memory>
+        ensures names { OnOk result (Names self.old self.new stay.now) }
         ensures options { self.new.options ≡ self.old.options }
     {
-        let stay = staying(self.alloc, self.options.skeletons, streams)?;
         let names = &mut self.names;
         if self.options.renumber {
-            name_all(&self.given, names, stay.as_slice(), &mut self.low)?;
+            name_all(&self.given, names, stay, &mut self.low)?;
         } else {
             // Nothing is avoided, so each is named by its own serial.
-            name_all(
-                &Serials::new(self.alloc),
-                names,
-                stay.as_slice(),
-                &mut self.low,
-            )?;
+            name_all(&Serials::new(self.alloc), names, stay, &mut self.low)?;
         }
-        streams_named(self.alloc, self.names.as_slice(), stay)
+        Ok(())
     }
 
     /// Begins these streams without a Skeleton that is made.
     fn begin_plain(
         &mut self,
         skeleton: Option<SkeletonHead>,
-        streams: Vec<NewStream>,
+        stay: Vec<NewStream>,
     ) -> Result<Command, Memory>
-        ensures begins { IfOk result (λ now. BeginsPlain self.old self.new skeleton streams.items now) }
+        ensures begins { IfOk result (λ now. BeginsPlain self.old self.new skeleton stay.items now) }
         ensures options { self.new.options ≡ self.old.options }
     {
+        let streams = streams_named(self.alloc, self.names.as_slice(), stay)?;
         give_all(&mut self.given, streams.as_slice())?;
         Ok(Command::Begin(Begin {
             skeleton,
@@ -91,18 +86,24 @@ impl Changes {
         }))
     }
 
-    /// Begins these streams with a Skeleton, whose serial is the first free one from `from` on.
-    fn begin_described(&mut self, from: u32, streams: Vec<NewStream>) -> Result<Command, Memory>
-        ensures begins { IfOk result (λ now. BeginsDescribed from self.old self.new streams.items now) }
+    /// Begins these streams with a Skeleton, whose serial is the first free one from `from` on. It says what the Skeletons
+    /// say that have these packets.
+    fn begin_described(
+        &mut self,
+        from: u32,
+        said: &[Listed<u8>],
+        stay: Vec<NewStream>,
+    ) -> Result<Command, Memory>
+        ensures begins { IfOk result (λ now. BeginsDescribed from said.now self.old self.new stay.items now) }
         ensures options { self.new.options ≡ self.old.options }
     {
         let serial = free_serial(&self.given, self.names.as_slice(), from)?;
         self.given.reserve(1)?;
         self.given.push_reserved(serial);
+        let streams = all_described(self.alloc, said, self.names.as_slice(), stay)?;
         give_all(&mut self.given, streams.as_slice())?;
-        let streams = all_described(self.alloc, streams)?;
         Ok(Command::Begin(Begin {
-            skeleton: Some(head_with(serial)),
+            skeleton: Some(head_said(said, serial)),
             streams: Listed::of(streams),
         }))
     }
@@ -112,10 +113,12 @@ impl Changes {
         ensures begins { IfOk result (λ now. Begins self.old self.new begin now) }
         ensures options { self.new.options ≡ self.old.options }
     {
-        let streams = self.name(begin.streams.into_vec())?;
-        match made_for(self.options.skeletons, streams.as_slice()) {
-            Some(from) => self.begin_described(from, streams),
-            None => self.begin_plain(begin.skeleton, streams),
+        let skeletons = self.options.skeletons;
+        let (stay, said) = staying(self.alloc, skeletons, begin.streams.into_vec())?;
+        self.name(stay.as_slice())?;
+        match made_for(skeletons, stay.as_slice()) {
+            Some(from) => self.begin_described(from, said.as_slice(), stay),
+            None => self.begin_plain(begin.skeleton, stay),
         }
     }
 

@@ -2,7 +2,7 @@
 //!
 //! `Changes` gives a stream another serial if an earlier link has its serial already, as where an encoder was started
 //! again: a recorder takes each serial once in a file. The stream's packets and its end follow. It also leaves out
-//! Skeletons, and begins each link with a Skeleton made anew.
+//! Skeletons, and begins each link with a Skeleton made anew, which says what those say that are left out of the link.
 //!
 //! Start at `specs/Changed.antt`, which says what the changed commands add up to.
 #![tactic(auto)]
@@ -12,6 +12,7 @@ mod describing;
 mod naming;
 mod options;
 mod renaming;
+mod saying;
 mod skeletons;
 
 pub use changes::Changes;

@@ -10,7 +10,9 @@ pub enum Skeletons {
     /// It is left out, if its link has another stream.
     LeftOut,
     /// It is left out likewise, and each link of other streams begins with one made anew, if a `Begin` may have one
-    /// stream more. Its serial is the first from this one on that no stream has had and none of the link has.
+    /// stream more. Its serial is the first from this one on that no stream has had and none of the link has. It says of
+    /// the link and of each stream what the one says that is left out, if that keeps the rules of a `Begin`, and else what
+    /// the stream's first packet does.
     Made(u32),
 }
 

@@ -9,7 +9,7 @@ use ogg_command::{Entry, Memory, NewStream};
 use std::alloc::Global;
 
 /// The stream under the serial that it has now.
-fn stream_named(names: &[(u32, u32)], stream: NewStream) -> NewStream
+pub fn stream_named(names: &[(u32, u32)], stream: NewStream) -> NewStream
     ensures { result ≡ stream_named names.now stream }
 {
     let serial = name_of(names, stream.serial).unwrap_or(stream.serial);

@@ -1,10 +1,11 @@
 //! Skeletons among the streams of a link: which are left out, and for which links one is made.
-ghost use Rattle.std.specs.Prelude.{◌≡◌, ◌∷◌, [], false, not, IfOk, length};
+ghost use Rattle.std.specs.Prelude.{◌≡◌, ◌∷◌, ◌++◌, [], false, not, IfOk, OnOk, length};
 ghost use Rattle.std.specs.List.{filter, list_all};
 ghost use Rattle.ogg_command.specs.declared.command.NewStream.{NewStream as NewStreamOf};
 ghost use Rattle.ogg_feed.specs.Headers.{begins};
 ghost use Rattle.skeleton3.specs.Fishead.{fishead_name};
-ghost use Rattle.feed_changes.specs.Skeletons.{first_of, is_other, is_skeleton, leaves_out, made_for, staying};
+ghost use Rattle.feed_changes.specs.Said.{first_of};
+ghost use Rattle.feed_changes.specs.Skeletons.{headers_in, is_other, is_skeleton, leaves_out, made_for, said_in, staying};
 
 use crate::options::Skeletons;
 use ogg_command::{Listed, Memory, NewStream};
@@ -42,17 +43,34 @@ fn are_skeletons(streams: &[NewStream]) -> bool
     true
 }
 
-/// The streams that are no Skeletons.
-fn others(alloc: Global, streams: Vec<NewStream>) -> Result<Vec<NewStream>, Memory>
-    ensures { IfOk result (λ now. now.items ≡ filter is_other streams.items) }
+/// Appends a stream's headers.
+fn add_headers(said: &mut Vec<Listed<u8>>, headers: Vec<Listed<u8>>) -> Result<(), Memory>
+    ensures { OnOk result (said.new.items ≡ said.old.items ++ headers.items) }
 {
-    let mut now = Vec::new(alloc);
+    for header in headers {
+        said.push(header)?;
+    }
+    Ok(())
+}
+
+/// The streams that are no Skeletons, and the headers of those that are.
+fn parted(
+    alloc: Global,
+    streams: Vec<NewStream>,
+) -> Result<(Vec<NewStream>, Vec<Listed<u8>>), Memory>
+    ensures { IfOk result (λ now. (now.0.items ≡ filter is_other streams.items)
+        × (now.1.items ≡ headers_in (filter is_skeleton streams.items))) }
+{
+    let mut others = Vec::new(alloc);
+    let mut said = Vec::new(alloc);
     for stream in streams {
-        if !is_skeleton(&stream) {
-            now.push(stream)?;
+        if is_skeleton(&stream) {
+            add_headers(&mut said, stream.headers.into_vec())?;
+        } else {
+            others.push(stream)?;
         }
     }
-    Ok(now)
+    Ok((others, said))
 }
 
 /// Whether Skeletons are left out.
@@ -65,18 +83,19 @@ fn leaves_out(skeletons: Skeletons) -> bool
     }
 }
 
-/// The streams of a link that stay.
+/// The streams of a link that stay, and the headers of those that are left out.
 pub fn staying(
     alloc: Global,
     skeletons: Skeletons,
     streams: Vec<NewStream>,
-) -> Result<Vec<NewStream>, Memory>
-    ensures { IfOk result (λ now. now.items ≡ staying skeletons streams.items) }
+) -> Result<(Vec<NewStream>, Vec<Listed<u8>>), Memory>
+    ensures { IfOk result (λ now. (now.0.items ≡ staying skeletons streams.items)
+        × (now.1.items ≡ said_in skeletons streams.items)) }
 {
     if !leaves_out(skeletons) || are_skeletons(streams.as_slice()) {
-        return Ok(streams);
+        return Ok((streams, Vec::new(alloc)));
     }
-    others(alloc, streams)
+    parted(alloc, streams)
 }
 
 /// The serial to begin with in the search for that of the Skeleton of these streams, if one is made for them.
