@@ -20,12 +20,15 @@ pub fn head_said(said: &[Listed<u8>], serial: u32) -> SkeletonHead
     ensures serial { result.serial ≡ serial }
 {
     match head_in(first_header(said)) {
-        Some(fishead) => SkeletonHead {
-            serial,
-            presentation: fishead.presentation,
-            base: fishead.base,
-            utc: fishead.utc,
-        },
+        Some(fishead) => {
+            let utc = fishead.utc;
+            SkeletonHead {
+                serial,
+                presentation: fishead.presentation,
+                base: fishead.base,
+                utc,
+            }
+        }
         None => SkeletonHead {
             serial,
             presentation: (0, 1000),
@@ -63,7 +66,7 @@ fn described_as(
     fisbone: Fisbone<'_>,
     stream: NewStream,
 ) -> Result<NewStream, Memory>
-    ensures { IfOk result (λ now. now ≡ described_as (Some (packet.now, fisbone_of fisbone)) stream) }
+    ensures { IfOk result (λ now. now ≡ described_as (Some (packet.now, fisbone_of fisbone.entry)) stream) }
 {
     let media = fisbone.media.to_vec(alloc)?;
     let fields = fields_said(alloc, packet)?;

@@ -108,7 +108,7 @@ fn field_in(alloc: Global, name: &[u8], value: &[u8]) -> Result<Option<Field>, M
 
 /// Copies of the fields that don't name a media type, if a `Begin` may have all of them.
 fn kept_fields(alloc: Global, message: MessageFields<'_>) -> Result<Vec<Field>, Memory>
-    ensures { IfOk result (λ now. now.items ≡ kept_fields (further message)) }
+    ensures { IfOk result (λ now. now.items ≡ kept_fields (further message.entry)) }
 {
     let mut now = Vec::new(alloc);
     for (name, value) in message {

@@ -1,7 +1,7 @@
-use Rattle.std.proofs.Common.{◌≡◌, map}
-use Rattle.feed_changes.specs.Skeletons.{described}
+use Rattle.std.specs.List.{AllZip}
+use Rattle.feed_changes.specs.Steps.{IsDescribedUnder}
 use Rattle.feed_changes.proofs.describing.all_described.Given as goal
 
 -- so it is of the streams so far
 abbrev pub invariant-loop-stream : goal.invariant-loop-stream
-invariant-loop-stream l = l.now.items ≡ map described l.yielded
+invariant-loop-stream l = AllZip (IsDescribedUnder l.names l.said) l.yielded l.now.items
