@@ -1,18 +1,21 @@
 -- The streams of a new link: those that stay, under their names, perhaps with a Skeleton before them.
-use Rattle.std.proofs.Common.{◌≡◌, ℕ, suc, Bool, true, false, List, [], ◌∷◌, map, refl, ◌∙◌, ap, length, inl, inr}
-use Rattle.std.specs.Prelude.{nat_le, not, ◌||◌, ◌&&◌, if◌then◌else◌, Some, None, ◌⊎◌}
-use Rattle.std.specs.List.{AllByRecursion, AllZip, filter, list_all}
+use Rattle.std.proofs.Common.{◌≡◌, ℕ, suc, Bool, true, false, List, [], ◌∷◌, ◌++◌, map, refl, sym, ◌∙◌, ap, subst, length, inl, inr, append-nil}
+use Rattle.std.specs.Prelude.{nat_le, not, ◌||◌, ◌&&◌, if◌then◌else◌, Option, Some, None, ◌⊎◌}
+use Rattle.std.specs.List.{AllByRecursion, AllZip, filter, flat_map, list_all}
 use Rattle.chain_rules.specs.Recording.{begun}
 use Rattle.ogg_command.specs.declared.command.NewStream.{NewStream}
 use Rattle.link_chain.specs.Limits.{most_streams}
 use Rattle.feed_changes.specs.declared.options.Skeletons.{Skeletons}
 use Rattle.feed_changes.specs.declared.options.Skeletons.TheVariants.{Kept, LeftOut, Made}
-use Rattle.feed_changes.specs.Naming.{serials_of, stream_named}
+use Rattle.skeleton3.specs.Fisbone.{Fisbone}
+use Rattle.feed_changes.specs.Naming.{named, serials_of, stream_named}
 use Rattle.feed_changes.specs.Renumbered.{serials}
-use Rattle.feed_changes.specs.Links.{HasReason, those}
+use Rattle.feed_changes.specs.Links.{AreFronts, HasReason, IsFrontOf, the_others, those}
 use Rattle.feed_changes.specs.Changed.{stream_under}
-use Rattle.feed_changes.specs.Skeletons.{AreOthers, IsDescribed, described, headers_of, is_other, is_skeleton, leaves_out, made_for}
-use Rattle.feed_changes.specs.Skeletons.{staying}
+use Rattle.feed_changes.specs.Said.{IsDescribedBy, described_as, first_of}
+use Rattle.feed_changes.specs.Steps.{IsDescribedUnder}
+use Rattle.feed_changes.specs.Skeletons.{AreOthers, headers_in, headers_of, is_fishead, is_other, is_skeleton, leaves_out, left_out}
+use Rattle.feed_changes.specs.Skeletons.{made_for, staying}
 use Rattle.feed_changes.proofs.Renumbers.{clash}
 
 -- ---- which streams stay
@@ -91,21 +94,66 @@ pub begun_serials : (streams : List NewStream) → serials (map begun streams) �
 begun_serials [] = refl
 begun_serials (stream ∷ streams) = ap (λ l. stream.serial ∷ l) (begun_serials streams)
 
-pub begun_described : (streams : List NewStream) → map begun (map described streams) ≡ map begun streams
-begun_described [] = refl
-begun_described (stream ∷ streams) = ap (λ l. begun stream ∷ l) (begun_described streams)
-
-pub described_serials : (streams : List NewStream) → serials_of (map described streams) ≡ serials_of streams
-described_serials [] = refl
-described_serials (stream ∷ streams) = ap (λ l. stream.serial ∷ l) (described_serials streams)
-
 pub headers_named : (names : List (ℕ × ℕ)) (streams : List NewStream) → headers_of (map (stream_named names) streams) ≡ headers_of streams
 headers_named names [] = refl
 headers_named names (stream ∷ streams) = ap (λ l. stream.headers ∷ l) (headers_named names streams)
 
-pub headers_described : (streams : List NewStream) → headers_of (map described streams) ≡ headers_of streams
-headers_described [] = refl
-headers_described (stream ∷ streams) = ap (λ l. stream.headers ∷ l) (headers_described streams)
+-- ---- described
+pub described_under : (names : List (ℕ × ℕ)) (said : List (List ℕ)) (stream now : NewStream) → IsDescribedBy said stream now
+    → now.serial ≡ stream.serial → IsDescribedUnder names said stream (stream_named names now)
+described_under names said stream now by same = record {
+  described = record {
+    found = by.found;
+    finds = by.finds;
+    is = ap (λ (s : NewStream). record s { serial = named names now.serial }) by.is;
+  };
+  named = ap (named names) same;
+}
+
+as_headers : (found : Option (List ℕ × Fisbone)) (stream : NewStream) → (described_as found stream).headers ≡ stream.headers
+as_headers None stream = refl
+as_headers (Some (packet, fisbone)) stream = refl
+
+pub headers_described : (names : List (ℕ × ℕ)) (said : List (List ℕ)) (streams now : List NewStream)
+    → AllZip (IsDescribedUnder names said) streams now → headers_of now ≡ headers_of streams
+headers_described names said [] [] all = refl
+headers_described names said [] (n ∷ now) all = absurd all
+headers_described names said (stream ∷ streams) [] all = absurd all
+headers_described names said (stream ∷ streams) (n ∷ now) (by, all) =
+    ap (λ h. h ∷ headers_of now) (ap (λ (s : NewStream). s.headers) by.described.is ∙ as_headers by.described.found stream)
+    ∙ ap (λ l. stream.headers ∷ l) (headers_described names said streams now all)
+
+pub described_serials : (names : List (ℕ × ℕ)) (said : List (List ℕ)) (streams now : List NewStream)
+    → AllZip (IsDescribedUnder names said) streams now → serials_of now ≡ serials_of (map (stream_named names) streams)
+described_serials names said [] [] all = refl
+described_serials names said [] (n ∷ now) all = absurd all
+described_serials names said (stream ∷ streams) [] all = absurd all
+described_serials names said (stream ∷ streams) (n ∷ now) (by, all) =
+    ap (λ k. k ∷ serials_of now) by.named ∙ ap (λ l. named names stream.serial ∷ l) (described_serials names said streams now all)
+
+-- streams with these serials and headers are begun alike
+pub begun_alike : (streams now : List NewStream) → serials_of now ≡ serials_of streams → headers_of now ≡ headers_of streams
+    → map begun now ≡ map begun streams
+begun_alike [] [] same headers = refl
+begun_alike [] (n ∷ now) same headers = cc
+begun_alike (stream ∷ streams) [] same headers = cc
+begun_alike (stream ∷ streams) (n ∷ now) same headers =
+    ap (λ k. record { serial = k; packets = n.headers; ended = false } ∷ map begun now) (front same)
+    ∙ ap (λ h. record { serial = stream.serial; packets = h; ended = false } ∷ map begun now) (front headers)
+    ∙ ap (λ l. begun stream ∷ l) (begun_alike streams now (rest same) (rest headers))
+  where
+    front : {X : Type 0} {x y : X} {xs ys : List X} → x ∷ xs ≡ y ∷ ys → x ≡ y
+    front e = cc
+
+    rest : {X : Type 0} {x y : X} {xs ys : List X} → x ∷ xs ≡ y ∷ ys → xs ≡ ys
+    rest e = cc
+
+pub described_only : (names : List (ℕ × ℕ)) (said : List (List ℕ)) (streams now : List NewStream)
+    → AllZip (IsDescribedUnder names said) streams now → AllZip (IsDescribedBy said) streams now
+described_only names said [] [] all = tt
+described_only names said [] (n ∷ now) all = absurd all
+described_only names said (stream ∷ streams) [] all = absurd all
+described_only names said (stream ∷ streams) (n ∷ now) (by, all) = (by.described, described_only names said streams now all)
 
 -- ---- what is said of the streams that are begun
 skeletons_named : (names : List (ℕ × ℕ)) (streams : List NewStream)
@@ -113,28 +161,29 @@ skeletons_named : (names : List (ℕ × ℕ)) (streams : List NewStream)
 skeletons_named names [] = refl
 skeletons_named names (stream ∷ streams) = ap (λ b. is_skeleton stream && b) (skeletons_named names streams)
 
-skeletons_described : (streams : List NewStream) → list_all is_skeleton (map described streams) ≡ list_all is_skeleton streams
-skeletons_described [] = refl
-skeletons_described (stream ∷ streams) = ap (λ b. is_skeleton stream && b) (skeletons_described streams)
+-- whether a stream is a Skeleton hangs on its headers
+abbrev pub begins_skeleton : List (List ℕ) → Bool
+begins_skeleton headers = is_fishead (first_of headers)
 
-described_length : (streams : List NewStream) → length (map described streams) ≡ length streams
-described_length [] = refl
-described_length (stream ∷ streams) = ap suc (described_length streams)
+all_by_headers : (streams : List NewStream) → list_all is_skeleton streams ≡ list_all begins_skeleton (headers_of streams)
+all_by_headers [] = refl
+all_by_headers (stream ∷ streams) = ap (λ b. is_skeleton stream && b) (all_by_headers streams)
 
-pub made_described : (skeletons : Skeletons) (streams : List NewStream)
-    → made_for skeletons (map described streams) ≡ made_for skeletons streams
-made_described Kept streams = refl
-made_described LeftOut streams = refl
-made_described (Made from) streams =
-    ap (λ b. if b || nat_le most_streams (length (map described streams)) then None else Some from) (skeletons_described streams)
-    ∙ ap (λ n. if list_all is_skeleton streams || nat_le most_streams n then None else Some from) (described_length streams)
+all_alike : (streams now : List NewStream) → headers_of now ≡ headers_of streams → list_all is_skeleton now ≡ list_all is_skeleton streams
+all_alike streams now same = all_by_headers now ∙ ap (list_all begins_skeleton) same ∙ sym (all_by_headers streams)
 
-pub are_described : (streams : List NewStream) → AllByRecursion IsDescribed (map described streams)
-are_described [] = tt
-are_described (stream ∷ streams) = (
-  record { media = refl; fields = refl; rate = refl; base_granule = refl; preroll = refl; shift = refl },
-  are_described streams,
-)
+length_by_headers : (streams : List NewStream) → length streams ≡ length (headers_of streams)
+length_by_headers [] = refl
+length_by_headers (stream ∷ streams) = ap suc (length_by_headers streams)
+
+pub made_alike : (skeletons : Skeletons) (streams now : List NewStream) → headers_of now ≡ headers_of streams
+    → made_for skeletons now ≡ made_for skeletons streams
+made_alike Kept streams now same = refl
+made_alike LeftOut streams now same = refl
+made_alike (Made from) streams now same =
+    ap (λ b. if b || nat_le most_streams (length now) then None else Some from) (all_alike streams now same)
+    ∙ ap (λ n. if list_all is_skeleton streams || nat_le most_streams n then None else Some from)
+    (length_by_headers now ∙ ap length same ∙ sym (length_by_headers streams))
 
 -- no Skeleton is among them, or nothing else
 abbrev pub AreApart : List NewStream → Type 0
@@ -162,15 +211,55 @@ named_apart names skeletons streams asked = by (leaves_out skeletons) asked (lis
     by true asked true e = inl (skeletons_named names streams ∙ e)
     by true asked false e = inr (others_named names streams)
 
-others_described : (streams : List NewStream) → AllByRecursion (λ stream. is_skeleton stream ≡ false) streams
-    → AllByRecursion (λ stream. is_skeleton stream ≡ false) (map described streams)
-others_described [] all = tt
-others_described (stream ∷ streams) (p, all) = (p, others_described streams all)
+none_by_headers : (streams : List NewStream) → AllByRecursion (λ stream. is_skeleton stream ≡ false) streams
+    → AllByRecursion (λ headers. begins_skeleton headers ≡ false) (headers_of streams)
+none_by_headers [] all = tt
+none_by_headers (stream ∷ streams) (p, all) = (p, none_by_headers streams all)
 
-pub described_apart : (skeletons : Skeletons) (streams : List NewStream) → AreOthers skeletons streams
-    → AreOthers skeletons (map described streams)
-described_apart skeletons streams apart asked = by (apart asked)
+headers_by_none : (streams : List NewStream) → AllByRecursion (λ headers. begins_skeleton headers ≡ false) (headers_of streams)
+    → AllByRecursion (λ stream. is_skeleton stream ≡ false) streams
+headers_by_none [] all = tt
+headers_by_none (stream ∷ streams) (p, all) = (p, headers_by_none streams all)
+
+pub apart_alike : (skeletons : Skeletons) (streams now : List NewStream) → headers_of now ≡ headers_of streams
+    → AreOthers skeletons streams → AreOthers skeletons now
+apart_alike skeletons streams now same apart asked = by (apart asked)
   where
-    by : AreApart streams → AreApart (map described streams)
-    by (inl all) = inl (skeletons_described streams ∙ all)
-    by (inr all) = inr (others_described streams all)
+    by : AreApart streams → AreApart now
+    by (inl all) = inl (all_alike streams now same ∙ all)
+    by (inr all) = inr (headers_by_none now
+        (subst (AllByRecursion (λ headers. begins_skeleton headers ≡ false)) (sym same) (none_by_headers streams all)))
+
+-- ---- the packets of those that are left out
+none_others : (streams : List NewStream) → the_others (map (λ stream. true) streams) (map begun streams) ≡ []
+none_others [] = refl
+none_others (stream ∷ streams) = none_others streams
+
+skeletons_others : (streams : List NewStream) → the_others (map is_other streams) (map begun streams) ≡ map begun (filter is_skeleton streams)
+skeletons_others [] = refl
+skeletons_others (stream ∷ streams) = by (skeletons_others streams) (is_skeleton stream)
+  where
+    by : the_others (map is_other streams) (map begun streams) ≡ map begun (filter is_skeleton streams) → (b : Bool)
+        → those (not (not b) ∷ map not (map is_other streams)) (begun stream ∷ map begun streams) ≡ map begun
+        (if b then stream ∷ filter is_skeleton streams else filter is_skeleton streams)
+    by rest true = ap (λ l. begun stream ∷ l) rest
+    by rest false = rest
+
+pub begun_left : (skeletons : Skeletons) (streams : List NewStream)
+    → the_others (stays_of skeletons streams) (map begun streams) ≡ map begun (left_out skeletons streams)
+begun_left skeletons streams = by (all_stay skeletons streams)
+  where
+    by : (b : Bool) → the_others (stays_if b streams) (map begun streams) ≡ map begun (if b then [] else filter is_skeleton streams)
+    by true = none_others streams
+    by false = skeletons_others streams
+
+each_front : (streams : List NewStream) → AllZip IsFrontOf (headers_of streams) (map begun streams)
+each_front [] = tt
+each_front (stream ∷ streams) = (([], sym (append-nil stream.headers)), each_front streams)
+
+joined_headers : (streams : List NewStream) → headers_in streams ≡ flat_map (λ front. front) (headers_of streams)
+joined_headers [] = refl
+joined_headers (stream ∷ streams) = ap (λ l. stream.headers ++ l) (joined_headers streams)
+
+pub fronts_of : (streams : List NewStream) → AreFronts (map begun streams) (headers_in streams)
+fronts_of streams = record { fronts = headers_of streams; each = each_front streams; said_is = joined_headers streams }

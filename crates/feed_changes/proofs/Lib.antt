@@ -1,4 +1,5 @@
 pub mod Names
+pub mod Readings
 pub mod Renumbers
 pub mod Lists
 pub mod Links

@@ -1,7 +1,7 @@
 -- The last link under its names, a change of it, and a new one.
 use Rattle.std.proofs.Common.{◌≡◌, ℕ, Bool, true, false, cond, List, [], ◌∷◌, ◌++◌, map, refl, sym, ◌∙◌, ap, subst, append-nil}
 use Rattle.std.proofs.Common.{append_assoc}
-use Rattle.std.specs.Prelude.{nat_eq, Some, None, ◌⊎◌}
+use Rattle.std.specs.Prelude.{nat_eq, not, Some, None, ◌⊎◌}
 use Rattle.std.proofs.Common.{inl, inr}
 use Rattle.std.specs.List.{AllByRecursion, AllZip, IsDistinct, flat_map, list_any}
 use Rattle.std.specs.Map.{keys_of, values_of}
@@ -14,10 +14,10 @@ use Rattle.feed_changes.specs.declared.options.Skeletons.{Skeletons}
 use Rattle.feed_changes.specs.declared.options.Skeletons.TheVariants.{Kept, LeftOut, Made}
 use Rattle.feed_changes.specs.Naming.{AreNamed, AreNames, IsFreshName, name_of, named}
 use Rattle.feed_changes.specs.Renumbered.{IsRenumberedStream, avoided, serials}
-use Rattle.feed_changes.specs.Links.{ChangedFrom, IsBefore, IsChangedLink, those}
+use Rattle.feed_changes.specs.Links.{ChangedFrom, IsBefore, IsChangedLink, the_others, those}
 use Rattle.feed_changes.specs.Changed.{AreNone, ChangeState, IsFollowed, IsUnderNames, IsUpTo, stream_under}
 use Rattle.feed_changes.proofs.Renumbers.{GoesWith, HasName, eq_named, has_name, serials_under}
-use Rattle.feed_changes.proofs.Lists.{apart_still, left_out_still, map_same, no_serial, same_serials, those_distinct, those_map}
+use Rattle.feed_changes.proofs.Lists.{apart_still, before_still, left_out_still, map_same, no_serial, same_serials, those_distinct, those_map}
 use Rattle.feed_changes.proofs.Lists.{under_still}
 
 -- ---- the last link changes
@@ -39,9 +39,13 @@ under_step state earlier link link_now change now with by =
       names = by.names;
       named = subst (AreNamed names) (sym same) by.named;
       before = by.before;
-      made = subst (λ l. IsBefore state.options.skeletons earlier l by.before)
+      made = subst (λ l. IsBefore state.options.skeletons (the_others by.stays (map change link)) earlier l by.before)
           (serials_under names stay ∙ ap (map (named names)) (sym same)
-          ∙ sym (serials_under names (those by.stays (map change link)))) by.made;
+          ∙ sym (serials_under names (those by.stays (map change link))))
+          (subst (λ l. IsBefore state.options.skeletons l earlier (serials (map (stream_under names) stay)) by.before)
+          (sym (those_map change (map not by.stays) link))
+          (before_still names change now with state.options.skeletons (the_others by.stays link) earlier
+          (serials (map (stream_under names) stay)) by.before by.made));
       apart = by.apart;
       is = ap (map now) by.is ∙ map-append now by.before (map (stream_under names) stay)
           ∙ ap (λ l. l ++ map now (map (stream_under names) stay)) (apart_still names change now with by.before by.apart)
@@ -109,18 +113,18 @@ names_distinct names (serial ∷ serials) d (key, all) (apart, distinct) =
     (names_apart names serial serials d key all apart, names_distinct names serials d all distinct)
 
 -- the serials of a link that has a Skeleton before its streams
-distinct_before : (skeletons : Skeletons) (earlier : List ℕ) (streams before : List Stream)
-    → IsBefore skeletons earlier (serials streams) before
+distinct_before : (skeletons : Skeletons) (left : List Stream) (earlier : List ℕ) (streams before : List Stream)
+    → IsBefore skeletons left earlier (serials streams) before
     → IsDistinct nat_eq (serials streams) → IsDistinct nat_eq (serials (before ++ streams))
 unfolding IsDistinct
-distinct_before skeletons earlier streams [] made d = d
-distinct_before Kept earlier streams (skeleton ∷ more) made d = absurd made
-distinct_before LeftOut earlier streams (skeleton ∷ more) made d = absurd made
-distinct_before (Made from) earlier streams (skeleton ∷ next ∷ more) made d = absurd made
-distinct_before (Made from) earlier streams (skeleton ∷ []) made d = (
+distinct_before skeletons left earlier streams [] made d = d
+distinct_before Kept left earlier streams (skeleton ∷ more) made d = absurd made
+distinct_before LeftOut left earlier streams (skeleton ∷ more) made d = absurd made
+distinct_before (Made from) left earlier streams (skeleton ∷ next ∷ more) made d = absurd made
+distinct_before (Made from) left earlier streams (skeleton ∷ []) made d = (
   subst (λ (s : Stream). AllByRecursion (λ y. nat_eq s.serial y ≡ false) (serials streams)) (sym made.is)
-      (no_serial made.serial (serials streams) (or_parts (list_any (nat_eq made.serial) earlier)
-      (list_any (nat_eq made.serial) (serials streams)) made.first.free).1),
+      (no_serial made.head.serial (serials streams) (or_parts (list_any (nat_eq made.head.serial) earlier)
+      (list_any (nat_eq made.head.serial) (serials streams)) made.first.free).1),
   d,
 )
 
@@ -140,7 +144,7 @@ link_changed state earlier link now by =
       is = by.is;
       distinct = λ d.
           subst (λ l. IsDistinct nat_eq (serials l)) (sym by.is)
-          (distinct_before state.options.skeletons earlier streams by.before by.made
+          (distinct_before state.options.skeletons (the_others by.stays link) earlier streams by.before by.made
           (subst (IsDistinct nat_eq) (sym (serials_under names stay)) (names_distinct names (serials stay) by.names.distinct by.named
           (those_distinct by.stays link d))));
     }

@@ -7,7 +7,8 @@ use Rattle.chain_rules.specs.Recording.{Stream}
 use Rattle.feed_changes.specs.declared.options.Skeletons.{Skeletons}
 use Rattle.feed_changes.specs.Naming.{AreNamed}
 use Rattle.feed_changes.specs.Renumbered.{serials}
-use Rattle.feed_changes.specs.Links.{IsLeftOut, HasReason, those}
+use Rattle.feed_changes.specs.declared.options.Skeletons.TheVariants.{Kept, LeftOut, Made}
+use Rattle.feed_changes.specs.Links.{AreFronts, HasReason, IsBefore, IsFrontOf, IsLeftOut, those}
 use Rattle.feed_changes.specs.Changed.{IsNoName, stream_under}
 use Rattle.feed_changes.proofs.Renumbers.{GoesWith}
 
@@ -33,6 +34,38 @@ left_out_still skeletons names change now with (stay ∷ stays) (stream ∷ link
   λ e. let left : IsLeftOut skeletons stream = may e in record { asked = left.asked; skeleton = with.fishead stream left.skeleton },
   left_out_still skeletons names change now with stays link all,
 )
+
+fronts_still : (names : List (ℕ × ℕ)) (change now : Stream → Stream) → GoesWith names change now → (fronts : List (List (List ℕ)))
+    (left : List Stream) → AllZip IsFrontOf fronts left → AllZip IsFrontOf fronts (map change left)
+fronts_still names change now with [] [] all = tt
+fronts_still names change now with [] (stream ∷ left) all = absurd all
+fronts_still names change now with (front ∷ fronts) [] all = absurd all
+fronts_still names change now with (front ∷ fronts) (stream ∷ left) (f, all) =
+    (with.front stream front f, fronts_still names change now with fronts left all)
+
+-- what is before a link's streams stays right where those that are left out grow
+pub before_still : (names : List (ℕ × ℕ)) (change now : Stream → Stream) → GoesWith names change now → (skeletons : Skeletons)
+    (left : List Stream) (earlier serials : List ℕ) (before : List Stream)
+    → IsBefore skeletons left earlier serials before → IsBefore skeletons (map change left) earlier serials before
+before_still names change now with skeletons left earlier serials [] made = tt
+before_still names change now with Kept left earlier serials (skeleton ∷ more) made = absurd made
+before_still names change now with LeftOut left earlier serials (skeleton ∷ more) made = absurd made
+before_still names change now with (Made from) left earlier serials (skeleton ∷ next ∷ more) made = absurd made
+before_still names change now with (Made from) left earlier serials (skeleton ∷ []) made = record {
+  head = made.head;
+  streams = made.streams;
+  is = made.is;
+  of = made.of;
+  first = made.first;
+  said = made.said;
+  fronts = record {
+    fronts = made.fronts.fronts;
+    each = fronts_still names change now with made.fronts.fronts left made.fronts.each;
+    said_is = made.fronts.said_is;
+  };
+  had = made.had;
+  says = made.says;
+}
 
 pub under_still : (names : List (ℕ × ℕ)) (change now : Stream → Stream) → GoesWith names change now → (link : List Stream)
     → AreNamed names (serials link)

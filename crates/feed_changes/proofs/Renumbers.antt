@@ -1,5 +1,5 @@
 -- Names and streams under them.
-use Rattle.std.proofs.Common.{◌≡◌, ℕ, Bool, true, false, cond, List, [], ◌∷◌, ◌++◌, map, refl, sym, ◌∙◌, ap, subst}
+use Rattle.std.proofs.Common.{◌≡◌, ℕ, Bool, true, false, cond, List, [], ◌∷◌, ◌++◌, map, refl, sym, ◌∙◌, ap, subst, append_assoc}
 use Rattle.std.specs.Prelude.{nat_eq, Option, Some, None, ◌||◌, if◌then◌else◌}
 use Rattle.std.specs.Option.{is_some, unwrap_or}
 use Rattle.std.specs.List.{AllByRecursion, IsDistinct, list_any}
@@ -11,7 +11,9 @@ use Rattle.ogg_command.specs.declared.command.Entry.{Entry}
 use Rattle.feed_changes.specs.Naming.{AreNamed, AreOnlyOf, name_of, named}
 use Rattle.feed_changes.specs.Renumbered.{serials}
 use Rattle.feed_changes.specs.Changed.{IsNoName, stream_under}
-use Rattle.feed_changes.specs.Skeletons.{first_of, is_fishead}
+use Rattle.feed_changes.specs.Links.{IsFrontOf}
+use Rattle.feed_changes.specs.Said.{first_of}
+use Rattle.feed_changes.specs.Skeletons.{is_fishead}
 use Rattle.feed_changes.proofs.Names.{eq_swaps, or_true}
 
 pub clash : {A : Type 0} {b : Bool} → b ≡ true → b ≡ false → A
@@ -190,6 +192,7 @@ names_are names serials once all only n = by (list_any (nat_eq n) (values_of nam
 pub record GoesWith (names : List (ℕ × ℕ)) (change now : Stream → Stream) : Type 0 where
   pub serial : (stream : Stream) → (change stream).serial ≡ stream.serial
   pub fishead : (stream : Stream) → is_fishead (first_of stream.packets) ≡ true → is_fishead (first_of (change stream).packets) ≡ true
+  pub front : (stream : Stream) (front : List (List ℕ)) → IsFrontOf front stream → IsFrontOf front (change stream)
   pub under : (stream : Stream) → list_any (nat_eq stream.serial) (keys_of names) ≡ true
       → now (stream_under names stream) ≡ stream_under names (change stream)
   pub apart : (stream : Stream) → IsNoName names stream.serial → now stream ≡ stream
@@ -232,6 +235,15 @@ ended_fishead : (stream : Stream) (b : Bool) → is_fishead (first_of stream.pac
 ended_fishead stream true e = e
 ended_fishead stream false e = e
 
+grown_front : (packet : List ℕ) (stream : Stream) (b : Bool) (front : List (List ℕ)) → IsFrontOf front stream
+    → IsFrontOf front (grown_if packet stream b)
+grown_front packet stream true front (more, is) = (more ++ packet ∷ [], ap (λ l. l ++ packet ∷ []) is ∙ append_assoc front more (packet ∷ []))
+grown_front packet stream false front f = f
+
+ended_front : (stream : Stream) (b : Bool) (front : List (List ℕ)) → IsFrontOf front stream → IsFrontOf front (ended_if stream b)
+ended_front stream true front f = f
+ended_front stream false front f = f
+
 grown_under : (names : List (ℕ × ℕ)) (packet : List ℕ) (stream : Stream) (b : Bool)
     → grown_if packet (stream_under names stream) b ≡ stream_under names (grown_if packet stream b)
 grown_under names packet stream true = refl
@@ -248,6 +260,7 @@ pub packet_named : (names : List (ℕ × ℕ)) (entry : Entry) (now : ℕ) → I
 packet_named names entry now d is = record {
   serial = λ stream. grown_serial entry.packet stream (nat_eq stream.serial entry.serial);
   fishead = λ stream. grown_fishead entry.packet stream (nat_eq stream.serial entry.serial);
+  front = λ stream front f. grown_front entry.packet stream (nat_eq stream.serial entry.serial) front f;
   under = λ stream key.
       ap (grown_if entry.packet (stream_under names stream)) (eq_named names stream.serial entry.serial now d key is)
       ∙ grown_under names entry.packet stream (nat_eq stream.serial entry.serial);
@@ -259,6 +272,7 @@ pub end_named : (names : List (ℕ × ℕ)) (serial now : ℕ) → IsDistinct na
 end_named names serial now d is = record {
   serial = λ stream. ended_serial stream (nat_eq stream.serial serial);
   fishead = λ stream. ended_fishead stream (nat_eq stream.serial serial);
+  front = λ stream front f. ended_front stream (nat_eq stream.serial serial) front f;
   under = λ stream key.
       ap (ended_if (stream_under names stream)) (eq_named names stream.serial serial now d key is)
       ∙ ended_under names stream (nat_eq stream.serial serial);
@@ -271,6 +285,7 @@ pub packet_other : (names : List (ℕ × ℕ)) (entry : Entry) → name_of names
 packet_other names entry none = record {
   serial = λ stream. grown_serial entry.packet stream (nat_eq stream.serial entry.serial);
   fishead = λ stream. grown_fishead entry.packet stream (nat_eq stream.serial entry.serial);
+  front = λ stream front f. grown_front entry.packet stream (nat_eq stream.serial entry.serial) front f;
   under = λ stream key. ap (λ b. stream_under names (grown_if entry.packet stream b))
       (sym (other names stream.serial entry.serial key none));
   apart = λ stream none. refl;
@@ -280,6 +295,7 @@ pub end_other : (names : List (ℕ × ℕ)) (serial : ℕ) → name_of names ser
 end_other names serial none = record {
   serial = λ stream. ended_serial stream (nat_eq stream.serial serial);
   fishead = λ stream. ended_fishead stream (nat_eq stream.serial serial);
+  front = λ stream front f. ended_front stream (nat_eq stream.serial serial) front f;
   under = λ stream key. ap (λ b. stream_under names (ended_if stream b)) (sym (other names stream.serial serial key none));
   apart = λ stream none. refl;
 }

@@ -21,9 +21,10 @@ use Rattle.feed_changes.specs.Options.{is_none, is_none_with}
 use Rattle.feed_changes.specs.Naming.{AreNamed, AreNames, entries_named, entry_with, is_had, name_of, named, serials_of, stream_named}
 use Rattle.feed_changes.specs.Naming.{IsFirstFree}
 use Rattle.feed_changes.specs.Renumbered.{avoided, serials}
-use Rattle.feed_changes.specs.Links.{IsBefore, IsMadeFor, those}
-use Rattle.feed_changes.specs.Skeletons.{AreOthers, BeginThose, BeginsThose, HasHead, IsBegunAs, begin_of, begins_of, described}
-use Rattle.feed_changes.specs.Skeletons.{head_with, headers_of, is_skeleton, made_for, staying}
+use Rattle.feed_changes.specs.Links.{IsBefore, IsMadeFor, the_others, those}
+use Rattle.feed_changes.specs.Said.{IsSaidBy}
+use Rattle.feed_changes.specs.Skeletons.{BeginThose, BeginsThose, HasHead, IsBegunAs, SaysSo, begin_of, begins_of, headers_of, is_skeleton}
+use Rattle.feed_changes.specs.Skeletons.{left_out, made_for, said_in, staying}
 use Rattle.feed_changes.specs.Changed.{ChangeState, FollowsIf, HasChanged, IsChangedIf, IsFollowed, IsNoName, IsPlain, IsUnderNames}
 use Rattle.feed_changes.specs.Changed.{stream_under}
 use Rattle.feed_changes.specs.Steps.{Begins, BeginsAs, BeginsDescribed, BeginsPlain, Names, end_of, option_list, put_of}
@@ -32,8 +33,8 @@ use Rattle.feed_changes.proofs.Renumbers.{clash, end_named, end_other, ended, en
 use Rattle.feed_changes.proofs.Renumbers.{packet_other}
 use Rattle.feed_changes.proofs.Lists.{same_serials, zip_push}
 use Rattle.feed_changes.proofs.Links.{begin_step, change_step, followed_changed, same_last, under_only, under_step}
-use Rattle.feed_changes.proofs.Begins.{are_described, begun_described, begun_named, begun_serials, begun_staying, described_apart}
-use Rattle.feed_changes.proofs.Begins.{described_serials, headers_described, headers_named, left_of, made_described, named_apart}
+use Rattle.feed_changes.proofs.Begins.{apart_alike, begun_alike, begun_left, begun_named, begun_serials, begun_staying, described_only}
+use Rattle.feed_changes.proofs.Begins.{described_serials, fronts_of, headers_described, headers_named, left_of, made_alike, named_apart}
 use Rattle.feed_changes.proofs.Begins.{stays_of}
 
 after_push : (commands : List Command) (command : Command) → after [] (commands ++ command ∷ []) ≡ add (after [] commands) command
@@ -100,43 +101,55 @@ end_begins given None = ap begins_of (sym (append-nil given))
 end_begins given (Some serial) = none_begin given (EndOf serial) refl
 
 -- ---- a `Begin`
-under_of : (options : ChangeOptions) (given : List ℕ) (names : List (ℕ × ℕ)) (streams now : List NewStream) (earlier : List ℕ)
+-- a link's streams that stay, under their names
+abbrev streams_under : Skeletons → List (ℕ × ℕ) → List NewStream → List NewStream
+streams_under skeletons names streams = map (stream_named names) (staying skeletons streams)
+
+under_of : (options : ChangeOptions) (given : List ℕ) (names : List (ℕ × ℕ)) (streams : List NewStream) (earlier : List ℕ)
     (before link_now : List Stream)
     → AreNames (avoided options.renumber earlier) names → AreNamed names (serials_of (staying options.skeletons streams))
-    → now ≡ map (stream_named names) (staying options.skeletons streams)
-    → IsBefore options.skeletons earlier (serials_of now) before → AllByRecursion (IsNoName names) (serials before)
-    → link_now ≡ before ++ map begun now
+    → IsBefore options.skeletons (map begun (left_out options.skeletons streams)) earlier
+    (serials_of (streams_under options.skeletons names streams)) before
+    → AllByRecursion (IsNoName names) (serials before)
+    → link_now ≡ before ++ map begun (streams_under options.skeletons names streams)
     → IsUnderNames (record { options = options; given = given; names = names }) earlier (map begun streams) link_now
-under_of options given names streams now earlier before link_now are named now_is made apart is =
+under_of options given names streams earlier before link_now are all_named made apart is =
     let skeletons : Skeletons = options.skeletons in
     let stay : List NewStream = staying skeletons streams in
     let those_are : those (stays_of skeletons streams) (map begun streams) ≡ map begun stay = begun_staying skeletons streams in
-    let under_are : map (stream_under names) (those (stays_of skeletons streams) (map begun streams)) ≡ map begun now =
-    ap (map (stream_under names)) those_are ∙ sym (begun_named names stay) ∙ ap (map begun) (sym now_is) in
+    let under_are : map (stream_under names) (those (stays_of skeletons streams) (map begun streams))
+        ≡ map begun (streams_under skeletons names streams) =
+    ap (map (stream_under names)) those_are ∙ sym (begun_named names stay) in
     record {
       stays = stays_of skeletons streams;
       left_out = left_of skeletons streams;
       names = are;
-      named = subst (AreNamed names) (sym (begun_serials stay) ∙ ap serials (sym those_are)) named;
+      named = subst (AreNamed names) (sym (begun_serials stay) ∙ ap serials (sym those_are)) all_named;
       before = before;
-      made = subst (λ l. IsBefore skeletons earlier l before) (sym (begun_serials now) ∙ ap serials (sym under_are)) made;
+      made = subst (λ l. IsBefore skeletons (the_others (stays_of skeletons streams) (map begun streams)) earlier l before)
+          (sym (begun_serials (streams_under skeletons names streams)) ∙ ap serials (sym under_are))
+          (subst (λ l. IsBefore skeletons l earlier (serials_of (streams_under skeletons names streams)) before)
+          (sym (begun_left skeletons streams)) made);
       apart = apart;
       is = is ∙ ap (λ l. before ++ l) (sym under_are);
     }
 
-under_new : (old state new : ChangeState) (streams now : List NewStream) (earlier : List ℕ) (before link_now : List Stream)
-    → Names old state streams now → old.given ≡ earlier
-    → new.options ≡ state.options → new.names ≡ state.names → IsBefore old.options.skeletons earlier (serials_of now) before
+under_new : (old state new : ChangeState) (streams : List NewStream) (earlier : List ℕ) (before link_now : List Stream)
+    → Names old state (staying old.options.skeletons streams) → old.given ≡ earlier
+    → new.options ≡ state.options → new.names ≡ state.names
+    → IsBefore old.options.skeletons (map begun (left_out old.options.skeletons streams)) earlier
+    (serials_of (streams_under old.options.skeletons state.names streams)) before
     → AllByRecursion (IsNoName state.names) (serials before)
-    → link_now ≡ before ++ map begun now → IsUnderNames new earlier (map begun streams) link_now
-under_new old state new streams now earlier before link_now named given options names made apart is =
+    → link_now ≡ before ++ map begun (streams_under old.options.skeletons state.names streams)
+    → IsUnderNames new earlier (map begun streams) link_now
+under_new old state new streams earlier before link_now by given options names made apart is =
     subst (λ o. IsUnderNames (record { options = o; given = new.given; names = new.names }) earlier (map begun streams) link_now)
-    (sym (options ∙ named.options))
+    (sym (options ∙ by.options))
     (subst (λ m. IsUnderNames (record { options = old.options; given = new.given; names = m }) earlier (map begun streams) link_now)
     (sym names)
-    (under_of old.options new.given state.names streams now earlier before link_now
-    (subst (λ e. AreNames (avoided old.options.renumber e) state.names) given named.names)
-    named.named named.now_is made apart is))
+    (under_of old.options new.given state.names streams earlier before link_now
+    (subst (λ e. AreNames (avoided old.options.renumber e) state.names) given by.names)
+    by.named made apart is))
 
 begin_as : (old new : ChangeState) (begin : Begin) (now : Command) (link_now : List Stream) (commands given : List Command)
     → is_none old.options ≡ false → begin.skeleton ≡ None
@@ -156,28 +169,32 @@ begin_as old new begin now link_now commands given is plain h same given_is adde
     (begin_step old new (after [] commands) (after [] given) (map begun begin.streams) link_now
     (by_of old commands given is h) same under given_is)))
 
-stay_headers : (old state : ChangeState) (begin : Begin) (streams : List NewStream) → Names old state begin.streams streams
-    → headers_of streams ≡ headers_of (staying old.options.skeletons begin.streams)
-stay_headers old state begin streams named = ap headers_of named.now_is
-    ∙ headers_named state.names (staying old.options.skeletons begin.streams)
-
-plain_changed : (old state new : ChangeState) (begin : Begin) (streams : List NewStream) (now : Command) (commands given : List Command)
+plain_changed : (old state new : ChangeState) (begin : Begin) (now : Command) (commands given : List Command)
     → is_none old.options ≡ false → begin.skeleton ≡ None
-    → HasChanged old commands given → Names old state begin.streams streams → made_for old.options.skeletons streams ≡ None
-    → BeginsPlain state new begin.skeleton streams now
+    → HasChanged old commands given → Names old state (staying old.options.skeletons begin.streams)
+    → made_for old.options.skeletons (staying old.options.skeletons begin.streams) ≡ None
+    → BeginsPlain state new begin.skeleton (staying old.options.skeletons begin.streams) now
     → HasChanged new (commands ++ BeginOf begin ∷ []) (given ++ now ∷ [])
-plain_changed old state new begin streams now commands given is plain h named none b =
+plain_changed old state new begin now commands given is plain h by none b =
     let skeletons : Skeletons = old.options.skeletons in
-    let by : IsFollowed old (after [] commands) (after [] given) = by_of old commands given is h in
-    begin_as old new begin now (map begun streams) commands given is plain h (b.options ∙ named.options)
-    (b.given ∙ ap (λ l. l ++ serials_of streams) named.given ∙ ap (λ l. old.given ++ l) (sym (begun_serials streams)))
+    let stay : List NewStream = staying skeletons begin.streams in
+    let streams : List NewStream = map (stream_named state.names) stay in
+    let followed : IsFollowed old (after [] commands) (after [] given) = by_of old commands given is h in
+    begin_as old new begin now (map begun streams) commands given is plain h (b.options ∙ by.options)
+    (b.given ∙ ap (λ l. l ++ serials_of streams) by.given ∙ ap (λ l. old.given ++ l) (sym (begun_serials streams)))
     (λ recording. ap (add recording) b.now_is ∙ ap (λ s. recording ++ begun_link s streams ∷ []) plain)
-    (under_new old state new begin.streams streams (flat_map serials (after [] given)) []
-    (map begun streams) named by.given b.options b.names tt tt refl)
-    (record { skeleton = begin.skeleton; streams = streams }) b.now_is (stay_headers old state begin streams named)
+    (under_new old state new begin.streams (flat_map serials (after [] given)) []
+    (map begun streams) by followed.given b.options b.names tt tt refl)
+    (record { skeleton = begin.skeleton; streams = streams }) b.now_is
+    (record {
+      headers = headers_named state.names stay;
+      says = subst (λ o. SaysSo o (said_in skeletons begin.streams) stay (record { skeleton = begin.skeleton; streams = streams }))
+          (sym none) tt;
+    })
     (subst (IsBegunAs old.options) (sym b.now_is) (
-      subst (AreOthers skeletons) (sym named.now_is) (named_apart state.names skeletons begin.streams),
-      subst (λ o. HasHead o (record { skeleton = begin.skeleton; streams = streams })) (sym none) plain,
+      named_apart state.names skeletons begin.streams,
+      subst (λ o. HasHead o (record { skeleton = begin.skeleton; streams = streams }))
+          (sym (made_alike skeletons stay streams (headers_named state.names stay) ∙ none)) plain,
     ))
 
 -- ---- and with a Skeleton
@@ -199,19 +216,19 @@ first_alike from earlier xs ys serial same is = record {
   least = λ less n high. sym (had_alike earlier xs ys same n) ∙ is.least less n high;
 }
 
-is_before : (skeletons : Skeletons) (streams : List NewStream) (from : ℕ) (earlier serials : List ℕ) (skeleton : Stream)
-    → made_for skeletons streams ≡ Some from
-    → IsMadeFor from earlier serials skeleton → IsBefore skeletons earlier serials (skeleton ∷ [])
-is_before Kept streams from earlier serials skeleton e made = absurd (none e)
+is_before : (skeletons : Skeletons) (streams : List NewStream) (from : ℕ) (left : List Stream) (earlier serials : List ℕ)
+    (skeleton : Stream) → made_for skeletons streams ≡ Some from
+    → IsMadeFor from left earlier serials skeleton → IsBefore skeletons left earlier serials (skeleton ∷ [])
+is_before Kept streams from left earlier serials skeleton e made = absurd (none e)
   where
     none : None ≡ Some from → ⊥
     none e = cc
-is_before LeftOut streams from earlier serials skeleton e made = absurd (none e)
+is_before LeftOut streams from left earlier serials skeleton e made = absurd (none e)
   where
     none : None ≡ Some from → ⊥
     none e = cc
-is_before (Made first) streams from earlier serials skeleton e made =
-    subst (λ n. IsMadeFor n earlier serials skeleton) (by (list_all is_skeleton streams || nat_le most_streams (length streams)) e) made
+is_before (Made first) streams from left earlier serials skeleton e made =
+    subst (λ n. IsMadeFor n left earlier serials skeleton) (by (list_all is_skeleton streams || nat_le most_streams (length streams)) e) made
   where
     value : Some first ≡ Some from → from ≡ first
     value f = cc
@@ -223,53 +240,76 @@ is_before (Made first) streams from earlier serials skeleton e made =
     by true f = absurd (none f)
     by false f = value f
 
-made_changed : (old state new : ChangeState) (begin : Begin) (streams : List NewStream) (now : Command) (commands given : List Command)
-    (from : ℕ) → is_none old.options ≡ false → begin.skeleton ≡ None
-    → HasChanged old commands given → Names old state begin.streams streams → made_for old.options.skeletons streams ≡ Some from
-    → BeginsDescribed from state new streams now
+made_changed : (old state new : ChangeState) (begin : Begin) (now : Command) (commands given : List Command) (from : ℕ)
+    → is_none old.options ≡ false → begin.skeleton ≡ None
+    → HasChanged old commands given → Names old state (staying old.options.skeletons begin.streams)
+    → made_for old.options.skeletons (staying old.options.skeletons begin.streams) ≡ Some from
+    → BeginsDescribed from (said_in old.options.skeletons begin.streams) state new (staying old.options.skeletons begin.streams) now
     → HasChanged new (commands ++ BeginOf begin ∷ []) (given ++ now ∷ [])
-made_changed old state new begin streams now commands given from is plain h named some b =
+made_changed old state new begin now commands given from is plain h by some b =
     let skeletons : Skeletons = old.options.skeletons in
-    let by : IsFollowed old (after [] commands) (after [] given) = by_of old commands given is h in
+    let followed : IsFollowed old (after [] commands) (after [] given) = by_of old commands given is h in
     let earlier : List ℕ = flat_map serials (after [] given) in
-    let more : List NewStream = map described streams in
-    let skeleton : Stream = ended_skeleton (head_with b.serial) more in
-    let made : IsMadeFor from earlier (serials_of streams) skeleton = record {
-      serial = b.serial;
+    let stay : List NewStream = staying skeletons begin.streams in
+    let said : List (List ℕ) = said_in skeletons begin.streams in
+    let left : List Stream = map begun (left_out skeletons begin.streams) in
+    let streams : List NewStream = map (stream_named state.names) stay in
+    let more : List NewStream = b.described in
+    let serials_are : serials_of more ≡ serials_of streams = described_serials state.names said stay more b.each in
+    let headers_are : headers_of more ≡ headers_of stay = headers_described state.names said stay more b.each in
+    let begun_are : map begun more ≡ map begun streams =
+    begun_alike streams more serials_are (headers_are ∙ sym (headers_named state.names stay)) in
+    let skeleton : Stream = ended_skeleton b.head more in
+    let begin_now : Begin = record { skeleton = Some b.head; streams = more } in
+    let says : IsSaidBy said stay begin_now = record {
+      head = b.head;
+      skeleton = refl;
+      head_said = b.head_said;
+      described = described_only state.names said stay more b.each;
+    } in
+    let made : IsMadeFor from left earlier (serials_of streams) skeleton = record {
+      head = b.head;
       streams = more;
       is = refl;
-      of = described_serials streams;
-      first = first_alike from earlier (values_of state.names) (serials_of streams) b.serial
-          (λ n. names_are state.names (serials_of (staying skeletons begin.streams)) named.names.once named.named named.only n
-          ∙ ap (list_any (nat_eq n)) (sym (named_serials state.names (staying skeletons begin.streams)) ∙ ap serials_of (sym named.now_is)))
-          (subst (λ l. IsFirstFree from l (values_of state.names) b.serial) (named.given ∙ by.given) b.first);
+      of = serials_are;
+      first = first_alike from earlier (values_of state.names) (serials_of streams) b.head.serial
+          (λ n. names_are state.names (serials_of stay) by.names.once by.named by.only n
+          ∙ ap (list_any (nat_eq n)) (sym (named_serials state.names stay)))
+          (subst (λ l. IsFirstFree from l (values_of state.names) b.head.serial) (by.given ∙ followed.given) b.first);
+      said = said;
+      fronts = fronts_of (left_out skeletons begin.streams);
+      had = stay;
+      says = says;
     } in
-    begin_as old new begin now (skeleton ∷ map begun more) commands given is plain h (b.options ∙ named.options)
-    (b.given ∙ ap (λ l. l ++ b.serial ∷ serials_of streams) named.given
-    ∙ ap (λ l. old.given ++ b.serial ∷ l) (sym (begun_serials streams) ∙ ap serials (sym (begun_described streams))))
+    begin_as old new begin now (skeleton ∷ map begun more) commands given is plain h (b.options ∙ by.options)
+    (b.given ∙ ap (λ l. l ++ b.head.serial ∷ serials_of more) by.given
+    ∙ ap (λ l. old.given ++ b.head.serial ∷ l) (sym (begun_serials more)))
     (λ recording. ap (add recording) b.now_is)
-    (under_new old state new begin.streams streams earlier (skeleton ∷ []) (skeleton ∷ map begun more) named by.given b.options b.names
-    (is_before skeletons streams from earlier (serials_of streams) skeleton some made)
-    (or_right (list_any (nat_eq b.serial) state.given) (list_any (nat_eq b.serial) (values_of state.names)) b.first.free, tt)
-    (ap (λ l. skeleton ∷ l) (begun_described streams)))
-    (record { skeleton = Some (head_with b.serial); streams = more }) b.now_is
-    (headers_described streams ∙ stay_headers old state begin streams named)
+    (under_new old state new begin.streams earlier (skeleton ∷ []) (skeleton ∷ map begun more) by followed.given b.options b.names
+    (is_before skeletons stay from left earlier (serials_of streams) skeleton some made)
+    (or_right (list_any (nat_eq b.head.serial) state.given) (list_any (nat_eq b.head.serial) (values_of state.names)) b.first.free, tt)
+    (ap (λ l. skeleton ∷ l) begun_are))
+    begin_now b.now_is
+    (record { headers = headers_are; says = subst (λ o. SaysSo o said stay begin_now) (sym some) says })
     (subst (IsBegunAs old.options) (sym b.now_is) (
-      described_apart skeletons streams (subst (AreOthers skeletons) (sym named.now_is) (named_apart state.names skeletons begin.streams)),
-      subst (λ o. HasHead o (record { skeleton = Some (head_with b.serial); streams = more }))
-          (sym (made_described skeletons streams ∙ some))
-          (record { serial = b.serial; head = refl; described = are_described streams }),
+      apart_alike skeletons streams more (headers_are ∙ sym (headers_named state.names stay))
+          (named_apart state.names skeletons begin.streams),
+      subst (λ o. HasHead o begin_now) (sym (made_alike skeletons stay more headers_are ∙ some))
+          (record { said = said; streams = stay; is = says }),
     ))
 
 pub begin_changed : (old new : ChangeState) (begin : Begin) (now : Command) (commands given : List Command) → is_none old.options ≡ false
     → begin.skeleton ≡ None
     → Begins old new begin now → HasChanged old commands given → HasChanged new (commands ++ BeginOf begin ∷ []) (given ++ now ∷ [])
-begin_changed old new begin now commands given is plain b h = by (made_for old.options.skeletons b.streams) refl b.begins
+begin_changed old new begin now commands given is plain b h =
+    by (made_for old.options.skeletons (staying old.options.skeletons begin.streams)) refl b.begins
   where
-    by : (o : Option ℕ) → made_for old.options.skeletons b.streams ≡ o → BeginsAs o b.state new begin.skeleton b.streams now
+    by : (o : Option ℕ) → made_for old.options.skeletons (staying old.options.skeletons begin.streams) ≡ o
+        → BeginsAs o (said_in old.options.skeletons begin.streams) b.state new begin.skeleton
+        (staying old.options.skeletons begin.streams) now
         → HasChanged new (commands ++ BeginOf begin ∷ []) (given ++ now ∷ [])
-    by None e begins = plain_changed old b.state new begin b.streams now commands given is plain h b.named e begins
-    by (Some from) e begins = made_changed old b.state new begin b.streams now commands given from is plain h b.named e begins
+    by None e begins = plain_changed old b.state new begin now commands given is plain h b.named e begins
+    by (Some from) e begins = made_changed old b.state new begin now commands given from is plain h b.named e begins
 
 -- ---- packets
 put_list : (given : List Command) (entries : List Entry) → after [] (given ++ option_list (put_of entries)) ≡ change_last
@@ -376,15 +416,15 @@ begins_same : (options : ChangeOptions) (commands given : List Command) (command
     → BeginThose options commands given → BeginThose options (commands ++ command ∷ []) (given ++ command ∷ [])
 begins_same options commands given command is all = by command
   where
-    same : (skeletons : Skeletons) (renumber : Bool) (streams : List NewStream) → is_none_with skeletons renumber ≡ true
-        → headers_of streams ≡ headers_of (staying skeletons streams)
-    same Kept renumber streams e = refl
-    same LeftOut renumber streams e = clash e refl
-    same (Made from) renumber streams e = clash e refl
+    same : (skeletons : Skeletons) (renumber : Bool) (begin : Begin) → is_none_with skeletons renumber ≡ true
+        → BeginsThose (record { renumber = renumber; skeletons = skeletons }) begin begin
+    same Kept renumber begin e = record { headers = refl; says = tt }
+    same LeftOut renumber begin e = clash e refl
+    same (Made from) renumber begin e = clash e refl
 
     by : (command : Command) → BeginThose options (commands ++ command ∷ []) (given ++ command ∷ [])
     by (BeginOf begin) = stay_push options commands given (BeginOf begin) (BeginOf begin) begin begin refl refl all
-        (same options.skeletons options.renumber begin.streams is)
+        (same options.skeletons options.renumber begin is)
     by (PutOf put) = stay_on options commands given (PutOf put) (Some (PutOf put)) refl (none_begin given (PutOf put) refl) all
     by (EndOf serial) = stay_on options commands given (EndOf serial) (Some (EndOf serial)) refl (none_begin given (EndOf serial) refl) all
 
