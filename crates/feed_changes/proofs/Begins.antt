@@ -10,12 +10,12 @@ use Rattle.feed_changes.specs.declared.options.Skeletons.TheVariants.{Kept, Left
 use Rattle.skeleton3.specs.Fisbone.{Fisbone}
 use Rattle.feed_changes.specs.Naming.{named, serials_of, stream_named}
 use Rattle.feed_changes.specs.Renumbered.{serials}
-use Rattle.feed_changes.specs.Links.{AreFronts, HasReason, IsFrontOf, the_others, those}
+use Rattle.feed_changes.specs.Links.{AreFronts, HasReason, IsBegunOf, IsSkeletonFront, the_others, those}
 use Rattle.feed_changes.specs.Changed.{stream_under}
 use Rattle.feed_changes.specs.Said.{IsDescribedBy, described_as, first_of}
 use Rattle.feed_changes.specs.Steps.{IsDescribedUnder}
 use Rattle.feed_changes.specs.Skeletons.{AreOthers, headers_in, headers_of, is_fishead, is_other, is_skeleton, leaves_out, left_out}
-use Rattle.feed_changes.specs.Skeletons.{made_for, staying}
+use Rattle.feed_changes.specs.Skeletons.{made_for, said_in, staying}
 use Rattle.feed_changes.proofs.Renumbers.{clash}
 
 -- ---- which streams stay
@@ -253,13 +253,42 @@ begun_left skeletons streams = by (all_stay skeletons streams)
     by true = none_others streams
     by false = skeletons_others streams
 
-each_front : (streams : List NewStream) → AllZip IsFrontOf (headers_of streams) (map begun streams)
-each_front [] = tt
-each_front (stream ∷ streams) = (([], sym (append-nil stream.headers)), each_front streams)
+whole : (headers : List (List ℕ)) → headers ≡ headers ++ []
+whole headers = sym (append-nil headers)
+
+pub are_begun : (streams : List NewStream) → AllZip IsBegunOf streams (map begun streams)
+are_begun [] = tt
+are_begun (stream ∷ streams) = ((refl, ([], whole stream.headers)), are_begun streams)
+
+skeleton_fronts : (streams : List NewStream)
+    → AllZip IsSkeletonFront (headers_of (filter is_skeleton streams)) (map begun (filter is_skeleton streams))
+skeleton_fronts [] = tt
+skeleton_fronts (stream ∷ streams) = by (skeleton_fronts streams) (is_skeleton stream) refl
+  where
+    by : AllZip IsSkeletonFront (headers_of (filter is_skeleton streams)) (map begun (filter is_skeleton streams)) → (b : Bool)
+        → is_skeleton stream ≡ b
+        → AllZip IsSkeletonFront (headers_of (if b then stream ∷ filter is_skeleton streams else filter is_skeleton streams))
+        (map begun (if b then stream ∷ filter is_skeleton streams else filter is_skeleton streams))
+    by rest true e = ((([], whole stream.headers), e), rest)
+    by rest false e = rest
+
+left_fronts : (skeletons : Skeletons) (streams : List NewStream)
+    → AllZip IsSkeletonFront (headers_of (left_out skeletons streams)) (map begun (left_out skeletons streams))
+left_fronts skeletons streams = by (all_stay skeletons streams)
+  where
+    by : (b : Bool) → AllZip IsSkeletonFront (headers_of (if b then [] else filter is_skeleton streams))
+        (map begun (if b then [] else filter is_skeleton streams))
+    by true = tt
+    by false = skeleton_fronts streams
 
 joined_headers : (streams : List NewStream) → headers_in streams ≡ flat_map (λ front. front) (headers_of streams)
 joined_headers [] = refl
 joined_headers (stream ∷ streams) = ap (λ l. stream.headers ++ l) (joined_headers streams)
 
-pub fronts_of : (streams : List NewStream) → AreFronts (map begun streams) (headers_in streams)
-fronts_of streams = record { fronts = headers_of streams; each = each_front streams; said_is = joined_headers streams }
+pub fronts_of : (skeletons : Skeletons) (streams : List NewStream)
+    → AreFronts (map begun (left_out skeletons streams)) (said_in skeletons streams)
+fronts_of skeletons streams = record {
+  fronts = headers_of (left_out skeletons streams);
+  each = left_fronts skeletons streams;
+  said_is = joined_headers (left_out skeletons streams);
+}

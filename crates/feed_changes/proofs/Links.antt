@@ -32,6 +32,8 @@ pub under_step : (state : ChangeState) (earlier : List ℕ) (link link_now : Lis
 under_step state earlier link link_now change now with by =
     let names : List (ℕ × ℕ) = state.names in
     let stay : List Stream = those by.stays link in
+    let skeletons : Skeletons = state.options.skeletons in
+    let had : List ℕ = serials (map (stream_under names) stay) in
     let same : serials (those by.stays (map change link)) ≡ serials stay = staying_serials change with.serial by.stays link in
     record {
       stays = by.stays;
@@ -39,13 +41,13 @@ under_step state earlier link link_now change now with by =
       names = by.names;
       named = subst (AreNamed names) (sym same) by.named;
       before = by.before;
-      made = subst (λ l. IsBefore state.options.skeletons (the_others by.stays (map change link)) earlier l by.before)
+      made = subst (λ l. IsBefore skeletons (the_others by.stays (map change link)) (those by.stays (map change link)) earlier l by.before)
           (serials_under names stay ∙ ap (map (named names)) (sym same)
           ∙ sym (serials_under names (those by.stays (map change link))))
-          (subst (λ l. IsBefore state.options.skeletons l earlier (serials (map (stream_under names) stay)) by.before)
-          (sym (those_map change (map not by.stays) link))
-          (before_still names change now with state.options.skeletons (the_others by.stays link) earlier
-          (serials (map (stream_under names) stay)) by.before by.made));
+          (subst (λ l. IsBefore skeletons (the_others by.stays (map change link)) l earlier had by.before)
+          (sym (those_map change by.stays link))
+          (subst (λ l. IsBefore skeletons l (map change stay) earlier had by.before) (sym (those_map change (map not by.stays) link))
+          (before_still names change now with skeletons (the_others by.stays link) stay earlier had by.before by.made)));
       apart = by.apart;
       is = ap (map now) by.is ∙ map-append now by.before (map (stream_under names) stay)
           ∙ ap (λ l. l ++ map now (map (stream_under names) stay)) (apart_still names change now with by.before by.apart)
@@ -113,15 +115,15 @@ names_distinct names (serial ∷ serials) d (key, all) (apart, distinct) =
     (names_apart names serial serials d key all apart, names_distinct names serials d all distinct)
 
 -- the serials of a link that has a Skeleton before its streams
-distinct_before : (skeletons : Skeletons) (left : List Stream) (earlier : List ℕ) (streams before : List Stream)
-    → IsBefore skeletons left earlier (serials streams) before
+distinct_before : (skeletons : Skeletons) (left stay : List Stream) (earlier : List ℕ) (streams before : List Stream)
+    → IsBefore skeletons left stay earlier (serials streams) before
     → IsDistinct nat_eq (serials streams) → IsDistinct nat_eq (serials (before ++ streams))
 unfolding IsDistinct
-distinct_before skeletons left earlier streams [] made d = d
-distinct_before Kept left earlier streams (skeleton ∷ more) made d = absurd made
-distinct_before LeftOut left earlier streams (skeleton ∷ more) made d = absurd made
-distinct_before (Made from) left earlier streams (skeleton ∷ next ∷ more) made d = absurd made
-distinct_before (Made from) left earlier streams (skeleton ∷ []) made d = (
+distinct_before skeletons left stay earlier streams [] made d = d
+distinct_before Kept left stay earlier streams (skeleton ∷ more) made d = absurd made
+distinct_before LeftOut left stay earlier streams (skeleton ∷ more) made d = absurd made
+distinct_before (Made from) left stay earlier streams (skeleton ∷ next ∷ more) made d = absurd made
+distinct_before (Made from) left stay earlier streams (skeleton ∷ []) made d = (
   subst (λ (s : Stream). AllByRecursion (λ y. nat_eq s.serial y ≡ false) (serials streams)) (sym made.is)
       (no_serial made.head.serial (serials streams) (or_parts (list_any (nat_eq made.head.serial) earlier)
       (list_any (nat_eq made.head.serial) (serials streams)) made.first.free).1),
@@ -144,7 +146,7 @@ link_changed state earlier link now by =
       is = by.is;
       distinct = λ d.
           subst (λ l. IsDistinct nat_eq (serials l)) (sym by.is)
-          (distinct_before state.options.skeletons (the_others by.stays link) earlier streams by.before by.made
+          (distinct_before state.options.skeletons (the_others by.stays link) stay earlier streams by.before by.made
           (subst (IsDistinct nat_eq) (sym (serials_under names stay)) (names_distinct names (serials stay) by.names.distinct by.named
           (those_distinct by.stays link d))));
     }

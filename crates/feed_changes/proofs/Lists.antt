@@ -4,11 +4,12 @@ use Rattle.std.specs.Prelude.{nat_eq}
 use Rattle.std.specs.List.{AllByRecursion, AllZip, IsDistinct, list_any}
 use Rattle.std.proofs.lemmas.Bool.{or_parts}
 use Rattle.chain_rules.specs.Recording.{Stream}
+use Rattle.ogg_command.specs.declared.command.NewStream.{NewStream}
 use Rattle.feed_changes.specs.declared.options.Skeletons.{Skeletons}
 use Rattle.feed_changes.specs.Naming.{AreNamed}
 use Rattle.feed_changes.specs.Renumbered.{serials}
 use Rattle.feed_changes.specs.declared.options.Skeletons.TheVariants.{Kept, LeftOut, Made}
-use Rattle.feed_changes.specs.Links.{AreFronts, HasReason, IsBefore, IsFrontOf, IsLeftOut, those}
+use Rattle.feed_changes.specs.Links.{HasReason, IsBefore, IsBegunOf, IsLeftOut, IsSkeletonFront, those}
 use Rattle.feed_changes.specs.Changed.{IsNoName, stream_under}
 use Rattle.feed_changes.proofs.Renumbers.{GoesWith}
 
@@ -36,22 +37,30 @@ left_out_still skeletons names change now with (stay ∷ stays) (stream ∷ link
 )
 
 fronts_still : (names : List (ℕ × ℕ)) (change now : Stream → Stream) → GoesWith names change now → (fronts : List (List (List ℕ)))
-    (left : List Stream) → AllZip IsFrontOf fronts left → AllZip IsFrontOf fronts (map change left)
+    (left : List Stream) → AllZip IsSkeletonFront fronts left → AllZip IsSkeletonFront fronts (map change left)
 fronts_still names change now with [] [] all = tt
 fronts_still names change now with [] (stream ∷ left) all = absurd all
 fronts_still names change now with (front ∷ fronts) [] all = absurd all
-fronts_still names change now with (front ∷ fronts) (stream ∷ left) (f, all) =
-    (with.front stream front f, fronts_still names change now with fronts left all)
+fronts_still names change now with (front ∷ fronts) (stream ∷ left) ((f, is), all) =
+    ((with.front stream front f, is), fronts_still names change now with fronts left all)
 
--- what is before a link's streams stays right where those that are left out grow
+begun_still : (names : List (ℕ × ℕ)) (change now : Stream → Stream) → GoesWith names change now → (begun : List NewStream)
+    (stay : List Stream) → AllZip IsBegunOf begun stay → AllZip IsBegunOf begun (map change stay)
+begun_still names change now with [] [] all = tt
+begun_still names change now with [] (stream ∷ stay) all = absurd all
+begun_still names change now with (b ∷ begun) [] all = absurd all
+begun_still names change now with (b ∷ begun) (stream ∷ stay) ((same, f), all) =
+    ((with.serial stream ∙ same, with.front stream b.headers f), begun_still names change now with begun stay all)
+
+-- what is before a link's streams stays right where its streams grow
 pub before_still : (names : List (ℕ × ℕ)) (change now : Stream → Stream) → GoesWith names change now → (skeletons : Skeletons)
-    (left : List Stream) (earlier serials : List ℕ) (before : List Stream)
-    → IsBefore skeletons left earlier serials before → IsBefore skeletons (map change left) earlier serials before
-before_still names change now with skeletons left earlier serials [] made = tt
-before_still names change now with Kept left earlier serials (skeleton ∷ more) made = absurd made
-before_still names change now with LeftOut left earlier serials (skeleton ∷ more) made = absurd made
-before_still names change now with (Made from) left earlier serials (skeleton ∷ next ∷ more) made = absurd made
-before_still names change now with (Made from) left earlier serials (skeleton ∷ []) made = record {
+    (left stay : List Stream) (earlier serials : List ℕ) (before : List Stream)
+    → IsBefore skeletons left stay earlier serials before → IsBefore skeletons (map change left) (map change stay) earlier serials before
+before_still names change now with skeletons left stay earlier serials [] made = tt
+before_still names change now with Kept left stay earlier serials (skeleton ∷ more) made = absurd made
+before_still names change now with LeftOut left stay earlier serials (skeleton ∷ more) made = absurd made
+before_still names change now with (Made from) left stay earlier serials (skeleton ∷ next ∷ more) made = absurd made
+before_still names change now with (Made from) left stay earlier serials (skeleton ∷ []) made = record {
   head = made.head;
   streams = made.streams;
   is = made.is;
@@ -63,7 +72,8 @@ before_still names change now with (Made from) left earlier serials (skeleton �
     each = fronts_still names change now with made.fronts.fronts left made.fronts.each;
     said_is = made.fronts.said_is;
   };
-  had = made.had;
+  begun = made.begun;
+  are_begun = begun_still names change now with made.begun stay made.are_begun;
   says = made.says;
 }
 

@@ -33,7 +33,7 @@ use Rattle.feed_changes.proofs.Renumbers.{clash, end_named, end_other, ended, en
 use Rattle.feed_changes.proofs.Renumbers.{packet_other}
 use Rattle.feed_changes.proofs.Lists.{same_serials, zip_push}
 use Rattle.feed_changes.proofs.Links.{begin_step, change_step, followed_changed, same_last, under_only, under_step}
-use Rattle.feed_changes.proofs.Begins.{apart_alike, begun_alike, begun_left, begun_named, begun_serials, begun_staying, described_only}
+use Rattle.feed_changes.proofs.Begins.{apart_alike, are_begun, begun_alike, begun_left, begun_named, begun_serials, begun_staying, described_only}
 use Rattle.feed_changes.proofs.Begins.{described_serials, fronts_of, headers_described, headers_named, left_of, made_alike, named_apart}
 use Rattle.feed_changes.proofs.Begins.{stays_of}
 
@@ -108,28 +108,31 @@ streams_under skeletons names streams = map (stream_named names) (staying skelet
 under_of : (options : ChangeOptions) (given : List ℕ) (names : List (ℕ × ℕ)) (streams : List NewStream) (earlier : List ℕ)
     (before link_now : List Stream)
     → AreNames (avoided options.renumber earlier) names → AreNamed names (serials_of (staying options.skeletons streams))
-    → IsBefore options.skeletons (map begun (left_out options.skeletons streams)) earlier
-    (serials_of (streams_under options.skeletons names streams)) before
+    → IsBefore options.skeletons (map begun (left_out options.skeletons streams)) (map begun (staying options.skeletons streams))
+    earlier (serials_of (streams_under options.skeletons names streams)) before
     → AllByRecursion (IsNoName names) (serials before)
     → link_now ≡ before ++ map begun (streams_under options.skeletons names streams)
     → IsUnderNames (record { options = options; given = given; names = names }) earlier (map begun streams) link_now
 under_of options given names streams earlier before link_now are all_named made apart is =
     let skeletons : Skeletons = options.skeletons in
     let stay : List NewStream = staying skeletons streams in
-    let those_are : those (stays_of skeletons streams) (map begun streams) ≡ map begun stay = begun_staying skeletons streams in
-    let under_are : map (stream_under names) (those (stays_of skeletons streams) (map begun streams))
+    let stays : List Bool = stays_of skeletons streams in
+    let those_are : those stays (map begun streams) ≡ map begun stay = begun_staying skeletons streams in
+    let under_are : map (stream_under names) (those stays (map begun streams))
         ≡ map begun (streams_under skeletons names streams) =
     ap (map (stream_under names)) those_are ∙ sym (begun_named names stay) in
     record {
-      stays = stays_of skeletons streams;
+      stays = stays;
       left_out = left_of skeletons streams;
       names = are;
       named = subst (AreNamed names) (sym (begun_serials stay) ∙ ap serials (sym those_are)) all_named;
       before = before;
-      made = subst (λ l. IsBefore skeletons (the_others (stays_of skeletons streams) (map begun streams)) earlier l before)
+      made = subst (λ l. IsBefore skeletons (the_others stays (map begun streams)) (those stays (map begun streams)) earlier l before)
           (sym (begun_serials (streams_under skeletons names streams)) ∙ ap serials (sym under_are))
-          (subst (λ l. IsBefore skeletons l earlier (serials_of (streams_under skeletons names streams)) before)
-          (sym (begun_left skeletons streams)) made);
+          (subst (λ l. IsBefore skeletons (the_others stays (map begun streams)) l earlier
+          (serials_of (streams_under skeletons names streams)) before) (sym those_are)
+          (subst (λ l. IsBefore skeletons l (map begun stay) earlier (serials_of (streams_under skeletons names streams)) before)
+          (sym (begun_left skeletons streams)) made));
       apart = apart;
       is = is ∙ ap (λ l. before ++ l) (sym under_are);
     }
@@ -137,7 +140,8 @@ under_of options given names streams earlier before link_now are all_named made 
 under_new : (old state new : ChangeState) (streams : List NewStream) (earlier : List ℕ) (before link_now : List Stream)
     → Names old state (staying old.options.skeletons streams) → old.given ≡ earlier
     → new.options ≡ state.options → new.names ≡ state.names
-    → IsBefore old.options.skeletons (map begun (left_out old.options.skeletons streams)) earlier
+    → IsBefore old.options.skeletons (map begun (left_out old.options.skeletons streams))
+    (map begun (staying old.options.skeletons streams)) earlier
     (serials_of (streams_under old.options.skeletons state.names streams)) before
     → AllByRecursion (IsNoName state.names) (serials before)
     → link_now ≡ before ++ map begun (streams_under old.options.skeletons state.names streams)
@@ -216,19 +220,19 @@ first_alike from earlier xs ys serial same is = record {
   least = λ less n high. sym (had_alike earlier xs ys same n) ∙ is.least less n high;
 }
 
-is_before : (skeletons : Skeletons) (streams : List NewStream) (from : ℕ) (left : List Stream) (earlier serials : List ℕ)
+is_before : (skeletons : Skeletons) (streams : List NewStream) (from : ℕ) (left stay : List Stream) (earlier serials : List ℕ)
     (skeleton : Stream) → made_for skeletons streams ≡ Some from
-    → IsMadeFor from left earlier serials skeleton → IsBefore skeletons left earlier serials (skeleton ∷ [])
-is_before Kept streams from left earlier serials skeleton e made = absurd (none e)
+    → IsMadeFor from left stay earlier serials skeleton → IsBefore skeletons left stay earlier serials (skeleton ∷ [])
+is_before Kept streams from left stay earlier serials skeleton e made = absurd (none e)
   where
     none : None ≡ Some from → ⊥
     none e = cc
-is_before LeftOut streams from left earlier serials skeleton e made = absurd (none e)
+is_before LeftOut streams from left stay earlier serials skeleton e made = absurd (none e)
   where
     none : None ≡ Some from → ⊥
     none e = cc
-is_before (Made first) streams from left earlier serials skeleton e made =
-    subst (λ n. IsMadeFor n left earlier serials skeleton) (by (list_all is_skeleton streams || nat_le most_streams (length streams)) e) made
+is_before (Made first) streams from left stay earlier serials skeleton e made =
+    subst (λ n. IsMadeFor n left stay earlier serials skeleton) (by (list_all is_skeleton streams || nat_le most_streams (length streams)) e) made
   where
     value : Some first ≡ Some from → from ≡ first
     value f = cc
@@ -267,7 +271,7 @@ made_changed old state new begin now commands given from is plain h by some b =
       head_said = b.head_said;
       described = described_only state.names said stay more b.each;
     } in
-    let made : IsMadeFor from left earlier (serials_of streams) skeleton = record {
+    let made : IsMadeFor from left (map begun stay) earlier (serials_of streams) skeleton = record {
       head = b.head;
       streams = more;
       is = refl;
@@ -277,8 +281,9 @@ made_changed old state new begin now commands given from is plain h by some b =
           ∙ ap (list_any (nat_eq n)) (sym (named_serials state.names stay)))
           (subst (λ l. IsFirstFree from l (values_of state.names) b.head.serial) (by.given ∙ followed.given) b.first);
       said = said;
-      fronts = fronts_of (left_out skeletons begin.streams);
-      had = stay;
+      fronts = fronts_of skeletons begin.streams;
+      begun = stay;
+      are_begun = are_begun stay;
       says = says;
     } in
     begin_as old new begin now (skeleton ∷ map begun more) commands given is plain h (b.options ∙ by.options)
@@ -286,7 +291,7 @@ made_changed old state new begin now commands given from is plain h by some b =
     ∙ ap (λ l. old.given ++ b.head.serial ∷ l) (sym (begun_serials more)))
     (λ recording. ap (add recording) b.now_is)
     (under_new old state new begin.streams earlier (skeleton ∷ []) (skeleton ∷ map begun more) by followed.given b.options b.names
-    (is_before skeletons stay from left earlier (serials_of streams) skeleton some made)
+    (is_before skeletons stay from left (map begun stay) earlier (serials_of streams) skeleton some made)
     (or_right (list_any (nat_eq b.head.serial) state.given) (list_any (nat_eq b.head.serial) (values_of state.names)) b.first.free, tt)
     (ap (λ l. skeleton ∷ l) begun_are))
     begin_now b.now_is

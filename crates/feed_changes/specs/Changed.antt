@@ -49,7 +49,8 @@ pub record IsUnderNames (state : ChangeState) (earlier : List ℕ) (link now : L
   pub named : AreNamed state.names (serials (those stays link))
   pub before : List Stream
   pub made :
-      IsBefore state.options.skeletons (the_others stays link) earlier (serials (map (stream_under state.names) (those stays link))) before
+      IsBefore state.options.skeletons (the_others stays link) (those stays link) earlier
+      (serials (map (stream_under state.names) (those stays link))) before
   pub apart : AllByRecursion (IsNoName state.names) (serials before)
   pub is : now ≡ before ++ map (stream_under state.names) (those stays link)
 

@@ -36,15 +36,23 @@ HasReason skeletons stays stream = stays ≡ false → IsLeftOut skeletons strea
 abbrev pub IsFrontOf : List (List ℕ) → Stream → Type 0
 IsFrontOf front stream = (more : List (List ℕ)) × (stream.packets ≡ front ++ more)
 
--- these packets are those that the streams begin with, one stream after the other
-pub record AreFronts (streams : List Stream) (said : List (List ℕ)) : Type 0 where
+-- and the first of them is a fishead
+abbrev pub IsSkeletonFront : List (List ℕ) → Stream → Type 0
+IsSkeletonFront front stream = IsFrontOf front stream × (is_fishead (first_of front) ≡ true)
+
+-- a stream that began with this serial and these headers
+abbrev pub IsBegunOf : NewStream → Stream → Type 0
+IsBegunOf begun stream = (stream.serial ≡ begun.serial) × IsFrontOf begun.headers stream
+
+-- these packets are those that Skeletons begin with, one after the other
+pub record AreFronts (skeletons : List Stream) (said : List (List ℕ)) : Type 0 where
   pub fronts : List (List (List ℕ))
-  pub each : AllZip IsFrontOf fronts streams
+  pub each : AllZip IsSkeletonFront fronts skeletons
   pub said_is : said ≡ flat_map (λ front. front) fronts
 
--- A Skeleton that is made for streams with these serials: it has another serial, and one that no stream of an earlier link
--- has. It says what packets say that the streams begin with that are left out.
-pub record IsMadeFor (from : ℕ) (left : List Stream) (earlier serials : List ℕ) (skeleton : Stream) : Type 0 where
+-- A Skeleton that is made for the streams that stay, which have these serials now: it has another serial, and one that no
+-- stream of an earlier link has. It says what packets say that those begin with that are left out.
+pub record IsMadeFor (from : ℕ) (left stay : List Stream) (earlier serials : List ℕ) (skeleton : Stream) : Type 0 where
   pub head : SkeletonHead
   pub streams : List NewStream
   pub is : skeleton ≡ ended_skeleton head streams
@@ -52,16 +60,17 @@ pub record IsMadeFor (from : ℕ) (left : List Stream) (earlier serials : List �
   pub first : IsFirstFree from earlier serials head.serial
   pub said : List (List ℕ)
   pub fronts : AreFronts left said
-  pub had : List NewStream
-  pub says : IsSaidBy said had (record { skeleton = Some head; streams = streams })
+  pub begun : List NewStream
+  pub are_begun : AllZip IsBegunOf begun stay
+  pub says : IsSaidBy said begun (record { skeleton = Some head; streams = streams })
 
 -- before streams with these serials there is nothing, or a Skeleton that is made
-abbrev pub IsBefore : Skeletons → List Stream → List ℕ → List ℕ → List Stream → Type 0
-IsBefore skeletons left earlier serials [] = ⊤
-IsBefore Kept left earlier serials (skeleton ∷ more) = ⊥
-IsBefore LeftOut left earlier serials (skeleton ∷ more) = ⊥
-IsBefore (Made from) left earlier serials (skeleton ∷ []) = IsMadeFor from left earlier serials skeleton
-IsBefore (Made from) left earlier serials (skeleton ∷ next ∷ more) = ⊥
+abbrev pub IsBefore : Skeletons → List Stream → List Stream → List ℕ → List ℕ → List Stream → Type 0
+IsBefore skeletons left stay earlier serials [] = ⊤
+IsBefore Kept left stay earlier serials (skeleton ∷ more) = ⊥
+IsBefore LeftOut left stay earlier serials (skeleton ∷ more) = ⊥
+IsBefore (Made from) left stay earlier serials (skeleton ∷ []) = IsMadeFor from left stay earlier serials skeleton
+IsBefore (Made from) left stay earlier serials (skeleton ∷ next ∷ more) = ⊥
 
 -- A link's streams but for Skeletons that are left out, in order, perhaps with a Skeleton before them. They have distinct
 -- serials if they had.
@@ -71,7 +80,7 @@ pub record IsChangedLink (options : ChangeOptions) (earlier : List ℕ) (link no
   pub streams : List Stream
   pub renumbered : AllZip (IsRenumberedStream (avoided options.renumber earlier)) (those stays link) streams
   pub before : List Stream
-  pub made : IsBefore options.skeletons (the_others stays link) earlier (serials streams) before
+  pub made : IsBefore options.skeletons (the_others stays link) (those stays link) earlier (serials streams) before
   pub is : now ≡ before ++ streams
   pub distinct : IsDistinct nat_eq (serials link) → IsDistinct nat_eq (serials now)
 
