@@ -119,7 +119,7 @@ under_of options given names streams earlier before link_now are all_named made 
     let stays : List Bool = stays_of skeletons streams in
     let those_are : those stays (map begun streams) ≡ map begun stay = begun_staying skeletons streams in
     let under_are : map (stream_under names) (those stays (map begun streams))
-        ≡ map begun (streams_under skeletons names streams) =
+    ≡ map begun (streams_under skeletons names streams) =
     ap (map (stream_under names)) those_are ∙ sym (begun_named names stay) in
     record {
       stays = stays;

@@ -1,5 +1,5 @@
-use Rattle.std.proofs.Common.{suc, ℕ, List, subst, sym, ◌∙◌, ap, take, drop, ◌++◌, ◌∷◌, ◌≡◌}
-use Rattle.skeleton3.specs.Fisbone.{Fisbone, fisbone_of}
+use Rattle.std.proofs.Common.{suc, ℕ, List, subst, sym, ◌∙◌, ap, take, drop, ◌++◌, ◌∷◌}
+use Rattle.skeleton3.specs.Fisbone.{fisbone_of}
 use Rattle.feed_changes.specs.Said.{IsOf}
 use Rattle.feed_changes.proofs.Readings.{cut_at}
 use Rattle.feed_changes.proofs.saying.found_in.Goals as goal

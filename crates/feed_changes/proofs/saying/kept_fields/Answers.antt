@@ -1,6 +1,6 @@
-use Rattle.std.proofs.Common.{◌+◌, ◌≤◌, ℕ, List, subst, sym, ◌∙◌, ap, ◌++◌, ◌∷◌, [], ◌≡◌, true, length, length-append, arith, not}
+use Rattle.std.proofs.Common.{List, sym, ◌∙◌, ap, ◌++◌, ◌∷◌, [], ◌≡◌, true, length, length-append, arith, not}
 use Rattle.std.specs.List.{list_all}
-use Rattle.skeleton3.specs.Fields.{NamedValue, is_content_type, is_field}
+use Rattle.skeleton3.specs.Fields.{NamedValue, is_field}
 use Rattle.feed_changes.specs.Said.{further}
 use Rattle.feed_changes.proofs.Readings.{all_push_field, further_push, some_field}
 use Rattle.feed_changes.proofs.saying.kept_fields.Goals as goal
