@@ -8,11 +8,9 @@ ghost use Rattle.feed_changes.specs.Said.{first_of};
 ghost use Rattle.feed_changes.specs.Skeletons.{headers_in, is_other, is_skeleton, leaves_out, made_for, said_in, staying};
 
 use crate::options::Skeletons;
+use link_chain::MOST_STREAMS;
 use ogg_command::{Listed, Memory, NewStream};
 use std::alloc::Global;
-
-/// Streams of a `Begin`.
-const MOST_STREAMS: usize = 64;
 
 /// A stream's first header, or no bytes if it has none.
 pub fn first_header(headers: &[Listed<u8>]) -> &[u8]
