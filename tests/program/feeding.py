@@ -118,13 +118,20 @@ def described(first):
     return b"application/octet-stream", 1, 1, 0, 0, 1
 
 
-def skeleton_of(streams):
-    """The packets of the Skeleton of these streams, each with its serial (Ogg Skeleton 3.0)."""
-    packets = [b"fishead\0" + struct.pack("<HHqqqq", 3, 0, 0, 1000, 0, 1000) + bytes(20)]
-    for serial, stream in streams:
+def skeleton_of(streams, said):
+    """The packets of the Skeleton of these streams (Ogg Skeleton 3.0): each with its serial now, and the one that it had. It says
+    what the packets `said` of the link's own Skeletons say."""
+    times = said[0][12:64] if said else struct.pack("<qqqq20x", 0, 1000, 0, 1000)
+    packets = [b"fishead\0" + struct.pack("<HH", 3, 0) + times]
+    for serial, was, stream in streams:
         media, rate, denominator, preroll, shift, headers = described(b"".join(stream["packets"][:1]))
-        fields = struct.pack("<IIIqqqIB3x", 44, serial, min(headers, len(stream["packets"])), max(rate, 1), max(denominator, 1), 0, preroll, shift)
-        packets.append(b"fisbone\0" + fields + b"Content-Type: " + media + b"\r\n")
+        numbers = struct.pack("<qqqIB3x", max(rate, 1), max(denominator, 1), 0, preroll, shift)
+        fields = b"Content-Type: " + media + b"\r\n"
+        for bone in said[1:]:
+            if bone.startswith(b"fisbone\0") and struct.unpack_from("<I", bone, 12)[0] == was:
+                numbers, fields = bone[20:52], bone[52:]
+                break
+        packets.append(b"fisbone\0" + struct.pack("<III", 44, serial, min(headers, len(stream["packets"]))) + numbers + fields)
     return packets + [b""]
 
 
@@ -149,7 +156,8 @@ def skeletons(data, other, made_from=None, renumber=False):
             serial, skeleton = streams.pop(0)
             if serial != next_free(made_from, earlier | {one for one, _ in streams}):
                 return "link %d: a Skeleton of serial %d" % (number, serial)
-            if skeleton["packets"] != skeleton_of(streams) or not skeleton["ended"]:
+            said = [packet for stream in link.values() if is_skeleton(stream) for packet in stream["packets"]]
+            if skeleton["packets"] != skeleton_of([(now, was, one) for was, (now, one) in zip(stay, streams)], said) or not skeleton["ended"]:
                 return "link %d: another Skeleton: %r" % (number, skeleton["packets"])
         if [(s["packets"], s["ended"]) for s in stay.values()] != [(s["packets"], s["ended"]) for _, s in streams]:
             return "link %d holds something else" % number

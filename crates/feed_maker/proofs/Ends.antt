@@ -12,7 +12,7 @@ use Rattle.gathering.specs.Kept.{waits}
 use Rattle.gathering.specs.Gathered.{Gathered, HasGathered}
 use Rattle.std.specs.List.{AllByRecursion}
 use Rattle.feed_changes.specs.Changed.{IsChanged}
-use Rattle.feed_changes.specs.Skeletons.{IsBegunAs}
+use Rattle.feed_changes.specs.Skeletons.{BeginThose, IsBegunAs}
 use Rattle.feed_maker.specs.Source.{HasSourced, Sourced, gathered_of}
 use Rattle.feed_codec.specs.Record.{announcement}
 use Rattle.feed_maker.specs.Feed.{Fits, GivesNot, HasTooLong, records_of}
@@ -164,6 +164,11 @@ ends_whole options from left before now0 now1 old new holds finished ends rest =
       held = λ recording is.
           held_as_asked options ends.made.taken.bytes ends.links new.gatherer given recording holds ends.made.taken.are all.gathers rest.none_waits is;
       begun = subst (λ o. AllByRecursion (IsBegunAs o) given) all.gathers.asked all.gathers.changed.begun;
+      commands = all.gathers.commands;
+      gathered = λ recording is.
+          holds ends.made.taken.bytes ends.links (gathered_of new.gatherer) all.gathers.commands recording ends.made.taken.are
+          all.gathers.gathers rest.none_waits is;
+      stay = subst (λ o. BeginThose o all.gathers.commands given) all.gathers.asked all.gathers.changed.stay;
       pages = rest.page_count ∙ ends.made.pages;
       counted = omega (arith, rest.counted, ends.made.counted, length-append ends.given rest.more);
     }

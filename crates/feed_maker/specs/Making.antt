@@ -13,7 +13,7 @@ use Rattle.ogg_command.specs.declared.command.Command.{Command}
 use Rattle.gathering.specs.Kept.{is_too_long, waits}
 use Rattle.gathering.specs.Gathered.{Gathered, HasGathered}
 use Rattle.feed_changes.specs.Changed.{IsChanged}
-use Rattle.feed_changes.specs.Skeletons.{IsBegunAs}
+use Rattle.feed_changes.specs.Skeletons.{BeginThose, IsBegunAs}
 use Rattle.feed_maker.specs.Source.{HasSourced, Sourced}
 use Rattle.feed_maker.specs.Feed.{Fits, HasTooLong, feed_of}
 use Rattle.feed_maker.specs.declared.made.Made.{Made}
@@ -62,6 +62,10 @@ pub record MakesFeed (options : ChangeOptions) (from left before now : Option (L
   pub held : (recording : Recording) → HoldsLinks links recording → IsChanged options recording (after [] given)
   -- and none of them begins a Skeleton otherwise than asked
   pub begun : AllByRecursion (IsBegunAs options) given
+  -- they are given for commands that hold just the recording: of each link those streams begin that stay
+  pub commands : List Command
+  pub gathered : (recording : Recording) → HoldsLinks links recording → after [] commands ≡ recording
+  pub stay : BeginThose options commands given
   pub pages : made.pages ≡ length (flattened links)
   pub counted : made.commands ≡ min (length given) (2 ^ 64 - 1)
 

@@ -187,8 +187,9 @@ known, and of another codec the first packet is the header. Chains go on link by
 the position of the page that it ends in.
 
 A Skeleton in the input, which describes the streams of its link, stays packet by packet as it is.
-`--no-skeleton` leaves it out. `--skeleton SERIAL` has each link begin with one that is made anew: with
-each stream's media type, rate and preroll, as its first packet tells them.
+`--no-skeleton` leaves it out. `--skeleton SERIAL` has each link begin with one that is made anew: it
+says what the link's own Skeleton says, and of a link without one each stream's media type, rate and
+preroll, as the stream's first packet tells them.
 
   kudzuturret feed --skeleton 4000000000 < song.ogg | kudzuturret mux > described.ogg
 
