@@ -5,3 +5,4 @@ mod Sent
 mod Whole
 mod Written
 mod Alongside
+mod Taken

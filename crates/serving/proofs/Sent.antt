@@ -1,8 +1,8 @@
 -- How far a session's response has been written.
-use Rattle.std.proofs.Common.{◌≡◌, ℕ, ◌+◌, Option, Some, Ok, Err, List, [], ◌++◌, length, take, drop, refl, sym, ◌∙◌, ap, subst, inl, inr, arith, append_assoc, length-append}
+use Rattle.std.proofs.Common.{◌≡◌, ◌⊎◌, ℕ, ◌+◌, ◌*◌, ◌<◌, ◌≤◌, suc, Option, Some, None, Ok, Err, List, [], ◌++◌, length, take, drop, refl, sym, ◌∙◌, ap, subst, inl, inr, arith, append_assoc, length-append}
 use Rattle.std.specs.Io.KnownBytes.{Appends, Consumes}
 use Rattle.std.proofs.KnownBytes.{Appends-nil, Appends-trans}
-use Rattle.std.proofs.lemmas.List.{take-append-drop}
+use Rattle.std.proofs.lemmas.List.{take-append-drop, length-take-le, length-drop}
 use Rattle.std.proofs.Math.Seq.{take-append-add}
 use Rattle.ogg_page.specs.Output.{WritesPrefix}
 use Rattle.responses.specs.Response.{IsResponse}
@@ -12,6 +12,7 @@ use Rattle.serving.specs.declared.pieces.Served.{Served}
 use Rattle.serving.specs.declared.pieces.Served.TheVariants.{Whole, NoHead, Cut}
 use Rattle.serving.specs.Pieces.{HasHead, HasRead, HasSent, piece}
 use Rattle.serving.specs.Serving.{Gets, GetsWhole, GetsFront}
+use Rattle.serving.specs.Steps.{AreIn, GetsIn}
 
 -- so much was written, and the rest is left
 pub record IsSending (id : ℕ) (coming left : Option (List ℕ)) (old new : Option (List ℕ)) (before now : HubState) : Type 0 where
@@ -71,35 +72,6 @@ pub stopped : (id : ℕ) (coming left : Option (List ℕ)) (old mid : Option (Li
     → GetsFront coming left old mid before.committed
 stopped id coming left old mid before now s = front id coming left old mid mid before now s (0, omega arith, Appends-nil mid)
 
--- ---- how a connection has ended
-pub by_head : (id : ℕ) (coming left : Option (List ℕ)) (old : Option (List ℕ)) (before after : HubState) (served : Served)
-    → HasRead coming left id before.committed after (Ok (Some served)) → Gets coming left old old before.committed (Ok served)
-by_head id coming left old before after Whole has = absurd has
-by_head id coming left old before after NoHead has = record { received = has.received; read = has.read; no_head = has.no_head; ended = has.ended; written = refl }
-by_head id coming left old before after Cut has = record { received = has.0; read = has.1; written = inl refl }
-
-pub by_piece : (id : ℕ) (coming left : Option (List ℕ)) (old mid new : Option (List ℕ)) (before now after : HubState) (served : Served)
-    → (s : IsSending id coming left old mid before now) → HasSent mid new id s.rest after (Ok (Some served))
-    → Gets coming left old new before.committed (Ok served)
-by_piece id coming left old mid new before now after Whole s sent = whole id coming left old mid new before now s sent
-by_piece id coming left old mid new before now after NoHead s sent = absurd sent
-by_piece id coming left old mid new before now after Cut s sent = front id coming left old mid new before now s sent
-
-pub by_fault : (id : ℕ) (coming left : Option (List ℕ)) (old mid new : Option (List ℕ)) (before now after : HubState) (fault : HubFault)
-    → (s : IsSending id coming left old mid before now) → HasSent mid new id s.rest after (Err fault)
-    → Gets coming left old new before.committed (Err fault)
-by_fault id coming left old mid new before now after fault s sent =
-    (sent.0, subst (λ (o : Option (List ℕ)). GetsFront coming left old o before.committed) (sym sent.1) (stopped id coming left old mid before now s))
-
--- an answer as it was told
-pub read_as : (coming left : Option (List ℕ)) (id : ℕ) (committed : List ℕ) (after : HubState) (some other : Option Served) → some ≡ other
-    → HasRead coming left id committed after (Ok some) → HasRead coming left id committed after (Ok other)
-read_as coming left id committed after some other e has = subst (λ (o : Option Served). HasRead coming left id committed after (Ok o)) e has
-
-pub sent_as : (old new : Option (List ℕ)) (id : ℕ) (rest : List ℕ) (after : HubState) (some other : Option Served) → some ≡ other
-    → HasSent old new id rest after (Ok some) → HasSent old new id rest after (Ok other)
-sent_as old new id rest after some other e sent = subst (λ (o : Option Served). HasSent old new id rest after (Ok o)) e sent
-
 -- nothing of it changes while the session stays in its phase
 pub later : (id : ℕ) (coming left : Option (List ℕ)) (old new : Option (List ℕ)) (before now after : HubState) → (s : IsSending id coming left old new before now)
     → phase_of after id ≡ phase_of now id → IsSending id coming left old new before after
@@ -112,3 +84,91 @@ later id coming left old new before now after s same = record {
   wrote = s.wrote;
   phase = same ∙ s.phase;
 }
+
+-- ---- how a connection has ended
+pub by_head : (id : ℕ) (coming left : Option (List ℕ)) (old : Option (List ℕ)) (before after : HubState) (served : Served)
+    → HasRead coming left id before.committed after (Ok (Some served)) → Gets coming left old old before.committed (Ok served)
+by_head id coming left old before after Whole has = absurd has
+by_head id coming left old before after NoHead has = record { received = has.received; read = has.read; no_head = has.no_head; ended = has.ended; written = refl }
+by_head id coming left old before after Cut has = record { received = has.0; read = has.1; written = inl refl }
+
+pub by_piece : (id : ℕ) (coming left : Option (List ℕ)) (old mid new : Option (List ℕ)) (before now after : HubState) (served : Served)
+    → (s : IsSending id coming left old mid before now) → HasSent mid new id s.rest after (Ok (Some served))
+    → Gets coming left old new before.committed (Ok served)
+by_piece id coming left old mid new before now after Whole s sent = whole id coming left old mid new before now s sent.0
+by_piece id coming left old mid new before now after NoHead s sent = absurd sent
+by_piece id coming left old mid new before now after Cut s sent = front id coming left old mid new before now s sent
+
+pub by_fault : (id : ℕ) (coming left : Option (List ℕ)) (old mid new : Option (List ℕ)) (before now after : HubState) (fault : HubFault)
+    → (s : IsSending id coming left old mid before now) → HasSent mid new id s.rest after (Err fault)
+    → Gets coming left old new before.committed (Err fault)
+by_fault id coming left old mid new before now after fault s sent =
+    (sent.0, subst (λ (o : Option (List ℕ)). GetsFront coming left old o before.committed) (sym sent.1) (stopped id coming left old mid before now s))
+
+-- ---- in how many pieces
+pub one_more : (n : ℕ) (written rest : List ℕ) → length written ≡ n * piece → piece < length rest
+    → length (written ++ take piece rest) ≡ suc n * piece
+one_more n written rest long more_is_left =
+    omega (arith, long, more_is_left, length-append written (take piece rest), length-take-le piece rest (omega (arith, more_is_left)))
+
+pub some_is_left : (rest : List ℕ) → piece < length rest → 0 < length (drop piece rest)
+some_is_left rest more_is_left = omega (arith, more_is_left, length-drop piece rest)
+
+are_in : (n : ℕ) (written rest : List ℕ) → length written ≡ n * piece → (n ≡ 0) ⊎ (0 < length rest) → length rest ≤ piece
+    → AreIn (suc n) (length (written ++ rest))
+are_in n written rest long (inl none) short = (omega (arith, long, short, length-append written rest), inl (ap suc none))
+are_in n written rest long (inr some) short =
+    (omega (arith, long, short, length-append written rest), inr (omega (arith, long, some, length-append written rest)))
+
+-- so much was written in this many full pieces
+pub record IsSendingIn (n : ℕ) (id : ℕ) (coming left : Option (List ℕ)) (old new : Option (List ℕ)) (before now : HubState) : Type 0 where
+  pub sending : IsSending id coming left old new before now
+  pub long : length sending.written ≡ n * piece
+  pub some : (n ≡ 0) ⊎ (0 < length sending.rest)
+
+pub at_first_in : (id : ℕ) (coming left : Option (List ℕ)) (old : Option (List ℕ)) (before now : HubState)
+    → HasHead coming left id before.committed now
+    → IsSendingIn 0 id coming left old old before now
+unfolding at_first
+at_first_in id coming left old before now head = record { sending = at_first id coming left old before now head; long = refl; some = inl refl }
+
+pub more_in : (n id : ℕ) (coming left : Option (List ℕ)) (old mid new : Option (List ℕ)) (before now after : HubState)
+    → (s : IsSendingIn n id coming left old mid before now)
+    → HasSent mid new id s.sending.rest after (Ok None) → IsSendingIn (suc n) id coming left old new before after
+unfolding more
+more_in n id coming left old mid new before now after s sent = record {
+  sending = more id coming left old mid new before now after s.sending sent.0 sent.1;
+  long = one_more n s.sending.written s.sending.rest s.long sent.2;
+  some = inr (some_is_left s.sending.rest sent.2);
+}
+
+pub by_piece_in : (n id : ℕ) (coming left : Option (List ℕ)) (old mid new : Option (List ℕ)) (before now after : HubState) (served : Served)
+    → (s : IsSendingIn n id coming left old mid before now) → HasSent mid new id s.sending.rest after (Ok (Some served))
+    → GetsIn coming left old new (suc n) before.committed (Ok served)
+unfolding whole
+by_piece_in n id coming left old mid new before now after Whole s sent =
+    (whole id coming left old mid new before now s.sending sent.0, are_in n s.sending.written s.sending.rest s.long s.some sent.1)
+by_piece_in n id coming left old mid new before now after NoHead s sent = absurd sent
+by_piece_in n id coming left old mid new before now after Cut s sent = front id coming left old mid new before now s.sending sent
+
+pub by_head_in : (id : ℕ) (coming left : Option (List ℕ)) (old : Option (List ℕ)) (before after : HubState) (served : Served)
+    → HasRead coming left id before.committed after (Ok (Some served)) → GetsIn coming left old old 0 before.committed (Ok served)
+by_head_in id coming left old before after Whole has = absurd has
+by_head_in id coming left old before after NoHead has = (record { received = has.received; read = has.read; no_head = has.no_head; ended = has.ended; written = refl }, refl)
+by_head_in id coming left old before after Cut has = record { received = has.0; read = has.1; written = inl refl }
+
+pub later_in : (n id : ℕ) (coming left : Option (List ℕ)) (old new : Option (List ℕ)) (before now after : HubState)
+    → (s : IsSendingIn n id coming left old new before now)
+    → phase_of after id ≡ phase_of now id → IsSendingIn n id coming left old new before after
+unfolding later
+later_in n id coming left old new before now after s same =
+    record { sending = later id coming left old new before now after s.sending same; long = s.long; some = s.some }
+
+-- an answer as it was told
+pub read_as : (coming left : Option (List ℕ)) (id : ℕ) (committed : List ℕ) (after : HubState) (some other : Option Served) → some ≡ other
+    → HasRead coming left id committed after (Ok some) → HasRead coming left id committed after (Ok other)
+read_as coming left id committed after some other e has = subst (λ (o : Option Served). HasRead coming left id committed after (Ok o)) e has
+
+pub sent_as : (old new : Option (List ℕ)) (id : ℕ) (rest : List ℕ) (after : HubState) (some other : Option Served) → some ≡ other
+    → HasSent old new id rest after (Ok some) → HasSent old new id rest after (Ok other)
+sent_as old new id rest after some other e sent = subst (λ (o : Option Served). HasSent old new id rest after (Ok o)) e sent

@@ -6,6 +6,7 @@ use Rattle.sessions.specs.Run.{IsUnused}
 use Rattle.serving.specs.declared.pieces.Served.{Served}
 use Rattle.serving.specs.Keeping.{KeepsOthers, OnlyServes}
 use Rattle.serving.specs.Serving.{Gets}
+use Rattle.serving.specs.Steps.{GetsIn}
 use Rattle.serving.proofs.Moves.{committed_is}
 
 pub connected : (before : HubState) (id : ℕ) → id ≡ before.next_id → IsUnused before before.next_id → phase_of before id ≡ None
@@ -24,13 +25,16 @@ all_of shows coming left old new result before begun after id same shown only go
 )
 
 -- the same while a feed is recorded
-pub others_of : (shows : HubState → Type 0) (coming left old new : Option (List ℕ)) (result : Result Served HubFault) (before begun after : HubState) (id : ℕ) → id ≡ before.next_id → shows after → KeepsOthers id before after → phase_of after id ≡ None
-    → OnlyServes id before begun → Gets coming left old new begun.committed result
-    → (x : HubState) × shows x × KeepsOthers before.next_id before x × (phase_of x before.next_id ≡ None) × Gets coming left old new before.committed result
-others_of shows coming left old new result before begun after id same shown keeps gone first gets = (
+pub others_of : (shows : HubState → Type 0) (steps : ℕ → HubState
+    → Type 0) (coming left old new : Option (List ℕ)) (result : Result Served HubFault) (before begun after : HubState) (id n : ℕ)
+    → id ≡ before.next_id → shows after → KeepsOthers id before after → phase_of after id ≡ None
+    → OnlyServes id before begun → steps n after → GetsIn coming left old new n begun.committed result
+    → (x : HubState) × shows x × KeepsOthers before.next_id before x × (phase_of x before.next_id ≡ None)
+    × ((k : ℕ) × steps k x × GetsIn coming left old new k before.committed result)
+others_of shows steps coming left old new result before begun after id n same shown keeps gone first taken gets = (
   after,
   shown,
-  subst (λ (n : ℕ). KeepsOthers n before after) same keeps,
-  subst (λ (n : ℕ). phase_of after n ≡ None) same gone,
-  subst (λ (bytes : List ℕ). Gets coming left old new bytes result) (committed_is id before begun first) gets,
+  subst (λ (number : ℕ). KeepsOthers number before after) same keeps,
+  subst (λ (number : ℕ). phase_of after number ≡ None) same gone,
+  (n, taken, subst (λ (bytes : List ℕ). GetsIn coming left old new n bytes result) (committed_is id before begun first) gets),
 )

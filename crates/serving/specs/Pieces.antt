@@ -1,5 +1,5 @@
 -- What one piece of a session reads or writes. Ours.
-use Rattle.std.specs.Prelude.{◌≡◌, ℕ, Option, Some, None, Result, Ok, Err, List, take, drop}
+use Rattle.std.specs.Prelude.{◌≡◌, ℕ, Option, Some, None, Result, Ok, Err, List, take, drop, length, ◌<◌, ◌≤◌}
 use Rattle.std.specs.Io.KnownBytes.{Appends, Consumes, IsAtEnd}
 use Rattle.ogg_page.specs.Output.{WritesPrefix}
 use Rattle.responses.specs.Response.{IsResponse}
@@ -41,11 +41,12 @@ module _ (coming left : Option (List ℕ)) where
   HasRead id committed after (Ok (Some Cut)) = HasReadSome
   HasRead id committed after (Err fault) = MayMeet fault × HasReadSome
 
--- `old` and `new` are the bytes that the writer tells before and after. Of what was left of the response a piece was
--- written, or all of it, or a front of it.
+-- `old` and `new` are the bytes that the writer tells before and after. Of what was left of the response a full piece was
+-- written, and more is left; or all of it, or a front of it.
 abbrev pub HasSent : (old new : Option (List ℕ)) → ℕ → List ℕ → HubState → Result (Option Served) HubFault → Type 0
 HasSent old new id rest after (Ok None) = Appends old new (take piece rest) × (phase_of after id ≡ Some (Sending (drop piece rest)))
-HasSent old new id rest after (Ok (Some Whole)) = Appends old new rest
+    × (piece < length rest)
+HasSent old new id rest after (Ok (Some Whole)) = Appends old new rest × (length rest ≤ piece)
 HasSent old new id rest after (Ok (Some NoHead)) = ⊥
 HasSent old new id rest after (Ok (Some Cut)) = WritesPrefix old new rest
 HasSent old new id rest after (Err fault) = MayMeet fault × (new ≡ old)

@@ -73,6 +73,9 @@ impl<R: Read + Drop, W: Write + Drop> LiveFeed<R, W> {
             (streams (R.remaining self.old.reader) None (W.contents self.old.replies))
             (streams (R.remaining self.new.reader) None (W.contents self.new.replies)) self.old.run self.new.run before after result }
 
+        // What it answers from then on.
+        ensures ended { self.old.ended ≡ None → self.new.ended ≡ lasting result }
+
         // The end and each fault stay.
         ensures closed { self.old.ended ≡ None → IfSome self.old.run.outcome (λ outcome. (result ≡ step_at outcome)
             × (self.new ≡ feed_state self.old.reader self.old.replies self.old.run (Some result)) × (hub.new ≡ hub.old)) }

@@ -5,7 +5,8 @@
 //! handles of one socket are.
 //!
 //! Start at `specs/Serving.antt`, which says what a connection gets, and go on to `specs/Feeding.antt`, which says what
-//! a step of the feed does, and to `specs/Keeping.antt`, which says what both leave of the hub.
+//! a step of the feed does, to `specs/Steps.antt`, which says which steps are taken beside a connection, and to
+//! `specs/Keeping.antt`, which says what both leave of the hub.
 #![tactic(auto)]
 
 mod feeding;

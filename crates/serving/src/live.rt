@@ -4,7 +4,7 @@ ghost use Rattle.sessions.specs.Hub.{HubState, Reading, is_full, phase_of};
 ghost use Rattle.sessions.specs.Own.{AreNumbered};
 ghost use Rattle.ogg_serve.specs.Showing.{Shows};
 ghost use Rattle.serving.specs.Keeping.{KeepsAll, KeepsOthers};
-ghost use Rattle.serving.specs.Serving.{Gets};
+ghost use Rattle.serving.specs.Steps.{GetsIn, TakesStep, TakesSteps};
 
 use crate::feeding::LiveFeed;
 use crate::pieces::{Served, read_head, send_piece};
@@ -27,7 +27,10 @@ pub fn live_one<D: Disk + Drop, R: Read, W: Write, F: Read + Drop, L: Write + Dr
     ensures served { (before : HubState) → Shows D.is_honest D.state hub.old before → is_full before ≡ false → AreNumbered before
         → (after : HubState) × Shows D.is_honest D.state hub.new after × KeepsOthers before.next_id before after
         × (phase_of after before.next_id ≡ None)
-        × Gets (R.remaining reader.old) (R.remaining reader.new) (W.contents writer.old) (W.contents writer.new) before.committed result }
+        × ((n : ℕ)
+        × TakesSteps D.is_honest D.state D.moment D.images_since D.failures F.remaining L.contents n feed.old feed.new before after
+        × GetsIn (R.remaining reader.old) (R.remaining reader.new) (W.contents writer.old) (W.contents writer.new)
+        n before.committed result) }
     ensures full { (before : HubState) → Shows D.is_honest D.state hub.old before → is_full before ≡ true
         → (result ≡ Err HubFault.SessionsFull) × Shows D.is_honest D.state hub.new before × (feed.new ≡ feed.old)
         × (reader.new ≡ reader.old) × (writer.new ≡ writer.old) }
@@ -56,7 +59,10 @@ fn exchange<D: Disk + Drop, R: Read, W: Write, F: Read + Drop, L: Write + Drop>(
 ) -> Result<Served, HubFault>
     ensures { (before : HubState) → Shows D.is_honest D.state hub.old before → phase_of before id ≡ Some (Reading [])
         → (after : HubState) × Shows D.is_honest D.state hub.new after × KeepsOthers id before after
-        × Gets (R.remaining reader.old) (R.remaining reader.new) (W.contents writer.old) (W.contents writer.new) before.committed result }
+        × ((n : ℕ)
+        × TakesSteps D.is_honest D.state D.moment D.images_since D.failures F.remaining L.contents n feed.old feed.new before after
+        × GetsIn (R.remaining reader.old) (R.remaining reader.new) (W.contents writer.old) (W.contents writer.new)
+        n before.committed result) }
 {
     match read_head(hub, id, reader) {
         Ok(None) => {}
@@ -80,7 +86,8 @@ fn go_on<D: Disk + Drop, F: Read + Drop, L: Write + Drop>(
     feed: &mut LiveFeed<F, L>,
 )
     ensures { (before : HubState) → Shows D.is_honest D.state hub.old before
-        → (after : HubState) × Shows D.is_honest D.state hub.new after × KeepsAll before after }
+        → (after : HubState) × Shows D.is_honest D.state hub.new after × KeepsAll before after
+        × TakesStep D.is_honest D.state D.moment D.images_since D.failures F.remaining L.contents feed.old feed.new before after }
 {
     committed_bytes_grow();
     other_sessions_stay();

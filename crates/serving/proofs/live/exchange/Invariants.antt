@@ -1,8 +1,9 @@
-use Rattle.std.proofs.Common.{◌≡◌, Some, []}
+use Rattle.std.proofs.Common.{◌≡◌, ℕ, Some, []}
 use Rattle.sessions.specs.Hub.{HubState, Reading, phase_of}
 use Rattle.ogg_serve.specs.Showing.{Shows}
 use Rattle.serving.specs.Keeping.{KeepsOthers}
-use Rattle.serving.proofs.Sent.{IsSending}
+use Rattle.serving.specs.Steps.{TakesSteps}
+use Rattle.serving.proofs.Sent.{IsSendingIn}
 use Rattle.serving.proofs.live.exchange.Given as goal
 
 abbrev pub invariant-loop : goal.invariant-loop
@@ -10,4 +11,7 @@ invariant-loop g l =
     (before : HubState) → Shows g.D.Disk.is_honest g.D.Disk.state l.fn.hub before → phase_of before l.fn.id ≡ Some (Reading [])
     → (now : HubState) × Shows g.D.Disk.is_honest g.D.Disk.state l.hub now
     × KeepsOthers l.fn.id before now
-    × IsSending l.fn.id (g.R.Read.remaining l.fn.reader) (g.R.Read.remaining l.reader) (g.W.Write.contents l.fn.writer) (g.W.Write.contents l.writer) before now
+    × ((n : ℕ) × TakesSteps g.D.Disk.is_honest g.D.Disk.state g.D.Disk.moment g.D.Disk.images_since g.D.Disk.failures
+    g.F.Read.remaining g.L.Write.contents n l.fn.feed l.feed before now
+    × IsSendingIn n l.fn.id (g.R.Read.remaining l.fn.reader) (g.R.Read.remaining l.reader)
+    (g.W.Write.contents l.fn.writer) (g.W.Write.contents l.writer) before now)

@@ -1,6 +1,7 @@
 use Rattle.std.proofs.Common.{Ok, refl}
 use Rattle.sessions.specs.Hub.{Connect, Close}
 use Rattle.serving.proofs.Moves.{only_serves, others_both}
+use Rattle.serving.proofs.Taken.{led, followed}
 use Rattle.serving.proofs.Whole.{connected, others_of}
 use Rattle.serving.proofs.live.live_one.Goals as goal
 
@@ -14,6 +15,9 @@ returns-in-Ok-clause-served g c = λ before shown room numbered.
     let own = only_serves c.other_sessions_stay.ensures c.calls_move_their_session.ensures.file c.sessions_are_numbered.ensures.kept in
     let first = own before s.0 (Connect (Ok c.in-Ok.id)) c.in-Ok.id s.2 refl in
     let last = own x.0 e.0 (Close c.in-Ok.id _) c.in-Ok.id e.2 refl in
-    others_of _ _ _ _ _ _ before s.0 e.0 c.in-Ok.id same e.1
+    let d = g.D.Disk in
+    let steps = followed d.is_honest d.state d.moment d.images_since d.failures g.F.Read.remaining g.L.Write.contents x.3.0 _ _ before x.0 e.0
+    (led d.is_honest d.state d.moment d.images_since d.failures g.F.Read.remaining g.L.Write.contents x.3.0 _ _ before s.0 x.0 first.file x.3.1) last.file in
+    others_of _ _ _ _ _ _ _ before s.0 e.0 c.in-Ok.id x.3.0 same e.1
     (others_both c.in-Ok.id before s.0 e.0 first.others (others_both c.in-Ok.id s.0 x.0 e.0 x.2 last.others))
-    (c.calls_move_their_session.ensures.close x.0 e.0 c.in-Ok.id _ e.2) first x.3
+    (c.calls_move_their_session.ensures.close x.0 e.0 c.in-Ok.id _ e.2) first steps x.3.2

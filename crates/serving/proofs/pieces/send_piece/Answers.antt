@@ -5,7 +5,7 @@ use Rattle.serving.specs.Pieces.{piece}
 use Rattle.std.specs.Io.KnownBytes.{Appends}
 use Rattle.serving.proofs.Faults.{pulls as met}
 use Rattle.serving.proofs.Moves.{only_serves}
-use Rattle.serving.proofs.Written.{all_given, prefix_of_all}
+use Rattle.serving.proofs.Written.{all_given, all_short, more_left, prefix_of_all}
 use Rattle.serving.proofs.pieces.send_piece.Goals as goal
 
 pub returns-in-Ok-write_whole : goal.returns-in-Ok-write_whole
@@ -15,8 +15,11 @@ returns-in-Ok-write_whole g c = λ before rest shown sending.
       s.0,
       s.1,
       only_serves c.other_sessions_stay.ensures c.calls_move_their_session.ensures.file c.sessions_are_numbered.ensures.kept before s.0 (Pull c.args.id piece (given_in c.pull.new.buffer (Ok c.in-Ok.pulled))) c.args.id s.2 refl,
-      subst (λ bytes. Appends (g.W.Write.contents c.args.writer.now) (g.W.Write.contents c.write_whole.new.writer) bytes)
-          (all_given c.args.id rest piece _ s.0 pulled c.if-pulled.true) c.in-Ok-write_whole.ensures.ok,
+      (
+        subst (λ bytes. Appends (g.W.Write.contents c.args.writer.now) (g.W.Write.contents c.write_whole.new.writer) bytes)
+            (all_given c.args.id rest piece _ s.0 pulled c.if-pulled.true) c.in-Ok-write_whole.ensures.ok,
+        all_short c.args.id rest piece _ s.0 pulled c.if-pulled.true,
+      ),
     )
 
 pub returns-in-Ok-2 : goal.returns-in-Ok-2
@@ -26,7 +29,7 @@ returns-in-Ok-2 g c = λ before rest shown sending.
       s.0,
       s.1,
       only_serves c.other_sessions_stay.ensures c.calls_move_their_session.ensures.file c.sessions_are_numbered.ensures.kept before s.0 (Pull c.args.id piece (given_in c.pull.new.buffer (Ok c.in-Ok.pulled))) c.args.id s.2 refl,
-      (subst (λ bytes. Appends (g.W.Write.contents c.args.writer.now) (g.W.Write.contents c.write_whole.new.writer) bytes) pulled.bytes c.in-Ok-2.ensures.ok, pulled.left),
+      (subst (λ bytes. Appends (g.W.Write.contents c.args.writer.now) (g.W.Write.contents c.write_whole.new.writer) bytes) pulled.bytes c.in-Ok-2.ensures.ok, pulled.left, more_left c.args.id rest piece _ s.0 pulled c.if-pulled.false),
     )
 
 pub returns-in-Err-write_whole : goal.returns-in-Err-write_whole

@@ -1,0 +1,55 @@
+-- Steps of a feed, one after the other.
+use Rattle.std.proofs.Common.{◌≡◌, ℕ, zero, suc, Option, Some, None, Result, List, refl, sym, ◌∙◌, ap, subst}
+use Rattle.std.specs.Prelude.{IfSome}
+use Rattle.disk_model.specs.Image.{DiskState}
+use Rattle.feed_codec.specs.declared.fault.RunFault.{RunFault}
+use Rattle.feed_run.specs.Run.{Outcome}
+use Rattle.ogg_serve.specs.Parts.{HubParts}
+use Rattle.sessions.specs.Hub.{HubState}
+use Rattle.sessions.specs.Own.{KeepsFile}
+use Rattle.serving.specs.Feeding.{FeedState, feed_state, step_at}
+use Rattle.serving.specs.Keeping.{KeepsAll}
+use Rattle.serving.specs.Steps.{GoesOn, StepsIf, TakesSteps}
+use Rattle.serving.specs.declared.feeding.Step.{Step}
+use Rattle.serving.proofs.Moves.{all_none}
+
+file_both : (a b c : HubState) → KeepsFile a b → KeepsFile b c → KeepsFile a c
+file_both a b c first second = second ∙ ap (λ (hub : HubState). record hub { sessions = c.sessions; next_id = c.next_id }) first
+
+module _ {D : Type 0} (is_honest : D → Type 0) (state : D → DiskState) (moment : D → ℕ) (images_since : D → ℕ → List ℕ → Type 0)
+    (failures : D → ℕ) {R W : Type 0} (remaining : R → Option (List ℕ)) (contents : W → Option (List ℕ)) where
+  -- what a step does, by what its clauses say
+  pub taken : (shows : HubParts D → HubState
+      → Type 0) (ended : Option (Result Step RunFault)) (outcome : Option Outcome) (result : Result Step RunFault)
+      (old new : FeedState R W) (hub hub_after : HubParts D) (before : HubState) → shows hub before
+      → IfSome ended (λ answer. (result ≡ answer) × (new ≡ old) × (hub_after ≡ hub))
+      → (ended ≡ None
+      → IfSome outcome (λ o. (result ≡ step_at o) × (new ≡ feed_state old.reader old.replies old.run (Some result)) × (hub_after ≡ hub)))
+      → (ended ≡ None → outcome ≡ None → (after : HubState) × shows hub_after after × KeepsAll before after
+      × GoesOn is_honest state moment images_since failures remaining contents old new before after)
+      → (after : HubState) × shows hub_after after × KeepsAll before after
+      × StepsIf is_honest state moment images_since failures remaining contents ended outcome old new before after
+  taken shows (Some answer) outcome result old new hub hub_after before shown stays closed stepped =
+      (before, subst (λ (h : HubParts D). shows h before) (sym stays.2) shown, all_none before, (stays.1, refl))
+  taken shows None (Some o) result old new hub hub_after before shown stays closed stepped =
+      let c = closed refl in (
+        before,
+        subst (λ (h : HubParts D). shows h before) (sym c.2) shown,
+        all_none before,
+        (c.1 ∙ ap (λ (r : Result Step RunFault). feed_state old.reader old.replies old.run (Some r)) c.0, refl),
+      )
+  taken shows None None result old new hub hub_after before shown stays closed stepped = stepped refl refl
+
+  -- nothing is recorded before them either
+  pub led : (n : ℕ) (old new : FeedState R W) (a b c : HubState) → KeepsFile a b
+      → TakesSteps is_honest state moment images_since failures remaining contents n old new b c
+      → TakesSteps is_honest state moment images_since failures remaining contents n old new a c
+  led zero old new a b c first steps = (steps.0, file_both a b c first steps.1)
+  led (suc n) old new a b c first (feed, one, two, steps, step, file) = (feed, one, two, led n old feed a b one first steps, step, file)
+
+  -- nor after them
+  pub followed : (n : ℕ) (old new : FeedState R W) (a b c : HubState)
+      → TakesSteps is_honest state moment images_since failures remaining contents n old new a b → KeepsFile b c
+      → TakesSteps is_honest state moment images_since failures remaining contents n old new a c
+  followed zero old new a b c steps last = (steps.0, file_both a b c steps.1 last)
+  followed (suc n) old new a b c (feed, one, two, steps, step, file) last = (feed, one, two, steps, step, file_both two b c file last)

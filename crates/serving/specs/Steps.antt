@@ -1,0 +1,54 @@
+-- The steps of a feed that are taken beside a connection. Ours.
+use Rattle.std.specs.Prelude.{◌≡◌, ◌⊎◌, ◌+◌, ◌*◌, ◌<◌, ◌≤◌, ℕ, zero, suc, Option, Some, None, Result, Ok, Err, List, length}
+use Rattle.disk_model.specs.Image.{DiskState}
+use Rattle.feed_codec.specs.declared.fault.RunFault.{RunFault}
+use Rattle.feed_run.specs.Run.{Outcome, streams}
+use Rattle.ogg_serve.specs.Parts.{HubParts}
+use Rattle.sessions.specs.Hub.{HubState}
+use Rattle.sessions.specs.Own.{KeepsFile}
+use Rattle.serving.specs.Feeding.{FeedState, HasStepped, feed_state, lasting, step_at}
+use Rattle.serving.specs.Pieces.{piece}
+use Rattle.serving.specs.Serving.{GetsFront, GetsNothing, GetsWhole, MayMeet}
+use Rattle.serving.specs.declared.feeding.Step.{Step}
+use Rattle.serving.specs.declared.pieces.Served.{Served}
+use Rattle.serving.specs.declared.pieces.Served.TheVariants.{Whole, NoHead, Cut}
+use Rattle.sessions.specs.declared.fault.HubFault.{HubFault}
+
+module _ {D : Type 0} (is_honest : D → Type 0) (state : D → DiskState) (moment : D → ℕ) (images_since : D → ℕ → List ℕ → Type 0)
+    (failures : D → ℕ) {R W : Type 0} (remaining : R → Option (List ℕ)) (contents : W → Option (List ℕ)) where
+  -- a step of a feed that had not ended
+  pub record GoesOn (old new : FeedState R W) (before after : HubState) : Type 0 where
+    pub was : HubParts D
+    pub now : HubParts D
+    pub answer : Result Step RunFault
+    pub stepped : HasStepped is_honest state moment images_since failures
+        (streams (remaining old.reader) None (contents old.replies)) (streams (remaining new.reader) None (contents new.replies))
+        old.run new.run (record { now = was; machine = before }) (record { now = now; machine = after }) answer
+    pub ended : new.ended ≡ lasting answer
+
+  -- what a step does to a feed, if it has ended so, and to the hub
+  abbrev pub StepsIf : Option (Result Step RunFault) → Option Outcome → (old new : FeedState R W) (before after : HubState) → Type 0
+  StepsIf (Some answer) outcome old new before after = (new ≡ old) × (after ≡ before)
+  StepsIf None (Some outcome) old new before after =
+      (new ≡ feed_state old.reader old.replies old.run (Some (step_at outcome))) × (after ≡ before)
+  StepsIf None None old new before after = GoesOn old new before after
+
+  abbrev pub TakesStep : (old new : FeedState R W) (before after : HubState) → Type 0
+  TakesStep old new before after = StepsIf old.ended old.run.outcome old new before after
+
+  -- Steps were taken in turn, as many as this, and nothing else was recorded before, between and after them.
+  abbrev pub TakesSteps : ℕ → (old new : FeedState R W) (before after : HubState) → Type 0
+  TakesSteps zero old new before after = (new ≡ old) × KeepsFile before after
+  TakesSteps (suc n) old new before after = (feed : FeedState R W) × (one : HubState) × (two : HubState)
+      × TakesSteps n old feed before one × TakesStep feed new one two × KeepsFile two after
+
+-- Bytes of this number go out in this many pieces: each but the last is full, and only a piece that is alone may be empty.
+abbrev pub AreIn : ℕ → ℕ → Type 0
+AreIn n size = (size ≤ n * piece) × ((n ≡ 1) ⊎ (n * piece < size + piece))
+
+-- What a connection gets that ends so after this many steps. There was one before each piece of a whole response.
+abbrev pub GetsIn : (coming left old new : Option (List ℕ)) → ℕ → List ℕ → Result Served HubFault → Type 0
+GetsIn coming left old new n committed (Ok Whole) = (got : GetsWhole coming left old new committed) × AreIn n (length got.response)
+GetsIn coming left old new n committed (Ok NoHead) = GetsNothing coming left old new × (n ≡ 0)
+GetsIn coming left old new n committed (Ok Cut) = GetsFront coming left old new committed
+GetsIn coming left old new n committed (Err fault) = MayMeet fault × GetsFront coming left old new committed
