@@ -146,7 +146,9 @@ fn feed<'a>(alloc: Global) -> Result<Command<'a>, AllocError> {
     let skeleton = Arg::new(alloc, "skeleton")
         .long("skeleton")
         .value_name("SERIAL")
-        .help("Begins each link with a Skeleton made anew, of this serial or the next one that is free")
+        .help(
+            "Begins each link with a Skeleton made anew, of this serial or the next one that is free",
+        )
         .value_parser(value_parser!(u32));
     let no_skeleton = Arg::new(alloc, "no-skeleton")
         .long("no-skeleton")
