@@ -107,7 +107,7 @@ fn read(rt: &impl Abort, alloc: Global, mut reader: FakeReader) -> Result<Outcom
 
 /// Writes a command as it was read.
 fn write_again(feed: &Feed, command: &Command, records: &mut Vec<u8>) -> Result<(), Memory>
-    requires { (version : VersionOf) × (feed.now.version ≡ Some version) × FitsRecord version command.now }
+    requires { (version : VersionOf) × (feed.now.feed.version ≡ Some version) × FitsRecord version command.now }
 {
     match feed.version() {
         Some(Version::One) => write_command(command, records),
