@@ -135,8 +135,8 @@ fn disk_of(alloc: Global, bytes: &[u8]) -> Result<MemDisk, Memory> {
     }
 }
 
-/// Opens the disk, once more if memory is refused. By a refusal the disk stays as long as it was, but where the disk is
-/// refused memory for the byte that closes the file, which may be written.
+/// Opens the disk, once more if memory is refused. After `Memory` the disk is as long as it was. If memory is refused to
+/// the disk itself, the fault is `Disk`, and the byte that closes the file may have been written.
 fn opened(alloc: Global, disk: MemDisk) -> Result<Recorder<MemDisk>, Fail> {
     let length = disk.contents().len();
     match Recorder::open(alloc, disk) {
@@ -242,9 +242,9 @@ fn begin_of(alloc: Global, serial: u32) -> Result<Command, Memory> {
     }
 }
 
-/// Gives the recorder of a file with `end` committed bytes a begin that has a page of 31 bytes. Whether the end is then
-/// 31 bytes later: at once, when it is given again after memory was refused, or, where the disk was refused memory, in
-/// the file that is opened again, to which it is given if it isn't there.
+/// Gives the recorder of a file with `end` committed bytes a begin that has a page of 31 bytes, and says whether the end
+/// is then 31 bytes later. After `Memory` nothing has changed, and the command is given again. After `Disk` the file is
+/// opened again, and the command is given again unless it is there.
 fn begins(
     alloc: Global,
     mut recorder: Recorder<MemDisk>,

@@ -136,8 +136,8 @@ fn sessions_outlive_a_disk_that_fails(rt: HostRuntime) -> Result<(), Fail> {
     Ok(())
 }
 
-/// Whether the stream's end is kept: at once, when it is asked for again after memory was refused, or, where the disk
-/// was refused memory, in the file that is opened again.
+/// Whether the stream's end is kept. After `Memory` the end of the file is as it was, and the command is given again.
+/// After `Disk` the file is opened again, and the command is given again unless it is there.
 fn ends_again<D: Disk + Drop>(hub: &mut Hub<D>) -> bool {
     let mut answer = hub.command(&Command::End(1));
     if answer == Err(Refusal::Memory) {
