@@ -1,5 +1,6 @@
 -- The streams of a new link: those that stay, under their names, perhaps with a Skeleton before them.
-use Rattle.std.proofs.Common.{◌≡◌, ℕ, suc, Bool, true, false, List, [], ◌∷◌, ◌++◌, map, refl, sym, ◌∙◌, ap, subst, length, inl, inr, append-nil}
+use Rattle.std.proofs.Common.{◌≡◌, ℕ, suc, Bool, true, false, List, [], ◌∷◌, ◌++◌, map, refl, sym, ◌∙◌, ap, subst, length, inl, inr}
+use Rattle.std.proofs.Common.{append-nil}
 use Rattle.std.specs.Prelude.{nat_le, not, ◌||◌, ◌&&◌, if◌then◌else◌, Option, Some, None, ◌⊎◌}
 use Rattle.std.specs.List.{AllByRecursion, AllZip, filter, flat_map, list_all}
 use Rattle.chain_rules.specs.Recording.{begun}
@@ -235,7 +236,8 @@ none_others : (streams : List NewStream) → the_others (map (λ stream. true) s
 none_others [] = refl
 none_others (stream ∷ streams) = none_others streams
 
-skeletons_others : (streams : List NewStream) → the_others (map is_other streams) (map begun streams) ≡ map begun (filter is_skeleton streams)
+skeletons_others : (streams : List NewStream)
+    → the_others (map is_other streams) (map begun streams) ≡ map begun (filter is_skeleton streams)
 skeletons_others [] = refl
 skeletons_others (stream ∷ streams) = by (skeletons_others streams) (is_skeleton stream)
   where

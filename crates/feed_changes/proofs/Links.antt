@@ -17,8 +17,8 @@ use Rattle.feed_changes.specs.Renumbered.{IsRenumberedStream, avoided, serials}
 use Rattle.feed_changes.specs.Links.{ChangedFrom, IsBefore, IsChangedLink, the_others, those}
 use Rattle.feed_changes.specs.Changed.{AreNone, ChangeState, IsFollowed, IsUnderNames, IsUpTo, stream_under}
 use Rattle.feed_changes.proofs.Renumbers.{GoesWith, HasName, eq_named, has_name, serials_under}
-use Rattle.feed_changes.proofs.Lists.{apart_still, before_still, left_out_still, map_same, no_serial, same_serials, those_distinct, those_map}
-use Rattle.feed_changes.proofs.Lists.{under_still}
+use Rattle.feed_changes.proofs.Lists.{apart_still, before_still, left_out_still, map_same, no_serial, same_serials, those_distinct}
+use Rattle.feed_changes.proofs.Lists.{those_map, under_still}
 
 -- ---- the last link changes
 staying_serials : (change : Stream → Stream) → ((stream : Stream) → (change stream).serial ≡ stream.serial)

@@ -237,7 +237,8 @@ ended_fishead stream false e = e
 
 grown_front : (packet : List ℕ) (stream : Stream) (b : Bool) (front : List (List ℕ)) → IsFrontOf front stream
     → IsFrontOf front (grown_if packet stream b)
-grown_front packet stream true front (more, is) = (more ++ packet ∷ [], ap (λ l. l ++ packet ∷ []) is ∙ append_assoc front more (packet ∷ []))
+grown_front packet stream true front (more, is) =
+    (more ++ packet ∷ [], ap (λ l. l ++ packet ∷ []) is ∙ append_assoc front more (packet ∷ []))
 grown_front packet stream false front f = f
 
 ended_front : (stream : Stream) (b : Bool) (front : List (List ℕ)) → IsFrontOf front stream → IsFrontOf front (ended_if stream b)

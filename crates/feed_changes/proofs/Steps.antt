@@ -33,7 +33,8 @@ use Rattle.feed_changes.proofs.Renumbers.{clash, end_named, end_other, ended, en
 use Rattle.feed_changes.proofs.Renumbers.{packet_other}
 use Rattle.feed_changes.proofs.Lists.{same_serials, zip_push}
 use Rattle.feed_changes.proofs.Links.{begin_step, change_step, followed_changed, same_last, under_only, under_step}
-use Rattle.feed_changes.proofs.Begins.{apart_alike, are_begun, begun_alike, begun_left, begun_named, begun_serials, begun_staying, described_only}
+use Rattle.feed_changes.proofs.Begins.{apart_alike, are_begun, begun_alike, begun_left, begun_named, begun_serials, begun_staying}
+use Rattle.feed_changes.proofs.Begins.{described_only}
 use Rattle.feed_changes.proofs.Begins.{described_serials, fronts_of, headers_described, headers_named, left_of, made_alike, named_apart}
 use Rattle.feed_changes.proofs.Begins.{stays_of}
 
@@ -232,7 +233,8 @@ is_before LeftOut streams from left stay earlier serials skeleton e made = absur
     none : None ≡ Some from → ⊥
     none e = cc
 is_before (Made first) streams from left stay earlier serials skeleton e made =
-    subst (λ n. IsMadeFor n left stay earlier serials skeleton) (by (list_all is_skeleton streams || nat_le most_streams (length streams)) e) made
+    subst (λ n. IsMadeFor n left stay earlier serials skeleton)
+    (by (list_all is_skeleton streams || nat_le most_streams (length streams)) e) made
   where
     value : Some first ≡ Some from → from ≡ first
     value f = cc

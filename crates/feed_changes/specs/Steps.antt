@@ -35,7 +35,7 @@ pub record Names (old new : ChangeState) (streams : List NewStream) : Type 0 whe
   pub named : AreNamed new.names (serials_of streams)
   pub only : AreOnlyOf new.names (serials_of streams)
 
--- these streams begin under their names, without a Skeleton or behind one
+-- these streams begin under their names, without a Skeleton that is made
 pub record BeginsPlain (old new : ChangeState) (skeleton : Option SkeletonHead) (streams : List NewStream) (now : Command) : Type 0 where
   pub options : new.options ≡ old.options
   pub names : new.names ≡ old.names
@@ -47,14 +47,14 @@ pub record IsDescribedUnder (names : List (ℕ × ℕ)) (said : List (List ℕ))
   pub described : IsDescribedBy said stream now
   pub named : now.serial ≡ named names stream.serial
 
-pub record BeginsDescribed (from : ℕ) (said : List (List ℕ)) (old new : ChangeState) (streams : List NewStream) (now : Command) : Type 0 where
+pub record BeginsDescribed (from : ℕ) (said : List (List ℕ)) (old new : ChangeState) (stay : List NewStream) (now : Command) : Type 0 where
   pub options : new.options ≡ old.options
   pub names : new.names ≡ old.names
   pub head : SkeletonHead
   pub first : IsFirstFree from old.given (values_of old.names) head.serial
   pub head_said : IsHeadSaid said head
   pub described : List NewStream
-  pub each : AllZip (IsDescribedUnder old.names said) streams described
+  pub each : AllZip (IsDescribedUnder old.names said) stay described
   pub given : new.given ≡ old.given ++ head.serial ∷ serials_of described
   pub now_is : now ≡ BeginOf (record { skeleton = Some head; streams = described })
 
