@@ -16,6 +16,7 @@ import select
 import struct
 import subprocess
 import sys
+import threading
 
 sys.path.insert(0, os.path.dirname(os.path.abspath(__file__)))
 from finishing import links_of
@@ -175,20 +176,32 @@ def run(words, given):
 def in_pieces(program, data, source):
     """What `feed` writes if its input comes in pieces."""
     process = subprocess.Popen([program, "feed"], stdin=subprocess.PIPE, stdout=subprocess.PIPE, stderr=subprocess.PIPE)
-    os.set_blocking(process.stdout.fileno(), False)
-    got, at = b"", 0
-    while at < len(data):
-        size = source.choice([1, 2, 26, 27, 100, 5000])
-        try:
+    written = [b"", b""]
+
+    def keep(number, stream):
+        written[number] = stream.read()
+
+    # What it writes is read meanwhile: a full pipe would stop it, and then us.
+    readers = [threading.Thread(target=keep, args=it) for it in enumerate((process.stdout, process.stderr))]
+    for reader in readers:
+        reader.start()
+    stop = threading.Timer(20, process.kill)
+    stop.start()
+    at = 0
+    try:
+        while at < len(data):
+            size = source.choice([1, 2, 26, 27, 100, 5000])
             process.stdin.write(data[at:at + size])
             process.stdin.flush()
-        except BrokenPipeError:
-            break
-        at += size
-        got += process.stdout.read() or b""
-    os.set_blocking(process.stdout.fileno(), True)
-    out, err = process.communicate(timeout=20)
-    return got + out, err, process.returncode
+            at += size
+        process.stdin.close()
+    except BrokenPipeError:
+        pass
+    for reader in readers:
+        reader.join()
+    status = process.wait()
+    stop.cancel()
+    return written[0], written[1], status
 
 
 def fault_of(data):
