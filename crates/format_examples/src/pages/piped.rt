@@ -102,18 +102,22 @@ const DESCRIBED: [u8; 140] = *b"\0\x01\0\0\0\x02\
     \x01\0\x01\0\0\0\x01\0\x03\0\0\0abc\x18\0application/octet-stream\
     \x01\0\0\0\0\0\0\0\x01\0\0\0\0\0\0\0\0\0\0\0\0\0\0\0\0\0\0\0\0\0\0";
 
-/// What `make_feed` writes with these options of the pieces of an input, one after the other.
-fn fed(rt: &HostRuntime, pieces: &[&[u8]], options: ChangeOptions) -> Result<Vec<u8>, Fail> {
-    let mut input = Vec::new(rt.alloc());
+/// The pieces, one after the other.
+fn joined(rt: &HostRuntime, pieces: &[&[u8]]) -> Result<Vec<u8>, Fail> {
+    let mut bytes = Vec::new(rt.alloc());
     for piece in pieces {
-        input.extend_from_slice(piece)?;
+        bytes.extend_from_slice(piece)?;
     }
+    Ok(bytes)
+}
+
+/// What `make_feed` writes with these options of the pieces of an input.
+fn fed(rt: &HostRuntime, pieces: &[&[u8]], options: ChangeOptions) -> Result<Vec<u8>, Fail> {
+    let input = joined(rt, pieces)?;
     let mut reader = FakeReader::new(input.as_slice(), 40, 0);
     let mut writer = FakeWriter::new(Vec::new(rt.alloc()), 1000, 0);
     make_feed(rt.alloc(), &mut reader, &mut writer, options)?;
-    let mut written = Vec::new(rt.alloc());
-    written.extend_from_slice(writer.written())?;
-    Ok(written)
+    joined(rt, &[writer.written()])
 }
 
 #[test]
@@ -123,9 +127,8 @@ fn a_second_copy_gets_a_free_serial(rt: HostRuntime) -> Result<(), Fail> {
         skeletons: Skeletons::Kept,
     };
     let written = fed(&rt, &[&THREE_PAGES, &THREE_PAGES], options)?;
-    let (first, second) = written.as_slice().split_at(FEED.len());
-    assert!(rt; first == FEED.as_slice());
-    assert!(rt; second == RECORDS_OF_STREAM_0.as_slice());
+    let want = joined(&rt, &[&FEED, &RECORDS_OF_STREAM_0])?;
+    assert!(rt; written.as_slice() == want.as_slice());
     Ok(())
 }
 
@@ -136,9 +139,8 @@ fn a_skeleton_is_made(rt: HostRuntime) -> Result<(), Fail> {
         skeletons: Skeletons::Made(9),
     };
     let written = fed(&rt, &[&THREE_PAGES], options)?;
-    let (begin, rest) = written.as_slice().split_at(DESCRIBED.len());
-    assert!(rt; begin == DESCRIBED.as_slice());
-    assert!(rt; rest == &FEED[60..]);
+    let want = joined(&rt, &[&DESCRIBED, &FEED[60..]])?;
+    assert!(rt; written.as_slice() == want.as_slice());
     Ok(())
 }
 
