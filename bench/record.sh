@@ -1,7 +1,8 @@
 #!/usr/bin/env bash
 # Commits of packets into a file: `record`, a small C program that makes the same calls of the system, and SQLite (WAL,
-# synchronous=FULL, a row a commit, groups in one transaction). Each feed goes through all three in turn, three times, and
-# the best time of each counts. The seconds are by the clock, since what a commit costs is the disk's. Not part of the tests.
+# synchronous=FULL, a row a commit, groups in one transaction). Each feed goes through all three in turn, ROUNDS times (none:
+# 3), and the best time of each counts: a disk's time varies more than the programs do. The seconds are by the clock, since
+# what a commit costs is the disk's. Not part of the tests.
 #
 #     apt-get install libsqlite3-dev && bench/record.sh [FOLDER]     the files lie in FOLDER, else in a temporary one
 set -u
@@ -31,7 +32,7 @@ sys.stdout.buffer.write(begin([1]))
 for n in range(count):
     sys.stdout.buffer.write(put([(1, n, bytes(n * 31 % 256 for _ in range(size)))]))
 END
-    for _ in 1 2 3; do
+    for _ in $(seq "${ROUNDS:-3}"); do
         rm -f "$work"/file.*
         ours+="$(clock "$program" record "$work/file.ogg" --group "$4" <"$work/feed") "
         plain+="$(clock "$work/commits" plain "$work/file.raw" "$2" "$3" "$4") "

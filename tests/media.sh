@@ -6,10 +6,10 @@
 . "$(dirname "$0")/program/common.bash"
 reader=${READ_OGG:-$top/crates/read_ogg/out/read_ogg}
 
-for tool in ffmpeg ffprobe ogginfo oggz oggenc opusenc flac speexenc gst-launch-1.0; do
+for tool in ffmpeg ffprobe ogginfo oggz oggenc opusenc flac speexenc gst-launch-1.0 mkvmerge mutagen-inspect; do
     if ! command -v "$tool" >"$work/which"; then
         apt-get update && apt-get install -y ffmpeg vorbis-tools oggz-tools opus-tools flac speex \
-            gstreamer1.0-tools gstreamer1.0-plugins-base gstreamer1.0-plugins-good || exit 1
+            gstreamer1.0-tools gstreamer1.0-plugins-base gstreamer1.0-plugins-good mkvtoolnix python3-mutagen || exit 1
         break
     fi
 done >"$work/install" 2>&1 || { tail -n 5 "$work/install"; exit 1; }
@@ -117,6 +117,13 @@ finished() {
     oggz validate "$work/$name.finished.ogg" >"$work/found" 2>&1
     check "$name, finished: oggz validate complains of no more than of the encoder's file" \
         [ -z "$(comm -13 <(complaints "$work/want") <(complaints "$work/found"))" ]
+    for file in "$work/$name.ogg" "$work/$name.finished.ogg"; do
+        mkvmerge --identify "$file" | sed "s|$file||"
+        mutagen-inspect "$file" | grep -v '^-- '
+    done >"$work/found"
+    check "$name, finished: mkvmerge and mutagen see what they see of the encoder's file" \
+        cmp <(head -n "$(($(wc -l <"$work/found") / 2))" "$work/found") <(tail -n "$(($(wc -l <"$work/found") / 2))" "$work/found")
+    check "$name, finished: they see something" [ "$(wc -l <"$work/found")" -gt 3 ]
     "$program" finish "$work/$name.ogg" >"$work/found"
     check "$name: the encoder's file stays as it is" cmp "$work/$name.ogg" "$work/found"
 }
