@@ -35,7 +35,7 @@ kind_with (RecordItem (CommandOf (PutOf put))) = (Put, refl)
 kind_with (RecordItem (CommandOf (EndOf serial))) = (End, refl)
 kind_with (RecordItem Flush) = (FlushKind, refl)
 
--- the kind of what may stand there may stand there
+-- an item that may stand there has a kind that may stand there
 kind_allowed : (first : Bool) (v : Version) (item : Item) → HasItem first v item → is_kind first (kind_in item) ≡ true
 kind_allowed true v Announcement h = refl
 kind_allowed false v Announcement h = cc h
@@ -119,7 +119,7 @@ bad_payload first v (Some bytes) (Some behind) None head payload is c d whole ba
 bad_payload first v (Some bytes) (Some behind) (Some more) head payload is c d whole bad =
     subst (λ l. HasFaultAt first v l Form) (sym (c ∙ ap (λ l. head_bytes head ++ l) d)) (bad_record first v head.kind head.length payload more is.kind is.fits whole bad)
 
--- what was read may stand where it stands
+-- an item that was read may stand at its place
 has_item : (first : Bool) (v : Version) (item : Item) (kind : RecordKind) → is_kind first (number_of kind) ≡ true → kind_in item ≡ number_of kind → IsItem v item → length (payload_in v item) ≤ most_payload
     → HasItem first v item
 has_item true v Announcement kind named same is fits = refl
@@ -141,7 +141,7 @@ read_record first v old mid new head payload item is c d whole held kind spelled
       subst (Consumes old new) record_is (Consumes-trans old mid new (head_bytes head) payload c d),
     )
 
--- memory was refused where a payload was to be read
+-- memory was refused when a payload was to be read
 no_payload : (room : FeedRoom) (first : Bool) (v : Version) (old new : Option (List ℕ)) (head : Head) → IsHead first head → Consumes old new (head_bytes head)
     → room.payload < head.length → TakesItemPart room first v old new
 no_payload room first v old new head is c short =

@@ -27,7 +27,7 @@ pub length_field : (number n : ℕ) (more : List ℕ) → n < 2 ^ 32 → payload
 unfolding u32_bytes
 length_field number n more small = little_number-reads_back 4 n more small
 
--- where a kind and a length stand in front, and the length is within bounds, the head has no fault
+-- if a kind and a length stand in front, and the length is within bounds, the head has no fault
 pub head_is_fine : (first : Bool) (kind : RecordKind) (n : ℕ) (more : List ℕ) → is_kind first (number_of kind) ≡ true → n ≤ most_payload → head_fault first (number_of kind ∷ (u32_bytes n ++ more)) ≡ None
 head_is_fine first kind n more named fits =
     let size = length_field (number_of kind) n more (omega (arith, fits)) in

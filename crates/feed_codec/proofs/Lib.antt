@@ -5,5 +5,6 @@ pub mod HeadFacts
 pub mod RoomFacts
 pub mod FeedFacts
 pub mod SizeFacts
+pub mod FitsFacts
 pub mod WritingFacts
 pub mod ReplyFacts

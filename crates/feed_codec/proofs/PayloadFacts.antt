@@ -128,7 +128,7 @@ none_many Is spell free (x ∷ xs) (y ∷ ys) rest more l hx hy none e =
     let heads = fronts Is spell free x y (flat_map spell xs) (flat_map spell ys) rest more hx.0 hy.0 e in
     none_many Is spell free xs ys rest more (omega arith) hx.1 hy.1 none heads.1
 
--- where some stand in front and no further one does, there aren't more
+-- if some stand in front and no further one does, there aren't more
 pub many_cut : {X : Type 0} (Is : X → Type 0) (spell : X → List ℕ) → PrefixFree Is spell → (bytes rest : List ℕ) (done count : ℕ) → done < count
     → Begins (AreMany Is done) (flat_map spell) bytes rest → BeginsNone Is spell rest → BeginsNone (AreMany Is count) (flat_map spell) bytes
 many_cut Is spell free bytes rest done count l some none ys more h e =
@@ -137,7 +137,7 @@ many_cut Is spell free bytes rest done count l some none ys more h e =
 pub many_none : {X : Type 0} (Is : X → Type 0) (spell : X → List ℕ) (bytes : List ℕ) → Begins (AreMany Is 0) (flat_map spell) bytes bytes
 many_none Is spell bytes = ([], (refl, tt), refl)
 
--- one more behind them
+-- one more after them
 pub built_more : {X : Type 0} (Is : X → Type 0) (spell : X → List ℕ) (bytes rest behind : List ℕ) (done : ℕ) (xs : List X) (x : X)
     → AreMany Is done xs → bytes ≡ flat_map spell xs ++ rest → Is x → rest ≡ spell x ++ behind
     → AreMany Is (done + 1) (xs ++ x ∷ []) × (bytes ≡ flat_map spell (xs ++ x ∷ []) ++ behind)
@@ -153,14 +153,14 @@ many_more Is spell bytes rest behind done some one =
     let more = built_more Is spell bytes rest behind done some.0 one.0 some.1 some.2 one.1 one.2 in
     (some.0 ++ one.0 ∷ [], more.0, more.1)
 
--- where more are left, one stands in front
+-- if more are left, one stands in front
 pub left_stands : {X : Type 0} (Is : X → Type 0) (spell : X → List ℕ) (rest more : List ℕ) (done count : ℕ) → done < count
     → Begins (AreMany Is (count - done)) (flat_map spell) rest more → ¬ BeginsNone Is spell rest
 left_stands Is spell rest more done count l ([], many, e) none = omega (arith, l, many.0)
 left_stands Is spell rest more done count l (x ∷ xs, many, e) none =
     none x (flat_map spell xs ++ more) many.1.0 (e ∙ append_assoc (spell x) (flat_map spell xs) more)
 
--- and behind it stand the others
+-- and the others follow it
 pub left_behind : {X : Type 0} (Is : X → Type 0) (spell : X → List ℕ) → PrefixFree Is spell → (rest behind more : List ℕ) (done count : ℕ) (x : X) → done < count
     → Begins (AreMany Is (count - done)) (flat_map spell) rest more → Is x → rest ≡ spell x ++ behind → Begins (AreMany Is (count - (done + 1))) (flat_map spell) behind more
 left_behind Is spell free rest behind more done count x l ([], many, e) one f = absurd (omega (arith, l, many.0))
@@ -168,7 +168,7 @@ left_behind Is spell free rest behind more done count x l (y ∷ ys, many, e) on
     let heads = front Is spell free x y behind (flat_map spell ys) more one many.1.0 (sym f ∙ e) in
     (ys, (omega (arith, l, many.0), many.1.1), heads.1)
 
--- there is a value where there is no reason for none
+-- there is a value if the reason for none doesn't hold
 pub stands : {T : Type 0} (r : Option T) (A : Type 0) (P : T → Type 0) → MatchOption r A P → ¬ A → IsSome r
 stands None A P h refuted = absurd (refuted h)
 stands (Some t) A P h refuted = search rules
@@ -225,7 +225,7 @@ pub skeleton_found : (bytes rest more : List ℕ) (head : SkeletonHead) → byte
 unfolding skeleton_head_bytes
 skeleton_found bytes rest more head is e = is ∙ ap (λ l. 1 ∷ l) e
 
--- ---- what stands behind a stream's headers
+-- ---- what follows a stream's headers
 
 pub tail_cut : (bytes : List ℕ) → BeginsNone IsMedia media_bytes bytes → BeginsNone IsTail tail_bytes bytes
 unfolding tail_bytes
@@ -299,7 +299,7 @@ fields_found bytes rest more n fields small is many e = (
   is ∙ ap (λ k. u16_bytes k ++ rest) (sym many.0) ∙ ap (λ l. u16_bytes (length fields) ++ l) e ∙ sym (append_assoc (u16_bytes (length fields)) (flat_map field_bytes fields) more),
 )
 
--- the same of what is left behind each
+-- the same of what is left after each
 pub fields_split : (r : Option (Bor (List ℕ))) (bytes rest : List ℕ) (n : ℕ) → n < 2 ^ 16 → bytes ≡ u16_bytes n ++ rest
     → MatchOption r (BeginsNone (AreMany IsFieldOfFeed n) (flat_map field_bytes) rest) (λ p. Begins (AreMany IsFieldOfFeed n) (flat_map field_bytes) rest p.now)
     → MatchOption r (BeginsNone (AreFields Two) (fields_bytes Two) bytes) (λ p. Begins (AreFields Two) (fields_bytes Two) bytes p.now)
@@ -308,7 +308,7 @@ fields_split (Some p) bytes rest n small is (fields, many, e) =
     let found = fields_found bytes rest p.now n fields small is many e in
     (fields, found.0, found.1)
 
--- what stands in front of message fields, and behind their number
+-- the number in front of message fields, and what follows it
 pub fields_long : (bytes : List ℕ) → ((rest : List ℕ) × Begins (AreFields Two) (fields_bytes Two) bytes rest) → 2 ≤ length bytes
 fields_long bytes (rest, (fields, h, e)) =
     omega (
@@ -325,7 +325,7 @@ fields_stand bytes rest n small is (more, (fields, h, e)) =
     let count = front IsU16 u16_bytes same_u16 n (length fields) rest (flat_map field_bytes fields) more small h.0 (sym is ∙ e) in
     (more, (fields, (sym count.0, h.1), count.1))
 
--- ---- all that stands behind a stream's headers
+-- ---- all that follows a stream's headers
 
 behind_cut : (v : Version) (bytes : List ℕ) → BeginsNone IsTail tail_bytes bytes → BeginsNone (IsBehind v) (behind_bytes v) bytes
 behind_cut v bytes none behind more h e = none behind.0 (fields_bytes v behind.1 ++ more) h.tail (e ∙ append_assoc (tail_bytes behind.0) (fields_bytes v behind.1) more)
@@ -376,7 +376,7 @@ stream_short v bytes l s rest h e =
       length-u16_bytes (length s.headers),
     )
 
--- what stands behind the serial and the number of headers of a stream
+-- what follows the serial and the number of headers of a stream
 stream_behind : (v : Version) (bytes b1 b2 more : List ℕ) (serial count : ℕ) (s : NewStream) → serial < 2 ^ 32 → count < 2 ^ 16 → bytes ≡ u32_bytes serial ++ b1 → b1 ≡ u16_bytes count ++ b2
     → IsStreamOfFeed v s → bytes ≡ stream_bytes v s ++ more → (count ≡ length s.headers) × (b2 ≡ (flat_map packet_bytes s.headers ++ behind_bytes v (behind_of_stream s)) ++ more)
 stream_behind v bytes b1 b2 more serial count s hs hc e1 e2 h e =
@@ -399,7 +399,7 @@ stream_tail_cut v bytes b1 b2 b3 serial count hs hc e1 e2 some none s more h e =
     some.1 (sym behind.0, stream_headers v s h) (sym some.2 ∙ behind.1) in
     none (behind_of_stream s) more (stream_behind_headers v s h) headers.1
 
--- the stream with this serial, these headers, and this behind them
+-- the stream with this serial, these headers, and this after them
 abbrev stream_with : ℕ → List (List ℕ) → Behind → NewStream
 stream_with serial headers (tail, fields) =
     record { serial = serial; headers = headers; media = tail.media; fields = fields; rate = tail.rate; base_granule = tail.base_granule; preroll = tail.preroll; shift = tail.shift }
@@ -454,7 +454,7 @@ stream_split v (Some p) bytes b1 b2 b3 serial count hs hc e1 e2 (headers, many, 
 
 -- ---- payloads
 
--- what stands behind the Skeleton of a begin
+-- what follows the Skeleton of a begin
 pub begin_behind : (v : Version) (payload rest : List ℕ) (skeleton : Option SkeletonHead) → IsSkeleton skeleton → payload ≡ skeleton_bytes skeleton ++ rest → IsPayload v 1 payload
     → (streams : List NewStream) × AllByRecursion (IsStreamOfFeed v) streams × (length streams < 2 ^ 16) × (rest ≡ u16_bytes (length streams) ++ flat_map (stream_bytes v) streams)
 begin_behind v payload rest skeleton hs is (RecordItem (CommandOf (BeginOf begin)), h, kind, e) =
@@ -473,7 +473,7 @@ put_behind v payload (RecordItem (CommandOf (EndOf serial)), h, kind, e) = absur
 put_behind v payload (RecordItem Flush, h, kind, e) = absurd (omega (arith, kind))
 put_behind v payload (Announcement, h, kind, e) = absurd (omega (arith, kind))
 
--- how many there are, and then they, up to the end
+-- their number, and then each of them, up to the end
 abbrev pub Counted : {X : Type 0} → (X → Type 0) → (X → List ℕ) → List ℕ → Type 0
 Counted {X} Is spell bytes = (xs : List X) × AllByRecursion Is xs × (length xs < 2 ^ 16) × (bytes ≡ u16_bytes (length xs) ++ flat_map spell xs)
 
@@ -498,7 +498,7 @@ pub counted_found : {X : Type 0} (Is : X → Type 0) (spell : X → List ℕ) (b
     → AreMany Is n xs → rest ≡ flat_map spell xs → bytes ≡ u16_bytes (length xs) ++ flat_map spell xs
 counted_found Is spell bytes rest n xs is many e = is ∙ ap (λ l. u16_bytes n ++ l) e ∙ ap (λ k. u16_bytes k ++ flat_map spell xs) (sym many.0)
 
--- what a command is that was made of these parts
+-- what holds of a command that was made of these parts
 pub put_facts : (v : Version) (payload : List ℕ) (n : ℕ) (entries : List Entry) → n < 2 ^ 16 → AreMany IsEntryOfFeed n entries → payload ≡ u16_bytes (length entries) ++ flat_map entry_bytes entries
     → IsCommand (PutOf (record { entries = entries })) × FitsFields v (PutOf (record { entries = entries })) × (payload_of v (PutOf (record { entries = entries })) ≡ payload)
 put_facts v payload n entries small many e = (
@@ -555,7 +555,7 @@ is_nothing (x ∷ xs) b e t = absurd (omega (arith, eqb-true (length (x ∷ xs))
 pub nothing_is : (xs : List ℕ) (b : Bool) → b ≡ (length xs == 0) → xs ≡ [] → IsTrue b
 nothing_is xs b e none = e ∙ ap (λ l. length l == 0) none
 
--- ---- what is built from parts that were looked through
+-- ---- what is built from parts that were checked
 
 pub left_first : {X : Type 0} (Is : X → Type 0) (spell : X → List ℕ) (rest more : List ℕ) (done count : ℕ) → done < count
     → Begins (AreMany Is (count - done)) (flat_map spell) rest more → (behind : List ℕ) × Begins Is spell rest behind
@@ -563,7 +563,7 @@ left_first Is spell rest more done count l ([], many, e) = absurd (omega (arith,
 left_first Is spell rest more done count l (x ∷ xs, many, e) =
     (flat_map spell xs ++ more, (x, many.1.0, e ∙ append_assoc (spell x) (flat_map spell xs) more))
 
--- what stands in front of a stream, and behind its serial and the number of its headers
+-- the serial and the number of headers in front of a stream, and what follows them
 pub stream_long : (v : Version) (bytes : List ℕ) → ((rest : List ℕ) × Begins (IsStreamOfFeed v) (stream_bytes v) bytes rest) → 6 ≤ length bytes
 stream_long v bytes (rest, (s, h, e)) =
     let behind : List ℕ = flat_map packet_bytes s.headers ++ behind_bytes v (behind_of_stream s) in

@@ -5,10 +5,10 @@ use Rattle.std.specs.List.{flat_map}
 use Rattle.std.proofs.lemmas.Grind.{flat_map-append}
 use Rattle.std.proofs.lemmas.List.{drop-drop}
 use Rattle.ogg_command.specs.declared.command.Entry.{Entry}
-use Rattle.ogg_command.specs.declared.command.Command.TheVariants.{Begin as BeginOf, Put as PutOf, End as EndOf}
-use Rattle.feed_codec.specs.declared.item.Record.TheVariants.{Command as CommandOf, Flush}
+use Rattle.ogg_command.specs.declared.command.Command.TheVariants.{Put as PutOf}
+use Rattle.feed_codec.specs.declared.item.Record.TheVariants.{Command as CommandOf}
 use Rattle.feed_codec.specs.declared.item.Item.{Item}
-use Rattle.feed_codec.specs.declared.item.Item.TheVariants.{Announcement, Record as RecordItem}
+use Rattle.feed_codec.specs.declared.item.Item.TheVariants.{Record as RecordItem}
 use Rattle.ogg_command.specs.Command.{IsCommand}
 use Rattle.feed_codec.specs.declared.version.Version.{Version}
 use Rattle.feed_codec.specs.Record.{FitsFields, entry_bytes, kind_in, payload_in, payload_of}
@@ -24,14 +24,6 @@ lacks_later rooms (first ∷ front) entry more short =
     let one : suc (length front) ≡ 1 + length front = omega arith in
     let same : drop (suc (length front)) rooms ≡ drop (length front) (drop 1 rooms) = ap (λ n. drop n rooms) one ∙ sym (drop-drop (length front) 1 rooms) in
     inr (lacks_later (drop 1 rooms) front entry more (subst (λ l. slice_index l 0 < length entry.packet) same short))
-
--- no room can be kept for a new stream
-pub begin_lacks : (room : ℕ) (rooms : List ℕ) (item : Item) → kind_in item ≡ 1 → LacksRoomFor room rooms item
-begin_lacks room rooms (RecordItem (CommandOf (BeginOf begin))) kind = tt
-begin_lacks room rooms (RecordItem (CommandOf (PutOf put))) kind = absurd (omega (arith, kind))
-begin_lacks room rooms (RecordItem (CommandOf (EndOf serial))) kind = absurd (omega (arith, kind))
-begin_lacks room rooms (RecordItem Flush) kind = absurd (omega (arith, kind))
-begin_lacks room rooms Announcement kind = absurd (omega (arith, kind))
 
 -- what a put lacks
 pub put_lacks : (v : Version) (payload : List ℕ) (room : ℕ) (rooms : List ℕ) (number : ℕ) → number ≡ 2

@@ -33,7 +33,7 @@ flat_map-more f xs i x h is =
 pub length-flat_map-more : {X : Type 0} (f : X → List ℕ) (xs : List X) (i : ℕ) (x : X) → i < length xs → x ≡ get_or xs i x → length (flat_map f (take (i + 1) xs)) ≡ length (flat_map f (take i xs)) + length (f x)
 length-flat_map-more f xs i x h is = ap length (flat_map-more f xs i x h is) ∙ length-append (flat_map f (take i xs)) (f x)
 
--- and there is room for it
+-- the length of one item is within that of all
 pub length-flat_map-item : {X : Type 0} (f : X → List ℕ) (xs : List X) (i : ℕ) (x : X) → i < length xs → x ≡ get_or xs i x → length (flat_map f (take i xs)) + length (f x) ≤ length (flat_map f xs)
 length-flat_map-item f xs i x h is =
     let same : length (f x) ≡ length (f (get_or xs i x)) = ap (λ y. length (f y)) is in

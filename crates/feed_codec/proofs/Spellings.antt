@@ -23,15 +23,15 @@ use Rattle.ogg_page.specs.Laws.Prefixes.{same_fronts}
 use Rattle.feed_codec.proofs.Lists.{all_of_two}
 use Rattle.ogg_page.specs.Laws.NumberBytes.{IsU16, IsU32, IsU64, IsI64, same_u16, same_u32, same_u64, same_i64, same_fraction}
 
--- whose spellings begin the same bytes are one, and the same bytes follow
+-- values whose spellings begin the same bytes are one, and the same bytes follow
 abbrev pub PrefixFree : {X : Type 0} → (X → Type 0) → (X → List ℕ) → Type 0
 PrefixFree {X} Is spell = (a b : X) (x y : List ℕ) → Is a → Is b → spell a ++ x ≡ spell b ++ y → (a ≡ b) × (x ≡ y)
 
--- the same of a first part, where more parts come behind the second
+-- the same of a first part, if more parts follow the second
 pub front : {X : Type 0} (Is : X → Type 0) (spell : X → List ℕ) → PrefixFree Is spell → (a b : X) (x s y : List ℕ) → Is a → Is b → spell a ++ x ≡ (spell b ++ s) ++ y → (a ≡ b) × (x ≡ s ++ y)
 front Is spell free a b x s y ha hb e = free a b x (s ++ y) ha hb (e ∙ append_assoc (spell b) s y)
 
--- and where more come behind both
+-- the same, if more parts follow both
 pub fronts : {X : Type 0} (Is : X → Type 0) (spell : X → List ℕ) → PrefixFree Is spell → (a b : X) (r s x y : List ℕ) → Is a → Is b → (spell a ++ r) ++ x ≡ (spell b ++ s) ++ y → (a ≡ b) × (r ++ x ≡ s ++ y)
 fronts Is spell free a b r s x y ha hb e = front Is spell free a b (r ++ x) s y ha hb (sym (append_assoc (spell a) r x) ∙ e)
 

@@ -6,7 +6,7 @@ use Rattle.std.proofs.lemmas.List.Elements.{All-from_recursion}
 use Rattle.feed_codec.specs.Writing.{Grows}
 use Rattle.feed_codec.proofs.SizeFacts.{flat_map-more, length-flat_map-more}
 
--- what each has, this one has
+-- what holds of each holds of this one
 pub has : {X : Type 0} (P : X → Type 0) (xs : List X) (i : ℕ) (x : X) → AllByRecursion P xs → i < length xs → x ≡ get_or xs i x → P x
 has P xs i x all l is = subst P (sym is) (All-from_recursion P xs all i x l)
 

@@ -16,7 +16,7 @@ use Rattle.feed_codec.specs.Record.{BeginsNoItem, HasItem, HasRecord, announceme
 abbrev pub head_size : ℕ
 head_size = 5
 
--- An announcement, which has the number 0, may be the first alone.
+-- An announcement, which has the number 0, may only be the first item.
 abbrev pub is_kind : Bool → ℕ → Bool
 is_kind first kind = (first && nat_eq kind 0) || (nat_le 1 kind && nat_le kind 4)
 
@@ -40,12 +40,12 @@ fault_of first bytes =
 abbrev pub HasFaultAt : Bool → Version → List ℕ → FeedFault → Type 0
 HasFaultAt first version bytes fault = (bytes ≢ []) × BeginsNoItem first version bytes × (fault_of first bytes ≡ fault)
 
--- the same, where the bytes are known
+-- the same, if the bytes are known
 abbrev pub HasItemFault : Bool → Version → Option (List ℕ) → FeedFault → Type 0
 HasItemFault first version None fault = ⊤
 HasItemFault first version (Some bytes) fault = HasFaultAt first version bytes fault
 
--- What is wrong with the bytes of a feed, where they are known: at its front, or after its announcement; or after records
+-- What is wrong with the bytes of a feed, if they are known: at its front or after its announcement, or after records
 -- of a version.
 abbrev pub HasFault : Option Version → Option (List ℕ) → FeedFault → Type 0
 HasFault known None fault = ⊤
@@ -53,8 +53,8 @@ HasFault (Some version) (Some bytes) fault = HasFaultAt false version bytes faul
 HasFault None (Some bytes) fault =
     HasFaultAt true One bytes fault ⊎ ((rest : List ℕ) × (bytes ≡ announcement ++ rest) × HasFaultAt false Two rest fault)
 
--- What was taken from a reader where memory was refused: a head without a fault, as there was no room for its payload,
--- or a whole record, as there was none for its command.
+-- What was taken from a reader when memory was refused: a head without a fault, if there was no room for its payload,
+-- or a whole record, if there was none for its command.
 abbrev pub TakesItemPart : FeedRoom → Bool → Version → Option (List ℕ) → Option (List ℕ) → Type 0
 TakesItemPart room first version old new =
     ((head : List ℕ) × (length head ≡ head_size) × (head_fault first head ≡ None) × (room.payload < payload_length head)
@@ -88,7 +88,7 @@ abbrev pub Continues : Option Version → Version → Type 0
 Continues None version = ⊤
 Continues (Some known) version = known ≡ version
 
--- a record was read, and no more
+-- one record was read, and nothing after it
 pub record GivesRecord (old new : Option Version) (before behind : Option (List ℕ)) (given : RecordOf) : Type 0 where
   pub version : Version
   pub is_record : HasRecord version given
@@ -96,7 +96,7 @@ pub record GivesRecord (old new : Option Version) (before behind : Option (List 
   pub known : new ≡ Some version
   pub read : Consumes before behind (front_of old version ++ record_of version given)
 
--- no byte is left, and only an announcement was read, if anything
+-- no byte is left, and at most an announcement was read
 pub record GivesEnd (old : Option Version) (before behind : Option (List ℕ)) : Type 0 where
   pub version : Version
   pub left : Option (List ℕ)
@@ -104,7 +104,7 @@ pub record GivesEnd (old : Option Version) (before behind : Option (List ℕ)) :
   pub end : IsAtEnd left
   pub kept : Keeps left behind
 
--- what a feed answers that has come to this end
+-- what a feed answers after this end
 abbrev pub answer_at : Result (Unit {0}) FeedFault → Result (Option RecordOf) FeedFault
 answer_at (Ok _) = Ok None
 answer_at (Err fault) = Err fault

@@ -19,6 +19,6 @@ name_of Form = codes "Form"
 name_of Read = codes "Read"
 name_of Memory = codes "Memory"
 
--- want of memory is the fault `Memory`
+-- lack of memory is the fault `Memory`
 abbrev pub IsMemory : {A : Type 0} → A → FeedFault → Type 0
 IsMemory refused fault = fault ≡ Memory

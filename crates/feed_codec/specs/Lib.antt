@@ -2,6 +2,7 @@ pub mod Record
 pub mod RecordKind
 pub mod Feed
 pub mod FeedFault
+pub mod Fits
 pub mod Reading
 pub mod Room
 pub mod Writing

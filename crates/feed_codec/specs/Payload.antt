@@ -1,4 +1,4 @@
--- How the front of a payload is looked through. Ours.
+-- How the front of a payload is checked. Ours.
 use Rattle.std.specs.Prelude.{◌≡◌, ◌≢◌, ℕ, ℤ, ◌<◌, ◌^◌, List, [], ◌∷◌, ◌++◌, length, ⊤}
 use Rattle.std.specs.Int.{w64}
 use Rattle.std.specs.Prelude.{FitsSigned}
@@ -17,15 +17,15 @@ use Rattle.feed_codec.specs.declared.item.Item.{Item}
 use Rattle.feed_codec.specs.declared.item.Item.TheVariants.{Announcement, Record as RecordItem}
 use Rattle.feed_codec.specs.Record.{FitsStream, FitsEntry, FitsFields, media_bytes, fields_bytes, kind_in, payload_in}
 
--- the bytes begin with the spelling of some x, and then comes the rest
+-- the bytes begin with the spelling of some x, and the rest follows
 abbrev pub Begins : {X : Type 0} → (X → Type 0) → (X → List ℕ) → List ℕ → List ℕ → Type 0
 Begins {X} Is spell bytes rest = (x : X) × Is x × (bytes ≡ spell x ++ rest)
 
--- they begin with no spelling
+-- the bytes begin with no spelling
 abbrev pub BeginsNone : {X : Type 0} → (X → Type 0) → (X → List ℕ) → List ℕ → Type 0
 BeginsNone {X} Is spell bytes = (x : X) (rest : List ℕ) → Is x → bytes ≢ spell x ++ rest
 
--- so many, each of which is such
+-- the list has this many values, and the fact holds of each
 abbrev pub AreMany : {X : Type 0} → (X → Type 0) → ℕ → List X → Type 0
 AreMany Is count xs = (length xs ≡ count) × AllByRecursion Is xs
 
@@ -55,7 +55,7 @@ pub record IsStreamOfFeed (version : Version) (stream : NewStream) : Type 0 wher
   pub numbers : IsNewStream stream
   pub fits : FitsStream version stream
 
--- what stands behind a stream's headers, but for its message fields
+-- what follows a stream's headers, but for its message fields
 pub record Tail : Type 0 where
   pub media : List ℕ
   pub rate : ℤ × ℤ
@@ -76,7 +76,7 @@ tail_bytes tail =
     ++ (fraction_bytes tail.rate
     ++ (i64_bytes tail.base_granule ++ (u32_bytes tail.preroll ++ tail.shift ∷ [])))
 
--- all that stands behind a stream's headers
+-- all that follows a stream's headers
 abbrev pub Behind : Type 0
 Behind = Tail × List NamedValue
 
@@ -98,12 +98,12 @@ abbrev pub IsPayload : Version → ℕ → List ℕ → Type 0
 IsPayload version kind payload =
     (item : Item) × IsItem version item × (kind_in item ≡ kind) × (payload_in version item ≡ payload)
 
--- the head of a Skeleton, behind the byte that announces it
+-- the head of a Skeleton, after the byte that announces it
 unfoldable pub skeleton_head_bytes : SkeletonHead → List ℕ
 skeleton_head_bytes head =
     u32_bytes head.serial ++ (fraction_bytes head.presentation ++ (fraction_bytes head.base ++ head.utc))
 
--- what stands behind the stream's headers
+-- what follows the stream's headers
 abbrev pub tail_of_stream : NewStream → Tail
 tail_of_stream stream =
     record { media = stream.media; rate = stream.rate; base_granule = stream.base_granule; preroll = stream.preroll; shift = stream.shift }

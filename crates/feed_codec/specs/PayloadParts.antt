@@ -1,4 +1,4 @@
--- The parts of a payload, without where they lie in memory. Ours.
+-- The parts of a payload, without their places in memory. Ours.
 use Rattle.ogg_command.specs.declared.command.Entry.{Entry}
 use Rattle.feed_codec.specs.Payload.{Tail}
 use Rattle.feed_codec.specs.declared.payload.EntryPart.{EntryPart}

@@ -15,12 +15,12 @@ pub record IsHead (first : Bool) (head : Head) : Type 0 where
   pub kind : IsTrue (is_kind first (number_of head.kind))
   pub fits : head.length ≤ most_payload
 
--- where the bytes are known, they aren't empty, and this is the first thing wrong with the head at their front
+-- if the bytes are known, they aren't empty, and this is the first thing wrong with the head at their front
 abbrev pub HasHeadFault : Bool → Option (List ℕ) → FeedFault → Type 0
 HasHeadFault first None fault = ⊤
 HasHeadFault first (Some bytes) fault = (bytes ≢ []) × (head_fault first bytes ≡ Some fault)
 
--- where the bytes are known, they are fewer
+-- if the bytes are known, they are fewer
 abbrev pub IsShort : Option (List ℕ) → ℕ → Type 0
 IsShort None wanted = ⊤
 IsShort (Some bytes) wanted = length bytes < wanted

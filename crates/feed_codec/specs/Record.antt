@@ -35,7 +35,7 @@ skeleton_bytes (Some head) =
 abbrev pub field_bytes : NamedValue → List ℕ
 field_bytes field = media_bytes field.0 ++ media_bytes field.1
 
--- the message fields of a stream: none in version 1, how many there are and then each in version 2
+-- the message fields of a stream: in version 1 nothing, in version 2 their number and then each of them
 abbrev pub fields_bytes : Version → List NamedValue → List ℕ
 fields_bytes One fields = []
 fields_bytes Two fields = u16_bytes (length fields) ++ flat_map field_bytes fields
@@ -65,7 +65,7 @@ kind_of (BeginOf begin) = 1
 kind_of (PutOf put) = 2
 kind_of (EndOf serial) = 3
 
--- what stands in a feed: its kind, and its payload. A feed of version 2 begins with its announcement.
+-- What stands in a feed: its kind, and its payload. A feed of version 2 begins with its announcement.
 abbrev pub kind_in : Item → ℕ
 kind_in Announcement = 0
 kind_in (RecordItem (CommandOf command)) = kind_of command
@@ -91,7 +91,7 @@ abbrev pub opening : Version → List ℕ
 opening One = []
 opening Two = announcement
 
--- how long a payload may be
+-- how many bytes a payload may have
 abbrev pub most_payload : ℕ
 most_payload = 33554432
 
@@ -135,12 +135,12 @@ abbrev pub HasRecord : Version → RecordOf → Type 0
 HasRecord version (CommandOf command) = HasCommand version command
 HasRecord version Flush = ⊤
 
--- an announcement stands in front of all records alone
+-- an announcement stands only in front of all records
 abbrev pub HasItem : Bool → Version → Item → Type 0
 HasItem first version Announcement = IsTrue first
 HasItem first version (RecordItem given) = HasRecord version given
 
--- the bytes begin with no item, at the front of a feed or behind its first record
+-- the bytes begin with no item, at the front of a feed or after its first record
 abbrev pub BeginsNoItem : Bool → Version → List ℕ → Type 0
 BeginsNoItem first version bytes = (item : Item) (rest : List ℕ) → HasItem first version item → bytes ≢ item_bytes version item ++ rest
 
@@ -148,8 +148,8 @@ BeginsNoItem first version bytes = (item : Item) (rest : List ℕ) → HasItem f
 abbrev pub BeginsNoRecord : Version → List ℕ → Type 0
 BeginsNoRecord version bytes = (given : RecordOf) (rest : List ℕ) → HasRecord version given → bytes ≢ record_of version given ++ rest
 
--- The bytes are what stands in front of a feed of this version, these records, and then a rest that begins with none: no
--- rest where the feed ends well. Bytes that begin with an announcement are of version 2.
+-- The bytes are what stands in front of a feed of this version, these records, and a rest that begins with no record.
+-- If the feed ends well, the rest is empty. Bytes that begin with an announcement are of version 2.
 pub record IsFeed (bytes : List ℕ) (version : Version) (records : List RecordOf) (rest : List ℕ) : Type 0 where
   pub whole : bytes ≡ opening version ++ (flat_map (record_of version) records ++ rest)
   pub each : AllByRecursion (HasRecord version) records

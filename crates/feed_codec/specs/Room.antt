@@ -1,4 +1,4 @@
--- The memory that a feed keeps for the records to come, and for which records there isn't enough of it. Ours.
+-- The memory that a feed keeps for the next records, and the records for which it isn't enough. Ours.
 use Rattle.std.specs.Prelude.{◌⊎◌, ℕ, ◌<◌, List, [], ◌∷◌, drop, length, map, reverse, slice_index, vec_capacity, ⊤}
 use Rattle.std.specs.Global.{Vec}
 use Rattle.ogg_command.specs.declared.command.Entry.{Entry}
@@ -32,8 +32,8 @@ LacksPacketRoom rooms (entry ∷ entries) = (slice_index rooms 0 < length entry.
 abbrev pub LacksEntryRoom : ℕ → List ℕ → List Entry → Type 0
 LacksEntryRoom room rooms entries = (room < length entries) ⊎ LacksPacketRoom rooms entries
 
--- There is too little for what stands in a feed. No room can be kept for a new stream, whose headers, media type and
--- message fields each lie in memory of their own.
+-- There is too little room for what stands in a feed. No room can be kept for a new stream: its headers, its media
+-- type and its message fields each lie in distinct memory.
 abbrev pub LacksRoomFor : ℕ → List ℕ → Item → Type 0
 LacksRoomFor room rooms (RecordItem (CommandOf (BeginOf begin))) = ⊤
 LacksRoomFor room rooms (RecordItem (CommandOf (PutOf put))) = LacksEntryRoom room rooms put.entries

@@ -6,7 +6,7 @@ use Rattle.ogg_command.specs.declared.command.NewStream.{NewStream}
 use Rattle.feed_codec.specs.declared.version.Version.{Version}
 use Rattle.feed_codec.specs.Record.{packet_bytes, fields_bytes}
 
--- the vector grew by these bytes, which are so many, and gave no room away
+-- the vector grew by these bytes, this is their number, and it lost no room
 pub record Grows (old new : Vec ℕ) (bytes : List ℕ) (count : ℕ) : Type 0 where
   pub items : new.items ≡ old.items ++ bytes
   pub len : vec_len new ≡ vec_len old + count

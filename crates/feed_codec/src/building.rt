@@ -1,4 +1,4 @@
-//! Records, built from payloads that have been looked through.
+//! Records, built from payloads that have been checked.
 ghost use Rattle.std.specs.Prelude.{◌≡◌, ◌++◌, [], IfOk, OnErr, Ok, List, ℕ, vec_capacity};
 ghost use Rattle.feed_codec.specs.Room.{LacksEntryRoom, LacksRoomFor, rooms_of};
 ghost use Rattle.feed_codec.specs.declared.item.Item.{Item as ItemOf};
@@ -204,7 +204,7 @@ fn field_of(alloc: Global, field: (&[u8], &[u8])) -> Result<Field, Memory>
     ))
 }
 
-/// So many headers at the front, and what follows.
+/// The first `count` headers, and what follows.
 fn headers_of(
     alloc: Global,
     count: u16,

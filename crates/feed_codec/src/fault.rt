@@ -6,9 +6,9 @@ ghost use Rattle.feed_codec.specs.RunFault.{code_of as run_code_of, name_of as r
 use std::alloc::AllocError;
 use thiserror::Error;
 
-/// Why a feed gives no further command. In a record's head `Truncated`, `Kind` and `Length` are looked
-/// for, in this order, then room for the payload, `Truncated` in the payload, `Form`, and room for the
-/// command. `Read` comes where the reader fails.
+/// Why a feed returns no further command. The checks come in this order: `Truncated`, `Kind` and `Length` in a
+/// record's head, room for the payload, `Truncated` in the payload, `Form`, and room for the command. `Read` comes
+/// when the reader fails.
 #[derive(Clone, Copy, Debug, PartialEq, Eq, Error)]
 pub enum FeedFault {
     /// The input ends inside a record.

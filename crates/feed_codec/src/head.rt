@@ -7,10 +7,10 @@ ghost use Rattle.feed_codec.specs.Reading.{IsHead, head_bytes};
 use crate::fault::FeedFault;
 use ogg_page::{take_u8, take_u32};
 
-/// How long a record's head is.
+/// How many bytes a record's head has.
 pub const HEAD: usize = 5;
 
-/// How long a payload may be.
+/// How many bytes a payload may have.
 pub const MOST_PAYLOAD: usize = 33_554_432;
 
 /// What a record holds.

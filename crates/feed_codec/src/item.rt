@@ -6,14 +6,14 @@ use ogg_command::Command;
 pub enum Record {
     /// A command.
     Command(Command),
-    /// A flush: what waits is to be committed at once. It is no command.
+    /// A flush, which is no command: what waits is to be committed at once.
     Flush,
 }
 
 /// What stands in a feed.
 #[derive(Debug, Drop)]
 pub enum Item {
-    /// The announcement that the records after it are of version 2. It stands in front of all records, or nowhere.
+    /// The announcement that the records after it are of version 2, which stands in front of all records or nowhere.
     Announcement,
     /// A record.
     Record(Record),

@@ -1,4 +1,4 @@
-//! Payloads, looked through without taking memory.
+//! Payloads, checked without taking memory.
 ghost use Rattle.std.specs.Prelude.{◌≡◌, ◌++◌, ◌↔◌, IsTrue, MatchOption};
 ghost use Rattle.std.specs.List.{flat_map};
 ghost use Rattle.feed_codec.specs.Record.{packet_bytes, media_bytes, field_bytes, fields_bytes, entry_bytes, stream_bytes, skeleton_bytes};
@@ -22,7 +22,7 @@ pub struct EntryPart<'a> {
     pub packet: &'a [u8],
 }
 
-/// What stands behind a stream's headers, but for its message fields, where it lies.
+/// What follows a stream's headers, but for its message fields, where it lies.
 #[derive(Clone, Copy)]
 pub struct TailPart<'a> {
     pub media: &'a [u8],
@@ -94,7 +94,7 @@ fn is_put(_version: Version, payload: &[u8]) -> bool
     }
 }
 
-/// The packet at the front, behind its length, and what follows.
+/// The packet at the front, which follows its length, and the rest.
 pub fn split_packet(bytes: &[u8]) -> Option<(&[u8], &[u8])>
     ensures { MatchOption result (BeginsNone IsPacket packet_bytes bytes.now)
         (λ (packet, rest). IsPacket packet.now × (bytes.now ≡ packet_bytes packet.now ++ rest.now)) }
@@ -106,7 +106,7 @@ pub fn split_packet(bytes: &[u8]) -> Option<(&[u8], &[u8])>
     rest.split_at_checked(length as usize)
 }
 
-/// The media type at the front, behind its length, and what follows.
+/// The media type at the front, which follows its length, and the rest.
 fn split_media(bytes: &[u8]) -> Option<(&[u8], &[u8])>
     ensures { MatchOption result (BeginsNone IsMedia media_bytes bytes.now)
         (λ (media, rest). IsMedia media.now × (bytes.now ≡ media_bytes media.now ++ rest.now)) }
@@ -166,7 +166,7 @@ pub fn split_skeleton(bytes: &[u8]) -> Option<(Option<SkeletonHead>, &[u8])>
     }
 }
 
-/// What stands behind a stream's headers, at the front, and what follows.
+/// What follows a stream's headers, here at the front, and the rest.
 pub fn split_tail(bytes: &[u8]) -> Option<(TailPart<'_>, &[u8])>
     ensures { MatchOption result (BeginsNone IsTail tail_bytes bytes.now)
         (λ (part, rest). IsTail (tail_of part) × (bytes.now ≡ tail_bytes (tail_of part) ++ rest.now)) }
@@ -210,7 +210,7 @@ fn split_skeleton_head(bytes: &[u8]) -> Option<(SkeletonHead, &[u8])>
     Some((head, rest))
 }
 
-/// What follows so many entries at the front.
+/// What follows the first `count` entries.
 fn skip_entries(count: u16, bytes: &[u8]) -> Option<&[u8]>
     ensures { MatchOption result (BeginsNone (AreMany IsEntryOfFeed count) (flat_map entry_bytes) bytes.now)
         (λ rest. Begins (AreMany IsEntryOfFeed count) (flat_map entry_bytes) bytes.now rest.now) }
@@ -223,7 +223,7 @@ fn skip_entries(count: u16, bytes: &[u8]) -> Option<&[u8]>
     Some(rest)
 }
 
-/// What follows so many headers at the front.
+/// What follows the first `count` headers.
 fn skip_headers(count: u16, bytes: &[u8]) -> Option<&[u8]>
     ensures { MatchOption result (BeginsNone (AreMany IsPacket count) (flat_map packet_bytes) bytes.now)
         (λ rest. Begins (AreMany IsPacket count) (flat_map packet_bytes) bytes.now rest.now) }
@@ -266,7 +266,7 @@ fn skip_fields(version: Version, bytes: &[u8]) -> Option<&[u8]>
     }
 }
 
-/// What follows all that stands behind a stream's headers.
+/// What comes after all that follows a stream's headers.
 fn skip_behind(version: Version, bytes: &[u8]) -> Option<&[u8]>
     ensures { MatchOption result (BeginsNone (IsBehind version) (behind_bytes version) bytes.now)
         (λ rest. Begins (IsBehind version) (behind_bytes version) bytes.now rest.now) }
@@ -289,7 +289,7 @@ fn skip_stream(version: Version, bytes: &[u8]) -> Option<&[u8]>
     skip_behind(version, rest)
 }
 
-/// What follows so many streams at the front.
+/// What follows the first `count` streams.
 fn skip_streams(version: Version, count: u16, bytes: &[u8]) -> Option<&[u8]>
     ensures { MatchOption result (BeginsNone (AreMany (IsStreamOfFeed version) count) (flat_map (stream_bytes version)) bytes.now)
         (λ rest. Begins (AreMany (IsStreamOfFeed version) count) (flat_map (stream_bytes version)) bytes.now rest.now) }

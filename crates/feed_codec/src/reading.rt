@@ -18,9 +18,9 @@ use std::alloc::Global;
 use std::io::Read;
 use std::marker::Model;
 
-/// Reads records, one after the other, and keeps the memory of one payload between them, and that of
-/// the commands that are given back. What a contract sees of it is the version of the feed, once it is
-/// known, how the feed has ended, if it has, and the room that it keeps.
+/// Reads records, one after the other. Between them it keeps the memory of one payload, and that of the commands that
+/// are given back. A contract sees three things: the version of the feed, once it is known; how the feed has ended, if
+/// it has; and the room that it keeps.
 #[derive(Debug, Drop)]
 pub struct Feed {
     alloc: Global,
@@ -43,7 +43,7 @@ impl Model for Feed {
 }
 
 impl Feed {
-    /// A feed that hasn't been read yet. It takes no memory.
+    /// A feed that hasn't been read yet. No memory is taken.
     pub fn new(alloc: Global) -> Self
         ensures { result.feed ≡ record { version = None; outcome = None } }
     {
@@ -64,18 +64,18 @@ impl Feed {
     }
 
     /// The record at the front, or none at the end. An announcement in front of all records is passed over. After the
-    /// end or a fault the answer stays, and nothing is read.
+    /// end or a fault each call returns the same answer, and nothing is read.
     pub fn next<R: Read + Drop>(&mut self, reader: &mut R) -> Result<Option<Record>, FeedFault>
-        // The record is consumed, with the announcement if it is the first, and no more.
+        // Only the record is consumed, and the announcement too if the record is the first.
         ensures record { IfOk result (λ found. IfSome found (λ given. (self.old.feed.outcome ≡ None) × (self.new.feed.outcome ≡ None)
             × GivesRecord self.old.feed.version self.new.feed.version (R.remaining reader.old) (R.remaining reader.new) given)) }
 
-        // The end is where no byte is left.
+        // At the end no byte is left.
         ensures end { IfOk result (λ found. IfNone found (self.old.feed.outcome ≡ None
             → GivesEnd self.old.feed.version (R.remaining reader.old) (R.remaining reader.new))) }
 
-        // A fault is the first of bytes that begin with no record, or the reader failed, or memory was refused, and then
-        // the feed had too little room.
+        // A fault is the first of bytes that begin with no record. Or the reader failed. Or memory was refused, and
+        // then the feed had too little room.
         ensures fault { IfErr result (λ fault. self.old.feed.outcome ≡ None → fault ≢ FeedFault.Read → fault ≢ FeedFault.Memory
             → HasFault self.old.feed.version (R.remaining reader.old) fault) }
         ensures memory { result ≡ Err FeedFault.Memory → self.old.feed.outcome ≡ None
@@ -114,9 +114,9 @@ impl Feed {
         }
     }
 
-    /// Gives a command back that isn't needed any more. The next ones are made of its memory, as far
-    /// as it goes: of a put's, up to 4,096 packets of up to 4,096 bytes each are kept. It never fails;
-    /// where the list of what is kept has no room, the memory goes back to the system.
+    /// Takes back a command that isn't needed any more. The next ones are made of its memory, as far as it goes: of a
+    /// put's memory, up to 4,096 packets of up to 4,096 bytes each are kept. The call never fails: if the list of what
+    /// is kept has no room, the memory goes back to the system.
     pub fn give_back(&mut self, command: Command)
         ensures { self.new.feed ≡ self.old.feed }
     {
@@ -124,7 +124,7 @@ impl Feed {
     }
 }
 
-/// The record at the front, of a feed of this version, or of one whose version its front tells.
+/// The record at the front of a feed of this version, or of a feed whose front shows its version.
 fn next_record<R: Read + Drop>(
     alloc: Global,
     spare: &mut Spare,
@@ -151,8 +151,8 @@ fn next_record<R: Read + Drop>(
     }
 }
 
-/// The first record of a feed, after the announcement if there is one, or none where no byte is left. The version is
-/// that of the announcement.
+/// The first record of a feed, after the announcement if there is one, or none if no byte is left. The version is that
+/// of the announcement.
 fn first_record<R: Read + Drop>(
     alloc: Global,
     spare: &mut Spare,
@@ -188,7 +188,7 @@ fn first_record<R: Read + Drop>(
     }
 }
 
-/// The record at the front, behind the first record or the announcement of a feed; none where no byte is left.
+/// The record at the front, after the first record or the announcement of a feed; none if no byte is left.
 fn later_record<R: Read + Drop>(
     alloc: Global,
     spare: &mut Spare,
@@ -216,7 +216,7 @@ fn later_record<R: Read + Drop>(
     }
 }
 
-/// What stands at the front, or none where no byte is left.
+/// What stands at the front, or none if no byte is left.
 fn next_item<R: Read + Drop>(
     alloc: Global,
     spare: &mut Spare,
@@ -247,7 +247,7 @@ fn next_item<R: Read + Drop>(
         Err(fault) => return Err(fault),
     }
     let payload = &payload[..head.length];
-    // Before any memory is asked for, so that a malformed payload costs none.
+    // Checked before any memory is asked for, so that a malformed payload costs none.
     if !is_payload(version, head.kind, payload) {
         return Err(FeedFault::Form);
     }
@@ -257,7 +257,7 @@ fn next_item<R: Read + Drop>(
     }
 }
 
-/// The head of the record at the front, or none where no byte is left.
+/// The head of the record at the front, or none if no byte is left.
 fn next_head<R: Read + Drop>(first: bool, reader: &mut R) -> Result<Option<Head>, FeedFault>
     ensures head { IfOk result (λ found. IfSome found (λ head. IsHead first head
         × Consumes (R.remaining reader.old) (R.remaining reader.new) (head_bytes head))) }
@@ -278,7 +278,7 @@ fn next_head<R: Read + Drop>(first: bool, reader: &mut R) -> Result<Option<Head>
     }
 }
 
-/// Reads a payload of this length to the front of the buffer, which grows where it is shorter.
+/// Reads a payload of `wanted` bytes to the front of the buffer, which grows if it is shorter.
 fn read_payload<R: Read + Drop>(
     wanted: usize,
     payload: &mut Vec<u8>,
@@ -302,8 +302,8 @@ fn read_payload<R: Read + Drop>(
     }
 }
 
-/// Reads so many bytes, or all that are left where they are fewer, to the front of the buffer. An
-/// error of any kind is `Read` and isn't tried again.
+/// Reads `wanted` bytes to the front of the buffer, or all that are left if they are fewer. An error of any kind is
+/// `Read` and isn't tried again.
 fn fill<R: Read + Drop>(
     reader: &mut R,
     buffer: &mut [u8],

@@ -12,15 +12,15 @@ use std::io::Write;
 /// The answer to a command.
 #[derive(Clone, Copy, Debug, PartialEq, Eq)]
 pub enum Reply {
-    /// The command waits, with so many commands accepted so far, until its group is kept.
+    /// The command waits until its group is kept. This many commands are accepted so far.
     Held(u64),
     /// The command was kept, and with it all that waited.
     Kept(Kept),
-    /// It was refused.
+    /// The command was refused.
     Refused(Refusal),
 }
 
-/// What keeping a command came to.
+/// The result of keeping a command.
 #[derive(Clone, Copy, Debug, PartialEq, Eq)]
 pub struct Kept {
     /// How many commands were kept so far.
@@ -29,10 +29,10 @@ pub struct Kept {
     pub end: u64,
 }
 
-/// How long a line is at most: a word, two numbers of 20 digits, two separators.
+/// How many bytes a line has at most: those of a word, two numbers of 20 digits and two separators.
 const LINE: usize = 48;
 
-/// Writes the reply's line in one call of `write_whole`. It takes no memory. After a fault a prefix of
+/// Writes the reply's line in one call of `write_whole`. No memory is taken. After a fault a prefix of
 /// the line was written.
 pub fn write_reply<W: Write>(reply: &Reply, writer: &mut W) -> Result<(), WriteFault>
     ensures ok { OnOk result (Appends (W.contents writer.old) (W.contents writer.new) (reply_line reply.now)) }

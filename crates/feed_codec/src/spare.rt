@@ -6,11 +6,11 @@ use ogg_command::{Command, Entry, Listed, Memory};
 use std::alloc::Global;
 use std::mem;
 
-/// How many packets' memory is kept at most.
+/// How many packets have their memory kept at most.
 const MOST_KEPT: usize = 4096;
 
-/// How many bytes are kept at most of a packet's memory. That of a longer one isn't kept, so that a
-/// feed of long packets holds no more than it needs.
+/// How many bytes of a packet's memory are kept at most. The memory of a longer packet isn't kept, so that a feed of
+/// long packets holds no more than it needs.
 const LONGEST_KEPT: usize = 4096;
 
 /// Memory of commands that were given back.
@@ -21,7 +21,7 @@ pub struct Spare {
 }
 
 impl Spare {
-    /// None. It takes no memory.
+    /// Nothing is kept yet, and no memory is taken.
     pub fn new(alloc: Global) -> Self {
         Spare {
             entries: Vec::new(alloc),
@@ -29,7 +29,7 @@ impl Spare {
         }
     }
 
-    /// Room for so many entries.
+    /// Room for `count` entries.
     pub fn room_for(&mut self, alloc: Global, count: usize) -> Result<Vec<Entry>, Memory>
         ensures items { IfOk result (λ entries. entries.items ≡ []) }
         ensures len { IfOk result (λ entries. vec_len entries ≡ 0) }
@@ -68,7 +68,7 @@ impl Spare {
     }
 }
 
-/// Takes the entries out, and keeps the memory of their packets. The first is the last to be kept, and
+/// Takes the entries out, and keeps the memory of their packets. The first entry's memory is the last to be kept, and
 /// so the first to be used again.
 fn keep_packets(packets: &mut Vec<Vec<u8>>, entries: &mut Vec<Entry>) {
     for _ in 0..entries.len() {

@@ -1,8 +1,8 @@
-//! What a run came to.
+//! The result of a run.
 ghost use Rattle.std.specs.Prelude.{◌≡◌, ◌+◌};
 
-/// What a run over a feed came to: how many commands there were, how many of them were kept and how
-/// many refused, and how long the file is. A command that was held and then lost counts as refused.
+/// The result of a run over a feed: how many commands there were, how many of them were kept and how many refused, and
+/// how long the file is. A command that was held and then lost counts as refused.
 #[derive(Clone, Copy, Debug, PartialEq, Eq)]
 pub struct Tally {
     pub commands: u64,

@@ -14,7 +14,8 @@ use crate::version::Version;
 use ogg_command::{Command, Entry, Listed, Memory, NewStream, SkeletonHead};
 use skeleton3::Field;
 
-/// Appends the command's record, of version 1. Its streams have no message fields. After `Memory` the vector is unchanged.
+/// Appends the command's record, of version 1, in which streams have no message fields. After `Memory` the vector is
+/// unchanged.
 pub fn write_command(command: &Command, out: &mut Vec<u8>) -> Result<(), Memory>
     requires { FitsRecord Version.One command.now }
     ensures ok { OnOk result (out.new.items ≡ out.old.items ++ record_of Version.One (Record.Command command.now)) }
@@ -25,7 +26,7 @@ pub fn write_command(command: &Command, out: &mut Vec<u8>) -> Result<(), Memory>
     write_record(Version::One, command, out)
 }
 
-/// Appends the command's record, of version 2: it may stand in a feed whose first record is that of
+/// Appends the command's record, of version 2, which may stand in a feed whose first record is that of
 /// [`write_version`]. After `Memory` the vector is unchanged.
 pub fn write_command_2(command: &Command, out: &mut Vec<u8>) -> Result<(), Memory>
     requires { FitsRecord Version.Two command.now }
@@ -47,8 +48,8 @@ pub fn write_flush(out: &mut Vec<u8>) -> Result<(), Memory>
     out.extend_from_slice(&[4, 0, 0, 0, 0])
 }
 
-/// Appends the announcement that the feed is of version 2. It stands in front of all records. After `Memory` the vector is
-/// unchanged.
+/// Appends the announcement that the feed is of version 2, which stands in front of all records. After `Memory` the
+/// vector is unchanged.
 #[tactic(auto, unfolding(crate::specs::Record::item_bytes, ogg_page::specs::Numbers::u32_bytes))]
 pub fn write_version(out: &mut Vec<u8>) -> Result<(), Memory>
     ensures ok { OnOk result (out.new.items ≡ out.old.items ++ announcement) }
@@ -194,7 +195,7 @@ fn put_headers(headers: &[Listed<u8>], out: &mut Vec<u8>)
     }
 }
 
-/// What stands behind a stream's headers, but for its message fields.
+/// What follows a stream's headers, but for its message fields.
 #[tactic(auto, unfolding(crate::specs::Payload::tail_bytes))]
 fn put_tail(stream: &NewStream, out: &mut Vec<u8>)
     requires fields { length stream.now.media < 2 ^ 16 }
@@ -279,7 +280,7 @@ fn put_i64(number: i64, out: &mut Vec<u8>)
     put_u64(number.cast_unsigned(), out);
 }
 
-/// Appends bytes for which there is room.
+/// Appends these bytes; there is room for them.
 fn put_bytes(bytes: &[u8], out: &mut Vec<u8>)
     requires { vec_len out.old + length bytes.now ≤ vec_capacity out.old }
     ensures { Grows out.old out.new bytes.now (length bytes.now) }

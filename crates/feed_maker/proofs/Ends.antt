@@ -140,7 +140,7 @@ HoldsRecording =
     (bytes : List ℕ) (links : List (List PageValue)) (gathered : Gathered) (given : List Command) (recording : Recording) → AreLinks bytes links
     → HasGathered links gathered given → waits gathered.link ≡ false → HoldsLinks links recording → after [] given ≡ recording
 
--- the commands given hold the recording of the links, changed as asked
+-- the commands written hold the recording of the links, changed as asked
 held_as_asked : (options : ChangeOptions) (bytes : List ℕ) (links : List (List PageValue)) (sourced : Sourced) (given : List Command) (recording : Recording) → HoldsRecording → AreLinks bytes links
     → HasSourced options links sourced given → waits sourced.link ≡ false → HoldsLinks links recording → IsChanged options recording (after [] given)
 held_as_asked options bytes links sourced given recording holds are h none is =
@@ -208,7 +208,7 @@ pub turns_true : (options : ChangeOptions) (is_page : Bool) (from left before no
 turns_true options true from left before now maker is makes = makes
 turns_true options false from left before now maker is makes = cc
 
--- nothing was taken, and the announcement not written as a whole
+-- nothing was taken, and the announcement wasn't written as a whole
 pub breaks_first : (options : ChangeOptions) (from before now : Option (List ℕ)) (gathered : Sourced) → HasSourced options [] gathered [] → WritesPrefix before now announcement → Breaks options from from before now
 breaks_first options from before now gathered gathers written = record {
   links = [];
@@ -234,7 +234,7 @@ unfolding breaks_first
 first_stops options fault from before now gathered gathers not =
     own_stops options fault before now announcement [] from from before now not (breaks_first options from before now gathered gathers (not_given before now announcement [] fault not)) (λ long. long)
 
--- ---- what is told
+-- ---- what is reported
 pub finished_made : (options : ChangeOptions) (result : Result Made MakingFault) (from left before now : Option (List ℕ)) → Finishes options result from left before now →
     IfOk result (λ made. MakesFeed options from left before now made)
 finished_made options (Ok made) from left before now is = is

@@ -1,5 +1,5 @@
 -- Lists, item by item.
-use Rattle.std.proofs.Common.{◌≡◌, ℕ, zero, suc, ◌+◌, ◌<◌, List, [], ◌∷◌, ◌++◌, length, take, get_or, sym, ◌∙◌, ap, subst, arith, append-nil, length-append}
+use Rattle.std.proofs.Common.{◌≡◌, ℕ, zero, suc, ◌+◌, ◌<◌, List, [], ◌∷◌, ◌++◌, length, take, get_or, sym, ◌∙◌, ap, subst, arith, append-nil}
 use Rattle.std.specs.List.{AllByRecursion, flat_map}
 use Rattle.std.proofs.lemmas.List.{take_more}
 use Rattle.std.proofs.lemmas.List.Concat.{flat_map-append}
@@ -25,9 +25,6 @@ pub each_of : {X : Type 0} (P : X → Type 0) (xs : List X) (i : ℕ) (x : X) �
 each_of P [] i x h is all = absurd (omega arith)
 each_of P (y ∷ xs) zero x h is all = subst P (sym is) all.0
 each_of P (y ∷ xs) (suc i) x h is all = each_of P xs i x (omega arith) is all.1
-
-pub length-flat_map-more : {X : Type 0} (f : X → List ℕ) (xs : List X) (i : ℕ) (x : X) → i < length xs → x ≡ get_or xs i x → length (flat_map f (take (i + 1) xs)) ≡ length (flat_map f (take i xs)) + length (f x)
-length-flat_map-more f xs i x h is = ap length (flat_map-more f xs i x h is) ∙ length-append (flat_map f (take i xs)) (f x)
 
 pub later_of : {X : Type 0} (P : X → Type 0) (xs ys : List X) → AllByRecursion P (xs ++ ys) → AllByRecursion P ys
 later_of P [] ys all = all

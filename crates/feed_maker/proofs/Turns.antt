@@ -48,7 +48,7 @@ whole_prefix a b xs all = (length xs, omega arith, subst (Appends a b) (sym (tak
 pub none_prefix : (a b : Option (List ℕ)) (xs : List ℕ) → b ≡ a → WritesPrefix a b xs
 none_prefix a b xs same = (0, omega arith, subst (λ w. Appends a w []) (sym same) (Appends-nil a))
 
--- what isn't given is written in part, or not at all
+-- commands that aren't given are written in part, or not at all
 pub not_given : (a b : Option (List ℕ)) (bytes : List ℕ) (commands : List Command) (fault : MakingFault) → GivesNot a b bytes commands fault → WritesPrefix a b bytes
 not_given a b bytes commands Limit (same, long) = none_prefix a b bytes same
 not_given a b bytes commands Write prefix = prefix
@@ -245,7 +245,7 @@ turn_fails options Memory from left0 left1 before now old mid links given was me
   broken = record { gathered = old.gatherer; given = given; gathers = was.all.gathers; written = whole_prefix before now (feed_of given) was.all.written };
 }
 
--- a fault that isn't the input's
+-- a fault that isn't one of the input
 own_fault : (options : ChangeOptions) (fault : MakingFault) (a b : Option (List ℕ)) (bytes : List ℕ) (commands : List Command) (from left before now : Option (List ℕ)) (maker : Maker) → GivesNot a b bytes commands fault →
     (breaks : Breaks options from left before now) → (HasTooLong commands → HasTooLong breaks.broken.given) → Turns options (Err fault) from left before now maker
 own_fault options Limit a b bytes commands from left before now maker is breaks long = (breaks, long is.1)
@@ -279,14 +279,3 @@ turn_breaks options fault from left0 left1 before now0 now1 old mid after links 
       };
     })
     (λ long all. long (subst (AllByRecursion Fits) (sym t.gathers.appended) (later_of Fits given more all)))
-
--- a page was taken, but its commands got lost
-pub memory_breaks : (options : ChangeOptions) (from left0 left1 before now : Option (List ℕ)) (old : Maker) (links : List (List PageValue)) (given : List Command) (taken : List ℕ) →
-    HasMade options from left0 before now old links given → Consumes left0 left1 taken → Breaks options from left1 before now
-memory_breaks options from left0 left1 before now old links given taken was consumed = record {
-  links = links;
-  offset = old.pages.offset;
-  rest = old.pages.unread ++ taken;
-  taken = read_on from left0 left1 links old.pages.offset old.pages.unread taken was.taken consumed;
-  broken = record { gathered = old.gatherer; given = given; gathers = was.all.gathers; written = whole_prefix before now (feed_of given) was.all.written };
-}

@@ -21,14 +21,15 @@ use Rattle.feed_maker.specs.declared.fault.MakingFault.{MakingFault}
 use Rattle.feed_maker.specs.declared.fault.MakingFault.TheVariants.{Page, Chain, PacketTooLong, Unfinished, TooLong, Read, Limit, Write, Memory}
 use Rattle.feed_changes.specs.declared.options.ChangeOptions.{ChangeOptions}
 
--- Of the input these links were taken, which end at this offset, and then bytes of no page of them were read.
+-- These links of the input were taken, which end at this offset. Then this rest was read, which is of none of their
+-- pages.
 pub record HasTaken (from left : Option (List ℕ)) (links : List (List PageValue)) (offset : ℕ) (rest : List ℕ) : Type 0 where
   pub bytes : List ℕ
   pub are : AreLinks bytes links
   pub consumed : Consumes from left (bytes ++ rest)
   pub offset_is : offset ≡ length bytes
 
--- These commands are given for those of the links, changed as asked, and the announcement and their records are written.
+-- The commands of the links became these, changed as asked, and the announcement and their records are written.
 pub record HasGiven (options : ChangeOptions) (before now : Option (List ℕ)) (links : List (List PageValue)) (gathered : Sourced) (given : List Command) : Type 0 where
   pub gathers : HasSourced options links gathered given
   pub fits : AllByRecursion Fits given
@@ -41,14 +42,14 @@ pub record HasGivenAll (options : ChangeOptions) (before now : Option (List ℕ)
   pub all : HasGiven options before now links gathered given
   pub none_waits : waits gathered.link ≡ false
 
--- Where a command was too long for a record, the writer failed or memory was refused, the feed was written in part.
+-- If a command was too long for a record, the writer failed or memory was refused, the feed was written in part.
 pub record HasBroken (options : ChangeOptions) (before now : Option (List ℕ)) (links : List (List PageValue)) : Type 0 where
   pub gathered : Sourced
   pub given : List Command
   pub gathers : HasSourced options links gathered given
   pub written : WritesPrefix before now (feed_of given)
 
--- the input ended, and this is what was made of it: links with no packet unfinished, of which all is written
+-- the input ended, and this was made of it: links with no packet unfinished, all of which is written
 pub record MakesFeed (options : ChangeOptions) (from left before now : Option (List ℕ)) (made : Made) : Type 0 where
   pub links : List (List PageValue)
   pub offset : ℕ
@@ -60,9 +61,9 @@ pub record MakesFeed (options : ChangeOptions) (from left before now : Option (L
   pub written : Appends before now (feed_of given)
   -- the commands add up to what the links hold, changed as asked
   pub held : (recording : Recording) → HoldsLinks links recording → IsChanged options recording (after [] given)
-  -- and none of them begins a Skeleton otherwise than asked
+  -- and none of the commands begins a Skeleton otherwise than asked
   pub begun : AllByRecursion (IsBegunAs options) given
-  -- they are given for commands that hold just the recording: of each link those streams begin that stay
+  -- commands that hold exactly the recording became these: of each link those streams begin that stay
   pub commands : List Command
   pub gathered : (recording : Recording) → HoldsLinks links recording → after [] commands ≡ recording
   pub stay : BeginThose options commands given
@@ -83,7 +84,7 @@ pub record IsPacketTooLong (links : List (List PageValue)) (page : PageValue) : 
   pub gathers : HasGathered links gathered given
   pub long : is_too_long gathered.link page ≡ true
 
--- why no further page is taken behind these links, of the input
+-- why no further page of the input is taken after these links
 abbrev pub IsFaultOfInput : MakingFault → List (List PageValue) → ℕ → List ℕ → Option (List ℕ) → Type 0
 IsFaultOfInput (Page at fault) links offset rest left = (at ≡ offset) × IsFaultOf rest left fault
 IsFaultOfInput (Chain at fault) links offset rest left =
@@ -97,7 +98,7 @@ IsFaultOfInput Limit links offset rest left = ⊥
 IsFaultOfInput Write links offset rest left = ⊥
 IsFaultOfInput Memory links offset rest left = ⊥
 
--- where the input has a fault, all that was taken before it is written
+-- if the input has a fault, all that was taken before it is written
 pub record StopsAtFault (options : ChangeOptions) (from left before now : Option (List ℕ)) (fault : MakingFault) : Type 0 where
   pub links : List (List PageValue)
   pub offset : ℕ
@@ -113,7 +114,7 @@ pub record Breaks (options : ChangeOptions) (from left before now : Option (List
   pub taken : HasTaken from left links offset rest
   pub broken : HasBroken options before now links
 
--- and one of these commands is too long for a record
+-- the feed was written in part, and one of its commands is too long for a record
 abbrev pub BreaksAtLimit : ChangeOptions → Option (List ℕ) → Option (List ℕ) → Option (List ℕ) → Option (List ℕ) → Type 0
 BreaksAtLimit options from left before now = (breaks : Breaks options from left before now) × HasTooLong breaks.broken.given
 

@@ -25,6 +25,6 @@ name_of Limit = codes "Limit"
 name_of Write = codes "Write"
 name_of Memory = codes "Memory"
 
--- want of memory is the fault `Memory`
+-- lack of memory is the fault `Memory`
 abbrev pub IsMemory : {A : Type 0} → A → MakingFault → Type 0
 IsMemory refused fault = fault ≡ Memory

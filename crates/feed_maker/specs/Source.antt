@@ -19,14 +19,14 @@ pub record Sourced : Type 0 where
 abbrev pub gathered_of : Sourced → Gathered
 gathered_of sourced = record { chain = sourced.chain; link = sourced.link }
 
--- These commands are given for those of the links, as far as they are gathered, changed as asked.
+-- The commands of the links, as far as they are gathered, became these, changed as asked.
 pub record HasSourced (options : ChangeOptions) (links : List (List PageValue)) (sourced : Sourced) (given : List Command) : Type 0 where
   pub commands : List Command
   pub gathers : HasGathered links (gathered_of sourced) commands
   pub changed : HasChanged sourced.changes commands given
   pub asked : sourced.changes.options ≡ options
 
--- pages may be taken
+-- further pages may be taken
 abbrev pub GoesFurther : Sourced → Type 0
 GoesFurther sourced = CanGoOn (gathered_of sourced)
 
@@ -41,7 +41,7 @@ pub record TakesIn (old : Gathered) (page : PageValue) (new : Gathered) (before 
   pub plain : (links : List (List PageValue)) (given : List Command) → HasGathered links old given → AllByRecursion IsPlain more
   pub grows : new.chain.length_of ≡ old.chain.length_of + page_size page
 
--- and these are what is given for them
+-- the page is gathered, and the commands that its commands became are appended
 pub record Gathers (old : Sourced) (page : PageValue) (new : Sourced) (before now : List Command) : Type 0 where
   pub follows : fault_of_page old.chain page ≡ None
   pub more : List Command

@@ -57,7 +57,7 @@ pub record GoesOn (maker : Maker) : Type 0 where
   pub small : maker.pages.offset < 2 ^ 63
   pub counted : maker.made.pages ≤ maker.pages.offset
 
--- these links were taken, and the commands gathered of them written
+-- these links were taken, and the commands gathered of them were written
 pub record HasMade (options : ChangeOptions) (from left before now : Option (List ℕ)) (maker : Maker) (links : List (List PageValue)) (given : List Command) : Type 0 where
   pub taken : HasTaken from left links maker.pages.offset maker.pages.unread
   pub all : HasGiven options before now links maker.gatherer given
@@ -88,7 +88,7 @@ pub record MeetsEnd (old new : Maker) (from left : Option (List ℕ)) : Type 0 w
   pub gatherer : new.gatherer ≡ old.gatherer
   pub made : new.made ≡ old.made
 
--- why no page is taken behind those that were gathered
+-- why no page is taken after those that were gathered
 abbrev pub IsFaultBehind : MakingFault → Sourced → ℕ → List ℕ → Option (List ℕ) → Type 0
 IsFaultBehind (Page at fault) gathered offset rest left = (at ≡ offset) × IsFaultOf rest left fault
 IsFaultBehind (Read at) gathered offset rest left = at ≡ offset
@@ -116,7 +116,7 @@ NextOf (Ok false) old new from left = MeetsEnd old new from left
 NextOf (Err Memory) old new from left = MeetsMemory from left
 NextOf (Err fault) old new from left = MeetsFault fault old new from left
 
--- ---- commands given
+-- ---- commands written
 pub record Gives (old new : Maker) (before now : Option (List ℕ)) : Type 0 where
   pub fits : AllByRecursion Fits old.commands.items
   pub written : Appends before now (records_of old.commands.items)
@@ -130,7 +130,7 @@ pub record GivesNoFurther (old new : Maker) (before now : Option (List ℕ)) (fa
   pub gatherer : new.gatherer ≡ old.gatherer
 
 -- ---- a turn, and all turns
--- the input has a fault behind these links, whose commands are written, but for those that wait
+-- the input has a fault after these links, whose commands are written, but for those that wait
 pub record EndsAt (options : ChangeOptions) (fault : MakingFault) (from left before now : Option (List ℕ)) (maker : Maker) : Type 0 where
   pub links : List (List PageValue)
   pub given : List Command
@@ -140,7 +140,7 @@ pub record EndsAt (options : ChangeOptions) (fault : MakingFault) (from left bef
   pub fault_is : IsFaultOfInput fault links offset rest left
   pub all : HasGiven options before now links maker.gatherer given
 
--- the input has ended behind these links
+-- the input has ended after these links
 pub record EndsWell (options : ChangeOptions) (from left before now : Option (List ℕ)) (maker : Maker) : Type 0 where
   pub links : List (List PageValue)
   pub given : List Command

@@ -25,7 +25,7 @@ pub enum MakingFault {
     /// With the page at this offset the input is longer than a file may be.
     #[error("at byte {0} the input is too long")]
     TooLong(u64),
-    /// The reader failed behind this offset.
+    /// The reader failed after this offset.
     #[error("reading failed behind byte {0}")]
     Read(u64),
     /// A command is too long for a record.

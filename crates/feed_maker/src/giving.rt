@@ -7,19 +7,18 @@ ghost use Rattle.feed_codec.specs.Record.{announcement};
 ghost use Rattle.feed_maker.specs.Feed.{Fits, GivesNot, IsOwnFault, records_of};
 
 use crate::fault::MakingFault;
-use crate::fits::fits_record;
-use feed_codec::{write_command_2, write_version};
+use feed_codec::{fits_record_2, write_command_2, write_version};
 use ogg_command::Command;
 use ogg_page::write_whole;
 use std::io::Write;
 
-/// Appends the record of each command. After a fault those of some may stand there.
+/// Appends the record of each command. After a fault the records of some may stand there.
 fn put_records(commands: &[Command], bytes: &mut Vec<u8>) -> Result<(), MakingFault>
     ensures ok { OnOk result ((bytes.new.items ≡ bytes.old.items ++ records_of commands.now) × AllByRecursion Fits commands.now) }
     ensures err { IfErr result (IsOwnFault commands.now) }
 {
     for command in commands {
-        if !fits_record(command) {
+        if !fits_record_2(command) {
             return Err(MakingFault::Limit);
         }
         match write_command_2(command, bytes) {

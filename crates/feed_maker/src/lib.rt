@@ -1,4 +1,4 @@
-//! The feed of an Ogg bitstream that is read once, as an encoder's that comes through a pipe.
+//! The feed of an Ogg bitstream that is read once, such as one that an encoder sends through a pipe.
 //!
 //! `make_feed` reads pages, gathers them into commands, and writes these as the records of a feed of version 2. What a
 //! page completes is written before the next read, and before a fault is reported.
@@ -7,7 +7,6 @@
 #![tactic(auto)]
 
 mod fault;
-mod fits;
 mod giving;
 mod made;
 mod maker;
@@ -16,7 +15,6 @@ mod source;
 
 pub use fault::MakingFault;
 pub use feed_changes::{ChangeOptions, Skeletons};
-pub use fits::fits_record;
 pub use made::Made;
 pub use making::make_feed;
 pub use ogg_page::Memory;

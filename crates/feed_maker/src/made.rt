@@ -5,6 +5,6 @@
 pub struct Made {
     /// The pages that were taken.
     pub pages: u64,
-    /// The commands that were written. Beyond the largest `u64` the count stays there.
+    /// The commands that were written. The count doesn't go above the greatest `u64`.
     pub commands: u64,
 }

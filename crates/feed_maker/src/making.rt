@@ -15,10 +15,10 @@ use gathering::gathered_commands_hold_the_recording;
 use std::alloc::Global;
 use std::io::{Read, Write};
 
-/// Writes the feed of an Ogg bitstream: the announcement of version 2, and then the records of the commands that add up
-/// to what the input holds, changed as the options ask. What a page completes is written, and the writer flushed, before
-/// the next read. At the end of the input or at its fault the commands that still wait are written first. `Limit`,
-/// `Write` and `Memory` are the exceptions: after these nothing more is written.
+/// Writes the feed of an Ogg bitstream: the announcement of version 2, and then the records of the commands that add
+/// up to what the input holds, changed as the options ask. What a page completes is written, and the writer flushed,
+/// before the next read. At the end of the input or at its fault the commands that still wait are written first.
+/// `Limit`, `Write` and `Memory` are the exceptions: after these nothing more is written.
 pub fn make_feed<R: Read + Drop, W: Write>(
     alloc: Global,
     reader: &mut R,
@@ -28,7 +28,7 @@ pub fn make_feed<R: Read + Drop, W: Write>(
     // The input is links with no packet unfinished, and the commands add up to what they hold, changed as asked.
     ensures made { IfOk result (λ made. MakesFeed options (R.remaining reader.old) (R.remaining reader.new)
         (W.contents writer.old) (W.contents writer.new) made) }
-    // It has this fault behind the links that it begins with, and all their whole packets are written.
+    // The input has this fault after the links that it begins with, and all whole packets of these links are written.
     ensures stopped { IfErr result (λ fault. Stops options fault (R.remaining reader.old) (R.remaining reader.new)
         (W.contents writer.old) (W.contents writer.new)) }
 {
@@ -61,11 +61,11 @@ fn take_all<R: Read + Drop, W: Write>(
             Err(fault) => return Err(fault),
         }
     }
-    // The pages are longer than that.
+    // This many pages aren't taken: each has bytes, and together they have fewer than 2^63.
     unreachable!()
 }
 
-/// Writes the commands that still wait, but for where none may be written any more.
+/// Writes the commands that still wait, unless none may be written any more.
 fn finish<W: Write>(
     maker: &mut Maker,
     outcome: Result<(), MakingFault>,

@@ -42,8 +42,8 @@ impl Source {
         }
     }
 
-    /// Takes a page that begins at `at` and ends at `behind`, and gives the commands that it completes. After `Memory`
-    /// what is gathered is lost.
+    /// Takes a page that begins at `at` and ends at `behind`, and returns the commands that it completes. After
+    /// `Memory` what is gathered is lost.
     pub(crate) fn take_page(
         &mut self,
         page: &Page<'_>,
@@ -68,7 +68,7 @@ impl Source {
         Ok(now)
     }
 
-    /// The commands that still wait. `Memory` is its one fault, and then they are lost.
+    /// The commands that still wait. The only fault is `Memory`, and then they are lost.
     pub(crate) fn end(&mut self) -> Result<Vec<Command>, MakingFault>
         ensures ok { IfOk result (λ commands. GathersRest self.old self.new commands.items) }
     {

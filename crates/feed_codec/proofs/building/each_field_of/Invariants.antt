@@ -4,7 +4,7 @@ use Rattle.feed_codec.specs.Record.{field_bytes}
 use Rattle.feed_codec.specs.Payload.{Begins, AreMany, IsFieldOfFeed}
 use Rattle.feed_codec.proofs.building.each_field_of.Given as goal
 
--- so many fields have been built, the others stand in front, and there is room for them
+-- as many fields have been built as turns were taken, the others stand in front, and there is room for them
 abbrev pub invariant-loop : goal.invariant-loop
 invariant-loop l =
     AreMany IsFieldOfFeed l.counter l.fields.items

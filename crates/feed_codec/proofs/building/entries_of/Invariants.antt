@@ -5,8 +5,8 @@ use Rattle.feed_codec.specs.Payload.{Begins, AreMany, IsEntryOfFeed}
 use Rattle.feed_codec.specs.Room.{rooms_of}
 use Rattle.feed_codec.proofs.building.entries_of.Given as goal
 
--- as many entries have been built as turns were taken, the others stand in front, there is room for them, and each took a
--- kept packet's room
+-- as many entries have been built as turns were taken, the others stand in front, there is room for them, and each
+-- took a kept packet's room
 abbrev pub invariant-loop : goal.invariant-loop
 invariant-loop l =
     AreMany IsEntryOfFeed l.counter l.entries.items

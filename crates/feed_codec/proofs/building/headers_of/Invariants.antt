@@ -4,7 +4,7 @@ use Rattle.feed_codec.specs.Record.{packet_bytes}
 use Rattle.feed_codec.specs.Payload.{Begins, AreMany, IsPacket}
 use Rattle.feed_codec.proofs.building.headers_of.Given as goal
 
--- so many headers have been built, the others stand in front, and there is room for them
+-- as many headers have been built as turns were taken, the others stand in front, and there is room for them
 abbrev pub invariant-loop : goal.invariant-loop
 invariant-loop l =
     AreMany IsPacket l.counter l.headers.items

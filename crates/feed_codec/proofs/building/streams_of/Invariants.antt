@@ -4,7 +4,7 @@ use Rattle.feed_codec.specs.Record.{stream_bytes}
 use Rattle.feed_codec.specs.Payload.{Begins, AreMany, IsStreamOfFeed}
 use Rattle.feed_codec.proofs.building.streams_of.Given as goal
 
--- so many streams have been built, the others stand in front, and there is room for them
+-- as many streams have been built as turns were taken, the others stand in front, and there is room for them
 abbrev pub invariant-loop : goal.invariant-loop
 invariant-loop l =
     AreMany (IsStreamOfFeed l.version) l.counter l.streams.items

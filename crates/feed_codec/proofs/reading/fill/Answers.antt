@@ -7,7 +7,7 @@ use Rattle.std.specs.Io.KnownBytes.{Consumes}
 use Rattle.std.proofs.KnownBytes.{Consumes-trans}
 use Rattle.feed_codec.proofs.reading.fill.Goals as goal
 
--- after a read behind the first d bytes, the first d + n are those d and the first n that were read
+-- after a read to the place after the first d bytes, the first d + n are those d and the first n that were read
 take_read : (xs ys : List ℕ) (d k n : ℕ) → d ≤ length xs → n ≤ length ys → take (d + n) (put_mid d k xs ys) ≡ take d xs ++ take n ys
 take_read xs ys d k n inside le =
     take-add d n (put_mid d k xs ys)

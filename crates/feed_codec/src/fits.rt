@@ -1,22 +1,22 @@
-//! Which commands fit a record.
+//! Which commands fit a record of version 2.
 ghost use Rattle.std.specs.Prelude.{◌≡◌, ◌↔◌, length, IsTrue};
 ghost use Rattle.std.specs.List.{AllByRecursion, flat_map};
-ghost use Rattle.feed_codec.specs.Record.{FitsField, entry_bytes, field_bytes, packet_bytes, skeleton_bytes, stream_bytes};
+ghost use Rattle.feed_codec.specs.Fits.{BeginFits, HasFewParts, PutFits, capped};
+ghost use Rattle.feed_codec.specs.Record.{FitsField, FitsRecord, entry_bytes, field_bytes, packet_bytes, skeleton_bytes, stream_bytes};
 ghost use Rattle.feed_codec.specs.declared.version.Version.TheVariants.{Two};
-ghost use Rattle.feed_maker.specs.Feed.{BeginFits, Fits, HasFewParts, PutFits, capped};
 
+use crate::head::MOST_PAYLOAD;
+use crate::widths::{COUNT, ENTRY, FIELD, LENGTH, STREAM};
 use ogg_command::{Begin, Command, Entry, Listed, NewStream, Put, SkeletonHead};
 use skeleton3::Field;
-
-/// The longest payload of a record.
-const MOST_PAYLOAD: usize = 33_554_432;
 
 /// Counts and lengths that a record has two bytes for are below this.
 const MOST_COUNT: usize = 65_536;
 
-/// Whether the command can be written as a record of version 2.
-pub fn fits_record(command: &Command) -> bool
-    ensures { IsTrue result ↔ Fits command.now }
+/// Whether `write_command_2` can write the command: its counts and lengths fit their fields, and its payload has
+/// 33,554,432 bytes at most. No memory is taken.
+pub fn fits_record_2(command: &Command) -> bool
+    ensures { IsTrue result ↔ FitsRecord Two command.now }
 {
     match command {
         Command::Begin(begin) => begin_fits(begin),
@@ -34,7 +34,7 @@ fn begin_fits(begin: &Begin) -> bool
     }
     let size = streams_size(streams)
         .saturating_add(skeleton_size(&begin.skeleton))
-        .saturating_add(2);
+        .saturating_add(COUNT);
     if size > MOST_PAYLOAD {
         return false;
     }
@@ -48,10 +48,11 @@ fn put_fits(put: &Put) -> bool
     if entries.len() >= MOST_COUNT {
         return false;
     }
-    entries_size(entries).saturating_add(2) <= MOST_PAYLOAD
+    entries_size(entries).saturating_add(COUNT) <= MOST_PAYLOAD
 }
 
-/// Whether each stream has few enough headers and message fields, and these and the media type are short enough.
+/// Whether each stream has few enough headers and message fields, and whether these and the media type are short
+/// enough.
 fn have_few_parts(streams: &[NewStream]) -> bool
     ensures { IsTrue result ↔ AllByRecursion HasFewParts streams.now }
 {
@@ -83,8 +84,8 @@ fn are_short(fields: &[Field]) -> bool
     true
 }
 
-/// How long the spelling of a Skeleton's head is, or of that there is none. Beyond the largest `usize` it stays there,
-/// as the other sizes do.
+/// How long the spelling of a Skeleton's head, or of its absence, is. If a size is greater than the greatest `usize`,
+/// that `usize` is returned, here and for the other sizes.
 fn skeleton_size(skeleton: &Option<SkeletonHead>) -> usize
     ensures { result ≡ capped (length (skeleton_bytes skeleton.now)) }
 {
@@ -113,7 +114,7 @@ fn stream_size(stream: &NewStream) -> usize
     headers
         .saturating_add(fields)
         .saturating_add(stream.media.len())
-        .saturating_add(39)
+        .saturating_add(STREAM + COUNT)
 }
 
 fn headers_size(headers: &[Listed<u8>]) -> usize
@@ -121,7 +122,7 @@ fn headers_size(headers: &[Listed<u8>]) -> usize
 {
     let mut size = 0usize;
     for header in headers {
-        size = size.saturating_add(4).saturating_add(header.len());
+        size = size.saturating_add(LENGTH).saturating_add(header.len());
     }
     size
 }
@@ -132,7 +133,7 @@ fn fields_size(fields: &[Field]) -> usize
     let mut size = 0usize;
     for field in fields {
         size = size
-            .saturating_add(4)
+            .saturating_add(FIELD)
             .saturating_add(field.name().len())
             .saturating_add(field.value().len());
     }
@@ -144,7 +145,9 @@ fn entries_size(entries: &[Entry]) -> usize
 {
     let mut size = 0usize;
     for entry in entries {
-        size = size.saturating_add(16).saturating_add(entry.packet.len());
+        size = size
+            .saturating_add(ENTRY)
+            .saturating_add(entry.packet.len());
     }
     size
 }

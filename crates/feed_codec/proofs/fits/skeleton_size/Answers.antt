@@ -1,7 +1,7 @@
 use Rattle.std.proofs.Common.{ap, length, arith}
 use Rattle.feed_codec.specs.Record.{skeleton_bytes}
-use Rattle.feed_maker.proofs.Sizes.{length-skeleton_bytes}
-use Rattle.feed_maker.proofs.fits.skeleton_size.Goals as goal
+use Rattle.feed_codec.proofs.SizeFacts.{length-skeleton_bytes}
+use Rattle.feed_codec.proofs.fits.skeleton_size.Goals as goal
 
 pub returns-in-Some : goal.returns-in-Some
 returns-in-Some c =

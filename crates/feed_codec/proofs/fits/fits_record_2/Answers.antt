@@ -1,7 +1,6 @@
 use Rattle.std.proofs.Common.{sym, subst, refl}
-use Rattle.feed_maker.specs.Feed.{Fits}
-use Rattle.feed_maker.proofs.Sizes.{begin_fits, begin_of_fits, end_fits, put_fits, put_of_fits}
-use Rattle.feed_maker.proofs.fits.fits_record.Goals as goal
+use Rattle.feed_codec.proofs.FitsFacts.{Fits, begin_fits, begin_of_fits, end_fits, put_fits, put_of_fits}
+use Rattle.feed_codec.proofs.fits.fits_record_2.Goals as goal
 
 pub returns-in-Begin : goal.returns-in-Begin
 returns-in-Begin c = (

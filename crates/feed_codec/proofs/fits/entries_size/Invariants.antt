@@ -1,8 +1,8 @@
 use Rattle.std.proofs.Common.{◌≡◌, length, take}
 use Rattle.std.specs.List.{flat_map}
 use Rattle.feed_codec.specs.Record.{entry_bytes}
-use Rattle.feed_maker.specs.Feed.{capped}
-use Rattle.feed_maker.proofs.fits.entries_size.Given as goal
+use Rattle.feed_codec.specs.Fits.{capped}
+use Rattle.feed_codec.proofs.fits.entries_size.Given as goal
 
 -- the entries so far are counted
 abbrev pub invariant-loop-entry : goal.invariant-loop-entry

@@ -1,8 +1,8 @@
 use Rattle.std.proofs.Common.{arith, ap, length}
 use Rattle.feed_codec.specs.Record.{field_bytes}
-use Rattle.feed_maker.proofs.Lists.{length-flat_map-more}
-use Rattle.feed_maker.proofs.Sizes.{length-field_bytes}
-use Rattle.feed_maker.proofs.fits.fields_size.Goals as goal
+use Rattle.feed_codec.proofs.SizeFacts.{length-flat_map-more}
+use Rattle.feed_codec.proofs.SizeFacts.{length-field_bytes}
+use Rattle.feed_codec.proofs.fits.fields_size.Goals as goal
 
 pub loop-field-preserved : goal.loop-field-preserved
 loop-field-preserved c =

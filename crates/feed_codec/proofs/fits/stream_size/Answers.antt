@@ -1,14 +1,16 @@
 use Rattle.std.proofs.Common.{arith, ap, length}
 use Rattle.std.specs.List.{flat_map}
 use Rattle.feed_codec.specs.Record.{field_bytes, packet_bytes}
-use Rattle.feed_maker.proofs.Sizes.{length-stream_bytes}
-use Rattle.feed_maker.proofs.fits.stream_size.Goals as goal
+use Rattle.feed_codec.specs.declared.version.Version.TheVariants.{Two}
+use Rattle.feed_codec.proofs.SizeFacts.{length-fields_bytes, length-stream_bytes}
+use Rattle.feed_codec.proofs.fits.stream_size.Goals as goal
 
 pub returns : goal.returns
 returns c =
     omega (
       arith,
-      length-stream_bytes c.args.stream.now,
+      length-stream_bytes Two c.args.stream.now,
+      length-fields_bytes c.args.stream.now.fields,
       ap (λ l. length (flat_map packet_bytes l)) c.as_slice.ensures,
       ap (λ l. length (flat_map field_bytes l)) c.as_slice-2.ensures,
       c.headers_size-headers.ensures,

@@ -2,8 +2,8 @@ use Rattle.std.proofs.Common.{◌≡◌, length, take}
 use Rattle.std.specs.List.{flat_map}
 use Rattle.feed_codec.specs.Record.{stream_bytes}
 use Rattle.feed_codec.specs.declared.version.Version.TheVariants.{Two}
-use Rattle.feed_maker.specs.Feed.{capped}
-use Rattle.feed_maker.proofs.fits.streams_size.Given as goal
+use Rattle.feed_codec.specs.Fits.{capped}
+use Rattle.feed_codec.proofs.fits.streams_size.Given as goal
 
 -- the streams so far are counted
 abbrev pub invariant-loop-stream : goal.invariant-loop-stream

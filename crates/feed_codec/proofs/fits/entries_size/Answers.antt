@@ -1,8 +1,8 @@
 use Rattle.std.proofs.Common.{arith}
 use Rattle.feed_codec.specs.Record.{entry_bytes}
-use Rattle.feed_maker.proofs.Lists.{length-flat_map-more}
-use Rattle.feed_maker.proofs.Sizes.{length-entry_bytes}
-use Rattle.feed_maker.proofs.fits.entries_size.Goals as goal
+use Rattle.feed_codec.proofs.SizeFacts.{length-flat_map-more}
+use Rattle.feed_codec.proofs.SizeFacts.{length-entry_bytes}
+use Rattle.feed_codec.proofs.fits.entries_size.Goals as goal
 
 pub loop-entry-preserved : goal.loop-entry-preserved
 loop-entry-preserved c =

@@ -1,8 +1,8 @@
 use Rattle.std.proofs.Common.{arith}
 use Rattle.feed_codec.specs.Record.{packet_bytes}
-use Rattle.feed_maker.proofs.Lists.{length-flat_map-more}
-use Rattle.feed_maker.proofs.Sizes.{length-packet_bytes}
-use Rattle.feed_maker.proofs.fits.headers_size.Goals as goal
+use Rattle.feed_codec.proofs.SizeFacts.{length-flat_map-more}
+use Rattle.feed_codec.proofs.SizeFacts.{length-packet_bytes}
+use Rattle.feed_codec.proofs.fits.headers_size.Goals as goal
 
 pub loop-header-preserved : goal.loop-header-preserved
 loop-header-preserved c =
