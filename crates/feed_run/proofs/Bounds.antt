@@ -1,4 +1,4 @@
--- What the counts keep with one record more.
+-- What the counts keep when one more record is counted.
 use Rattle.std.proofs.Common.{◌≡◌, ◌+◌, ◌≤◌, ℕ, arith, subst, sym}
 use Rattle.ogg_command.specs.declared.refusal.Refusal.{Refusal}
 use Rattle.ogg_command.specs.declared.refusal.Refusal.TheVariants.{Failed, Disk}
@@ -14,7 +14,7 @@ left_few Failed waiting = omega arith
 left_few Disk waiting = omega arith
 left_few refusal waiting = omega arith
 
--- no more were kept or wait than there were, and one record is one command at most
+-- no more were kept or wait than there were, and one record is at most one command
 abbrev pub Fits : Counts → Counts → Type 0
 Fits was now = (now.kept + now.waiting ≤ now.commands) × (now.commands ≤ was.commands + 1)
 

@@ -91,7 +91,7 @@ module _ {S : Type 0} (answers : S → Record → Reply → List ℕ → S → T
   steps_on start old new was now before mid after reply come (inl one) = goes_on start old new was now before mid after reply come one
   steps_on start old new was now before mid after reply come (inr one) = closes start old new was now before mid after reply come one
 
-  -- it ends, and nothing waits
+  -- the run ends, and nothing waits
   ends_with : (outcome : Outcome) (start old new : Streams) (was : RunState) (before mid after : S) → GoesOn answers start old was before mid
       → EndsOne held outcome old new was.version was.records mid after → RunsTo answers held outcome start new before after
   ends_with outcome start old new was before mid after come one =
@@ -115,7 +115,7 @@ module _ {S : Type 0} (answers : S → Record → Reply → List ℕ → S → T
   is_tally counts tally records replies end counted commands kept adds_up is =
       record { commands = commands ∙ counted.commands; kept = kept ∙ counted.kept; refused = adds_up; end = is }
 
-  -- the feed's end, where nothing waits
+  -- the feed's end, if nothing waits
   pub whole_now : (start old new : Streams) (was : RunState) (before mid after : S) (tally : Tally) (end : ℕ) → GoesOn answers start old was before mid
       → EndsOne held (Ok tt) old new was.version was.records mid after
       → tally.commands ≡ was.counts.commands → tally.kept ≡ was.counts.kept → tally.kept + tally.refused ≡ tally.commands → tally.end ≡ end
@@ -168,7 +168,7 @@ module _ {S : Type 0} (answers : S → Record → Reply → List ℕ → S → T
   fault_then fault start now run before after ended is =
       to_fault fault start now before after (subst (λ (outcome : Outcome). RunsTo answers held outcome start now before after) is ended.to)
 
--- what an ended run answers says how it has ended
+-- the answer of a run that has ended says how it has ended
 pub gives_no_reply : (outcome : Outcome) (reply : Reply) → Ok (Some reply) ≡ answer_at outcome → ⊥
 gives_no_reply (Ok _) reply same = cc same
 gives_no_reply (Err fault) reply same = cc same

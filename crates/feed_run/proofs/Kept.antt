@@ -1,4 +1,4 @@
--- The counts with one record more are those of the records with one more.
+-- The counts with one more record are those of all records with that one.
 use Rattle.std.proofs.Common.{◌≡◌, ◌+◌, ℕ, List, [], ◌∷◌, ◌++◌, length, refl, sym, ap, ◌∙◌, subst, arith, append_assoc, append-nil, length-append}
 use Rattle.ogg_command.specs.declared.command.Command.{Command}
 use Rattle.ogg_command.specs.declared.refusal.Refusal.{Refusal}
@@ -37,7 +37,7 @@ left_of Failed count waiting same = refl
 left_of Disk count waiting same = refl
 left_of refusal count waiting same = same
 
--- one record's
+-- the counts of one record
 record CountsOne (counts now : Counts) (waiting : List Command) (given : Record) (reply : Reply) : Type 0 where
   commands : now.commands ≡ counts.commands + length (commands_in (given ∷ []))
   kept : now.kept ≡ counts.kept + length (kept_by waiting given reply)

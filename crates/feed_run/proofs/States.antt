@@ -1,4 +1,4 @@
--- A run with one record more.
+-- A run with one more record.
 use Rattle.std.proofs.Common.{◌≡◌, ◌+◌, ℕ, Option, None, sym, ap, ◌∙◌}
 use Rattle.feed_codec.specs.declared.version.Version.{Version}
 use Rattle.feed_codec.specs.declared.reply.Reply.{Reply}

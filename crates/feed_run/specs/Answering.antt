@@ -1,5 +1,6 @@
 -- Records answered in turn. In `answers before given reply own after` a runner in the state `before` answers the
--- record `given` by the reply, the bytes `own` are the record's pages, and then the runner is in the state `after`. Ours.
+-- record `given` by the reply, the bytes `own` are the record's pages, and then the runner is in the state `after`.
+-- Ours.
 use Rattle.std.specs.Prelude.{◌≡◌, ℕ, List, [], ◌∷◌, ◌++◌}
 use Rattle.feed_codec.specs.declared.item.Record.{Record}
 use Rattle.feed_codec.specs.declared.reply.Reply.{Reply}

@@ -52,7 +52,7 @@ left_after waiting (given ∷ records) (reply ∷ replies) = left_after (waiting
 abbrev pub kept_of : List Record → List Reply → List Command
 kept_of records replies = kept_after [] records replies
 
--- the counts with one record more
+-- the counts with one more record
 abbrev pub counts_with : Counts → Record → Reply → Counts
 counts_with counts (CommandOf command) (KeptOf kept) =
     record { commands = counts.commands + 1; kept = counts.kept + counts.waiting + 1; waiting = 0 }
@@ -72,7 +72,7 @@ pub record Counted (counts : Counts) (records : List Record) (replies : List Rep
   pub kept : counts.kept ≡ length (kept_of records replies)
   pub waiting : counts.waiting ≡ length (left_after [] records replies)
 
--- What a run came to. The commands that weren't kept are counted as refused, also those that were held and lost.
+-- The result of a run. The commands that weren't kept are counted as refused, also those that were held and lost.
 pub record IsTally (tally : Tally) (records : List Record) (replies : List Reply) (length_of : ℕ) : Type 0 where
   pub commands : tally.commands ≡ length (commands_in records)
   pub kept : tally.kept ≡ length (kept_of records replies)

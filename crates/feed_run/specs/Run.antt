@@ -24,7 +24,7 @@ use Rattle.feed_run.specs.Counting.{counts_with, IsTally}
 abbrev pub most_records : ℕ
 most_records = 4294967295
 
--- what the reader of the feed and the writers of pages and of reply lines tell of their bytes
+-- what the reader of the feed and the writers of pages and of reply lines show of their bytes
 pub record Streams : Type 0 where
   pub feed : Option (List ℕ)
   pub pages : Option (List ℕ)
@@ -45,7 +45,7 @@ pub record RunState : Type 0 where
   pub counts : Counts
   pub outcome : Option Outcome
 
--- what a run answers that has ended so
+-- what a run answers if it has ended with this outcome
 abbrev pub answer_at : Outcome → Result (Option Reply) RunFault
 answer_at (Ok _) = Ok None
 answer_at (Err fault) = Err fault
@@ -59,8 +59,9 @@ abbrev pub steps_of : RunState → ℕ
 steps_of run = steps_at run.outcome run.records
 
 -- ---- one record
--- Why no further record is run after the first `count`: the feed ends; or it has a fault, which is that of its bytes
--- if the reader didn't fail and memory wasn't refused; or the run has taken as many as it takes, and there is one more.
+-- Why no further record is run after the first `count`. The feed ends; or it has a fault, which is that of its bytes
+-- if the reader didn't fail and memory wasn't refused; or the run has taken as many as it takes, and there is one
+-- more.
 abbrev pub Leaves : Outcome → Option Version → ℕ → Option (List ℕ) → Option (List ℕ) → Type 0
 Leaves (Ok _) known count old new = GivesEnd known old new
 Leaves (Err (Feed fault)) known count old new = fault ≢ Read → fault ≢ Memory → HasFault known old fault
@@ -68,13 +69,14 @@ Leaves (Err TooMany) known count old new =
     (count ≡ most_records) × (later : Option Version) × (next : Record) × GivesRecord known later old new next
 Leaves (Err Write) known count old new = ⊥
 
--- What comes next in a feed after the first `count` records: one that was read; or no further record is run.
+-- What comes next in a feed after the first `count` records: a record that was read; or no further record is run.
 abbrev pub Comes : Next → FeedState → FeedState → ℕ → Option (List ℕ) → Option (List ℕ) → Type 0
 Comes (Run given) was now count old new = (count < most_records) × (now.outcome ≡ None) × GivesRecord was.version now.version old new given
 Comes (Close outcome) was now count old new = Leaves outcome was.version count old new
 
--- A writer failed over a record with these pages and this reply: at its pages, and then it hasn't been run, and nothing
--- of its line is written; or at its line, after all of its pages, and then it has been run.
+-- A writer failed over a record with these pages and this reply. If it failed at the pages, the record hasn't been
+-- run, and nothing of its line is written. If it failed at the line, all of the pages are written, and the record has
+-- been run.
 abbrev pub StopsAt : {S : Type 0} → Option (List ℕ) → Option (List ℕ) → Option (List ℕ) → Option (List ℕ)
     → List ℕ → Reply → S → S → S → Type 0
 StopsAt pages new_pages lines new_lines own reply before reached after =
@@ -127,7 +129,7 @@ module _ {S : Type 0} (answers : S → Record → Reply → List ℕ → S → T
     pub counted : now.counts ≡ counts_with was.counts Flush reply
     pub ended : now.outcome ≡ Some outcome
 
-  -- what a step that gives a reply has done
+  -- what a step that returns a reply has done
   abbrev pub Steps : Streams → Streams → RunState → RunState → S → S → Reply → Type 0
   Steps old new was now before after reply =
       RunsOne answers old new was now before after reply ⊎ ClosesOne old new was now before after reply
@@ -142,7 +144,7 @@ module _ {S : Type 0} (answers : S → Record → Reply → List ℕ → S → T
     pub answers_it : answers before given reply own reached
     pub written : StopsAt old.pages new.pages old.lines new.lines own reply before reached after
 
-  -- why one step gave no reply
+  -- why one step returned no reply
   abbrev pub StopsBy : RunFault → Streams → Streams → Option Version → ℕ → S → S → Type 0
   StopsBy (Feed fault) old new known count before after = EndsOne held (Err (Feed fault)) old new known count before after
   StopsBy TooMany old new known count before after = EndsOne held (Err TooMany) old new known count before after
@@ -156,7 +158,7 @@ HasRead (Some version) records start now =
     AllByRecursion (HasRecord version) records × Consumes start now (opening version ++ flat_map (record_of version) records)
 
 module _ {S : Type 0} (answers : S → Record → Reply → List ℕ → S → Type 0) where
-  -- From the start, these records were read and run: written are their pages, and the lines of their replies.
+  -- From the start, these records were read and run: their pages were written, and the lines of their replies.
   pub record HasRun (start now : Streams) (known : Option Version) (records : List Record) (replies : List Reply) (before after : S) : Type 0 where
     pub bytes : List ℕ
     pub answers_all : AnswersAll answers before records replies bytes after
@@ -165,14 +167,14 @@ module _ {S : Type 0} (answers : S → Record → Reply → List ℕ → S → T
     pub lines : Appends start.lines now.lines (flat_map reply_line replies)
 
 module _ {S : Type 0} (answers : S → Record → Reply → List ℕ → S → Type 0) (held : S → ℕ) where
-  -- After the last record: if something waits, a flush, whose reply's line was written; else nothing.
+  -- After the last record: if something waits, a flush, and the line of its reply was written; else nothing.
   abbrev pub IsClosed : Streams → Streams → S → S → List Record → List Reply → Type 0
   IsClosed at now before after closing last =
       ((held before ≡ 0) × (closing ≡ []) × (last ≡ []) × (after ≡ before) × (now.lines ≡ at.lines))
       ⊎ ((0 < held before) × (reply : Reply) × (closing ≡ Flush ∷ []) × (last ≡ reply ∷ [])
       × answers before Flush reply [] after × Appends at.lines now.lines (reply_line reply))
 
-  -- Records were run until this came, and what waited was flushed.
+  -- Records were run until this outcome, and what waited was flushed.
   pub record RunsTo (outcome : Outcome) (start now : Streams) (before after : S) : Type 0 where
     pub known : Option Version
     pub records : List Record
@@ -187,7 +189,7 @@ module _ {S : Type 0} (answers : S → Record → Reply → List ℕ → S → T
     pub closed : IsClosed at now mid after closing last
     pub pages : now.pages ≡ at.pages
 
-  -- The feed was run to its end, and this is what it came to.
+  -- The feed was run to its end, and the tally is the result.
   pub record RunsWhole (start now : Streams) (before after : S) (end : ℕ) (tally : Tally) : Type 0 where
     pub run : RunsTo (Ok tt) start now before after
     pub tally_is : IsTally tally (run.records ++ run.closing) (run.replies ++ run.last) end

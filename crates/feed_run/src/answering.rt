@@ -17,7 +17,7 @@ use feed_codec::{Feed, Record, Reply, write_reply};
 use ogg_page::WriteFault;
 use std::io::Write;
 
-/// Has a record run, and gives its reply.
+/// Has a record run, and returns its reply.
 pub fn run_record<T: Runner, P: Write>(
     runner: &mut T,
     given: &Record,

@@ -15,7 +15,7 @@ pub struct Counts {
 }
 
 impl Counts {
-    /// The counts with one record more.
+    /// The counts with one more record.
     pub fn with(self, given: &Record, reply: Reply) -> Counts
         requires adds_up { self.kept + self.waiting ≤ self.commands }
         requires few { self.commands < 2 ^ 63 }
@@ -47,7 +47,7 @@ impl Counts {
         }
     }
 
-    /// What a run with these counts came to, if what was kept is so long.
+    /// The result of a run with these counts, if what was kept has this length.
     pub fn tally(self, end: u64) -> Tally
         requires { self.kept ≤ self.commands }
         ensures commands { result.commands ≡ self.commands }

@@ -11,7 +11,7 @@ use feed_codec::{Reply, write_reply};
 use ogg_page::WriteFault;
 use std::io::Write;
 
-/// Flushes what waits, writes the line of the reply, and gives the reply. If nothing waits it does nothing.
+/// Flushes what waits, writes the line of the reply, and returns the reply. If nothing waits it does nothing.
 pub fn flush_waiting<T: Runner, W: Write>(
     runner: &mut T,
     replies: &mut W,

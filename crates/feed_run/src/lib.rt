@@ -1,9 +1,9 @@
 //! A run over a feed: read a record, run it, write what belongs to it, reply.
 //!
-//! What runs the records is a `Runner`, as a multiplexer or a recorder. A `FeedRun` takes one step at a
-//! time: it reads a record, has it run, which writes its pages, and then writes the line of its reply.
-//! At the feed's end, at a fault of the feed, and after 4,294,967,295 records it flushes what waits, and
-//! ends. `run_feed` takes all steps. A refusal ends nothing.
+//! The records are run by a `Runner`, as a multiplexer or a recorder. A `FeedRun` takes one step at a time: it reads
+//! a record, has it run, which writes its pages, and then writes the line of its reply. At the feed's end, at a fault
+//! of the feed, and after 4,294,967,295 records it flushes what waits, and ends. `run_feed` takes all steps. A
+//! refusal ends nothing.
 //!
 //! Start at `specs/Answering.antt`, which says what records answered in turn are, and at
 //! `specs/Run.antt`, which says what a run has read and written.

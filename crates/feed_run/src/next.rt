@@ -39,7 +39,7 @@ pub fn next_in<R: Read + Drop>(feed: &mut Feed, records: u64, reader: &mut R) ->
     }
 }
 
-/// What a run answers that has ended so.
+/// What a run answers if it has ended with this outcome.
 pub fn answer_at(outcome: Outcome) -> Result<Option<Reply>, RunFault>
     ensures { result ≡ answer_at outcome }
 {

@@ -51,9 +51,9 @@ impl FeedRun {
         }
     }
 
-    /// Reads the next record, runs it, and gives the reply, whose line has been written. If no further record is run
-    /// and something waits, it flushes that and gives the flush's reply; only the step after it gives the end or the
-    /// fault. After the end or a fault the answer stays, and nothing is read, run or written.
+    /// Reads the next record, runs it, writes the line of its reply, and returns the reply. If no further record is
+    /// run and something waits, it flushes that and returns the flush's reply; only the step after it returns the end
+    /// or the fault. After the end or a fault the answer stays, and nothing is read, run or written.
     pub fn step<T: Runner, R: Read + Drop, P: Write, W: Write>(
         &mut self,
         runner: &mut T,
@@ -125,7 +125,7 @@ impl FeedRun {
         }
     }
 
-    /// What the run came to, if what was kept is so long.
+    /// The result of the run, if what was kept has this length.
     pub fn tally(&self, end: u64) -> Tally
         ensures commands { result.commands ≡ self.now.counts.commands }
         ensures kept { result.kept ≡ self.now.counts.kept }

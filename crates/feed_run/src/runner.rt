@@ -13,8 +13,8 @@ use std::io::Write;
 
 /// Runs commands and flushes, and says how each is answered.
 ///
-/// What its answers depend on is a state, which contracts alone see. A command may be kept, refused, or
-/// held until a later command or a flush keeps it with the others that wait.
+/// Its answers depend on a state, which only contracts see. A command may be kept, refused, or held until a later
+/// command or a flush keeps it with the others that wait.
 pub trait Runner {
     /// What its answers depend on.
     ghost State: { Type 0 };
@@ -28,10 +28,11 @@ pub trait Runner {
     /// How many commands wait.
     ghost held_in: { State → ℕ };
 
-    /// How long is what has been kept.
+    /// The length of what has been kept.
     ghost end_in: { State → ℕ };
 
-    /// How many commands it has counted, if that must stay low for its counts not to run over.
+    /// How many commands it has counted, if its own counts could overflow; a runner without such counts may have 0
+    /// here.
     ghost counted: { Self → ℕ };
 
     /// Runs a command. Its pages are written to `pages`, if the runner doesn't keep them itself. If that fails, a
@@ -51,7 +52,7 @@ pub trait Runner {
             × WritesPrefix (P.contents pages.old) (P.contents pages.new) own) }
         ensures count { counted self.new ≤ counted self.old + 1 };
 
-    /// Keeps what waits, and gives the reply of a flush. It writes no page.
+    /// Keeps what waits, and returns the reply of a flush. It writes no page.
     fn run_flush(&mut self) -> Reply
         ensures answers { (before : State) → is_in before self.old → (after : State)
             × answers before RecordOf.Flush result [] after × is_in after self.new }

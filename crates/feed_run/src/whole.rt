@@ -11,10 +11,10 @@ use std::io::{Read, Write};
 /// Runs the records of a feed. The pages of each command are written to `pages`, if the runner doesn't keep
 /// them itself, and then the line of its reply to `replies`, before the next record is read.
 ///
-/// At the end of the feed it flushes what waits, and gives the counts. It stops at the first fault. `Feed` is a
-/// fault of the feed, and `TooMany` says that a record follows 4,294,967,295 others, which isn't run: in both
-/// cases what waits is flushed, and everything before stands. `Write` says that a writer has failed, and then
-/// nothing is flushed.
+/// At the end of the feed it flushes what waits, and returns the counts. It stops at the first fault. `Feed` is a
+/// fault of the feed, and `TooMany` says that a record follows 4,294,967,295 others, and isn't run: in both cases
+/// what waits is flushed, and everything before stands. `Write` says that a writer has failed, and then nothing is
+/// flushed.
 pub fn run_feed<T: Runner, R: Read + Drop, P: Write, W: Write>(
     alloc: Global,
     runner: &mut T,

@@ -1,12 +1,13 @@
--- The answer to a command that is kept.
-use Rattle.std.proofs.Common.{◌≡◌, ℕ, ◌+◌, List, [], ◌++◌, inl, refl, sym, ap, ◌∙◌, subst, Result, Ok}
+-- The answers to a command.
+use Rattle.std.proofs.Common.{◌≡◌, ℕ, ◌+◌, List, [], ◌++◌, inl, inr, refl, sym, ap, ◌∙◌, subst, Result, Ok, Err}
 use Rattle.link_chain.specs.ChainState.{ChainState, chain_state_of}
 use Rattle.chain_rules.specs.Decision.{decision}
 use Rattle.chain_rules.specs.Encoding.{command_bytes, links_after}
 use Rattle.ogg_command.specs.declared.command.Command.{Command}
 use Rattle.ogg_command.specs.declared.refusal.Refusal.{Refusal}
+use Rattle.ogg_command.specs.declared.refusal.Refusal.TheVariants.{Memory}
 use Rattle.feed_codec.specs.declared.reply.Reply.{Reply}
-use Rattle.feed_codec.specs.declared.reply.Reply.TheVariants.{Kept as KeptOf}
+use Rattle.feed_codec.specs.declared.reply.Reply.TheVariants.{Kept as KeptOf, Refused}
 use Rattle.multiplexer.specs.Progress.{Progress, end_of, with_command, Answers, AnsweredBy}
 use Rattle.multiplexer.specs.Reached.{HasReached}
 
@@ -36,3 +37,15 @@ reached_after new count before command same after = record { chain_is = after; c
 -- a refusal leaves all as it was
 pub reached_still : (old new : ChainState) (count : ℕ) (before : Progress) → HasReached old count before → new ≡ old → HasReached new count before
 reached_still old new count before reached same = subst (λ (s : ChainState). HasReached s count before) (sym same) reached
+
+pub is_refused : (chain : ChainState) (count : ℕ) (before : Progress) (command : Command) (refusal : Refusal) → HasReached chain count before
+    → decision chain command ≡ Err refusal → Answers before command (Refused refusal) [] before
+is_refused chain count before command refusal reached decided =
+    let there : decision (chain_state_of before.links) command ≡ Err refusal = ap (λ (s : ChainState). decision s command) (sym reached.chain_is) ∙ decided in
+    subst (λ (r : Result ℕ Refusal). AnsweredBy r before command (Refused refusal) [] before) (sym there) (refl, refl, refl)
+
+pub lacks_memory : (chain : ChainState) (count : ℕ) (before : Progress) (command : Command) (size : ℕ) → HasReached chain count before
+    → decision chain command ≡ Ok size → Answers before command (Refused Memory) [] before
+lacks_memory chain count before command size reached decided =
+    let there : decision (chain_state_of before.links) command ≡ Ok size = ap (λ (s : ChainState). decision s command) (sym reached.chain_is) ∙ decided in
+    subst (λ (r : Result ℕ Refusal). AnsweredBy r before command (Refused Memory) [] before) (sym there) (inr (refl, refl, refl))

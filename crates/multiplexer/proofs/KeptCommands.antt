@@ -16,7 +16,7 @@ use Rattle.feed_run.specs.Answering.{AnswersAll}
 use Rattle.feed_run.specs.Counting.{kept_after, kept_of, left_by}
 use Rattle.multiplexer.specs.Progress.{Progress, AnsweredBy, AnswersRecord, with_command}
 
--- what the commands of a run have come to, after where they began
+-- from the progress `before`, a run that keeps these commands writes these bytes and reaches the progress `behind`
 pub record CameTo (before : Progress) (kept : List Command) (bytes : List ℕ) (behind : Progress) : Type 0 where
   pub are_kept : AreKept before.links kept
   pub bytes_are : bytes ≡ bytes_of_commands before.links kept

@@ -29,8 +29,10 @@ end_of progress = (chain_state_of progress.links).length_of
 abbrev pub with_command : Progress → Command → Progress
 with_command progress command = record { links = links_after progress.links command; kept = progress.kept + 1 }
 
--- A command of this decision gets this reply, these bytes are its pages, and this is the progress after it. A command
--- that isn't refused by a rule is kept, or refused for want of memory; a refusal writes no page and changes nothing.
+-- A command with this decision gets this reply, these bytes are its pages, and this is the progress after it. A
+-- command that isn't refused by a rule is kept, or refused for lack of memory. A refusal writes no page and changes
+-- nothing.
+-- nothing.
 abbrev pub AnsweredBy : Result ℕ Refusal → Progress → Command → Reply → List ℕ → Progress → Type 0
 AnsweredBy (Err refusal) before command reply bytes behind = (reply ≡ Refused refusal) × (bytes ≡ []) × (behind ≡ before)
 AnsweredBy (Ok size) before command reply bytes behind =
@@ -42,7 +44,7 @@ AnsweredBy (Ok size) before command reply bytes behind =
 abbrev pub Answers : Progress → Command → Reply → List ℕ → Progress → Type 0
 Answers before command reply bytes behind = AnsweredBy (decision (chain_state_of before.links) command) before command reply bytes behind
 
--- A flush is answered by how far the run has come: nothing waits here. It writes no page and changes nothing.
+-- The progress of the run answers a flush, since nothing waits here. A flush writes no page and changes nothing.
 abbrev pub AnswersFlush : Progress → Reply → List ℕ → Progress → Type 0
 AnswersFlush before reply bytes behind =
     (reply ≡ KeptOf (record { count = before.kept; end = end_of before })) × (bytes ≡ []) × (behind ≡ before)

@@ -13,9 +13,9 @@ use feed_codec::{Kept, Reply};
 use ogg_page::{WriteFault, write_whole};
 use std::io::Write;
 
-/// Writes the pages of a command, adds it to the chain, counts it, and gives the reply. A refusal writes
-/// nothing and leaves the chain and the count as they are. A fault leaves them too, and then a prefix of the
-/// pages was written. `bytes` is room for the pages, used again for each command.
+/// Writes the pages of a command, adds it to the chain, counts it, and returns the reply. A refusal writes nothing and
+/// leaves the chain and the count as they are. A fault leaves them too, and then a prefix of the pages was written.
+/// `bytes` is room for the pages, used again for each command.
 pub fn answer<P: Write>(
     shape: &mut Shape,
     count: &mut u64,
@@ -32,7 +32,7 @@ pub fn answer<P: Write>(
         × HasReached shape.new.chain count.new before × WritesPrefix (P.contents pages.old) (P.contents pages.new) own) }
     ensures count { count.new ≤ count.old + 1 }
 
-    // Memory is short only where there is no room for what the command adds, or for its pages.
+    // Memory is short only if there is no room for what the command adds, or for its pages.
     ensures full { result ≡ Ok (Reply.Refused Refusal.Memory) → HasRoom shape.old command.now
         → vec_capacity bytes.old < length (command_bytes shape.old.chain command.now) }
 {

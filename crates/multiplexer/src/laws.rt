@@ -9,13 +9,14 @@ ghost use Rattle.feed_codec.specs.declared.reply.Reply.{Reply};
 ghost use Rattle.feed_run.specs.Answering.{AnswersAll};
 ghost use Rattle.feed_run.specs.Counting.{commands_in, kept_of};
 ghost use Rattle.feed_run.specs.Run.{IsClosed, Streams};
+ghost use Rattle.multiplexer.specs.Checking.{ChecksRecord};
 ghost use Rattle.multiplexer.specs.Progress.{Progress, AnswersRecord, at_start, nothing_held};
 
 use chain_rules::commands_add_their_packets;
 
-/// The pages that a run has written are exactly those of the commands that were kept, none of which is
-/// refused after those before it; and they are a chain of links that holds exactly their packets
-/// (RFC 3533, sections 4 to 6). No flush comes after the last record.
+/// The pages that a run has written are exactly those of the commands that were kept, and none of these is refused
+/// after those before it. The pages are a chain of links that holds exactly the commands' packets (RFC 3533, sections
+/// 4 to 6). No flush comes after the last record.
 pub fn run_writes_what_was_kept()
     ensures pages { (records : List Record) (replies : List Reply) (bytes : List ℕ) (behind : Progress) →
         AnswersAll AnswersRecord at_start records replies bytes behind →
@@ -30,3 +31,13 @@ pub fn run_writes_what_was_kept()
 {
     commands_add_their_packets();
 }
+
+/// A check answers records as a run may, and leaves the same progress. A run answers them as a check may. A check has
+/// no pages. The two can differ only in whether a command meets lack of memory.
+pub fn checks_reply_as_runs_do()
+    ensures as_runs { (before : Progress) (records : List Record) (replies : List Reply) (bytes : List ℕ) (behind : Progress) →
+        AnswersAll ChecksRecord before records replies bytes behind →
+        (bytes ≡ []) × (pages : List ℕ) × AnswersAll AnswersRecord before records replies pages behind }
+    ensures as_checks { (before : Progress) (records : List Record) (replies : List Reply) (pages : List ℕ) (behind : Progress) →
+        AnswersAll AnswersRecord before records replies pages behind → AnswersAll ChecksRecord before records replies [] behind }
+{}

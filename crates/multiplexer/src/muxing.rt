@@ -12,7 +12,7 @@ use ogg_page::WriteFault;
 use std::alloc::Global;
 use std::io::{Read, Write};
 
-/// The chain of the links that the commands have made, and how many commands that were.
+/// The chain of the links that the commands have made, and the number of these commands.
 #[derive(Debug, Drop)]
 pub struct Multiplexer {
     shape: Shape,
@@ -22,7 +22,7 @@ pub struct Multiplexer {
 }
 
 impl Multiplexer {
-    /// No command has come yet. It takes no memory.
+    /// No command has come yet. No memory is taken.
     fn new(alloc: Global) -> Self
         ensures reached { HasReached result.shape.chain result.count at_start }
         ensures count { result.count ≡ 0 }
@@ -82,10 +82,10 @@ impl Runner for Multiplexer {
 /// written to `pages`, and then the line of its reply to `replies`, before the next record is read. A
 /// flush is answered by the last count and length, since nothing waits here; it isn't counted.
 ///
-/// At the end of the feed it gives the counts. It stops at the first fault. `Feed` is a fault of the feed,
-/// and everything before it is written. `Write` says that one of the writers has failed, and then a prefix of
-/// what belongs to the last command that was read is written. `TooMany` says that a record follows
-/// 4,294,967,295 others, which isn't run.
+/// `mux` returns the counts at the end of the feed, and stops at the first fault. `Feed` is a fault of the feed, and
+/// everything before it is written. `Write` says that one of the writers has failed, and then a prefix of what belongs
+/// to the last command that was read is written. `TooMany` says that a record follows 4,294,967,295 others, which
+/// isn't run.
 pub fn mux<R: Read + Drop, P: Write, W: Write>(
     alloc: Global,
     reader: &mut R,

@@ -1,4 +1,4 @@
-//! The commands that look into a file. They open it to be read, and write nothing to it.
+//! The commands that read a file and write nothing to it.
 
 use crate::indexing::{Indexed, find_index};
 use disk_model::{FileDisk, FileMode};

@@ -26,7 +26,7 @@ impl PageVisitor for Indexer {
         if self.fault.is_some() {
             return;
         }
-        // No honest disk is so long, and of another nothing is known.
+        // No honest disk has such a length, and of another disk nothing is known.
         let size = page.whole().len() as u64;
         let left = LENGTHS.saturating_sub(self.index.end());
         if size >= left {
@@ -48,8 +48,8 @@ pub struct Indexed<D: Disk> {
     pub buffer: PageBuffer,
 }
 
-/// Finds the committed bytes of a file and indexes them, in one pass. It writes nothing. A fault of finding comes before
-/// one of indexing.
+/// Finds the committed bytes of a file and indexes them, in one pass that writes nothing. A fault of finding comes
+/// before one of indexing.
 pub fn find_index<D: Disk + Drop>(alloc: Global, disk: D) -> Result<Indexed<D>, Fault> {
     let Ok(buffer) = PageBuffer::new(alloc) else {
         return Err(Fault::Memory);

@@ -1,7 +1,7 @@
 //! The program: what a command line asks for, done over files and the standard streams.
 //!
-//! The status is 0 if the work was done, 1 after a fault, whose line is on standard error, and 2 if the command line
-//! asks for nothing that can be done; then a text on standard error says what it could ask for.
+//! The status is 0 if the work was done, and 1 after a fault, whose line is on standard error. The status is 2 if the
+//! command line asks for nothing that can be done; then a text on standard error says what it could ask for.
 #![tactic(auto)]
 
 mod files;
@@ -46,7 +46,8 @@ fn show(rt: &HostRuntime, error: &Error) -> ExitCode {
 fn run(rt: &HostRuntime, action: Action<'_>) -> Result<(), Fault> {
     match action {
         Action::Feed { options } => streams::feed(rt, options),
-        Action::Mux { check, strict } => streams::mux(rt, check, strict),
+        Action::Mux { strict } => streams::mux(rt, strict),
+        Action::Check { strict } => streams::check(rt, strict),
         Action::Record {
             file,
             seal,

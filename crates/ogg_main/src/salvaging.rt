@@ -45,8 +45,8 @@ pub fn salvage(rt: &HostRuntime, file: &str) -> Result<(), Fault> {
     Ok(())
 }
 
-/// How far it is known which good pages begin in a piece of this length, with `left` bytes from its front to the file's
-/// end: a page that begins in the last bytes of a piece may not show whole, unless the file ends there.
+/// How far it is known which good pages begin in a piece of this length, if the file ends `left` bytes after the
+/// piece's front. A page that begins in the last bytes of a piece may not show whole, unless the file ends there.
 fn sure_of(length: u64, left: u64) -> u64
     ensures { 1 ≤ result }
 {
@@ -72,8 +72,8 @@ fn read_piece<'a>(
     }
 }
 
-/// The lines of the pages that begin before `sure` in a piece of the file, which begins at `at`, and how far the piece has
-/// been searched then: up to there, or up to the end of the last of these pages.
+/// The lines of the pages that begin before `sure` in a piece of the file, which begins at `at`, and how far the piece
+/// has been searched then. That is up to `sure`, or up to the end of the last of these pages if it lies after `sure`.
 fn lines_of(alloc: Global, at: u64, sure: u64, pages: &[GoodPage]) -> Result<(Vec<u8>, u64), Memory>
     ensures { IfOk result (λ (lines, searched). sure ≤ searched) }
 {

@@ -54,7 +54,7 @@ pub fn live(
     most: u32,
 ) -> Result<(), Fault> {
     let Opened { mut hub, sealed } = open_hub(rt, file)?;
-    // `clap` has seen to it that it lies there, and nothing waits yet.
+    // `clap` has checked that `most` lies in this range, and nothing waits yet.
     hub.group(most.clamp(1, 1024));
     let Ok(feed) = File::open(rt, feed) else {
         return Err(Fault::File);
@@ -138,7 +138,7 @@ fn fault_in(ended: Option<Result<Step, RunFault>>) -> Option<Fault> {
     }
 }
 
-/// Gives the fault that was met. If none was, the file is sealed, if it was at first.
+/// Returns the fault that was met. If none was, the file is sealed if it was sealed at first.
 fn close(hub: Hub<FileDisk>, sealed: bool, met: Option<Fault>) -> Result<(), Fault> {
     if let Some(fault) = met {
         return Err(fault);

@@ -6,18 +6,18 @@ use fault_lines::Fault;
 use feed_codec::{FeedFault, Tally};
 use feed_maker::{ChangeOptions, make_feed};
 use feed_recorder::record_feed;
+use multiplexer::check_feed;
 use ogg_page::write_whole;
 use ogg_recorder::Recorder;
-use std::io::{self, BufReader, IsTerminal};
+use std::io::{BufReader, IsTerminal};
 use text_line::Line;
 
 /// How many bytes of the feed are read at once.
 const AHEAD: usize = 65536;
 
-/// Writes the pages of the feed on standard input to standard output, and the replies to standard
-/// error. A check writes no pages, and the replies to standard output. If `strict` says so, the feed ends after the first
-/// refusal.
-pub fn mux(rt: &HostRuntime, check: bool, strict: bool) -> Result<(), Fault> {
+/// Writes the pages of the feed on standard input to standard output, and the replies to standard error. If `strict`
+/// says so, the feed ends after the first refusal.
+pub fn mux(rt: &HostRuntime, strict: bool) -> Result<(), Fault> {
     let alloc = rt.alloc();
     let watch = Watch::new(strict);
     let Ok(input) = BufReader::with_capacity(alloc, AHEAD, rt.stdin()) else {
@@ -25,23 +25,30 @@ pub fn mux(rt: &HostRuntime, check: bool, strict: bool) -> Result<(), Fault> {
     };
     let mut feed = WatchedFeed::new(input, &watch);
     // The standard streams keep no bytes back, so what is written is out.
-    let tally = if check {
-        let mut replies = WatchedReplies::new(rt.stdout(), &watch);
-        multiplexer::mux(alloc, &mut feed, &mut io::sink(), &mut replies)?
-    } else {
-        let mut replies = WatchedReplies::new(rt.stderr(), &watch);
-        multiplexer::mux(alloc, &mut feed, &mut rt.stdout(), &mut replies)?
-    };
+    let mut replies = WatchedReplies::new(rt.stderr(), &watch);
+    let tally = multiplexer::mux(alloc, &mut feed, &mut rt.stdout(), &mut replies)?;
     sum_up(rt, tally);
-    if watch.has_refused() {
-        return Err(Fault::Refused);
-    }
-    Ok(())
+    watch.outcome()
 }
 
-/// Records the feed on standard input into the file, which is made if there is none, and writes the replies to standard
-/// output. `most` commands share a commit. If `strict` says so, the feed ends after the first refusal. At its end the file
-/// is sealed if `seal` says so; after a fault it isn't.
+/// Checks the feed on standard input: writes to standard output the replies that `mux` would write, and makes no page.
+/// If `strict` says so, the feed ends after the first refusal.
+pub fn check(rt: &HostRuntime, strict: bool) -> Result<(), Fault> {
+    let alloc = rt.alloc();
+    let watch = Watch::new(strict);
+    let Ok(input) = BufReader::with_capacity(alloc, AHEAD, rt.stdin()) else {
+        return Err(Fault::Feed(FeedFault::Memory));
+    };
+    let mut feed = WatchedFeed::new(input, &watch);
+    let mut replies = WatchedReplies::new(rt.stdout(), &watch);
+    let tally = check_feed(alloc, &mut feed, &mut replies)?;
+    sum_up(rt, tally);
+    watch.outcome()
+}
+
+/// Records the feed on standard input into the file, which is made if there is none, and writes the replies to
+/// standard output. `most` commands share a commit. If `strict` says so, the feed ends after the first refusal. At the
+/// feed's end the file is sealed if `seal` says so; after a fault it isn't.
 pub fn record(
     rt: &HostRuntime,
     file: &str,
@@ -57,7 +64,7 @@ pub fn record(
         Ok(recorder) => recorder,
         Err((fault, _)) => return Err(Fault::Open(fault)),
     };
-    // `clap` has seen to it that it lies there.
+    // `clap` has checked that `most` lies in this range.
     recorder.group(most.clamp(1, 1024));
     let watch = Watch::new(strict);
     let Ok(input) = BufReader::with_capacity(alloc, AHEAD, rt.stdin()) else {
@@ -70,9 +77,7 @@ pub fn record(
     if recorder.is_failed() {
         return Err(Fault::Failed);
     }
-    if watch.has_refused() {
-        return Err(Fault::Refused);
-    }
+    watch.outcome()?;
     // After a run to the feed's end nothing waits.
     if seal && recorder.held() == 0 {
         match recorder.seal() {
@@ -85,14 +90,14 @@ pub fn record(
 
 /// Writes the feed of the Ogg bitstream on standard input to standard output, changed as the options ask.
 pub fn feed(rt: &HostRuntime, options: ChangeOptions) -> Result<(), Fault> {
-    // The standard streams keep no bytes back, so what is written is out; and what can be read at once is.
+    // The standard streams keep no bytes back: what is written is out, and what can be read at once is read.
     match make_feed(rt.alloc(), &mut rt.stdin(), &mut rt.stdout(), options) {
         Ok(_) => Ok(()),
         Err(fault) => Err(Fault::Make(fault)),
     }
 }
 
-/// Tells whoever sits at the terminal what the run came to.
+/// Tells whoever sits at the terminal the run's result.
 fn sum_up(rt: &HostRuntime, tally: Tally) {
     let mut errors = rt.stderr();
     if errors.is_terminal() {

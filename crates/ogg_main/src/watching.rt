@@ -1,6 +1,8 @@
-//! A feed that ends after the first reply that refuses a command: the reader and the writer of a run share what was seen.
+//! A feed that ends after the first reply that refuses a command. The reader and the writer of a run share what was
+//! seen.
 ghost use Rattle.std.specs.Prelude.{None};
 
+use fault_lines::Fault;
 use std::cell::Cell;
 use std::io::{self, Read, Write};
 
@@ -23,6 +25,14 @@ impl Watch {
     /// Whether a refusal has ended the feed.
     pub fn has_refused(&self) -> bool {
         self.refused.get()
+    }
+
+    /// The fault of a feed that a refusal has ended.
+    pub fn outcome(&self) -> Result<(), Fault> {
+        if self.has_refused() {
+            return Err(Fault::Refused);
+        }
+        Ok(())
     }
 }
 
@@ -50,7 +60,7 @@ impl<'a, R: Read> Read for WatchedFeed<'a, R> {
     }
 }
 
-/// A writer of reply lines, each of which comes in a call of its own.
+/// A writer of reply lines, each of which comes in a distinct call.
 #[derive(Drop)]
 pub struct WatchedReplies<'a, W> {
     replies: W,

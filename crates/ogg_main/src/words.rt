@@ -13,13 +13,16 @@ pub enum Action<'a> {
     Feed {
         options: ChangeOptions,
     },
-    /// The pages of the feed on standard input, or with `check` its replies alone, with `strict` up to the first refusal.
+    /// The pages of the feed on standard input, with `strict` up to the first refusal.
     Mux {
-        check: bool,
         strict: bool,
     },
-    /// The feed on standard input into the file, `most` commands to a commit, with `strict` up to the first refusal. The
-    /// file is sealed at the end if `seal` says so.
+    /// Only the replies that the feed on standard input gets, with `strict` up to the first refusal.
+    Check {
+        strict: bool,
+    },
+    /// The feed on standard input into the file, `most` commands to a commit, with `strict` up to the first refusal.
+    /// The file is sealed at the end if `seal` says so.
     Record {
         file: &'a str,
         seal: bool,
@@ -71,7 +74,8 @@ pub fn words(rt: &HostRuntime) -> Result<Vec<String>, Error> {
     }
 }
 
-/// What the words ask for. An error is the text to show in its place: help, the version, or what is wrong with the words.
+/// What the words ask for. An error is the text to show in place of it: help, the version, or what is wrong with the
+/// words.
 pub fn action_of<'a>(alloc: Global, words: &'a [String]) -> Result<Action<'a>, Error> {
     let matches = program(alloc)?.try_get_matches_from(words)?;
     let action = match matches.subcommand() {
@@ -88,12 +92,12 @@ pub fn action_of<'a>(alloc: Global, words: &'a [String]) -> Result<Action<'a>, E
     };
     match action {
         Some(action) => Ok(action),
-        // `clap` has seen to it that there is a subcommand, that it is one of these, and that it has its words.
+        // `clap` has checked that there is a subcommand, that it is one of these, and that it has its words.
         None => Err(refusal(alloc, "the words ask for nothing")?),
     }
 }
 
-/// An error that `clap` didn't find, in the form of its own.
+/// An error that `clap` didn't find, in the form of `clap`'s own errors.
 fn refusal(alloc: Global, message: &str) -> Result<Error, AllocError> {
     program(alloc)?.error(ErrorKind::InvalidValue, message)
 }
@@ -234,9 +238,11 @@ commands there were, and how many of them were kept and refused.
 ";
 
 fn mux_of<'a>(words: &ArgMatches<'a>) -> Action<'a> {
-    Action::Mux {
-        check: words.get_flag("check"),
-        strict: words.get_flag("strict"),
+    let strict = words.get_flag("strict");
+    if words.get_flag("check") {
+        Action::Check { strict }
+    } else {
+        Action::Mux { strict }
     }
 }
 
