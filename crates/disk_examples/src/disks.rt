@@ -1,4 +1,5 @@
-//! What no clause says of disks: rows by hand, an exhaustive run, refused memory, real files, and raw files that fall short.
+//! What no contract says of disks: rows by hand, an exhaustive run, refused memory, real files, and raw files that
+//! fall short.
 
 mod files;
 mod fuses;

@@ -1,5 +1,5 @@
-//! What no clause says of a file that grows by appends: rows by hand over disks in memory, with a stop after each call and
-//! every image that it may leave, and how many calls of the disk each call makes.
+//! What no contract says of a file that grows by appends. Rows by hand over disks in memory show a stop after each
+//! call, every image that it may leave, and how many calls of the disk each call makes.
 
 mod appends;
 mod groups;

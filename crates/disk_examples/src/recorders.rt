@@ -1,4 +1,5 @@
-//! What no clause says of a recorder: rows by hand over disks in memory, and how many calls of the disk each call makes.
+//! What no contract says of a recorder: rows by hand over disks in memory, and how many calls of the disk each call
+//! makes.
 
 mod commands;
 mod hostile;

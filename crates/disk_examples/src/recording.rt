@@ -12,13 +12,13 @@ use std::test::Fail;
 const BEGIN: &[u8] = b"\x01\x2f\0\0\0\0\x01\0\x01\0\0\0\x01\0\x03\0\0\0abc\0\0\
     \0\0\0\0\0\0\0\0\0\0\0\0\0\0\0\0\0\0\0\0\0\0\0\0\0\0\0\0\0";
 
-/// It gets the packet `hello` at position 5.
+/// Stream 1 gets the packet `hello` at position 5.
 const PUT: &[u8] = b"\x02\x17\0\0\0\x01\0\x01\0\0\0\x05\0\0\0\0\0\0\0\x05\0\0\0hello";
 
 /// The same for a stream with serial 7, which no link has.
 const PUT_ELSEWHERE: &[u8] = b"\x02\x17\0\0\0\x01\0\x07\0\0\0\x05\0\0\0\0\0\0\0\x05\0\0\0hello";
 
-/// It ends.
+/// Stream 1 ends.
 const END: &[u8] = b"\x03\x04\0\0\0\x01\0\0\0";
 
 const FLUSH: &[u8] = b"\x04\0\0\0\0";
@@ -30,7 +30,7 @@ const BROKEN_OFF: &[u8] = b"\x02\x17\0\0\0\x01\0\x01";
 type Came = Result<(u64, u64, u64, u64), RunFault>;
 
 /// A feed, how many commands share a commit, which call of the disk fails once if one does, the reply lines, how the
-/// run ended, and where an opening then finds the end.
+/// run ended, and the end of the committed bytes that an opening then finds.
 struct Run {
     feed: &'static [&'static [u8]],
     most: u32,
@@ -49,7 +49,7 @@ const RUNS: [Run; 6] = [
         came: Ok((4, 3, 1, 91)),
         end: 91,
     },
-    // A refusal, the end and a flush leave their neighbours as they are.
+    // A refusal, the end and a flush don't change the commands before and after them.
     Run {
         feed: &[BEGIN, PUT_ELSEWHERE, PUT, FLUSH, END],
         most: 8,
@@ -66,8 +66,8 @@ const RUNS: [Run; 6] = [
         came: Err(RunFault::Feed(FeedFault::Truncated)),
         end: 64,
     },
-    // The opening makes four calls of the disk and a command of one page four more, the last of them a sync. Here the
-    // second one's fails, when its commit byte is written already.
+    // The opening makes four calls of the disk and a command of one page four more, the last of which is a sync. Here
+    // the second command's last sync fails, after its commit byte was written.
     Run {
         feed: &[BEGIN, PUT, END, FLUSH],
         most: 1,
@@ -76,7 +76,7 @@ const RUNS: [Run; 6] = [
         came: Ok((3, 1, 2, 31)),
         end: 64,
     },
-    // Its first sync fails, and no commit byte is written.
+    // The second command's first sync fails, and no commit byte is written.
     Run {
         feed: &[BEGIN, PUT, END],
         most: 1,
@@ -85,7 +85,7 @@ const RUNS: [Run; 6] = [
         came: Ok((3, 1, 2, 31)),
         end: 31,
     },
-    // So does that of the flush at the end, after two commands are staged.
+    // The first sync of the flush at the end fails, after two commands are staged.
     Run {
         feed: &[BEGIN, PUT],
         most: 8,

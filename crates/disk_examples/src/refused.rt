@@ -1,8 +1,9 @@
 //! Recordings on disks in memory while one request for memory is refused: `rt try --test --fail-alloc N` refuses the
-//! `N`th. The refusal may meet the feed, the command or the disk. What was kept before it is found again, and the next
-//! recording comes to what the feed comes to.
+//! `N`th. The refusal may meet the feed, the command or the disk. What was kept before it is found again, and the
+//! next recording has the result that the feed has with memory.
 use chain_rules::{Command, Refusal};
 use disk_model::MemDisk;
+use example_feeds::{BEGIN_DESCRIBED, BEGIN_THREE, BEGIN_TWO, PUT_FOUR, ZEROS, bytes_of};
 use feed_codec::{FeedFault, RunFault};
 use feed_recorder::record_feed;
 use gate_file::OpenFault;
@@ -12,57 +13,17 @@ use std::alloc::Global;
 use std::process::Abort;
 use std::test::Fail;
 
-/// One stream begins, with serial 1 and the header `abc`.
-const BEGIN: &[u8] = b"\x01\x2f\0\0\0\0\x01\0\x01\0\0\0\x01\0\x03\0\0\0abc\0\0\
-    \0\0\0\0\0\0\0\0\0\0\0\0\0\0\0\0\0\0\0\0\0\0\0\0\0\0\0\0\0";
-
-/// The same with the headers `abc`, `de` and `f`.
-const BEGIN_THREE: &[u8] = b"\x01\x3a\0\0\0\0\x01\0\x01\0\0\0\x03\0\
-    \x03\0\0\0abc\x02\0\0\0de\x01\0\0\0f\0\0\
-    \0\0\0\0\0\0\0\0\0\0\0\0\0\0\0\0\0\0\0\0\0\0\0\0\0\0\0\0\0";
-
-/// Two streams begin, with serials 1 and 2 and the header `abc`.
-const BEGIN_TWO: &[u8] = b"\x01\x5b\0\0\0\0\x02\0\
-    \x01\0\0\0\x01\0\x03\0\0\0abc\0\0\
-    \0\0\0\0\0\0\0\0\0\0\0\0\0\0\0\0\0\0\0\0\0\0\0\0\0\0\0\0\0\
-    \x02\0\0\0\x01\0\x03\0\0\0abc\0\0\
-    \0\0\0\0\0\0\0\0\0\0\0\0\0\0\0\0\0\0\0\0\0\0\0\0\0\0\0\0\0";
-
-/// A stream of type `audio/vorbis` and rate 44100/1 begins, and a Skeleton of serial 9 with times 0/1000.
-const BEGIN_DESCRIBED: &[u8] = b"\x01\x73\0\0\0\x01\x09\0\0\0\
-    \0\0\0\0\0\0\0\0\xe8\x03\0\0\0\0\0\0\0\0\0\0\0\0\0\0\xe8\x03\0\0\0\0\0\0\
-    \0\0\0\0\0\0\0\0\0\0\0\0\0\0\0\0\0\0\0\0\
-    \x01\0\x01\0\0\0\x01\0\x03\0\0\0abc\x0c\0audio/vorbis\
-    \x44\xac\0\0\0\0\0\0\x01\0\0\0\0\0\0\0\0\0\0\0\0\0\0\0\0\0\0\0\0";
-
-/// Stream 1 gets `a`, `b` and `d`, and stream 2 gets `c` before the last of them.
-const PUT_FOUR: &[u8] = b"\x02\x46\0\0\0\x04\0\
-    \x01\0\0\0\0\0\0\0\0\0\0\0\x01\0\0\0a\x01\0\0\0\0\0\0\0\0\0\0\0\x01\0\0\0b\
-    \x02\0\0\0\0\0\0\0\0\0\0\0\x01\0\0\0c\x01\0\0\0\0\0\0\0\0\0\0\0\x01\0\0\0d";
-
-/// A begin, and a put of packets whose lengths are multiples of 255, or nearly: 0, 254, 255 and 510 zeros.
-const ZEROS: [&[u8]; 8] = [
-    BEGIN,
-    b"\x02\x3d\x04\0\0\x04\0\x01\0\0\0\0\0\0\0\0\0\0\0\0\0\0\0",
-    b"\x01\0\0\0\0\0\0\0\0\0\0\0\xfe\0\0\0",
-    &[0; 254],
-    b"\x01\0\0\0\0\0\0\0\0\0\0\0\xff\0\0\0",
-    &[0; 255],
-    b"\x01\0\0\0\0\0\0\0\0\0\0\0\xfe\x01\0\0",
-    &[0; 510],
-];
-
-/// What a run leaves: whether the feed was read to its end, the reply lines, and where an opening then may find the end
-/// of the committed bytes.
+/// What a run leaves: whether the feed was read to its end, the reply lines, and the ends of the committed bytes that
+/// an opening may then find.
 type Left = (bool, &'static str, &'static [u64]);
 
-/// A feed, and what its run comes to on a new disk.
+/// A feed, and the result of its run on a new disk.
 struct Row {
     /// Its bytes, in parts.
     feed: &'static [&'static [u8]],
-    /// With memory.
+    /// The result with memory.
     whole: Left,
-    /// If memory is refused once.
+    /// The results if memory is refused once.
     refused: &'static [Left],
 }
 
@@ -111,22 +72,6 @@ const ROWS: [Row; 4] = [
     },
 ];
 
-fn joined(alloc: Global, parts: &[&[u8]]) -> Result<Vec<u8>, Memory> {
-    let mut bytes = Vec::new(alloc);
-    for part in parts {
-        bytes.extend_from_slice(part)?;
-    }
-    Ok(bytes)
-}
-
-/// The parts, joined once more if memory is refused.
-fn bytes_of(alloc: Global, parts: &[&[u8]]) -> Result<Vec<u8>, Memory> {
-    match joined(alloc, parts) {
-        Ok(bytes) => Ok(bytes),
-        Err(_) => joined(alloc, parts),
-    }
-}
-
 /// A disk with these bytes, made once more if memory is refused.
 fn disk_of(alloc: Global, bytes: &[u8]) -> Result<MemDisk, Memory> {
     match MemDisk::of(alloc, bytes) {
@@ -135,8 +80,8 @@ fn disk_of(alloc: Global, bytes: &[u8]) -> Result<MemDisk, Memory> {
     }
 }
 
-/// Opens the disk, once more if memory is refused. After `Memory` the disk is as long as it was. If memory is refused to
-/// the disk itself, the fault is `Disk`, and the byte that closes the file may have been written.
+/// Opens the disk, once more if memory is refused. After `Memory` the disk is as long as it was. If memory is
+/// refused to the disk itself, the fault is `Disk`, and the byte that closes the file may have been written.
 fn opened(alloc: Global, disk: MemDisk) -> Result<Recorder<MemDisk>, Fail> {
     let length = disk.contents().len();
     match Recorder::open(alloc, disk) {
@@ -159,8 +104,8 @@ fn opened_at_last(alloc: Global, disk: MemDisk) -> Result<Recorder<MemDisk>, Fai
     }
 }
 
-/// Records the feed onto a new disk: whether it was read to its end or memory was refused to it, and where an opening
-/// then finds the end of the committed bytes.
+/// Records the feed onto a new disk. It returns whether the feed was read to its end or memory was refused to it, and
+/// the end of the committed bytes that an opening then finds.
 fn recorded(alloc: Global, feed: &[u8], replies: &mut Vec<u8>) -> Result<(bool, u64), Fail> {
     let mut feed = feed;
     let mut recorder = opened(alloc, disk_of(alloc, b"")?)?;
@@ -242,9 +187,9 @@ fn begin_of(alloc: Global, serial: u32) -> Result<Command, Memory> {
     }
 }
 
-/// Gives the recorder of a file with `end` committed bytes a begin that has a page of 31 bytes, and says whether the end
-/// is then 31 bytes later. After `Memory` nothing has changed, and the command is given again. After `Disk` the file is
-/// opened again, and the command is given again unless it is there.
+/// Gives the recorder of a file with `end` committed bytes a begin that has a page of 31 bytes, and returns whether
+/// the end is then 31 bytes later. After `Memory` nothing has changed, and the command is given again. After `Disk`
+/// the file is opened again, and the command is given again if the file doesn't have it.
 fn begins(
     alloc: Global,
     mut recorder: Recorder<MemDisk>,

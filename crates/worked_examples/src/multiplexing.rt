@@ -1,4 +1,4 @@
-//! Feeds that are run whole, and feeds that end in a fault: each answer, and the pages.
+//! Feeds that are run to their end, and feeds that end in a fault: each answer, and the pages.
 use crate::pages::{FIRST, SECOND, THIRD};
 use crate::records::Packet::{Text, Zeros};
 use crate::records::Record::{
@@ -36,13 +36,13 @@ const TITLE: Field = (b"Title", b"One");
 /// The longest packet of a put, 8,388,608 bytes.
 const LONGEST: (u32, u64, Packet) = (1, 0, Zeros(8_388_608));
 
-/// A feed, and what it comes to.
+/// A feed, and the result of its run.
 struct Example {
     /// Each record, and the line that answers it; an announcement has none.
     turns: &'static [(Record, &'static str)],
-    /// How long the pages are.
+    /// The length of the pages.
     end: u64,
-    /// Bytes of the pages, each with where they stand.
+    /// Bytes of the pages, each with the offset at which they stand.
     found: &'static [(usize, &'static [u8])],
 }
 
@@ -96,7 +96,7 @@ const EXAMPLES: [Example; 22] = [
         end: 65_337,
         found: &[(31, b"OggS\0\0\x07\0\0\0\0\0\0\0")],
     },
-    // One byte more: no packet ends in its first page, and the second goes on with it.
+    // One further byte: no packet ends in its first page, and the second goes on with it.
     Example {
         turns: &[
             (ONE, "kept 1 31\n"),
@@ -126,7 +126,7 @@ const EXAMPLES: [Example; 22] = [
         end: 341,
         found: &[(57, &[255, 0]), (313, b"OggS\0\0\0\0"), (339, &[1, 0])],
     },
-    // A put with an entry that can't be: none of it is written.
+    // A put with one entry that is refused: none of it is written.
     Example {
         turns: &[
             (ONE, "kept 1 31\n"),
@@ -190,7 +190,7 @@ const EXAMPLES: [Example; 22] = [
         end: 122,
         found: &[(93, b"OggS\0\0\xff\xff\xff\xff\xff\xff\xff\x7f")],
     },
-    // Headers, of which the first stands alone.
+    // Several headers. The first stands alone in its page.
     Example {
         turns: &[(
             Begin(&[(1, &[Text(b"abc"), Text(b"de"), Text(b"f")])]),
@@ -199,7 +199,7 @@ const EXAMPLES: [Example; 22] = [
         end: 63,
         found: &[(0, FIRST), (57, &[2, 2, 1, b'd', b'e', b'f'])],
     },
-    // Entries of two streams: a run goes as far as its stream.
+    // Entries of two streams: a run ends with the last entry of one stream.
     Example {
         turns: &[
             (
@@ -262,7 +262,7 @@ const EXAMPLES: [Example; 22] = [
         end: 91,
         found: &[(0, FIRST), (31, SECOND), (64, THIRD)],
     },
-    // A feed of version 2: a message field stands in the stream's fisbone, behind the media type.
+    // A feed of version 2: a message field stands in the stream's fisbone, after the media type.
     Example {
         turns: &[
             (Version, ""),
@@ -364,7 +364,7 @@ const EXAMPLES: [Example; 22] = [
             (259, SECOND),
         ],
     },
-    // What a Skeleton can't say, in the order in which it is looked at; it counts as a stream.
+    // What a Skeleton can't say, in the order in which it is checked; it counts as a stream.
     Example {
         turns: &[
             (
@@ -412,7 +412,7 @@ const EXAMPLES: [Example; 22] = [
     },
 ];
 
-/// Whether these bytes stand in the pages there.
+/// Whether these bytes stand in the pages at this offset.
 fn stands(pages: &[u8], at: usize, bytes: &[u8]) -> bool {
     pages.get(at..).is_some_and(|rest| rest.starts_with(bytes))
 }
@@ -500,14 +500,14 @@ fn the_pages_made_one_at_a_time_are_those_appended(rt: HostRuntime) -> Result<()
     Ok(())
 }
 
-/// The begin of the stream with serial 1 and the header `abc`, whose payload is said to be one byte
-/// longer than its streams take, and is.
+/// The begin of the stream with serial 1 and the header `abc`. The length of its payload is one byte more than its
+/// streams take, and the byte is there.
 const LONGER: Record = Bytes(
     b"\x01\x30\0\0\0\0\x01\0\x01\0\0\0\x01\0\x03\0\0\0abc\0\0\
       \0\0\0\0\0\0\0\0\0\0\0\0\0\0\0\0\0\0\0\0\0\0\0\0\0\0\0\0\0\0",
 );
 
-/// What follows a feed's begin, and the fault that it is.
+/// What follows a feed's begin, and its fault.
 const FAULTS: [(Record, FeedFault); 8] = [
     (Bytes(b"\x02\x17\0\0\0\x01\0\x01"), FeedFault::Truncated),
     (Bytes(b"\x02\x17\0"), FeedFault::Truncated),
@@ -515,7 +515,7 @@ const FAULTS: [(Record, FeedFault); 8] = [
     (Bytes(b"\x02\x01\0\0\x02"), FeedFault::Length),
     (Bytes(b"\x03\x03\0\0\0\x01\0\0"), FeedFault::Form),
     (LONGER, FeedFault::Form),
-    // The announcement stands in front of all records alone, and a flush has no payload.
+    // The announcement stands only in front of all records, and a flush has no payload.
     (Version, FeedFault::Kind),
     (Bytes(b"\x04\x01\0\0\0\0"), FeedFault::Form),
 ];
@@ -541,7 +541,7 @@ const FAULTS_AT_ONCE: [(&[Record], FeedFault); 3] = [
     // There is no version 3.
     (&[Bytes(b"\0\x01\0\0\0\x03"), ONE], FeedFault::Form),
     (&[Bytes(b"\0\0\0\0\0"), ONE], FeedFault::Form),
-    // In version 2 a stream has a number of fields, even where it has none.
+    // In version 2 a stream has a number of fields, even if the number is 0.
     (&[Version, ONE, HELLO], FeedFault::Form),
 ];
 
@@ -561,8 +561,8 @@ fn a_fault_in_front_leaves_no_page(rt: HostRuntime) -> Result<(), Fail> {
     Ok(())
 }
 
-/// What is put to the stream with serial 1, each time from its beginning, and the packets that are read
-/// back behind the header: how long each is, in how many parts, and its position.
+/// What is put to the stream with serial 1, each time from its beginning, and the packets that are read back after
+/// the header: how long each is, in how many parts, and its position.
 const READ_BACK: [(Record, &[(usize, usize, Option<u64>)]); 4] = [
     (HELLO, &[(5, 1, Some(5))]),
     (

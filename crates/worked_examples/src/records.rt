@@ -7,7 +7,7 @@ use std::test::Fail;
 pub enum Packet {
     /// These bytes.
     Text(&'static [u8]),
-    /// So many zeros.
+    /// This number of zeros.
     Zeros(u32),
 }
 
@@ -33,18 +33,18 @@ pub enum Record {
     /// A begin with a Skeleton: its serial, the denominators of its presentation and base times, whose
     /// numerators are 0, and the streams that it describes.
     BeginWithSkeleton(u32, (i64, i64), &'static [Described]),
-    /// The same in a feed of version 2, where each stream has message fields.
+    /// The same in a feed of version 2, in which each stream has message fields.
     BeginWithFields(u32, (i64, i64), &'static [(Described, &'static [Field])]),
-    /// A begin with a Skeleton of serial 1000 and of so many streams, with the serials from 1 on and the
+    /// A begin with a Skeleton of serial 1000 and of this number of streams, with the serials from 1 on and the
     /// header `abc`.
     BeginManyWithSkeleton(u16),
     /// A begin of the stream with this serial and the header `abc`.
     BeginOne(u32),
-    /// A begin of so many streams, with the serials from 1 on and the header `abc`.
+    /// A begin of this number of streams, with the serials from 1 on and the header `abc`.
     BeginMany(u16),
     /// A put of packets, each with its serial and its position.
     Put(&'static [(u32, u64, Packet)]),
-    /// A put of so many times this packet, for the serial 1 at position 0.
+    /// A put of this packet, repeated this number of times, for the serial 1 at position 0.
     PutMany(u16, Packet),
     /// The end of the stream with this serial.
     End(u32),
@@ -166,7 +166,7 @@ fn append_described(stream: &Described, payload: &mut Vec<u8>) -> Result<(), Fai
     Ok(())
 }
 
-/// Appends a stream's message fields, behind their number.
+/// Appends a stream's message fields, after their number.
 fn append_fields(fields: &[Field], payload: &mut Vec<u8>) -> Result<(), Fail> {
     payload.extend_from_slice(&u16::try_from(fields.len())?.to_le_bytes())?;
     for (name, value) in fields {
@@ -208,7 +208,7 @@ fn append_entry(
     append_packet(packet, payload)
 }
 
-/// Appends a packet behind its length.
+/// Appends a packet after its length.
 fn append_packet(packet: Packet, payload: &mut Vec<u8>) -> Result<(), Fail> {
     match packet {
         Packet::Text(bytes) => {

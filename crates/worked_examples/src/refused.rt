@@ -1,5 +1,7 @@
-//! Feeds that are run while one request for memory is refused: `rt try --test --fail-alloc N` refuses the `N`th.
-//! A run that meets the refusal leaves what stood before it, and the next run comes to what the feed comes to.
+//! Feeds that are run while one request for memory is refused: `rt try --test --fail-alloc N` refuses the `N`th. A
+//! run that meets the refusal leaves what stood before it, and the next run has the result that the feed has with
+//! memory.
+use example_feeds::{BEGIN_DESCRIBED, BEGIN_THREE, BEGIN_TWO, PUT_FOUR, ZEROS, bytes_of};
 use feed_codec::{FeedFault, RunFault, Tally};
 use multiplexer::mux;
 use ogg_page::Memory;
@@ -7,58 +9,18 @@ use std::alloc::Global;
 use std::process::Abort;
 use std::test::Fail;
 
-/// One stream begins, with serial 1 and the header `abc`.
-const BEGIN: &[u8] = b"\x01\x2f\0\0\0\0\x01\0\x01\0\0\0\x01\0\x03\0\0\0abc\0\0\
-    \0\0\0\0\0\0\0\0\0\0\0\0\0\0\0\0\0\0\0\0\0\0\0\0\0\0\0\0\0";
-
-/// The same with the headers `abc`, `de` and `f`.
-const BEGIN_THREE: &[u8] = b"\x01\x3a\0\0\0\0\x01\0\x01\0\0\0\x03\0\
-    \x03\0\0\0abc\x02\0\0\0de\x01\0\0\0f\0\0\
-    \0\0\0\0\0\0\0\0\0\0\0\0\0\0\0\0\0\0\0\0\0\0\0\0\0\0\0\0\0";
-
-/// Two streams begin, with serials 1 and 2 and the header `abc`.
-const BEGIN_TWO: &[u8] = b"\x01\x5b\0\0\0\0\x02\0\
-    \x01\0\0\0\x01\0\x03\0\0\0abc\0\0\
-    \0\0\0\0\0\0\0\0\0\0\0\0\0\0\0\0\0\0\0\0\0\0\0\0\0\0\0\0\0\
-    \x02\0\0\0\x01\0\x03\0\0\0abc\0\0\
-    \0\0\0\0\0\0\0\0\0\0\0\0\0\0\0\0\0\0\0\0\0\0\0\0\0\0\0\0\0";
-
-/// A stream of type `audio/vorbis` and rate 44100/1 begins, and a Skeleton of serial 9 with times 0/1000.
-const BEGIN_DESCRIBED: &[u8] = b"\x01\x73\0\0\0\x01\x09\0\0\0\
-    \0\0\0\0\0\0\0\0\xe8\x03\0\0\0\0\0\0\0\0\0\0\0\0\0\0\xe8\x03\0\0\0\0\0\0\
-    \0\0\0\0\0\0\0\0\0\0\0\0\0\0\0\0\0\0\0\0\
-    \x01\0\x01\0\0\0\x01\0\x03\0\0\0abc\x0c\0audio/vorbis\
-    \x44\xac\0\0\0\0\0\0\x01\0\0\0\0\0\0\0\0\0\0\0\0\0\0\0\0\0\0\0\0";
-
-/// Stream 1 gets `a`, `b` and `d`, and stream 2 gets `c` before the last of them.
-const PUT_FOUR: &[u8] = b"\x02\x46\0\0\0\x04\0\
-    \x01\0\0\0\0\0\0\0\0\0\0\0\x01\0\0\0a\x01\0\0\0\0\0\0\0\0\0\0\0\x01\0\0\0b\
-    \x02\0\0\0\0\0\0\0\0\0\0\0\x01\0\0\0c\x01\0\0\0\0\0\0\0\0\0\0\0\x01\0\0\0d";
-
-/// A begin, and a put of packets whose lengths are multiples of 255, or nearly: 0, 254, 255 and 510 zeros.
-const ZEROS: [&[u8]; 8] = [
-    BEGIN,
-    b"\x02\x3d\x04\0\0\x04\0\x01\0\0\0\0\0\0\0\0\0\0\0\0\0\0\0",
-    b"\x01\0\0\0\0\0\0\0\0\0\0\0\xfe\0\0\0",
-    &[0; 254],
-    b"\x01\0\0\0\0\0\0\0\0\0\0\0\xff\0\0\0",
-    &[0; 255],
-    b"\x01\0\0\0\0\0\0\0\0\0\0\0\xfe\x01\0\0",
-    &[0; 510],
-];
-
 /// What a run leaves: whether the feed was read to its end, the reply lines, and the length of the pages.
 type Left = (bool, &'static str, usize);
 
-/// A feed, and what its run comes to.
+/// A feed, and the result of its run.
 struct Row {
     /// Its bytes, in parts.
     feed: &'static [&'static [u8]],
-    /// With memory.
+    /// The result with memory.
     whole: Left,
-    /// If memory is refused once.
+    /// The results if memory is refused once.
     refused: &'static [Left],
-    /// Bytes of the pages, each with where they stand.
+    /// Bytes of the pages, each with the offset at which they stand.
     found: &'static [(usize, &'static [u8])],
 }
 
@@ -115,22 +77,6 @@ fn room(alloc: Global) -> Result<Vec<u8>, Memory> {
     Ok(out)
 }
 
-fn joined(alloc: Global, parts: &[&[u8]]) -> Result<Vec<u8>, Memory> {
-    let mut feed = Vec::new(alloc);
-    for part in parts {
-        feed.extend_from_slice(part)?;
-    }
-    Ok(feed)
-}
-
-/// The feed of these parts. They are joined once more if memory is refused.
-fn feed_of(alloc: Global, parts: &[&[u8]]) -> Result<Vec<u8>, Memory> {
-    match joined(alloc, parts) {
-        Ok(feed) => Ok(feed),
-        Err(_) => joined(alloc, parts),
-    }
-}
-
 /// Whether a run has left this.
 fn has_left(run: &Result<Tally, RunFault>, replies: &[u8], pages: &[u8], left: &Left) -> bool {
     let (is_read, lines, length) = *left;
@@ -162,7 +108,7 @@ fn a_run_that_was_refused_memory_is_made_anew(rt: HostRuntime) -> Result<(), Fai
     let mut replies = room(rt.alloc())?;
     let mut first = room(rt.alloc())?;
     for row in &ROWS {
-        let feed = feed_of(rt.alloc(), row.feed)?;
+        let feed = bytes_of(rt.alloc(), row.feed)?;
         let mut run = mux(rt.alloc(), &mut feed.as_slice(), &mut pages, &mut replies);
         if !has_left(&run, &replies, &pages, &row.whole) {
             assert!(rt;

@@ -1,5 +1,5 @@
-//! Files that were put together by hand, whose pages are taken one after the other, with checksums by
-//! another program; and what a command meets behind pages that no command made.
+//! Files that were put together by hand, whose pages are taken one after the other, with checksums by another
+//! program; and the refusal of a command after pages that no command made.
 use crate::pages::{FIRST, SECOND, THIRD};
 use crate::records::Packet::Text;
 use crate::records::Record::{Begin, BeginMany, BeginOne, End, Put};
@@ -16,9 +16,9 @@ use std::test::Fail;
 /// Some bytes of a file.
 #[derive(Clone, Copy)]
 enum Piece {
-    /// These.
+    /// These bytes.
     Bytes(&'static [u8]),
-    /// So many times this one.
+    /// This byte, repeated this number of times.
     Many(u32, u8),
 }
 
@@ -34,16 +34,16 @@ const LATER: &[u8] = b"OggS\0\x02\0\0\0\0\0\0\0\0\x41\0\0\0\0\0\0\0\xb9\xe1\xff\
 #[derive(Clone, Copy)]
 struct File {
     pieces: &'static [Piece],
-    /// Where the pages end that are taken.
+    /// The end of the pages that are taken.
     end: u64,
-    /// What is wrong with the one behind them.
+    /// What is wrong with the page after them.
     fault: Option<ChainFault>,
     /// The first stream with an unfinished packet.
     unfinished: Option<u32>,
 }
 
-/// Two streams in one link. The second packet of stream 1 has 70,000 bytes in two pages, between which a
-/// page of stream 2 stands.
+/// Two streams in one link. The second packet of stream 1 has 70,000 bytes in two pages, and a page of stream 2
+/// stands between these.
 const TWO_PARTS: File = File {
     pieces: &[
         Bytes(FIRST),
@@ -63,7 +63,7 @@ const TWO_PARTS: File = File {
     unfinished: None,
 };
 
-/// Files with what may not follow, and files with nothing of the kind.
+/// Files with a page that may not follow, and files without one.
 const FILES: [File; 14] = [
     TWO_PARTS,
     // No page.
@@ -73,7 +73,7 @@ const FILES: [File; 14] = [
         fault: None,
         unfinished: None,
     },
-    // A link that has ended. Only a first page may follow, also where its stream is known.
+    // A link that has ended. Only a first page may follow, also if its stream is known.
     File {
         pieces: &[Bytes(FIRST), Bytes(SECOND), Bytes(THIRD)],
         end: 91,
@@ -103,7 +103,7 @@ const FILES: [File; 14] = [
         fault: Some(ChainFault::NoStream),
         unfinished: None,
     },
-    // Its number is 2, where 1 would follow.
+    // The page's number is 2, and 1 would follow.
     File {
         pieces: &[
             Bytes(FIRST),
@@ -113,7 +113,7 @@ const FILES: [File; 14] = [
         fault: Some(ChainFault::Sequence),
         unfinished: None,
     },
-    // It goes on with a packet, and there is none to go on with.
+    // The page goes on with a packet, and there is none to go on with.
     File {
         pieces: &[
             Bytes(FIRST),
@@ -141,7 +141,7 @@ const FILES: [File; 14] = [
         fault: Some(ChainFault::BosShape),
         unfinished: None,
     },
-    // A last page whose packet goes on; a page that isn't the last may have one.
+    // A last page whose packet goes on; a page that isn't the last may have such a packet.
     File {
         pieces: &[
             Bytes(FIRST),
@@ -166,7 +166,7 @@ const FILES: [File; 14] = [
         fault: None,
         unfinished: Some(1),
     },
-    // A page behind its stream's last one.
+    // A page after its stream's last one.
     File {
         pieces: &[
             Bytes(FIRST),
@@ -178,7 +178,7 @@ const FILES: [File; 14] = [
         fault: Some(ChainFault::AfterEos),
         unfinished: None,
     },
-    // A first page behind the pages with data of a link that hasn't ended.
+    // A first page after the pages with data of a link that hasn't ended.
     File {
         pieces: &[Bytes(FIRST), Bytes(SECOND), OTHER],
         end: 64,
@@ -190,11 +190,11 @@ const FILES: [File; 14] = [
 /// How far the pages of a file were taken.
 #[derive(Drop)]
 pub struct Taken {
-    /// The chain of the pages that were.
+    /// The chain of the pages that were taken.
     pub shape: Shape,
-    /// Where they end.
+    /// The end of these pages.
     pub end: u64,
-    /// What is wrong with the one behind them.
+    /// What is wrong with the page after them.
     pub fault: Option<ChainFault>,
 }
 
@@ -280,7 +280,7 @@ fn run(record: Record, alloc: Global, pages: &mut Vec<u8>) -> Result<(), Fail> {
     Ok(())
 }
 
-/// What the rules answer to a command behind these pages.
+/// What the rules answer to a command after these pages.
 fn answer(alloc: Global, pages: &[u8], record: Record) -> Result<Option<Refusal>, Fail> {
     let taken = take_pages(alloc, pages)?;
     if taken.fault.is_some() {
@@ -297,7 +297,7 @@ fn answer(alloc: Global, pages: &[u8], record: Record) -> Result<Option<Refusal>
     Ok(taken.shape.check(&command).err())
 }
 
-/// What would need one page more.
+/// Commands that would need one more page.
 const ONE_MORE: [Record; 2] = [Put(&[(1, 5, Text(b"hello"))]), End(1)];
 
 #[test]
@@ -312,7 +312,7 @@ fn no_page_follows_the_last_number(rt: HostRuntime) -> Result<(), Fail> {
     Ok(())
 }
 
-/// A link more, whose stream has a serial that is new.
+/// Another link, whose stream has a serial that is new.
 const NEXT: Record = Begin(&[(0, &[Text(b"abc")])]);
 
 #[test]

@@ -20,7 +20,7 @@ fn files_are_opened_as_the_mode_says(rt: HostRuntime) -> Result<(), Fail> {
     let file = folder.join(rt.alloc(), "file")?;
     let path = file.as_str();
 
-    // What isn't there is made by one mode alone.
+    // Only one mode makes what isn't there.
     for mode in [FileMode::ReadWrite, FileMode::ReadOnly] {
         assert!(rt; FileDisk::open(&rt, path, mode).is_err());
     }
@@ -70,7 +70,7 @@ fn files_fail_where_they_should(rt: HostRuntime) -> Result<(), Fail> {
     let made = FileDisk::open(&rt, missing.as_str(), FileMode::Create);
     assert!(rt; made.is_err());
 
-    // A folder can be opened, and not be read.
+    // A folder can be opened, but not read.
     assert!(rt; FileDisk::open(&rt, folder.as_str(), FileMode::ReadWrite).is_err());
     let mut opened = FileDisk::open(&rt, folder.as_str(), FileMode::ReadOnly).map_err(|_| "open")?;
     assert!(rt; opened.read_at(0, &mut [0]) == Err(DiskFault));
@@ -80,7 +80,7 @@ fn files_fail_where_they_should(rt: HostRuntime) -> Result<(), Fail> {
     Ok(())
 }
 
-/// A device that takes no byte for want of room.
+/// A device that has no room, and so takes no byte.
 #[test]
 fn a_full_device_fails_each_write(rt: HostRuntime) -> Result<(), Fail> {
     let mut disk = FileDisk::open(&rt, "/dev/full", FileMode::ReadWrite).map_err(

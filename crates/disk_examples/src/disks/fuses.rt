@@ -64,7 +64,7 @@ fn fuses_nest(rt: HostRuntime) -> Result<(), Fail> {
     let mut disk = FuseDisk::fail_once(inner, 2);
     assert!(rt; five_calls(&mut disk) == [true, false, true, true, false]);
 
-    // One that the inner fuse fails is counted by the outer one.
+    // A call that the inner fuse fails is counted by the outer one.
     let inner = FuseDisk::fail_once(MemDisk::of(rt.alloc(), &[1])?, 2);
     let mut disk = FuseDisk::stop_after(inner, 3);
     assert!(rt; five_calls(&mut disk) == [true, false, true, false, false]);

@@ -1,6 +1,6 @@
-//! Every sequence of up to four calls on a disk of up to three bytes, each 0 or 1, that begins with zeros, and of up to
-//! three that begins with any bytes. (Exchanging 0 and 1 at a place in all bytes makes one run from another, so zeros
-//! are enough for the longest.)
+//! Every sequence of up to four calls on a disk of up to three bytes, each 0 or 1, that begins with zeros, and of up
+//! to three calls that begins with any bytes. (Exchanging 0 and 1 at a place in all bytes makes one run from another,
+//! so zeros are enough for the longest.)
 
 use disk_model::{Disk, MemDisk};
 use std::alloc::Global;
@@ -9,7 +9,7 @@ use std::test::Fail;
 
 const LONGEST: usize = 3;
 
-/// Every list of so many such bytes, and some that are longer.
+/// Every list of up to three such bytes, and some that are longer.
 const LISTS: [&[u8]; 17] = [
     &[],
     &[0],
@@ -37,7 +37,8 @@ enum Step {
     Sync,
 }
 
-/// The definition, place by place: `None` behind the end, and `free` where a write since the last sync has been.
+/// The definition, place by place: `None` after the end, and `free` at each place that was written since the last
+/// sync.
 #[derive(Clone, Copy)]
 struct Places {
     length: usize,
@@ -150,7 +151,7 @@ fn calls(alloc: Global, length: usize) -> Result<Vec<Step>, Fail> {
     Ok(next)
 }
 
-/// Compares after these calls, and after each way of going on by so many more.
+/// Compares after these calls, and after each way of going on by `more` calls.
 fn compare<R: Abort>(
     rt: &R,
     alloc: Global,

@@ -4,7 +4,7 @@ use disk_model::{Disk, DiskFault, MemDisk};
 use std::process::Abort;
 use std::test::Fail;
 
-/// Bytes, and whether they are an image after `[1, 2, 3]` got 9 9 behind it.
+/// Bytes, and whether they are an image after 9 9 was written after `[1, 2, 3]`.
 const AFTER_WRITE: [(&[u8], bool); 7] = [
     (&[1, 2, 3], true),
     (&[1, 2, 3, 9, 9], true),
@@ -15,7 +15,7 @@ const AFTER_WRITE: [(&[u8], bool); 7] = [
     (&[1, 2, 3, 9, 9, 9], false),
 ];
 
-/// The same after a cut to one byte more.
+/// The same, after a cut to one byte too.
 const AFTER_CUT: [(&[u8], bool); 6] = [
     (&[1], true),
     (&[1, 2], true),
@@ -25,7 +25,7 @@ const AFTER_CUT: [(&[u8], bool); 6] = [
     (&[1, 3], false),
 ];
 
-/// The same after a sync.
+/// The same, after a sync too.
 const AFTER_SYNC: [(&[u8], bool); 4] = [
     (&[1], true),
     (&[1, 2], false),
@@ -86,8 +86,8 @@ fn sync_twice<R: Abort>(rt: &R, disk: &mut MemDisk) {
     assert!(rt; !disk.is_image(&[1, 2]));
 }
 
-/// Each call that needs memory is made again where it was refused, and then succeeds: the run with the nth allocation
-/// failing is the script's.
+/// Each call that needs memory is made again if memory was refused, and then succeeds. The script runs it with the
+/// nth allocation failing.
 #[test]
 fn refused_growth_is_a_failure_that_changes_nothing(rt: HostRuntime) -> Result<(), Fail> {
     let mut disk = match MemDisk::of(rt.alloc(), &[1, 2]) {

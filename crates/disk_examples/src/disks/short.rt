@@ -6,7 +6,8 @@ use disk_model::{Disk, DiskFault, FileDisk, MemDisk, RawFile};
 use std::alloc::Global;
 use std::test::Fail;
 
-/// Each read and each write takes at most `most` bytes. The disk's call number `bad` fails, the first being 1.
+/// Each read and each write takes at most `most` bytes. The disk's call number `bad` fails; the first call has the
+/// number 1.
 #[derive(Drop)]
 struct ShortFile {
     disk: MemDisk,
@@ -124,7 +125,7 @@ fn a_read_that_failed_is_not_tried_again(rt: HostRuntime) -> Result<(), Fail> {
         let mut bytes = [0; 3];
         assert!(rt; disk.read_at(0, &mut bytes) == Err(DiskFault));
 
-        // The one after it finds all as it was.
+        // The next read finds all as it was.
         assert!(rt; disk.read_at(0, &mut bytes) == Ok(()));
         assert!(rt; &bytes == b"abc");
     }

@@ -1,6 +1,6 @@
 //! Appends of one page, stopped at each call.
 use super::tools::{
-    ClosedPage, append, ends, opened, overlaid, page, row_1, row_2, row_3, seal, try_open,
+    ClosedPage, append, ends, opened, overlaid, page, begin_page, put_page, end_page, seal, try_open,
 };
 use disk_model::{DiskFault, FuseDisk, MemDisk};
 use gate_file::{GateFile, OpenFault};
@@ -13,7 +13,7 @@ fn three_appends_and_a_seal(rt: HostRuntime) -> Result<(), Fail> {
     let alloc = rt.alloc();
     let mut file = opened(alloc, MemDisk::of(alloc, b"")?)?;
     let mut lengths = [31, 64, 91].iter();
-    for page in [row_1(alloc)?, row_2(alloc)?, row_3(alloc)?] {
+    for page in [begin_page(alloc)?, put_page(alloc)?, end_page(alloc)?] {
         assert!(rt; append(&mut file, &page) == Ok(()));
         assert!(rt; Some(&file.end()) == lengths.next());
     }
@@ -54,21 +54,21 @@ fn calls_of(alloc: Global, first: &[u8], more: Option<&ClosedPage>) -> Result<u6
 #[test]
 fn an_append_makes_four_calls(rt: HostRuntime) -> Result<(), Fail> {
     let alloc = rt.alloc();
-    let first = row_1(alloc)?;
+    let first = begin_page(alloc)?;
     let opening = calls_of(alloc, first.bytes(), None)?;
 
-    // A sync, the length, one read into the window, one of the byte behind the pages: a closed byte stands there.
+    // A sync, the length, one read into the window, and one of the byte after the pages, which is a closed one.
     assert!(rt; opening == 4);
-    assert!(rt; calls_of(alloc, first.bytes(), Some(&row_2(alloc)?))? == 8);
+    assert!(rt; calls_of(alloc, first.bytes(), Some(&put_page(alloc)?))? == 8);
 
-    // Of an empty file there is nothing to read, and a closed byte is written and synced.
+    // In an empty file there is nothing to read, and a closed byte is written and synced.
     assert!(rt; calls_of(alloc, b"", None)? == 4);
     Ok(())
 }
 
 /// These bytes changed in many ways from the commit byte on.
 fn images_of(alloc: Global, bytes: &[u8]) -> Result<Vec<Vec<u8>>, Fail> {
-    let foreign = row_3(alloc)?;
+    let foreign = end_page(alloc)?;
     let mut images = Vec::new(alloc);
     images.push(bytes.to_vec(alloc)?)?;
     for over in [&[0; 33], &[0xFF; 33]] {
@@ -87,8 +87,8 @@ fn images_of(alloc: Global, bytes: &[u8]) -> Result<Vec<Vec<u8>>, Fail> {
     Ok(images)
 }
 
-/// Asks each of the images that a stop may leave for its end, and wants one of the two: the second only if the byte at
-/// 31 is the first of a page.
+/// Finds the end of each of the images that a stop may leave. The end must be one of the two: the second only if
+/// the byte at 31 is the first of a page.
 fn check_images<R: Abort>(
     rt: &R,
     alloc: Global,
@@ -124,8 +124,8 @@ fn every_image_of_a_stop_within_an_append_commits_to_one_of_two(
     rt: HostRuntime,
 ) -> Result<(), Fail> {
     let alloc = rt.alloc();
-    let first = row_1(alloc)?;
-    let second = row_2(alloc)?;
+    let first = begin_page(alloc)?;
+    let second = put_page(alloc)?;
     for calls in 0..=4 {
         let disk = FuseDisk::stop_after(MemDisk::of(alloc, first.bytes())?, 4 + calls);
         let mut file = opened(alloc, disk)?;
@@ -142,10 +142,10 @@ fn every_image_of_a_stop_within_an_append_commits_to_one_of_two(
 #[test]
 fn a_failed_sync_leaves_the_append_in_doubt(rt: HostRuntime) -> Result<(), Fail> {
     let alloc = rt.alloc();
-    let first = row_1(alloc)?;
+    let first = begin_page(alloc)?;
     let disk = FuseDisk::fail_once(MemDisk::of(alloc, first.bytes())?, 8);
     let mut file = opened(alloc, disk)?;
-    assert!(rt; append(&mut file, &row_2(alloc)?) == Err(DiskFault));
+    assert!(rt; append(&mut file, &put_page(alloc)?) == Err(DiskFault));
     assert!(rt; file.is_failed());
     assert!(rt; file.end() == 31);
 
@@ -156,7 +156,7 @@ fn a_failed_sync_leaves_the_append_in_doubt(rt: HostRuntime) -> Result<(), Fail>
     }
     assert!(rt; &bytes == b"abc");
 
-    // Opening whose first sync fails answers so, and the next one finds the pages.
+    // An opening whose first sync fails reports that, and the next one finds the pages.
     let disk = FuseDisk::fail_once(file.give_back().into_inner(), 1);
     match GateFile::find(alloc, disk) {
         Ok(_) => return Err(Fail::from("opened")),
@@ -175,9 +175,9 @@ fn a_failed_sync_leaves_the_append_in_doubt(rt: HostRuntime) -> Result<(), Fail>
 fn each_failing_call_of_an_append_is_a_fault(rt: HostRuntime) -> Result<(), Fail> {
     let alloc = rt.alloc();
     for call in 1..=4 {
-        let disk = FuseDisk::fail_once(MemDisk::of(alloc, row_1(alloc)?.bytes())?, 4 + call);
+        let disk = FuseDisk::fail_once(MemDisk::of(alloc, begin_page(alloc)?.bytes())?, 4 + call);
         let mut file = opened(alloc, disk)?;
-        assert!(rt; append(&mut file, &row_2(alloc)?) == Err(DiskFault));
+        assert!(rt; append(&mut file, &put_page(alloc)?) == Err(DiskFault));
         assert!(rt; file.is_failed());
         let disk = file.give_back().into_inner();
         let end = if call == 4 { 64 } else { 31 };
@@ -196,7 +196,7 @@ fn the_next_append_writes_over_what_was_not_committed(rt: HostRuntime) -> Result
     let mut lacing = [255; 236];
     lacing[235] = 75;
     let large = page(alloc, 0, 5, 1, &lacing, &[7; 60_000])?;
-    let disk = FuseDisk::stop_after(MemDisk::of(alloc, row_1(alloc)?.bytes())?, 6);
+    let disk = FuseDisk::stop_after(MemDisk::of(alloc, begin_page(alloc)?.bytes())?, 6);
     let mut file = opened(alloc, disk)?;
     assert!(rt; append(&mut file, &large) == Err(DiskFault));
     let disk = file.give_back().into_inner();
@@ -204,7 +204,7 @@ fn the_next_append_writes_over_what_was_not_committed(rt: HostRuntime) -> Result
     assert!(rt; ends(alloc, disk.contents())? == Ok((31, 60_264)));
 
     let mut file = opened(alloc, disk)?;
-    assert!(rt; append(&mut file, &row_2(alloc)?) == Ok(()));
+    assert!(rt; append(&mut file, &put_page(alloc)?) == Ok(()));
     assert!(rt; file.end() == 64);
     assert!(rt; ends(alloc, file.give_back().contents())? == Ok((64, 60_231)));
     Ok(())
@@ -213,7 +213,7 @@ fn the_next_append_writes_over_what_was_not_committed(rt: HostRuntime) -> Result
 #[test]
 fn a_stop_within_a_seal_keeps_the_committed_bytes(rt: HostRuntime) -> Result<(), Fail> {
     let alloc = rt.alloc();
-    let tailed = overlaid(alloc, &[0; 70], 0, row_1(alloc)?.bytes())?;
+    let tailed = overlaid(alloc, &[0; 70], 0, begin_page(alloc)?.bytes())?;
     for calls in 0..=2 {
         let disk = FuseDisk::stop_after(MemDisk::of(alloc, &tailed)?, 4 + calls);
         let disk = match seal(opened(alloc, disk)?) {

@@ -1,5 +1,5 @@
 //! Groups of pages, staged one after the other and committed together.
-use super::tools::{ClosedPage, commit, ends, opened, page, row_1, row_2, row_3, stage_last};
+use super::tools::{ClosedPage, commit, ends, opened, page, begin_page, put_page, end_page, stage_last};
 use disk_model::{Disk, DiskFault, FuseDisk, MemDisk};
 use gate_file::GateFile;
 use std::alloc::Global;
@@ -16,13 +16,14 @@ fn run<D: Disk>(file: &mut GateFile<D>, pages: &[ClosedPage]) -> Result<(), Disk
 /// A new file, and three pages of 31, 33 and 27 bytes as one group.
 fn three_pages(alloc: Global) -> Result<Vec<ClosedPage>, Fail> {
     let mut pages = Vec::new(alloc);
-    pages.push(row_1(alloc)?)?;
-    pages.push(row_2(alloc)?)?;
-    pages.push(row_3(alloc)?)?;
+    pages.push(begin_page(alloc)?)?;
+    pages.push(put_page(alloc)?)?;
+    pages.push(end_page(alloc)?)?;
     Ok(pages)
 }
 
-/// Opening a new file takes four calls. Of the group's calls, after so many: where the committed bytes end and how many follow.
+/// Opening a new file takes four calls. Each stop says how many of the group's calls succeed, the end of the
+/// committed bytes then, and how many bytes follow.
 const STOPS: [(u64, u64, u64); 7] = [
     (0, 0, 1),
     (1, 0, 32),
@@ -46,7 +47,7 @@ fn a_group_of_three_pages_makes_six_calls(rt: HostRuntime) -> Result<(), Fail> {
         let disk = file.give_back().into_inner();
         assert!(rt; ends(alloc, disk.contents())? == Ok((end, tail)));
 
-        // Whatever a stop makes of the byte that decides, it is none of the pages or all.
+        // Whatever a stop makes of the byte that decides, either none of the pages is found or all are.
         for byte in 0..=255 {
             let mut image = disk.contents().to_vec(alloc)?;
             if let Some(first) = image.first_mut() {
@@ -77,7 +78,8 @@ fn a_failed_commit_leaves_the_group_in_doubt(rt: HostRuntime) -> Result<(), Fail
     Ok(())
 }
 
-/// A packet of 65,025 bytes: a full page, and one of 28 bytes that ends it. After so many calls behind the opening.
+/// A packet of 65,025 bytes: a full page, and one of 28 bytes that ends it. Each stop says how many calls succeed
+/// after the opening, the end of the committed bytes then, and how many bytes follow.
 const LONG: [(u64, u64, u64); 6] = [
     (0, 31, 1),
     (1, 31, 65_307),
@@ -93,7 +95,7 @@ fn a_command_of_two_pages_makes_five_calls(rt: HostRuntime) -> Result<(), Fail> 
     let full = page(alloc, 0, u64::MAX, 1, &[255; 255], &[7; 65_025])?;
     let rest = page(alloc, 1, 5, 2, &[0], b"")?;
     for (calls, end, tail) in LONG {
-        let disk = FuseDisk::stop_after(MemDisk::of(alloc, row_1(alloc)?.bytes())?, 4 + calls);
+        let disk = FuseDisk::stop_after(MemDisk::of(alloc, begin_page(alloc)?.bytes())?, 4 + calls);
         let mut file = opened(alloc, disk)?;
         let mut done = Err(DiskFault);
         if !file.is_failed()
@@ -113,8 +115,8 @@ fn a_command_of_two_pages_makes_five_calls(rt: HostRuntime) -> Result<(), Fail> 
 #[test]
 fn what_is_staged_is_lost_when_the_disk_is_given_back(rt: HostRuntime) -> Result<(), Fail> {
     let alloc = rt.alloc();
-    let mut file = opened(alloc, MemDisk::of(alloc, row_1(alloc)?.bytes())?)?;
-    assert!(rt; stage_last(&mut file, &row_2(alloc)?) == Ok(()));
+    let mut file = opened(alloc, MemDisk::of(alloc, begin_page(alloc)?.bytes())?)?;
+    assert!(rt; stage_last(&mut file, &put_page(alloc)?) == Ok(()));
     assert!(rt; (file.end(), file.staged(), file.is_whole()) == (31, 33, true));
     let disk = file.give_back();
     assert!(rt; ends(alloc, disk.contents())? == Ok((31, 34)));

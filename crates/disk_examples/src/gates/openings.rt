@@ -1,7 +1,7 @@
 //! Files as they are found: cut at each byte, with tails of every kind, damaged.
 ghost use Rattle.std.specs.Prelude.{◌≡◌, ◌+◌, ◌<◌};
 
-use super::tools::{append, ends, opened, overlaid, row_1, row_2, row_3, try_open};
+use super::tools::{append, ends, opened, overlaid, begin_page, put_page, end_page, try_open};
 use disk_model::{FuseDisk, MemDisk};
 use gate_file::{GateFile, OpenFault, PageVisitor};
 use ogg_page::{Page, PageBuffer, PageFault};
@@ -12,9 +12,9 @@ use std::test::Fail;
 /// The pages of the first rows, joined.
 fn sealed(alloc: Global) -> Result<Vec<u8>, Fail> {
     let mut bytes = Vec::new(alloc);
-    bytes.extend_from_slice(row_1(alloc)?.page())?;
-    bytes.extend_from_slice(row_2(alloc)?.page())?;
-    bytes.extend_from_slice(row_3(alloc)?.page())?;
+    bytes.extend_from_slice(begin_page(alloc)?.page())?;
+    bytes.extend_from_slice(put_page(alloc)?.page())?;
+    bytes.extend_from_slice(end_page(alloc)?.page())?;
     Ok(bytes)
 }
 
@@ -41,13 +41,13 @@ fn a_sealed_file_is_cut_at_each_byte(rt: HostRuntime) -> Result<(), Fail> {
 fn check_lone_byte<R: Abort>(rt: &R, alloc: Global, byte: &[u8]) -> Result<(), Fail> {
     assert!(rt; ends(alloc, byte)? == Ok((0, 1)));
     let mut file = opened(alloc, MemDisk::of(alloc, byte)?)?;
-    assert!(rt; append(&mut file, &row_1(alloc)?) == Ok(()));
+    assert!(rt; append(&mut file, &begin_page(alloc)?) == Ok(()));
     assert!(rt; file.end() == 31);
-    assert!(rt; file.give_back().contents() == row_1(alloc)?.bytes());
+    assert!(rt; file.give_back().contents() == begin_page(alloc)?.bytes());
     Ok(())
 }
 
-/// Opening takes so many calls of the disk, and leaves these contents.
+/// Opening takes `calls` calls of the disk, and leaves these contents.
 fn check_closed<R: Abort>(
     rt: &R,
     alloc: Global,
@@ -71,7 +71,7 @@ fn one_byte_alone_is_a_tail(rt: HostRuntime) -> Result<(), Fail> {
     for byte in [b"O", b"\0", b"x"] {
         check_lone_byte(&rt, alloc, byte)?;
     }
-    // An open byte is closed, and a closed one is left.
+    // An open byte is closed, and a closed one stays.
     for (byte, calls, contents) in [(b"O", 6, b"\0"), (b"x", 4, b"x")] {
         check_closed(&rt, alloc, byte, calls, contents)?;
     }
@@ -80,20 +80,20 @@ fn one_byte_alone_is_a_tail(rt: HostRuntime) -> Result<(), Fail> {
 
 /// These bytes after the first page and a closed byte are a tail, and the next append writes over it.
 fn check_tail<R: Abort>(rt: &R, alloc: Global, closed: u8, over: &[u8]) -> Result<(), Fail> {
-    let mut bytes = overlaid(alloc, &[closed; 123], 0, row_1(alloc)?.page())?;
+    let mut bytes = overlaid(alloc, &[closed; 123], 0, begin_page(alloc)?.page())?;
     bytes = overlaid(alloc, &bytes, 32, over)?;
     assert!(rt; ends(alloc, &bytes)? == Ok((31, 92)));
     let mut file = opened(alloc, MemDisk::of(alloc, &bytes)?)?;
-    assert!(rt; append(&mut file, &row_2(alloc)?) == Ok(()));
+    assert!(rt; append(&mut file, &put_page(alloc)?) == Ok(()));
     assert!(rt; ends(alloc, file.give_back().contents())? == Ok((64, 59)));
     Ok(())
 }
 
-/// What stands behind a closed byte is never looked at, whatever it is: a good page, zeros, pages of an earlier life.
+/// What stands after a closed byte is never read, whatever it is: a good page, zeros, pages of an earlier file.
 #[test]
 fn what_follows_a_closed_byte_is_a_tail(rt: HostRuntime) -> Result<(), Fail> {
     let alloc = rt.alloc();
-    let second = row_2(alloc)?;
+    let second = put_page(alloc)?;
     let whole = sealed(alloc)?;
     for closed in [0, 1, b'o', 0xFF] {
         for over in [
@@ -124,7 +124,7 @@ fn a_damaged_page_is_named_and_nothing_is_written(rt: HostRuntime) -> Result<(),
     Ok(())
 }
 
-/// It counts the pages, and adds up their offsets.
+/// A visitor that counts the pages, and adds up their offsets.
 #[derive(Drop)]
 struct Count {
     pages: u64,

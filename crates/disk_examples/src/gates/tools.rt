@@ -9,7 +9,7 @@ use std::alloc::Global;
 use std::marker::Model;
 use std::test::Fail;
 
-/// One page, and the byte 00 behind it.
+/// One page, and the byte 00 after it.
 #[derive(Drop)]
 pub(super) struct ClosedPage {
     bytes: Vec<u8>,
@@ -34,7 +34,7 @@ impl ClosedPage {
         &self.bytes
     }
 
-    /// Stages the page alone, with another to follow.
+    /// Stages the page without the byte, so that another page can follow.
     pub(super) fn stage_in<D: Disk>(&self, file: &mut GateFile<D>) -> Result<(), DiskFault> {
         match read_page(self.page()) {
             Ok(page) if !file.is_failed() => file.stage(page.whole()),
@@ -42,7 +42,7 @@ impl ClosedPage {
         }
     }
 
-    /// The page alone.
+    /// The page without the byte.
     pub(super) fn page(&self) -> &[u8] {
         match self.bytes.split_last() {
             Some((_, page)) => page,
@@ -77,7 +77,7 @@ pub(super) fn page(
     closed(bytes)
 }
 
-/// The bytes with the byte 00 behind them, if they are one page.
+/// The bytes with the byte 00 after them, if they are one page.
 fn closed(bytes: Vec<u8>) -> Result<ClosedPage, Fail> {
     let mut bytes = bytes;
     match read_page(&bytes) {
@@ -88,16 +88,16 @@ fn closed(bytes: Vec<u8>) -> Result<ClosedPage, Fail> {
     Ok(ClosedPage { bytes })
 }
 
-/// The pages of the first rows: of 31, 33 and 27 bytes.
-pub(super) fn row_1(alloc: Global) -> Result<ClosedPage, Fail> {
+/// The page of a begin, of a put and of an end, of 31, 33 and 27 bytes.
+pub(super) fn begin_page(alloc: Global) -> Result<ClosedPage, Fail> {
     page(alloc, 2, 0, 0, &[3], b"abc")
 }
 
-pub(super) fn row_2(alloc: Global) -> Result<ClosedPage, Fail> {
+pub(super) fn put_page(alloc: Global) -> Result<ClosedPage, Fail> {
     page(alloc, 0, 5, 1, &[5], b"hello")
 }
 
-pub(super) fn row_3(alloc: Global) -> Result<ClosedPage, Fail> {
+pub(super) fn end_page(alloc: Global) -> Result<ClosedPage, Fail> {
     page(alloc, 4, 5, 2, &[], b"")
 }
 
@@ -119,7 +119,7 @@ pub(super) fn opened<D: Disk + Drop>(alloc: Global, disk: D) -> Result<GateFile<
     }
 }
 
-/// Where the committed bytes end and how many follow, or the fault.
+/// The end of the committed bytes and how many follow, or the fault.
 pub(super) fn ends(alloc: Global, bytes: &[u8]) -> Result<Result<(u64, u64), OpenFault>, Fail> {
     match GateFile::find(alloc, MemDisk::of(alloc, bytes)?) {
         Ok(found) => Ok(Ok((found.end(), found.tail()))),
@@ -127,7 +127,7 @@ pub(super) fn ends(alloc: Global, bytes: &[u8]) -> Result<Result<(u64, u64), Ope
     }
 }
 
-/// Appends, where nothing is staged.
+/// Appends, if nothing is staged.
 pub(super) fn append<D: Disk>(file: &mut GateFile<D>, more: &ClosedPage) -> Result<(), DiskFault> {
     if file.is_failed() || file.staged() > 0 {
         return Err(DiskFault);
@@ -146,7 +146,7 @@ pub(super) fn stage_last<D: Disk>(
     file.stage_last(last.bytes())
 }
 
-/// Commits, where the last page is staged.
+/// Commits, if the last page is staged.
 pub(super) fn commit<D: Disk>(file: &mut GateFile<D>) -> Result<(), DiskFault> {
     if file.is_failed() || !file.is_whole() {
         return Err(DiskFault);
@@ -154,7 +154,7 @@ pub(super) fn commit<D: Disk>(file: &mut GateFile<D>) -> Result<(), DiskFault> {
     file.commit()
 }
 
-/// Seals, where nothing is staged.
+/// Seals, if nothing is staged.
 pub(super) fn seal<D: Disk>(file: GateFile<D>) -> Result<D, (DiskFault, D)> {
     if file.is_failed() || file.staged() > 0 {
         return Err((DiskFault, file.give_back()));

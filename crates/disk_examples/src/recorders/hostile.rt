@@ -1,5 +1,5 @@
-//! A disk that fails at each of its calls in turn, once or from then on: whatever a stop makes of the file, it holds the
-//! first commands, every one that was kept among them, and at most one group more.
+//! A disk that fails at each of its calls in turn, once or from then on. Whatever a stop makes of the file, it
+//! holds the first commands: every one that was kept is among them, and at most one group besides.
 use super::tools::{Answer, Given, ends, give, group};
 use disk_model::{Disk, FileDisk, FileMode, FuseDisk, MemDisk};
 use ogg_recorder::Recorder;
@@ -8,9 +8,9 @@ use std::process::Abort;
 use std::test::Fail;
 use std::{env, fs, process};
 
-/// A run on a new disk: how many commands share a commit, the commands, and where the committed bytes may end, in order.
-/// What waits at the end is flushed, and then the file is sealed. `places` are where something of it begins or ends in
-/// the file: a commit byte, a page, the closed byte after it.
+/// A run on a new disk: how many commands share a commit, the commands, and the ends that the committed bytes may
+/// have, in order. What waits at the end is flushed, and then the file is sealed. `places` are the places at which a
+/// commit byte, a page, or the closed byte after it begins or ends in the file.
 struct Run {
     most: u32,
     given: &'static [Given],
@@ -52,7 +52,7 @@ const RUNS: [Run; 4] = [
     },
 ];
 
-/// No run makes so many calls of its disk.
+/// Every run makes fewer calls of its disk.
 const CALLS: u64 = 20;
 
 const PLACES: &[usize] = &[0, 1, 31, 32, 33, 64, 65, 66, 91, 92];
@@ -61,7 +61,8 @@ const PLACES: &[usize] = &[0, 1, 31, 32, 33, 64, 65, 66, 91, 92];
 const FOREIGN: &[u8; 31] =
     b"OggS\x00\x02\x00\x00\x00\x00\x00\x00\x00\x00\x05\x00\x00\x00\x00\x00\x00\x00\xe6\x18\xba\x4a\x01\x03abc";
 
-/// Runs it on the disk, as far as that goes: where the last answer said that the committed bytes end, and the disk.
+/// Runs it on the disk, as far as that goes, and returns the end of the committed bytes by the last answer, and the
+/// disk.
 fn run_on<D: Disk + Drop>(alloc: Global, disk: D, run: &Run) -> Result<(u64, D), Fail> {
     let mut recorder = match Recorder::open(alloc, disk) {
         Ok(recorder) => recorder,
@@ -91,7 +92,7 @@ fn sealed<D: Disk>(recorder: Recorder<D>) -> D {
     }
 }
 
-/// Whether the committed bytes may end there if they were said to end at `kept`: there, or after one group more.
+/// Whether the committed bytes may end at `found` if they were said to end at `kept`: there, or after one more group.
 fn may_end(run: &Run, kept: u64, found: u64) -> bool {
     let mut after = run.ends.iter().skip_while(|end| **end < kept);
     after.next() == Some(&kept) && (found == kept || after.next() == Some(&found))
@@ -116,7 +117,7 @@ fn check_image<R: Abort>(
     Ok(1)
 }
 
-/// How many images were asked for so far.
+/// How many images were checked so far.
 fn more(found: u64, others: u64) -> u64 {
     found.saturating_add(others)
 }
@@ -167,7 +168,7 @@ fn fill_range(range: &mut [u8], fill: u8) {
     }
 }
 
-/// Each call fails in turn, `stays` from then on.
+/// Each call fails in turn; if `stays`, so do all calls after it.
 fn check_run<R: Abort>(rt: &R, alloc: Global, run: &Run, stays: bool) -> Result<u64, Fail> {
     let mut images = 0;
     for call in 0..CALLS {

@@ -54,12 +54,12 @@ const BROKEN: [(&[ByHand], OpenFault); 12] = [
         &[ROW_1, ROW_2, ROW_3, (1, 0, 5, 3, &[], b"")],
         OpenFault::Chain(91, ChainFault::AfterEos),
     ),
-    // The first page that may not follow is told, and a later one isn't.
+    // The first page that may not follow is reported, and a later one isn't.
     (
         &[ROW_1, ROW_1, (2, 0, 0, 1, &[1], b"x")],
         OpenFault::Chain(31, ChainFault::SerialTwice),
     ),
-    // A page that may not follow comes before an unfinished packet.
+    // A page that may not follow is reported before an unfinished packet.
     (
         &[ROW_1, (1, 0, 0, 1, &[255], &[0; 255]), ROW_1],
         OpenFault::Chain(314, ChainFault::BosWhileOpen),
@@ -73,7 +73,7 @@ fn broken_chains_are_told_and_left_as_they_are(rt: HostRuntime) -> Result<(), Fa
         let bytes = joined(alloc, pages)?;
         assert!(rt; ends(alloc, &bytes)? == Err(fault));
 
-        // A damaged page is told first, wherever it stands.
+        // A damaged page is reported first, wherever it stands.
         let place = bytes.len() as u64;
         let mut damaged = bytes;
         damaged.extend_from_slice(b"OggS damaged")?;

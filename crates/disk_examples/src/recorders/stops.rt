@@ -7,8 +7,9 @@ use std::alloc::Global;
 use std::process::Abort;
 use std::test::Fail;
 
-/// A file, how many commands share a commit, and commands. Each stop says how many calls of the disk succeed after the
-/// four of the opening, where the committed bytes end then, and how many bytes follow. At the last one all are done.
+/// A file, how many commands share a commit, and commands. Each stop says how many calls of the disk succeed after
+/// the four of the opening, the end of the committed bytes then, and how many bytes follow. At the last stop no
+/// call fails, and all commands are done.
 struct Stopped {
     file: &'static [ByHand],
     most: u32,
@@ -81,7 +82,7 @@ fn run<D: Disk>(
     Ok(answer)
 }
 
-/// After a fault it answers no more, and shows what was kept before.
+/// After a fault the recorder accepts no command, and shows what was kept before.
 fn check_failed<R: Abort, D: Disk>(
     rt: &R,
     alloc: Global,
@@ -95,7 +96,7 @@ fn check_failed<R: Abort, D: Disk>(
     Ok(())
 }
 
-/// Runs the commands on this disk, whose calls fail from one on if the stop isn't the last, and gives it back.
+/// Runs the commands on this disk, and gives it back. If the stop isn't the last, the disk's calls fail from one on.
 fn check_stop<R: Abort, D: Disk + Drop>(
     rt: &R,
     alloc: Global,
@@ -118,7 +119,7 @@ fn check_stop<R: Abort, D: Disk + Drop>(
     Ok(recorder.give_back())
 }
 
-/// Whatever a stop makes of the commit byte, it is none of the group or all of it.
+/// Whatever a stop makes of the commit byte, either none of the group is found or all of it.
 fn check_images<R: Abort>(
     rt: &R,
     alloc: Global,
@@ -158,8 +159,8 @@ fn groups_are_found_whole_or_not_at_all(rt: HostRuntime) -> Result<(), Fail> {
     Ok(())
 }
 
-/// Opens the file, and gives it one command: where the opening found the end and how many bytes followed, the answer, and
-/// the disk.
+/// Opens the file, and gives it one command. It returns the end that the opening found and how many bytes followed
+/// it, the answer, and the disk.
 fn given_to<D: Disk + Drop>(
     alloc: Global,
     disk: D,
@@ -186,7 +187,7 @@ fn a_command_in_doubt_may_be_found(rt: HostRuntime) -> Result<(), Fail> {
     Ok(())
 }
 
-/// A put of 60,000 bytes is stopped before its commit byte, and the next one is written over it.
+/// A put of 60,000 bytes is stopped before its commit byte is written, and the next one is written over it.
 #[test]
 fn a_tail_is_written_over(rt: HostRuntime) -> Result<(), Fail> {
     let alloc = rt.alloc();

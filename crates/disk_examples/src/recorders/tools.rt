@@ -22,7 +22,7 @@ pub(super) enum Given {
     Flush,
 }
 
-/// What it answers: how many commands were accepted; how many, and the length of the file; why not.
+/// What the recorder answers: how many commands were accepted; or how many, and the length of the file; or why not.
 #[derive(Clone, Copy, Debug, PartialEq, Eq)]
 pub(super) enum Answer {
     Held(u64),
@@ -30,7 +30,7 @@ pub(super) enum Answer {
     Refused(Refusal),
 }
 
-/// Gives it to the recorder.
+/// Gives the command to the recorder.
 pub(super) fn give<D: Disk>(
     alloc: Global,
     recorder: &mut Recorder<D>,
@@ -159,7 +159,7 @@ pub(super) fn opened<D: Disk + Drop>(alloc: Global, disk: D) -> Result<Recorder<
     }
 }
 
-/// Where the committed bytes end and how many follow, or the fault, by which the contents stay as they are.
+/// The end of the committed bytes and how many follow, or the fault. After a fault the contents stay as they are.
 pub(super) fn ends(alloc: Global, bytes: &[u8]) -> Result<Result<(u64, u64), OpenFault>, Fail> {
     match Recorder::open(alloc, MemDisk::of(alloc, bytes)?) {
         Ok(recorder) => Ok(Ok((recorder.end(), recorder.tail()))),
