@@ -20,15 +20,15 @@ const FEED: [u8; 89] = *b"\x01\x2f\0\0\0\0\x01\0\x01\0\0\0\x01\0\x03\0\0\0abc\0\
     \x02\x17\0\0\0\x01\0\x01\0\0\0\x05\0\0\0\0\0\0\0\x05\0\0\0hello\
     \x03\x04\0\0\0\x01\0\0\0";
 
-/// A feed of version 2: its announcement, a begin of a stream with serial 1, the header `abc` and the field `Title`, and
-/// a flush: 6, 66 and 5 bytes.
+/// A feed of version 2: its announcement, a begin of a stream with serial 1, the header `abc` and the field `Title`,
+/// and a flush: 6, 66 and 5 bytes.
 const FEED_2: [u8; 77] = *b"\0\x01\0\0\0\x02\
     \x01\x3d\0\0\0\0\x01\0\x01\0\0\0\x01\0\x03\0\0\0abc\0\0\
     \0\0\0\0\0\0\0\0\0\0\0\0\0\0\0\0\0\0\0\0\0\0\0\0\0\0\0\0\0\
     \x01\0\x05\0Title\x03\0One\
     \x04\0\0\0\0";
 
-/// Where its records end.
+/// Where the records of `FEED` end.
 const ENDS: [usize; 3] = [52, 80, 89];
 
 /// A begin with a Skeleton and no stream: serial 7, 1000/-2, 3/4 and a time of 20 letters.
@@ -60,7 +60,7 @@ const FAULTY: [(&[u8], FeedFault); 20] = [
     (b"\x01\x03\0\0\0\x02\0\0", FeedFault::Form),
 ];
 
-/// What came of a feed: its commands' records, how many there were, and the fault that ended it.
+/// The result of a feed: its commands' records, how many there were, and the fault that ended it.
 #[derive(Drop)]
 struct Outcome {
     records: Vec<u8>,
@@ -68,7 +68,7 @@ struct Outcome {
     fault: Option<FeedFault>,
 }
 
-/// Reads a feed to its end, and looks whether that end stays and nothing more is read.
+/// Reads a feed to its end, and checks whether that end stays and nothing more is read.
 fn read(rt: &impl Abort, alloc: Global, mut reader: FakeReader) -> Result<Outcome, Memory> {
     let mut records = Vec::new(alloc);
     let mut feed = Feed::new(alloc);
@@ -116,7 +116,7 @@ fn write_again(feed: &Feed, command: &Command, records: &mut Vec<u8>) -> Result<
     }
 }
 
-/// The same, and once more where memory was refused.
+/// The same, and once more if memory was refused.
 fn run(
     rt: &impl Abort,
     alloc: Global,
@@ -130,7 +130,7 @@ fn run(
     }
 }
 
-/// How many records end within so many bytes.
+/// How many records end within the first `length` bytes.
 fn whole_records(length: usize) -> usize {
     ENDS.iter().filter(|end| **end <= length).count()
 }
@@ -183,7 +183,7 @@ fn version_2_is_announced_once_and_read_back(rt: HostRuntime) -> Result<(), Fail
 
 #[test]
 fn records_of_one_version_are_none_of_the_other(rt: HostRuntime) -> Result<(), Fail> {
-    // A begin of version 1 behind the announcement, and the announcement behind a record.
+    // A begin of version 1 after the announcement, and the announcement after a record.
     let mut early = Vec::new(rt.alloc());
     write_version(&mut early)?;
     early.extend_from_slice(&FEED[..52])?;
@@ -222,7 +222,7 @@ fn message_fields_are_read(rt: HostRuntime) -> Result<(), Fail> {
     Ok(())
 }
 
-/// The record behind so many of a feed.
+/// The record after the first `count` records of a feed.
 fn record_after(alloc: Global, bytes: &[u8], count: u32) -> Result<Option<Record>, FeedFault> {
     let mut feed = Feed::new(alloc);
     let mut reader = FakeReader::new(bytes, 64, 0);

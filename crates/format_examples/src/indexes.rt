@@ -15,7 +15,7 @@ const ONE_STREAM: [PageSpec; 3] = [
     (LAST, 1, 2, None),
 ];
 
-/// A Skeleton of 64 and 80 bytes, which ends, and a stream that stays open.
+/// A Skeleton with packets of 64 and 80 bytes, which ends, and a stream that stays open.
 const TOLD: [PageSpec; 4] = [
     (FIRST, 9, 0, Some(&[7; 64])),
     (FIRST, 1, 0, Some(b"abc")),

@@ -6,6 +6,8 @@
 #![tactic(auto)]
 
 #[cfg(test)]
+mod codecs;
+#[cfg(test)]
 mod feeds;
 #[cfg(test)]
 mod indexes;

@@ -1,4 +1,4 @@
-//! Values from RFC 9110 and by hand; and that a call succeeds where there is memory.
+//! Values from RFC 9110 and by hand, and a check that a call succeeds if there is memory.
 ghost use Rattle.ogg_http.specs.Answer.{AnswerFits};
 
 use arrayvec::ArrayVec;
@@ -280,7 +280,7 @@ fn takes_ranges(rt: HostRuntime) {
     assert!(rt; range_of(b"bytes=18446744073709551615-", u64::MAX) == Ranged::Unsatisfiable);
 }
 
-/// The head, written behind what was there. Where memory is refused the call is made again.
+/// The head, written after what was there. If memory is refused, the call is made again.
 fn append(answer: Answer, out: &mut Vec<u8>) -> Result<(), Memory>
     requires { AnswerFits answer }
 {

@@ -152,10 +152,10 @@ impl Write for Lines {
     }
 }
 
-/// What a run came to: commands, kept, refused, and the length.
+/// The result of a run: commands, kept, refused, and the length.
 type Came = (u64, u64, u64, u64);
 
-/// A feed in pieces, how many commands a group takes, how many commits go well, the reply lines, and what it came to.
+/// A feed in pieces, how many commands a group takes, how many commits go well, the reply lines, and the run's result.
 const RUNS: [(&[&[u8]], u64, u64, &str, Result<Came, RunFault>); 8] = [
     (&[], 8, 9, "", Ok((0, 0, 0, 0))),
     (&[&FLUSH], 8, 9, "kept 0 0\n", Ok((0, 0, 0, 0))),
@@ -181,7 +181,7 @@ const RUNS: [(&[&[u8]], u64, u64, &str, Result<Came, RunFault>); 8] = [
         "held 1\nheld 2\nkept 2 64\nheld 3\nkept 3 91\n",
         Ok((3, 3, 0, 91)),
     ),
-    // So does a fault of the feed.
+    // A fault of the feed keeps what waits too.
     (
         &[&BEGIN, b"\x02\x17\0\0\0\x01\0\x01"],
         8,

@@ -140,7 +140,7 @@ impl<'a> PageSource for Failing<'a> {
     ghost reads_on = { λ s t u first second. first ∙ second };
 }
 
-/// A window over bytes of which the read of this number fails; none at 0.
+/// A window over bytes of which the read of this number fails; at 0 no read fails.
 fn window_over<'a>(
     alloc: Global,
     bytes: &'a [u8],
@@ -155,7 +155,7 @@ fn window_over<'a>(
     Ok(Window::new(source, PageBuffer::new(alloc)?, 0, 0))
 }
 
-/// Keeps what is written, and fails from the call with this number on, from 1 on.
+/// Keeps what is written, and fails from the call with this number on, counted from 1.
 #[derive(Drop)]
 struct Closing {
     written: Vec<u8>,
@@ -410,7 +410,7 @@ const LATER_HEAD: PageHead = PageHead {
     sequence: 1,
 };
 
-/// A page may hold another as its packet: it is listed if the outer one is no page.
+/// A page may hold another as its packet: the inner page is listed if the outer one is no page.
 #[test]
 fn a_page_inside_a_page_is_passed_over(rt: HostRuntime) -> Result<(), Fail> {
     let mut bytes = Vec::new(rt.alloc());

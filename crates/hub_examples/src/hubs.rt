@@ -128,8 +128,8 @@ fn outlives<D: Disk + Drop>(hub: &mut Hub<D>) -> bool {
 
 #[test]
 fn sessions_outlive_a_disk_that_fails(rt: HostRuntime) -> Result<(), Fail> {
-    // The opening makes five calls of the disk, the request's head one, the command four, of which the last is a sync;
-    // the reopening begins with one.
+    // The opening makes five calls of the disk, the request's head one, and the command four, the last of which is a
+    // sync. The reopening begins with a sync.
     let inner = FuseDisk::fail_once(MemDisk::of(rt.alloc(), TWO)?, 10);
     let mut hub = hub_over(rt.alloc(), FuseDisk::fail_once(inner, 11), 1)?;
     assert!(rt; outlives(&mut hub));
@@ -137,7 +137,7 @@ fn sessions_outlive_a_disk_that_fails(rt: HostRuntime) -> Result<(), Fail> {
 }
 
 /// Whether the stream's end is kept. After `Memory` the end of the file is as it was, and the command is given again.
-/// After `Disk` the file is opened again, and the command is given again unless it is there.
+/// After `Disk` the file is opened again, and the command is given again if the file doesn't have it.
 fn ends_again<D: Disk + Drop>(hub: &mut Hub<D>) -> bool {
     let mut answer = hub.command(&Command::End(1));
     if answer == Err(Refusal::Memory) {
@@ -166,8 +166,8 @@ fn reopens<D: Disk + Drop>(hub: &mut Hub<D>) -> bool {
     hub.reopen().is_ok() || hub.reopen().is_ok()
 }
 
-/// A session that asks for all of the file. If memory is refused to its head, it has no response, and the head is
-/// received once more.
+/// A session that asks for all of the file. If memory for its response is refused, it has no response, and the head
+/// is received once more.
 fn ask_again<D: Disk + Drop>(hub: &mut Hub<D>) -> Option<u64> {
     let Ok(id) = hub.connect() else {
         return None;
@@ -185,8 +185,8 @@ fn ask_again<D: Disk + Drop>(hub: &mut Hub<D>) -> Option<u64> {
     None
 }
 
-/// Whether sessions get what was committed when their heads were complete, if each call that is refused memory is made
-/// again.
+/// Whether sessions get what was committed when their heads were complete. Each call for which memory is refused is
+/// made again.
 fn keeps_its_answer_again<D: Disk + Drop>(hub: &mut Hub<D>) -> bool {
     let (one, rest) = OF_TWO.split_at(1);
     let Some(first) = ask_again(hub) else {

@@ -12,7 +12,7 @@ pub(super) const TWO: &[u8] =
 
 pub(super) const GET_ALL: &[u8] = b"GET /all HTTP/1.1\r\nHost: a\r\n\r\n";
 
-/// What it gets of these two pages, and of them and the page of the stream's end.
+/// What the request gets of these two pages, and of them and the page of the stream's end.
 pub(super) const OF_TWO: &[u8] =
     b"HTTP/1.1 200 OK\r\nContent-Type: application/ogg\r\nContent-Length: 64\r\n\
     Accept-Ranges: bytes\r\nConnection: close\r\n\r\n\
@@ -42,7 +42,8 @@ pub(super) fn hub_over<D: Disk + Drop>(alloc: Global, disk: D, most: u32) -> Res
     }
 }
 
-/// A hub over a disk of these bytes. Each of the three is made once more if memory is refused, to it or to the disk.
+/// A hub over a disk of these bytes. If memory is refused for the disk, the recorder or the hub, that one is made
+/// once more.
 pub(super) fn hub_again(alloc: Global, bytes: &[u8]) -> Result<Hub<MemDisk>, Fail> {
     let disk = match MemDisk::of(alloc, bytes) {
         Ok(disk) => disk,
@@ -75,7 +76,7 @@ pub(super) fn ask<D: Disk + Drop>(hub: &mut Hub<D>) -> Option<u64> {
     }
 }
 
-/// Whether a pull gives just these bytes, in a buffer of at most 300.
+/// Whether a pull returns exactly these bytes, in a buffer of at most 300 bytes.
 pub(super) fn gives<D: Disk + Drop>(hub: &mut Hub<D>, id: u64, size: usize, want: &[u8]) -> bool {
     let mut buffer = [0; 300];
     let (room, _) = buffer.split_at_mut(size.min(300));

@@ -67,7 +67,7 @@ taken_on (suc m) j (x ∷ xs) = ap (λ l. x ∷ l) (taken_on m j xs) ∙ ap (λ 
     next : (m j : ℕ) → suc (m + j) ≡ suc m + j
     next m j = omega arith
 
--- what is taken, with the headers and behind them
+-- the number of packets that are taken, with the headers and with those after them
 sum_is : (h a n : ℕ) → (a + (h - a)) + (n - (h - a)) ≡ (a + n) + (h - (a + n))
 sum_is h a n = omega arith
 
@@ -101,7 +101,7 @@ ended_held : (pages : List Page) (serial : ℕ) (stream : Stream) → HoldsStrea
 ended_held pages serial stream h =
     ap packets_ended (h.packets.lacing ∙ append-nil (flat_map lace stream.packets)) ∙ ended_packets stream.packets
 
--- of a page more
+-- the pages of a stream in one more page
 own_one : (serial : ℕ) (page : Page) → page.serial ≡ serial → pages_with serial (page ∷ []) ≡ page ∷ []
 own_one serial page e = cond-true (nat_eq page.serial serial) (page ∷ []) [] (eq-eqb page.serial serial e)
 
@@ -120,7 +120,7 @@ ended_here serial page e = ap (λ l. packets_ended (joined_lacing l)) (own_one s
 ended_elsewhere : (serial : ℕ) (page : Page) → (page.serial ≡ serial → ⊥) → ended_in (page ∷ []) serial ≡ 0
 ended_elsewhere serial page ne = ap (λ l. packets_ended (joined_lacing l)) (other_one serial page ne)
 
--- ---- one stream, behind pages: its headers, and its packets that have ended
+-- ---- one stream, after pages: its headers, and its packets that have ended
 abbrev pub behind : (ℕ → ℕ) → List Page → Stream → Stream
 behind headers before stream =
     record {
@@ -164,7 +164,7 @@ grown_elsewhere page (packet ∷ packets) serial had ended ne =
     (cond-false (nat_eq serial page.serial) (stream_of serial (had ++ packet ∷ []) ended) (stream_of serial had ended) (ne_eqb serial page.serial (λ e. ne (sym e))))
     ∙ grown_elsewhere page packets serial had ended ne
 
--- the page's stream ends where the page is its last
+-- the page's stream ends if the page is its last
 ends_here : (page : Page) (serial : ℕ) (packets : List (List ℕ)) (ended : Bool) → page.serial ≡ serial →
     end_by page (stream_of serial packets ended) ≡ stream_of serial packets (ended || (is_last page || false))
 ends_here page serial packets ended e =
@@ -199,7 +199,7 @@ ends_elsewhere page serial packets ended ne = by_case (is_last page)
     by_case true = not_here
     by_case false = refl
 
--- one page more
+-- one more page
 abbrev pub IsFound : List Stream → Stream → Type 0
 IsFound streams stream = packets_of streams stream.serial ≡ stream.packets
 

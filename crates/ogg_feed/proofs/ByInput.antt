@@ -4,7 +4,7 @@ use Rattle.std.specs.Prelude.{nat_eq, ◌||◌, is_none, option_map}
 use Rattle.std.specs.Option.{option_map_or}
 use Rattle.std.specs.List.{AllByRecursion, AllZip, IsDistinct, list_any}
 use Rattle.std.proofs.lemmas.List.Elements.{filter-append}
-use Rattle.std.proofs.lemmas.Bool.{eqb-true, ne_eqb, cases_Bool, cases_eq, cond-true, false≢true, or_left, or_right, or_parts, or_from, not_from_true}
+use Rattle.std.proofs.lemmas.Bool.{eqb-true, ne_eqb, cases_Bool, cases_eq, cond-true, false≢true, or_parts, or_from, not_from_true}
 use Rattle.ogg_page.specs.Page.{Page, IsPage}
 use Rattle.ogg_page.specs.LogicalStream.{FitsBehind, is_first, is_last}
 use Rattle.link_chain.specs.declared.stream_state.StreamState.{StreamState}
@@ -23,7 +23,7 @@ use Rattle.link_chain.specs.Progress.{stream_in, moved_to, with_position}
 use Rattle.link_chain.specs.Rules.{Rule, first_broken}
 use Rattle.chain_rules.specs.Decision.{decision, rules_for, size_of, begin_rules, streams_rules, put_rules, entries_rules, end_rules, room_rules}
 use Rattle.link_chain.specs.Laws.Grow.{all_both}
-use Rattle.link_chain.specs.Laws.LastLink.{all_split, any_map, some_open, found_at}
+use Rattle.link_chain.specs.Laws.LastLink.{all_split, any_map, some_open, found_at, some_not}
 use Rattle.link_chain.specs.Laws.Fronts.{behind_at}
 use Rattle.link_chain.specs.Laws.TakenLinks.{without}
 use Rattle.ogg_feed.specs.Commands.{page_packets, entry_of, put_of, end_of, page_commands, pages_commands, new_stream, link_commands, commands_of, of_input, RefusedByInput, AddsItsPackets}
@@ -65,7 +65,7 @@ streams_sound chain earlier [] = tt
 streams_sound chain earlier (s ∷ streams) =
     (λ _. refl, (λ _. refl, (λ _. refl, (λ _. refl, (λ b. unbroken refl b, (λ b. unbroken refl b, streams_sound chain (s.serial ∷ earlier) streams))))))
 
--- ---- the stream stands there, and has not ended
+-- ---- the stream is in the last link, and has not ended
 abbrev Here : List StreamState → ℕ → Type 0
 Here states serial = option_map (λ (s : StreamState). s.ended) (stream_in states serial) ≡ Some false
 
@@ -114,7 +114,7 @@ entries_sound serial (entry ∷ entries) states own here =
       ),
     )
 
--- ---- links that hold a recording, of which the last link's stream is open
+-- ---- links that hold a recording; the last link's stream is open
 record State (links : List (List Page)) (recording : Recording) : Type 0 where
   pub bytes : List ℕ
   pub are : AreLinks bytes links
@@ -143,17 +143,6 @@ ended_at link serial (n ∷ serials) (s ∷ streams) h known going =
       | inl same ↦ ap (has_ended link) same ∙ sym h.0.ended ∙ going.0 (h.0.serial_is ∙ sym same)
       | inr other ↦
           ended_at link serial serials streams h.1 (sym (ap (λ b. b || list_any (nat_eq serial) serials) (ne_eqb serial n other)) ∙ known) going.1
-    ]
-
-some_not : (ended : ℕ → Bool) (serial : ℕ) (serials : List ℕ) → list_any (nat_eq serial) serials ≡ true → ended serial ≡ false →
-    list_any (λ s. not (ended s)) serials ≡ true
-some_not ended serial [] e f = cc
-some_not ended serial (s ∷ serials) e f =
-    elim (cases_Bool (nat_eq serial s)) [
-      | inl same ↦ or_left (not (ended s)) (list_any (λ s. not (ended s)) serials) (ap (λ n. not (ended n)) (sym (eqb-true serial s same)) ∙ ap not f)
-      | inr other ↦
-          or_right (not (ended s)) (list_any (λ s. not (ended s)) serials)
-          (some_not ended serial serials (sym (ap (λ b. b || list_any (nat_eq serial) serials) other) ∙ e) f)
     ]
 
 record Going (links : List (List Page)) (serial : ℕ) : Type 0 where

@@ -1,4 +1,4 @@
--- Of an input within the limits of one command, no command is refused for itself.
+-- If an input is within the limits of one command, no command is refused for itself.
 use Rattle.std.proofs.Common.{◌≡◌, ℕ, zero, suc, ◌+◌, ◌-◌, ◌^◌, ◌<◌, ◌≤◌, Bool, true, false, cond, List, [], ◌∷◌, ◌++◌, length, map, take, drop, refl, sym, ◌∙◌, ap, arith, Option, None, Some, Ok, Err}
 use Rattle.std.specs.Prelude.{nat_eq, nat_lt, nat_le, ◌&&◌, ◌||◌}
 use Rattle.std.specs.Option.{option_map_or}
@@ -131,7 +131,7 @@ end_fine : (chain : ChainState) (serial : ℕ) → AreFine (rules_for chain (End
 end_fine chain serial =
     all_both Fine (end_rules chain serial) (room_rules chain (EndOf serial)) (λ _. refl, (λ _. refl, (λ _. refl, tt))) (room_fine chain (EndOf serial))
 
--- whatever the chain
+-- no chain has the command refused for itself
 abbrev NeverForItself : Command → Type 0
 NeverForItself command = (chain : ChainState) → AreFine (rules_for chain command)
 

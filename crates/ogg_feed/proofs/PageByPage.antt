@@ -12,7 +12,7 @@ use Rattle.ogg_feed.specs.Commands.{packets_of, ended_in, page_packets, page_com
 use Rattle.ogg_feed.proofs.AddUp.{dropped_take, ended_more, ended_here}
 use Rattle.ogg_feed.proofs.Front.{front_first}
 
--- the commands of one page more come after those of the pages before
+-- the commands of one more page come after those of the pages before
 pub in_turn : (headers : ℕ → ℕ) (streams : List Stream) (before pages : List Page) (page : Page) →
     pages_commands headers streams before (pages ++ page ∷ []) ≡ pages_commands headers streams before pages ++ page_commands headers streams (before ++ pages) page
 in_turn headers streams before [] page =

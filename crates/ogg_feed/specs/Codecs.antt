@@ -1,8 +1,8 @@
--- What a stream's first packet says of it, as a Skeleton's fisbone does (Ogg Skeleton 3.0): its codec, its media type, how
--- many units of its position a second has, and how a player begins within it. Each codec's own mapping into Ogg says where
--- its packet has that: Vorbis I, section 4.2.2; Theora, section 6.2; RFC 7845, section 5.1; RFC 9639, section 10.1; the
--- Speex manual, section 8.
-use Rattle.std.specs.Prelude.{ℕ, ℤ, pos, ◌+◌, ◌*◌, ◌/◌, ◌%◌, max, Bool, nat_eq, if◌then◌else◌, List, [], ◌∷◌, codes, slice_index}
+-- What a stream's first packet says of it, as a Skeleton's fisbone does (Ogg Skeleton 3.0): its codec, its media
+-- type, how many units of its position a second has, and how a player begins within it. Each codec's own mapping into
+-- Ogg says at which place its packet has that: Vorbis I, section 4.2.2; Theora, section 6.2; RFC 7845, section 5.1;
+-- RFC 9639, section 10.1; the Speex manual, section 8.
+use Rattle.std.specs.Prelude.{ℕ, ℤ, pos, ◌+◌, ◌*◌, ◌/◌, ◌%◌, max, if◌then◌else◌, List, [], ◌∷◌, codes, slice_index}
 use Rattle.std.specs.Int.{from_le_bytes, from_be_bytes, w32}
 use Rattle.ogg_feed.specs.Headers.{is_vorbis, is_theora, is_opus, is_flac, is_speex, flac_headers, speex_headers}
 use Rattle.ogg_feed.specs.declared.codec.Codec.{Codec}
@@ -26,7 +26,7 @@ headers_by Flac first = 1 + flac_headers first
 headers_by Speex first = 2 + speex_headers first
 headers_by Other first = 1
 
--- as registered for Ogg's streams (RFC 5334, section 10; RFC 7845, section 9; RFC 9639, section 12)
+-- the media types registered for Ogg's streams (RFC 5334, section 10; RFC 7845, section 9; RFC 9639, section 12)
 abbrev pub media_type_of : Codec → List ℕ
 media_type_of Vorbis = codes "audio/vorbis"
 media_type_of Theora = codes "video/theora"
@@ -35,8 +35,8 @@ media_type_of Flac = codes "audio/flac"
 media_type_of Speex = codes "audio/speex"
 media_type_of Other = codes "application/octet-stream"
 
--- How many packets a decoder takes before the first whose sound is right. Of Opus these are 80 ms (RFC 7845, section 4.6),
--- four packets of the usual 20 ms.
+-- How many packets a decoder takes before the first whose sound is right. For Opus they last 80 ms (RFC 7845, section
+-- 4.6), which is four packets of the usual 20 ms.
 abbrev pub preroll_of : Codec → ℕ
 preroll_of Vorbis = 2
 preroll_of Theora = 0
@@ -59,7 +59,7 @@ high_first bytes at = from_be_bytes w32 (four_at bytes at)
 abbrev pub rate : ℕ → ℕ → ℤ × ℤ
 rate numerator denominator = (pos (max numerator 1), pos (max denominator 1))
 
--- the units of a position in a second: samples, or frames of Theora, whose rate is a fraction; of Opus always 48,000
+-- the units of a position in a second: samples, or frames of Theora, whose rate is a fraction; for Opus always 48,000
 abbrev pub rate_by : Codec → List ℕ → ℤ × ℤ
 rate_by Vorbis first = rate (low_first first 12) 1
 rate_by Theora first = rate (high_first first 22) (high_first first 26)
@@ -72,8 +72,8 @@ rate_by Other first = rate 1 1
 abbrev pub rate_of : List ℕ → ℤ × ℤ
 rate_of first = rate_by (codec_of first) first
 
--- The low bits of a position of Theora that count from the last key frame: five bits behind the upper six of the two bytes
--- at 40. The positions of the others have no such bits.
+-- The low bits of a position of Theora that count from the last key frame: five bits after the upper six of the two
+-- bytes at 40. The positions of the others have no such bits.
 abbrev pub shift_by : Codec → List ℕ → ℕ
 shift_by Theora first = slice_index first 40 % 4 * 8 + slice_index first 41 / 32
 shift_by codec first = 0

@@ -27,7 +27,8 @@ packets_of (stream ∷ streams) serial = if nat_eq stream.serial serial then str
 abbrev pub ended_in : List Page → ℕ → ℕ
 ended_in pages serial = packets_ended (joined_lacing (pages_with serial pages))
 
--- The packets that end in the page, but for the headers. `headers` says how many first packets of a stream are headers.
+-- The packets that end in the page, without the headers. `headers` says how many first packets of a stream are
+-- headers.
 abbrev pub page_packets : (ℕ → ℕ) → List Stream → List Page → Page → List (List ℕ)
 page_packets headers streams before page =
     let earlier = ended_in before page.serial in
@@ -48,13 +49,13 @@ end_of page = if is_last page then EndOf page.serial ∷ [] else []
 abbrev pub page_commands : (ℕ → ℕ) → List Stream → List Page → Page → List Command
 page_commands headers streams before page = put_of (map (entry_of page) (page_packets headers streams before page)) ++ end_of page
 
--- the commands of pages, behind the pages before them
+-- the commands of pages that follow these pages
 abbrev pub pages_commands : (ℕ → ℕ) → List Stream → List Page → List Page → List Command
 pages_commands headers streams before [] = []
 pages_commands headers streams before (page ∷ pages) =
     page_commands headers streams before page ++ pages_commands headers streams (before ++ page ∷ []) pages
 
--- a stream with its headers, of which nothing else is said
+-- a stream with its headers; nothing else is said of it
 abbrev pub new_stream : (ℕ → ℕ) → Stream → NewStream
 new_stream headers stream =
     record {
@@ -73,13 +74,13 @@ abbrev pub link_commands : (ℕ → ℕ) → List Page → List Stream → List 
 link_commands headers link streams =
     BeginOf (record { skeleton = None; streams = map (new_stream headers) streams }) ∷ pages_commands headers streams [] link
 
--- the commands of links: how many of a stream's packets are headers is told by its link's streams
+-- the commands of links; how many of a stream's packets are headers depends on its link's streams
 abbrev pub commands_of : (List Stream → ℕ → ℕ) → List (List Page) → Recording → List Command
 commands_of headers [] recording = []
 commands_of headers (link ∷ links) [] = []
 commands_of headers (link ∷ links) (streams ∷ recording) = link_commands (headers streams) link streams ++ commands_of headers links recording
 
--- as it is by a stream's first packet
+-- the first packet of a stream, which says how many of its packets are headers
 abbrev pub first_of : List (List ℕ) → List ℕ
 first_of [] = []
 first_of (packet ∷ packets) = packet
@@ -87,8 +88,8 @@ first_of (packet ∷ packets) = packet
 abbrev pub headers_by : (List ℕ → ℕ) → List Stream → ℕ → ℕ
 headers_by count streams serial = count (first_of (packets_of streams serial))
 
--- The refusals that come of the input's own serials, headers, positions, lengths and sizes. The others are of a command
--- that comes at a wrong moment, is empty, or describes its streams for a Skeleton.
+-- The refusals that come of the input's own serials, headers, positions, lengths and sizes. The others are those of a
+-- command that comes at a wrong moment, is empty, or describes its streams for a Skeleton.
 abbrev pub of_input : Refusal → Bool
 of_input LinkOpen = false
 of_input NoLink = false
@@ -126,7 +127,7 @@ abbrev pub CanBeFed : (List Stream → ℕ → ℕ) → List (List Page) → Rec
 CanBeFed headers links recording =
     AllByRecursion (AllByRecursion HasPosition) links × AllByRecursion (λ streams. AllByRecursion (IsFeedable (headers streams)) streams) recording
 
--- the refusals of a command for itself, whatever stands before it
+-- the refusals other than those of a command for itself, which come whatever stands before it
 abbrev pub not_for_itself : Refusal → Bool
 not_for_itself TooMany = false
 not_for_itself NoHeader = false
@@ -135,7 +136,8 @@ not_for_itself PacketTooLong = false
 not_for_itself PositionRange = false
 not_for_itself refusal = true
 
--- those that remain: a serial that is taken, a position that falls, and what doesn't fit a batch, a stream's numbers or a file
+-- the refusals that remain: a serial that is taken, a position that falls, and what doesn't fit a batch, a stream's
+-- numbers or a file
 abbrev pub of_the_whole : Refusal → Bool
 of_the_whole refusal = of_input refusal && not_for_itself refusal
 

@@ -1,4 +1,4 @@
-//! What a stream's first packet says of it: with the count of headers the one place that looks at what a packet says.
+//! What a stream's first packet says of it. Only this and the count of headers depend on what a packet says.
 ghost use Rattle.std.specs.Prelude.{◌≡◌, ◌+◌, ◌≤◌, ◌*◌, ◌/◌, ◌%◌, ◌<◌, max, pos, slice_index};
 ghost use Rattle.ogg_feed.specs.Headers.{header_count};
 ghost use Rattle.ogg_feed.specs.Codecs.{codec_of, four_at, headers_by, high_first, low_first, media_type_of, preroll_of, rate, rate_of, shift_of};
@@ -23,10 +23,10 @@ pub enum Codec {
 }
 
 impl Codec {
-    /// The codec of a stream, told by its first packet.
+    /// The codec of a stream, by its first packet.
     pub fn of(first: &[u8]) -> Codec
         ensures codec { result ≡ codec_of first.now }
-        // which tells how many are headers
+        // and so how many packets are headers
         ensures headers { header_count first.now ≡ headers_by result first.now }
     {
         if first.starts_with(b"\x01vorbis") {
@@ -44,7 +44,7 @@ impl Codec {
         }
     }
 
-    /// The media type of its streams, as registered; of a codec that isn't known `application/octet-stream`.
+    /// The media type of its streams, as registered; for a codec that isn't known `application/octet-stream`.
     pub fn media_type(self) -> &'static str
         ensures { result.now ≡ media_type_of self }
     {
@@ -71,8 +71,8 @@ impl Codec {
     }
 }
 
-/// How many units of its position a second of the stream has, as a numerator and a denominator, told by its first packet.
-/// Both are positive: a rate that the packet has as 0, and that of a codec that isn't known, is 1.
+/// How many units of its position a second of the stream has, as a numerator and a denominator, by its first packet.
+/// Both are positive: a rate that is 0 in the packet counts as 1, and so does that of a codec that isn't known.
 pub fn rate_of(first: &[u8]) -> (i64, i64)
     ensures { result ≡ rate_of first.now }
 {
@@ -86,7 +86,7 @@ pub fn rate_of(first: &[u8]) -> (i64, i64)
     }
 }
 
-/// How many low bits of the stream's positions count from the last key frame, told by its first packet.
+/// How many low bits of the stream's positions count from the last key frame, by its first packet.
 pub fn shift_of(first: &[u8]) -> u8
     ensures { result ≡ shift_of first.now }
 {

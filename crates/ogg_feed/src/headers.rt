@@ -4,7 +4,7 @@ ghost use Rattle.ogg_feed.specs.Headers.{begins, flac_headers, header_count, is_
 
 use crate::codec::Codec;
 
-/// How many of a stream's packets are headers, told by the first. Of a codec that isn't known it is the first alone.
+/// How many of a stream's packets are headers, by the first. For a codec that isn't known it is only the first.
 pub fn header_count(first: &[u8]) -> u32
     ensures { result ≡ header_count first.now }
 {

@@ -18,21 +18,21 @@ pub fn commands_of_links_add_up()
     ensures recording { (headers : List Stream → ℕ → ℕ) (bytes : List ℕ) (links : List (List Page)) (recording : Recording)
         → AreLinks bytes links → HoldsLinks links recording →
         after [] (commands_of headers links recording) ≡ recording }
-    // So it is where each stream's first packet tells how many are headers.
+    // The same, if each stream's first packet says how many are headers.
     ensures told { (bytes : List ℕ) (links : List (List Page)) (recording : Recording) → AreLinks bytes links → HoldsLinks links recording →
         after [] (commands_of (headers_by header_count) links recording) ≡ recording }
     ensures commands { (headers : List Stream → ℕ → ℕ) (bytes : List ℕ) (links : List (List Page)) (recording : Recording)
         → AreLinks bytes links → HoldsLinks links recording →
         AllByRecursion IsCommand (commands_of headers links recording) }
-    // If none of them is refused, the bytes that they make hold just the recording.
+    // If none of them is refused, the bytes that they make hold exactly the recording.
     ensures held { (headers : List Stream → ℕ → ℕ) (bytes : List ℕ) (links : List (List Page)) (recording : Recording)
         → AreLinks bytes links → HoldsLinks links recording →
         AreKept [] (commands_of headers links recording) → Holds (bytes_of_commands [] (commands_of headers links recording)) recording }
-    // Only what the input is can have one refused: none is refused for its place among the others.
+    // If one of them is refused, that depends on the input itself: none is refused for its place among the others.
     ensures refused { (headers : List Stream → ℕ → ℕ) (bytes : List ℕ) (links : List (List Page)) (recording : Recording)
         → AreLinks bytes links → HoldsLinks links recording →
         RefusedByInput [] (commands_of headers links recording) }
-    // Of an input within the limits of one command, only what the whole of it is.
+    // If the input is within the limits of one command, a refusal depends only on the input as a whole.
     ensures whole { (headers : List Stream → ℕ → ℕ) (bytes : List ℕ) (links : List (List Page)) (recording : Recording)
         → AreLinks bytes links → HoldsLinks links recording →
         CanBeFed headers links recording → RefusedBy of_the_whole [] (commands_of headers links recording) }
@@ -41,17 +41,17 @@ pub fn commands_of_links_add_up()
     commands_add_their_packets();
 }
 
-/// What pages of a stream hold comes first in what they hold with more pages behind them, and as many packets end in
-/// them. So packets can be given out page by page.
+/// What pages of a stream hold comes first in what they hold together with further pages, and as many packets end
+/// in the pages as they hold. So packets can be given out page by page.
 pub fn packets_of_a_front_come_first()
     ensures { (front back : List Page) (packets all : List (List ℕ)) (segments : ℕ) (rest : List ℕ) →
         HoldsPackets front packets segments rest → HoldsPackets (front ++ back) all 0 [] →
         (take (length packets) all ≡ packets) × (packets_ended (joined_lacing front) ≡ length packets) }
 {}
 
-/// The commands of a link are known page by page: those of one page more come after those of the pages before, and
-/// the packets that end in a page are what its stream's pages hold so far, without what the pages before it hold. So
-/// nothing has to wait for a later page, but for a link's `Begin`.
+/// The commands of a link are known page by page: those of one more page come after those of the pages before. The
+/// packets that end in a page are what its stream's pages hold so far, without what the pages before it hold. So only
+/// a link's `Begin` has to wait for a later page.
 pub fn commands_come_page_by_page()
     ensures turn { (headers : ℕ → ℕ) (streams : List Stream) (before pages : List Page) (page : Page) →
         pages_commands headers streams before (pages ++ page ∷ [])

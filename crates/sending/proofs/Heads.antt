@@ -81,7 +81,7 @@ lies_inside bytes page place s =
     let all = ap length s.spelled in
     omega (arith, all, length-drop place bytes, length-append (page_bytes page) s.tail, length-page_bytes page)
 
--- its head and its table are in as much as is read
+-- its head and its table are within the bytes that are read
 pub head_fits : (bytes : List ℕ) (page : Page) (place count : ℕ) → Stands (drop place bytes) page → count ≡ min (length bytes - place) 282 → head_size page ≤ count
 head_fits bytes page place count s is =
     let inside = lies_inside bytes page place s in

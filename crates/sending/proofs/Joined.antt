@@ -1,4 +1,4 @@
--- What is given of a text and of a body, and what is left of both.
+-- What a pull takes of a text and of a body, and what is left of both.
 use Rattle.std.proofs.Common.{◌≡◌, ◌≢◌, ◌⊎◌, inl, inr, ℕ, ◌+◌, ◌-◌, ◌≤◌, Bool, false, List, [], ◌∷◌, ◌++◌, length, take, drop, min, refl, sym, ◌∙◌, ap, subst, arith, length-take, length-drop, length-append, take_all, drop_of_length-le, append-nil}
 use Rattle.std.specs.Prelude.{◌==◌}
 use Rattle.std.proofs.lemmas.Bool.{cases_lt, ne_eqb}
@@ -57,7 +57,7 @@ halves text body size k is = elim (cases_lt (length text) size) [
       }
 ]
 
--- nothing is left of a body if its count is zero, and then only
+-- nothing is left of a body exactly if its count is zero
 length_zero : (l : List ℕ) (n : ℕ) → length l ≡ n → (n == 0) ≡ is_nothing l
 length_zero [] n e = ap (λ k. k == 0) (sym e)
 length_zero (x ∷ l) n e = ne_eqb n 0 (λ z. omega (arith, e, z))
@@ -69,7 +69,7 @@ empty_is committed (Part place count) rest (inside, e) =
 empty_is committed (Stream serial place skip count) rest r =
     length_zero rest count (ap length r.rest_is ∙ (let inside = r.inside in grind (arith, length-take, length-drop, inside)))
 
--- whether something is left of both
+-- whether anything is left of both
 nothing_after : (front rest : List ℕ) → front ≡ [] → is_nothing (front ++ rest) ≡ is_nothing rest
 nothing_after front rest e = ap (λ (l : List ℕ). is_nothing (l ++ rest)) e
 
@@ -81,13 +81,13 @@ second_none : (front rest : List ℕ) → front ++ rest ≡ [] → rest ≡ []
 second_none [] rest e = e
 second_none (x ∷ front) rest e = cc
 
--- a byte of the body was to be given, so one of both was
+-- if a byte of the body was to be given, a byte of the text and the body together was
 pub some_given : (text body rest : List ℕ) (size k room : ℕ) → k ≡ min (length text) size → room ≡ size - k → rest ≡ text ++ body → take room body ≢ [] → take size rest ≢ []
 some_given text body rest size k room is fits joined some none =
     let h = halves text body size k is in
     some (ap (λ n. take n body) fits ∙ second_none (take size text) (take (size - k) body) (sym h.given ∙ ap (take size) (sym joined) ∙ none))
 
--- what says whether nothing is left of both
+-- what decides whether nothing is left of both
 abbrev pub SaysDone : List ℕ → ℕ → Body → Bool → Type 0
 SaysDone text k after done = ((length text ≡ k) × (done ≡ is_empty_body after)) ⊎ ((length text ≢ k) × (done ≡ false))
 

@@ -1,4 +1,4 @@
--- What a resource has lies where the index says.
+-- What a resource has lies at the place that the index says.
 use Rattle.std.proofs.Common.{◌≡◌, inl, inr, ℕ, zero, suc, ◌+◌, ◌≤◌, ◌<◌, ◌^◌, true, false, nat_eq, Option, Some, None, List, [], ◌∷◌, ◌++◌, length, take, drop, refl, sym, ◌∙◌, ap, subst, arith, append_assoc, length-append, slice_get, option_map, option_and_then, length-drop}
 use Rattle.std.specs.Prelude.{◌||◌, if◌then◌else◌, map, sum_by}
 use Rattle.std.specs.List.{flat_map, list_any, AllByRecursion}

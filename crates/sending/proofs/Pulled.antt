@@ -16,7 +16,7 @@ front_two a b c g n la lb =
 length_front : (n : ℕ) (l : List ℕ) → n ≤ length l → length (take n l) ≡ n
 length_front n l le = grind (arith, length-take)
 
--- a part of a page stands where the page does
+-- a part of a page lies in the page
 pub part_of_page : (bytes : List ℕ) (page : Page) (place skip n : ℕ) → Stands (drop place bytes) page → skip + n ≤ length (page_bytes page)
     → part_at (place + skip) n bytes ≡ part_at skip n (page_bytes page)
 part_of_page bytes page place skip n s le =

@@ -12,7 +12,7 @@ use Rattle.sending.specs.declared.body.Body.TheVariants.{Nothing, Part, Stream}
 use Rattle.sending.specs.declared.finding.Found.{Found}
 use Rattle.sending.specs.declared.finding.Found.TheVariants.{Listing, File, Pages as PagesOf}
 
--- of what was found, this many bytes after those that are passed over
+-- this many bytes of what was found, after those that are passed over
 abbrev pub cut : Found → ℕ → ℕ → Body
 cut Listing skip count = Nothing
 cut (File place len) skip count = Part (place + skip) count
@@ -23,7 +23,7 @@ length_of Listing = 0
 length_of (File place len) = len
 length_of (PagesOf serial place len) = len
 
--- the end of a part of the file; what isn't one has none
+-- the end of a part of the file; anything else has no end
 abbrev pub end_of : Found → ℕ
 end_of Listing = 0
 end_of (File place len) = place + len

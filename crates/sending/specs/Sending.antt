@@ -6,7 +6,7 @@ use Rattle.sessions.specs.declared.answers.Pulled.{Pulled}
 use Rattle.sending.specs.declared.body.Body.{Body}
 use Rattle.sending.specs.declared.body.Body.TheVariants.{Nothing, Part, Stream}
 
--- the text that isn't sent, and what of the file follows it
+-- the text that isn't sent, and the part of the file that follows it
 pub record SendingState : Type 0 where
   pub text : List ℕ
   pub body : Body
@@ -23,7 +23,7 @@ is_empty_body Nothing = true
 is_empty_body (Part place count) = count == 0
 is_empty_body (Stream serial place skip count) = count == 0
 
--- and this of the whole response
+-- over these committed bytes, this is left of the whole response
 pub record IsLeft (committed : List ℕ) (sending : SendingState) (rest : List ℕ) : Type 0 where
   pub body : List ℕ
   pub body_left : IsBodyLeft committed sending.body body
@@ -38,7 +38,7 @@ body_left committed (Stream serial place skip count) = stream_rest committed ser
 abbrev pub left : List ℕ → SendingState → List ℕ
 left committed sending = sending.text ++ body_left committed sending.body
 
--- ---- what a pull gives
+-- ---- what a pull takes
 -- The first bytes of what was left of the body are in the buffer, as many as go in, and the rest is left.
 pub record GivesBody (committed rest : List ℕ) (size : ℕ) (buffer : List ℕ) (count : ℕ) (after : Body) : Type 0 where
   pub count_is : count ≡ min (length rest) size

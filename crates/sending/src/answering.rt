@@ -70,7 +70,7 @@ fn length_of(found: Found) -> u64
     }
 }
 
-/// Of what was found, this many bytes after those that are passed over.
+/// This many bytes of what was found, after those that are passed over.
 fn cut(found: Found, skip: u64, count: u64) -> Body
     ensures { (committed bytes : List ℕ) → AreFound committed bytes found → skip + count ≤ length bytes → result ≡ cut found skip count }
 {

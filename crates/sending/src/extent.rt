@@ -1,4 +1,4 @@
-//! How far a page goes, out of its head alone.
+//! The end of a page, as its head says it.
 ghost use Rattle.std.specs.Prelude.{◌≡◌, ◌+◌, ◌*◌, ◌^◌, ◌<◌, ◌≤◌, ℕ, List, Some, length, sum, take, drop, IfOk, IsErr};
 ghost use Rattle.ogg_page.specs.Page.{Page};
 ghost use Rattle.ogg_page.specs.Window.{KeepsSource};
@@ -9,7 +9,7 @@ ghost use Rattle.ogg_page.specs.Sizes.{most_values, full_value};
 
 use ogg_page::{FIXED_SIZE, MOST_VALUES, PageSource, SourceFault, take_u32};
 
-/// No head is longer, with its lacing values.
+/// The length of the longest head, with its lacing values.
 const LONGEST_HEAD: usize = FIXED_SIZE + MOST_VALUES;
 
 /// The stream that a page is of, and how many bytes the page has.
@@ -32,7 +32,7 @@ fn body_size(lacing: &[u8]) -> u64
     size
 }
 
-/// What a page's head says of the page. The bytes begin with the head, and what follows it isn't looked at.
+/// What a page's head says of the page. The bytes begin with the head, and what follows it isn't read.
 fn extent_of(head: &[u8]) -> Option<Extent>
     ensures told { (bytes : List ℕ) (page : Page) (n : ℕ) → Stands bytes page → head_size page ≤ n → head.now ≡ take n bytes
         → result ≡ Some (extent_of page) }

@@ -1,4 +1,4 @@
-//! Where what a request names lies in the file.
+//! The place in the file of what a request names.
 ghost use Rattle.std.specs.Prelude.{◌≡◌, ℕ, List};
 ghost use Rattle.std.specs.Option.{option_and_then};
 ghost use Rattle.ogg_page.specs.Page.{Page};

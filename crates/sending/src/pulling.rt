@@ -8,7 +8,7 @@ use crate::body::Body;
 use crate::walking::{StreamLeft, pull_stream};
 use ogg_page::{PageSource, SourceFault, Window};
 
-/// Copies the first bytes of the text into the buffer, as many as it holds, and gives how many these are.
+/// Copies the first bytes of the text into the buffer, as many as it holds, and returns how many these are.
 pub fn pull_text(text: &[u8], buffer: &mut [u8]) -> usize
     ensures count { result ≡ min (length text.now) (length buffer.old) }
     ensures given { take result buffer.new ≡ take (length buffer.old) text.now }
@@ -43,7 +43,7 @@ fn read_at<S: PageSource>(
     source.read_at(place, buffer)
 }
 
-/// Reads the first bytes of a part of the file into the buffer, as many as it holds, and gives how many these are.
+/// Reads the first bytes of a part of the file into the buffer, as many as it holds, and returns how many these are.
 fn pull_part<S: PageSource>(
     window: &mut Window<S>,
     place: u64,
@@ -79,7 +79,7 @@ pub fn is_empty_body(body: Body) -> bool
     }
 }
 
-/// Reads the first bytes of what is left of the body into the buffer, as many as it holds. It gives their count and
+/// Reads the first bytes of what is left of the body into the buffer, as many as it holds. It returns their count and
 /// what is left then.
 pub fn pull_body<S: PageSource>(
     window: &mut Window<S>,

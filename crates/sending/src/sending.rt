@@ -76,10 +76,10 @@ impl Sending {
 
     /// Fills the buffer with the first bytes of what is left, as many as it holds, or all. `count` is how many these
     /// are, and `done` says that none is left then. What the buffer holds after them means nothing. No memory is
-    /// taken, and the window's source is only read: of a stream's pages their heads and what is given, so that a page
-    /// costs little even if it goes out in many pieces.
+    /// taken, and the window's source is only read. Of a stream's pages only their heads are read, and the bytes that
+    /// go into the buffer, so that a page costs little even if it goes out in many pieces.
     ///
-    /// `SourceFault` is the answer if a read failed or gave no page's head. The response is left as it was then, and
+    /// `SourceFault` is the answer if a read failed or found no page's head. The response is left as it was then, and
     /// the buffer may hold anything.
     pub fn pull<S: PageSource>(
         &mut self,

@@ -1,7 +1,7 @@
 //! A buffer is filled with what is left of a stream, page by page.
 //!
-//! Of each page the head is read, and of the stream's own pages what goes into the buffer. No checksum is computed:
-//! pages are checked when they are found, and this reads what was found.
+//! The head of each page is read, and of the stream's own pages also what goes into the buffer. No checksum is
+//! computed: pages are checked when they are found, and this reads what was found.
 ghost use Rattle.std.specs.Prelude.{◌≡◌, ◌+◌, ◌^◌, ◌<◌, ◌≤◌, ℕ, List, ◌++◌, length, take, drop, IfOk, IsErr, OnOk};
 ghost use Rattle.ogg_page.specs.Page.{Page};
 ghost use Rattle.ogg_page.specs.Window.{KeepsSource};
@@ -15,8 +15,8 @@ use crate::extent::{Extent, read_extent};
 use ogg_page::{PageSource, SourceFault};
 use sessions::stream_rests_are_places;
 
-/// What is left of a stream. A page begins at the place; of the stream's pages from there on some bytes are passed
-/// over, and then `count` are left.
+/// What is left of a stream. A page begins at the place. Of the bytes of the stream's pages from there on some are
+/// passed over, and then `count` are left.
 #[derive(Clone, Copy, Debug, PartialEq, Eq)]
 pub struct StreamLeft {
     pub place: u64,
@@ -24,7 +24,7 @@ pub struct StreamLeft {
     pub count: u64,
 }
 
-/// How many bytes of the page at the place are given into this much room, and what is left then.
+/// How many bytes of the page at the place go into this much room, and what is left then.
 fn next_of_page(extent: Extent, serial: u32, left: StreamLeft, room: u64) -> (u64, StreamLeft)
     requires some { 0 < left.count }
     requires room { 0 < room }
@@ -106,7 +106,7 @@ fn read_on<S: PageSource>(
 }
 
 /// Reads what is left of the stream in the page at the place into the buffer, as far as it goes in, after the bytes
-/// that were given. It gives the count of all these and what is left then.
+/// that were given. It returns the count of all these and what is left then.
 fn pull_page<S: PageSource>(
     source: &mut S,
     serial: u32,
@@ -143,7 +143,7 @@ fn pull_page<S: PageSource>(
     }
 }
 
-/// Reads the first bytes of what is left of a stream into the buffer, as many as it holds. It gives their count and
+/// Reads the first bytes of what is left of a stream into the buffer, as many as it holds. It returns their count and
 /// what is left then.
 pub fn pull_stream<S: PageSource>(
     source: &mut S,

@@ -14,7 +14,7 @@ pub struct FakeReader<'a> {
 }
 
 impl<'a> FakeReader<'a> {
-    /// Where `bad` is 0 no call fails.
+    /// If `bad` is 0, no call fails.
     pub fn new(rest: &'a [u8], step: usize, bad: u64) -> FakeReader<'a> {
         FakeReader {
             rest,
@@ -55,7 +55,7 @@ pub struct FakeWriter {
 }
 
 impl FakeWriter {
-    /// Where `bad` is 0 no call fails.
+    /// If `bad` is 0, no call fails.
     pub fn new(written: Vec<u8>, step: usize, bad: u64) -> FakeWriter {
         FakeWriter {
             written,

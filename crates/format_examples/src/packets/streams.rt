@@ -13,7 +13,7 @@ fn over<S: PageSource>(source: S, buffer: PageBuffer) -> Window<S> {
 /// What is wanted of a part: how many bytes, first, last, and the position.
 type Want = (usize, bool, bool, Option<u64>);
 
-/// Checks that the stream gives these parts, and then the end.
+/// Checks that the stream returns these parts, and then the end.
 fn assert_parts<S: PageSource>(
     rt: &impl Abort,
     stream: &mut Stream<S>,
@@ -33,7 +33,7 @@ fn assert_parts<S: PageSource>(
     Ok(())
 }
 
-/// This many bytes.
+/// This many bytes, each of them 7.
 fn sevens(alloc: Global, count: usize) -> Result<Vec<u8>, Memory>
     ensures { IfOk result (λ bytes. length bytes.items ≡ count) }
 {
@@ -53,7 +53,8 @@ fn write_full_page(bytes: &mut Vec<u8>, alloc: Global) -> Result<(), Memory> {
     write_page(&head, &[255; 255], body.as_slice(), bytes)
 }
 
-/// Streams 1 and 2: `abc` each; the first 65,025 bytes of a packet of 1; `x` in 2; the other 4,975 bytes; the end of 2.
+/// Streams 1 and 2: `abc` each; the first 65,025 bytes of a packet of 1; `x` in 2; the other 4,975 bytes; the end of
+/// 2.
 fn two_streams(alloc: Global) -> Result<Vec<u8>, Memory> {
     let mut bytes = joined(alloc, &[&FIRST, &OTHER])?;
     write_full_page(&mut bytes, alloc)?;

@@ -5,8 +5,8 @@ use feed_maker::{ChangeOptions, Made, MakingFault, Skeletons, make_feed};
 use page_reader::{PageReader, PageReaderFault};
 use std::test::Fail;
 
-/// How many bytes a read gives, and how often the reader was called when each of the three pages was given: as soon as
-/// its last byte was there.
+/// How many bytes a read returns, and how often the reader was called when each of the three pages was returned: as
+/// soon as the page's last byte was there.
 const CALLS: [(usize, [u64; 3]); 5] = [
     (1, [31, 64, 91]),
     (31, [1, 3, 3]),
@@ -47,7 +47,8 @@ fn a_failing_read_stays_a_fault(rt: HostRuntime) -> Result<(), Fail> {
     Ok(())
 }
 
-/// The announcement, a begin of stream 1 with the header `abc`, the packet `hello` at position 5, and the stream's end.
+/// The announcement, a begin of stream 1 with the header `abc`, the packet `hello` at position 5, and the stream's
+/// end.
 const FEED: [u8; 97] = *b"\0\x01\0\0\0\x02\
     \x01\x31\0\0\0\0\x01\0\x01\0\0\0\x01\0\x03\0\0\0abc\0\0\
     \0\0\0\0\0\0\0\0\0\0\0\0\0\0\0\0\0\0\0\0\0\0\0\0\0\0\0\0\0\0\0\
@@ -73,7 +74,7 @@ fn a_feed_is_made_of_three_pages(rt: HostRuntime) -> Result<(), Fail> {
 
 #[test]
 fn what_is_whole_is_written_before_a_fault_is_told(rt: HostRuntime) -> Result<(), Fail> {
-    // The first page alone, whose stream's begin waits; and the first two.
+    // Only the first page, whose stream's begin waits, and then the first two.
     for (front, written, want) in [
         (&THREE_PAGES[..31], &FEED[..60], MakingFault::Read(31)),
         (&THREE_PAGES[..64], &FEED[..88], MakingFault::Read(64)),
@@ -93,8 +94,8 @@ const RECORDS_OF_STREAM_0: [u8; 91] = *b"\x01\x31\0\0\0\0\x01\0\0\0\0\0\x01\0\x0
     \x02\x17\0\0\0\x01\0\0\0\0\0\x05\0\0\0\0\0\0\0\x05\0\0\0hello\
     \x03\x04\0\0\0\0\0\0\0";
 
-/// The announcement, and the begin of stream 1 with a Skeleton of serial 9: from 0 seconds on, no time of day, a codec that
-/// isn't known, and a rate of 1.
+/// The announcement, and the begin of stream 1 with a Skeleton of serial 9: from 0 seconds on, no time of day, a codec
+/// that isn't known, and a rate of 1.
 const DESCRIBED: [u8; 140] = *b"\0\x01\0\0\0\x02\
     \x01\x81\0\0\0\x01\x09\0\0\0\
     \0\0\0\0\0\0\0\0\xE8\x03\0\0\0\0\0\0\0\0\0\0\0\0\0\0\xE8\x03\0\0\0\0\0\0\

@@ -7,7 +7,7 @@ use ogg_page::{
 };
 use std::test::Fail;
 
-/// Bytes of which the reads longer than `longest` fail, and the read of this number.
+/// Bytes of which each read longer than `longest` fails, and the read with the number `fails_at`.
 #[derive(Drop)]
 struct Failing<'a> {
     bytes: &'a [u8],
@@ -151,7 +151,7 @@ fn pages_before_a_fault(window: &mut Window<Failing<'_>>) -> Result<u64, u64> {
     Err(100)
 }
 
-/// The pages before a fault, where the read of this number fails, from 1 on; then none fails, and
+/// How many pages are lent before the read with this number fails, counted from 1. In the last row no read fails, and
 /// the fault is that of the four bytes at 65,396.
 const FAILING_READS: [(u64, Result<u64, u64>); 4] = [
     (1, Err(0)),

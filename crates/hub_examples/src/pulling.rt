@@ -1,8 +1,8 @@
 //! Responses that are pulled out of a small file, with sizes counted by hand from RFC 3533, section 6.
-use super::*;
 use link_index::Index;
 use ogg_http::{Request, Verb};
-use ogg_page::{FIRST, LAST, PageBuffer, PageHead, Whole, Window, write_page};
+use ogg_page::{FIRST, LAST, Memory, PageBuffer, PageHead, Whole, Window, write_page};
+use sending::Sending;
 use std::alloc::Global;
 use std::test::Fail;
 
@@ -18,8 +18,8 @@ const PAGES: [PageSpec; 5] = [
     (LAST, 9, 1, 2, None),
 ];
 
-/// What a GET asks, the text that it gets, and which bytes follow: of all pages or of stream 1, from the first number
-/// up to the second.
+/// The request of a GET, the text that it gets, and the bytes that follow: of all pages or of stream 1, from the
+/// first number up to the second.
 type Case = (
     &'static [u8],
     Option<&'static [u8]>,
@@ -128,7 +128,7 @@ fn joined(
     Ok(all)
 }
 
-/// All that pulls of this size give until one says that none is left.
+/// All bytes that pulls of this size put into their buffers, until one says that none is left.
 fn pull_all(
     alloc: Global,
     sending: &mut Sending,

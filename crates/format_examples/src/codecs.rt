@@ -1,5 +1,5 @@
 //! First packets of encoders' files, and what they say of their streams.
-use crate::{Codec, header_count, rate_of, shift_of};
+use ogg_feed::{Codec, header_count, rate_of, shift_of};
 
 /// The front of a first packet as an encoder wrote it, and the count.
 const FIRSTS: [(&[u8], u32); 9] = [
@@ -21,7 +21,8 @@ fn headers_are_counted_by_the_first_packet(rt: HostRuntime) {
     }
 }
 
-/// A first packet that an encoder wrote, and what it says: the codec, its media type, the rate, the preroll and the shift.
+/// A first packet that an encoder wrote, and what it says: the codec, its media type, the rate, the preroll and the
+/// shift.
 struct FirstPacket {
     packet: &'static [u8],
     codec: Codec,
@@ -72,7 +73,7 @@ const PACKETS: [FirstPacket; 8] = [
         preroll: 3,
         shift: 0,
     },
-    // a first packet that is cut short, and two of no codec that is known
+    // a first packet that is cut short, and two of codecs that aren't known
     FirstPacket {
         packet: b"\x01vorbis",
         codec: Codec::Vorbis,
