@@ -1,4 +1,4 @@
--- What a command adds that isn't refused: pages, at least one. And which refusals a decision has.
+-- What a command adds that isn't refused: at least one page. And the refusals that a decision can have.
 use Rattle.std.proofs.Common.{◌≡◌, ◌≢◌, Bool, true, false, cond, ℕ, ◌<◌, ◌≤◌, List, [], ◌∷◌, ◌++◌, length, map, refl, subst, sym, ap, arith, length-append, Option, Some, None, Ok, Err}
 use Rattle.std.specs.Prelude.{nat_eq, ⊤, if◌then◌else◌}
 use Rattle.std.specs.List.{AllByRecursion}
@@ -27,8 +27,8 @@ use Rattle.chain_rules.proofs.Unbroken.{no_rule_broken, Unbroken}
 use Rattle.chain_rules.proofs.Held.{is_held}
 use Rattle.command_pages.specs.Laws.Runs.{some_values}
 
--- ---- which refusals a decision has
--- those of the table
+-- ---- the refusals that a decision can have
+-- the refusals of the table
 abbrev IsDecided : Refusal → Type 0
 IsDecided Failed = ⊥
 IsDecided Memory = ⊥
@@ -105,7 +105,7 @@ in_table Disk is = absurd is
 pub of_the_table : (chain : ChainState) (command : Command) (refusal : Refusal) → decision chain command ≡ Err refusal → (2 ≤ code_of refusal) × (code_of refusal ≤ 19)
 of_the_table chain command refusal e = in_table refusal (decided chain command refusal e)
 
--- ---- a page at least
+-- ---- at least one page
 last_of_all : {X : Type 0} (P : X → Type 0) (xs : List X) (x : X) → AllByRecursion P (xs ++ x ∷ []) → P x
 last_of_all P [] x all = all.0
 last_of_all P (y ∷ xs) x all = last_of_all P xs x all.1

@@ -36,7 +36,7 @@ zip_push (l ∷ links) (r ∷ recording) link streams h new = (h.0, zip_push lin
 abbrev pub HasText : Option SkeletonHead → Type 0
 HasText skeleton = IfSome skeleton (λ head. length head.utc ≡ 20)
 
--- what the rules leave of a Begin
+-- what a `Begin` is like that breaks no rule
 parts_can : (chain : ChainState) (skeleton : Option SkeletonHead) (streams : List NewStream) → Unbroken (parts_rules chain skeleton streams) → 0 < length streams →
     length streams + length (skeleton_serial skeleton) ≤ 64 → CanBegin skeleton streams
 unfolding IsDistinct
@@ -62,7 +62,7 @@ can_begin chain begin ok =
     let fits : IsKeptBegin chain begin = begin_fits chain begin ok in
     parts_can chain begin.skeleton begin.streams fits.parts fits.some fits.streams
 
--- the pages of a Begin that is kept are a new link
+-- the pages of a `Begin` that is kept are a new link
 pub begin_link : (chain : ChainState) (begin : Begin) → IsOk (decision chain (BeginOf begin)) → HasText begin.skeleton →
     IsNewLink (pages_of_begin begin.skeleton begin.streams) (begun_link begin.skeleton begin.streams) (states_of begin.skeleton begin.streams)
     (has_more_pages begin.skeleton begin.streams) (serials_in begin.skeleton begin.streams)

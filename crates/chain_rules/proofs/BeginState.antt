@@ -1,4 +1,4 @@
--- The chain state behind a new link.
+-- The chain state after a new link.
 use Rattle.std.proofs.Common.{◌≡◌, ℕ, ◌+◌, Bool, List, [], ◌∷◌, ◌++◌, length, map, refl, sym, ◌∙◌, ap, subst, arith, Option, Ok, length-append}
 use Rattle.std.specs.Prelude.{not, IsOk}
 use Rattle.std.specs.List.{list_any, flat_map}

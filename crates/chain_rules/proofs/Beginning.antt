@@ -110,7 +110,7 @@ first_fits stream good = record {
   last_packet = λ e. no_flag (is_last (first_page stream)) (not_last stream) e;
 }
 
--- the pages with flags added hold the same
+-- the pages with further flags hold the same
 flagged_lacing : (flags : ℕ) (pages : List Page) → joined_lacing (flagged flags pages) ≡ joined_lacing pages
 flagged_lacing flags [] = refl
 flagged_lacing flags (page ∷ pages) = refl

@@ -1,4 +1,4 @@
--- The chain state behind the end of a stream.
+-- The chain state after the end of a stream.
 use Rattle.std.proofs.Common.{◌≡◌, ◌≢◌, ℕ, ◌+◌, ◌^◌, true, false, cond, List, [], ◌∷◌, ◌++◌, refl, ◌∙◌, ap, arith, Ok}
 use Rattle.std.specs.Prelude.{nat_eq, nat_lt, not, ◌||◌}
 use Rattle.std.specs.List.{list_any}
@@ -21,7 +21,7 @@ use Rattle.chain_rules.proofs.Unbroken.{no_rule_broken, Unbroken}
 use Rattle.link_chain.specs.Laws.StateBehind.{state, state_behind}
 use Rattle.link_chain.specs.Followed.{moved_by}
 
--- a stream's state behind a page without packets that is its last
+-- a stream's state after its last page, which has no packets
 closing_state : (link : List Page) (page : Page) (next : ℕ) → page.lacing ≡ [] → is_last page ≡ true → page.sequence ≡ next →
     next ≡ number_behind (pages_with page.serial link) → page.position ≡ last_position (pages_with page.serial link) →
     state_of (link ++ page ∷ []) page.serial ≡ ended_by (next + 1) (state_of link page.serial)

@@ -1,4 +1,4 @@
--- What is so of a command that is kept.
+-- What holds of a command that is kept.
 use Rattle.std.proofs.Common.{◌≡◌, ℕ, zero, suc, ◌+◌, ◌<◌, ◌≤◌, ◌^◌, Bool, true, false, List, [], ◌∷◌, ◌++◌, length, sum_by, refl, sym, arith, Option, Some, None, Result, Ok, Err}
 use Rattle.std.specs.Prelude.{nat_eq, nat_lt, nat_le, not, ◌&&◌, ◌||◌, IsOk, IfOk, IfSome}
 use Rattle.std.specs.List.{list_any, list_all}
@@ -25,7 +25,7 @@ use Rattle.chain_rules.proofs.Unbroken.{no_rule_broken, Unbroken}
 use Rattle.link_chain.specs.Laws.LastLink.{all_split}
 use Rattle.link_chain.specs.Laws.Rules.{none_broken}
 
--- the size that it is answered with
+-- the size with which it is answered
 pub kept_size : (r : Result ℕ Refusal) → IsOk r → (size : ℕ) × (r ≡ Ok size)
 kept_size (Ok size) h = (size, refl)
 kept_size (Err refusal) h = cc
@@ -112,7 +112,7 @@ parts_short : (chain : ChainState) (skeleton : Option SkeletonHead) (streams : L
 parts_short chain None streams h few = tt
 parts_short chain (Some head) streams h few = messages_short chain (head.serial ∷ []) streams h.1.1 few
 
--- the same of rules of which the first broken one was looked for
+-- the same, if no rule was found broken
 pub items_short : (chain : ChainState) (begin : Begin) → has_many_parts begin ≡ false → first_broken (item_rules chain begin) ≡ None → IfSome begin.skeleton (λ _. list_any has_long_message begin.streams ≡ false)
 items_short chain begin few e = parts_short chain begin.skeleton begin.streams (none_broken (item_rules chain begin) e) (or_parts (nat_lt most_streams (stream_count begin) || list_any has_many_headers begin.streams) (list_any has_many_fields begin.streams) few).1
 
@@ -154,7 +154,7 @@ command_fits chain (BeginOf begin) ok = (begin_fits chain begin ok).fits
 command_fits chain (PutOf put) ok = (put_fits chain put ok).fits
 command_fits chain (EndOf serial) ok = (end_fits chain serial ok).number
 
--- the last rule leaves room for the pages and one byte more
+-- the last rule leaves room for the pages and one further byte
 room_left : (chain : ChainState) (command : Command) → Unbroken (room_rules chain command) → chain.length_of + size_of chain command < 2 ^ 40
 room_left chain command room =
     let left : chain.length_of + size_of chain command + 1 ≤ 2 ^ 40 = ltb-false (2 ^ 40) (chain.length_of + size_of chain command + 1) room.1.1.1.0 in

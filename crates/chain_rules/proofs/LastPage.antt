@@ -66,7 +66,7 @@ closed_run [] some = absurd (omega arith)
 closed_run (item ∷ []) some = closed_same (lace item.packet ++ []) (lace item.packet) (append-nil (lace item.packet)) (closed_lacing (length item.packet))
 closed_run (item ∷ next ∷ run) some = closed_behind (lace item.packet) (run_lacing (next ∷ run)) (closed_run (next ∷ run) (omega arith))
 
--- a packet ends in what is left of such values, where a value is left
+-- a packet ends in what is left of such values, if a value is left
 ends_left : (values : List ℕ) (k : ℕ) → EndsClosed values → k < length values → 0 < packets_ended (drop k values)
 ends_left values k h lt =
     let within : k ≤ length h.front = omega (arith, lt, ap length h.whole, length-append h.front (h.last ∷ [])) in
@@ -119,7 +119,7 @@ reached_by serial first run before (suc m) some small e =
     ∙ reached-push (before ++ map (page_of_run serial first run) (counted 0 m)) last 0 (omega (arith, at, small))
     ∙ at
 
--- behind a run its stream is at the position of the run's last packet
+-- after a run its stream is at the position of the run's last packet
 pub run_reaches : (serial first : ℕ) (run : List Timed) (before : List Page) → 0 < length run → end_position run < 2 ^ 63 →
     last_position (before ++ pages_of_run serial first run) ≡ end_position run
 unfolding pages_of_run

@@ -1,4 +1,4 @@
-pub mod Rows
+pub mod Examples
 pub mod Progress
 pub mod Turns
 pub mod Streams
@@ -20,6 +20,6 @@ pub mod Ending
 pub mod Putting
 pub mod Held
 pub mod Longer
-pub mod TakenRows
+pub mod TakenExamples
 pub mod OwnSerials
 pub mod Adding

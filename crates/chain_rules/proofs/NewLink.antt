@@ -1,4 +1,4 @@
--- The pages of a Begin are a new link, with its streams, and their states behind it.
+-- The pages of a `Begin` are a new link, with its streams, and their states after it.
 use Rattle.std.proofs.Common.{◌≡◌, ◌≢◌, ℕ, zero, suc, ◌+◌, ◌<◌, ◌≤◌, Bool, true, false, cond, List, inl, [], ◌∷◌, ◌++◌, length, map, take, drop, refl, sym, ◌∙◌, ap, subst, arith, eq-eqb, length-append, Option, None, Some}
 use Rattle.std.specs.Prelude.{nat_eq, nat_lt, not, ◌||◌}
 use Rattle.std.specs.List.{list_any, flat_map, AllByRecursion, IsDistinct}
@@ -32,7 +32,7 @@ use Rattle.link_chain.specs.Laws.StateBehind.{state, state_other, data_with}
 use Rattle.chain_rules.proofs.RunState.{run_unmarked, run_goes_on}
 use Rattle.chain_rules.proofs.Still.{run_still, flagged_still, still_position}
 
--- ---- a stream without anything else but its headers
+-- ---- a stream that has only its headers
 plain_is_part : (stream : NewStream) → IsGood stream → IsPart (plain_part stream)
 plain_is_part stream good =
     let page : Page = first_page stream in
@@ -145,7 +145,7 @@ pub record IsNewLink (link : List Page) (held : List Stream) (behind : List Stre
   pub has_data : list_any (λ (p : Page). not (is_first p)) link ≡ more
   pub serials_are : serials_of link ≡ own
 
--- what the rules leave
+-- what a new link is like that breaks no rule
 pub record CanBegin (skeleton : Option SkeletonHead) (streams : List NewStream) : Type 0 where
   pub good : AllByRecursion IsGood streams
   pub distinct : IsDistinct nat_eq (serials_in skeleton streams)
@@ -230,7 +230,7 @@ other_states body pages serial [] own h states = tt
 other_states body pages serial (s ∷ streams) own h states =
     (state_other body pages serial s.serial own (eqb-false serial s.serial h.0) ∙ states.0, other_states body pages serial streams own h.1 states.1)
 
--- the Skeleton behind its last page
+-- the Skeleton after its last page
 closed_state : (body : List Page) (serial count : ℕ) (own : List Page) (packets : List (List ℕ)) → pages_with serial body ≡ own → AllByRecursion IsStill own →
     HoldsPackets own packets 0 [] → state_of (body ++ last_page serial (count + 1) ∷ []) serial ≡ state serial (count + 2) 0 true true
 closed_state body serial count own packets is still held =

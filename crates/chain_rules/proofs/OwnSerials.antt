@@ -1,4 +1,4 @@
--- The streams that a command leaves have serials of their own.
+-- The streams that a command leaves have distinct serials.
 use Rattle.std.proofs.Common.{◌≡◌, List, [], ◌∷◌, ◌+◌, length, map, Option, Some, None, refl, sym, ap, subst}
 use Rattle.std.specs.Prelude.{nat_eq}
 use Rattle.std.specs.List.{IsDistinct, fold}

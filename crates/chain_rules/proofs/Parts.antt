@@ -1,4 +1,4 @@
--- A new link by its parts: streams, each with its pages behind the first. The Skeleton is one of them, until it ends.
+-- A new link by its parts: streams, each with its pages after the first. The Skeleton is one of them, until it ends.
 use Rattle.std.proofs.Common.{◌≡◌, ◌≢◌, ℕ, ◌+◌, ◌<◌, ◌≤◌, true, false, List, [], ◌∷◌, ◌++◌, length, map, take, drop, refl, sym, ◌∙◌, ap, subst, arith, eq-eqb, inl, inr}
 use Rattle.std.specs.Prelude.{nat_eq}
 use Rattle.std.specs.List.{AllByRecursion, AllZip, IsDistinct, list_any, list_all, flat_map}
@@ -18,7 +18,7 @@ use Rattle.std.specs.Prelude.{◌⊎◌}
 use Rattle.ogg_page.specs.LogicalStream.{number_behind}
 use Rattle.chain_rules.proofs.Beginning.{all_and, all_of_map, IsGood, first_page, is_first_page, serial_of, marked_first, not_last, first_fits, first_held, first_own}
 
--- a stream of a new link, and its pages behind the first
+-- a stream of a new link, and its pages after the first
 pub record Part : Type 0 where
   pub stream : NewStream
   pub later : List Page
@@ -35,11 +35,11 @@ later_of part = part.later
 abbrev pub begun_of : Part → Stream
 begun_of part = begun part.stream
 
--- a page's position that a stream's last one passes over, or 0
+-- the page's position is 0, or says that no packet ends in the page: neither changes the stream's last position
 abbrev pub IsStill : Page → Type 0
 IsStill page = (page.position ≡ 0) ⊎ (page.position ≡ no_position)
 
--- these pages fit behind the stream's first, and hold its other headers
+-- these pages fit after the stream's first, and hold its other headers
 pub record IsPart (part : Part) : Type 0 where
   pub good : IsGood part.stream
   pub own : Own part.stream.serial part.later
@@ -50,7 +50,7 @@ pub record IsPart (part : Part) : Type 0 where
   pub number : number_behind (page_of part ∷ part.later) ≡ 1 + length part.later
   pub still : AllByRecursion IsStill part.later
 
--- a stream without anything else but its headers
+-- a stream that has only its headers
 abbrev pub plain_part : NewStream → Part
 plain_part stream = record { stream = stream; later = header_pages stream }
 

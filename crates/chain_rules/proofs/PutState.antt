@@ -1,4 +1,4 @@
--- The chain state behind a put and behind the end of a stream.
+-- The chain state after a put and after the end of a stream.
 use Rattle.std.proofs.Common.{◌≡◌, ◌≢◌, ℕ, ◌+◌, ◌<◌, ◌^◌, Bool, true, false, cond, List, [], ◌∷◌, ◌++◌, length, map, refl, sym, ◌∙◌, ap, subst, arith, append_assoc, Option, Some, Ok}
 use Rattle.std.specs.Prelude.{nat_eq, is_none}
 use Rattle.std.specs.List.{AllByRecursion, fold}
@@ -27,7 +27,7 @@ use Rattle.link_chain.specs.Laws.StateBehind.{state_behind}
 use Rattle.chain_rules.proofs.RunState.{run_own, run_unmarked, run_state}
 use Rattle.link_chain.specs.Followed.{moved_by}
 
--- ---- streams that are looked up behind a change
+-- ---- streams that are looked up after a change
 pub looked_up : (serial : ℕ) (change : StreamState → StreamState) → ((s : StreamState) → (change s).serial ≡ s.serial) → (streams : List StreamState) (other : ℕ) →
     is_none (stream_in (map (change_at serial change) streams) other) ≡ is_none (stream_in streams other)
 looked_up serial change same [] other = refl
@@ -61,7 +61,7 @@ ready_entries streams now (entry ∷ entries) same h = (
       (λ serial. looked_up entry.serial (moved_to entry.position) (λ s. refl) now serial ∙ same serial) h.1.1.1.1.1,
 )
 
--- ---- runs that do
+-- ---- runs that break no rule
 record IsReadyRun (streams : List StreamState) (run : List Entry) : Type 0 where
   some : 0 < length run
   known : is_none (stream_in streams (run_serial run)) ≡ false
@@ -84,7 +84,7 @@ ready_runs : (streams : List StreamState) (entries : List Entry) → AllByRecurs
 ready_runs streams [] h = tt
 ready_runs streams (entry ∷ entries) h = front_ready streams entry (runs_of entries) h.0 (ready_runs streams entries h.1)
 
--- ---- the state behind a run
+-- ---- the state after a run
 end_of_run : (run : List Entry) → 0 < length run → end_position (map timed run) ≡ run_position run
 end_of_run [] some = absurd (omega arith)
 end_of_run (entry ∷ []) some = refl
@@ -109,7 +109,7 @@ behind_run links run some ready =
     (run_state (last_link links) serial next items many (omega (arith, last, ready.small)) number
     ∙ ap (λ p. advanced (next + length (pages_of_run serial next items)) p (state_of (last_link links) serial)) last)
 
--- ---- the state behind runs
+-- ---- the state after runs
 with_none : (links : List (List Page)) → with_pages links [] ≡ links
 with_none [] = refl
 with_none (link ∷ []) = ap (λ l. l ∷ []) (append-nil link)
@@ -138,7 +138,7 @@ each_ready streams serial sequence position (run ∷ runs) h = (
   each_ready streams serial sequence position runs h.1,
 )
 
--- the chain with these streams, which has pages that are no stream's first, and is so much longer
+-- the chain with these streams, and with pages that are no stream's first; it is longer by this size
 abbrev pub grown : ChainState → List StreamState → ℕ → ChainState
 grown chain streams size = record chain { streams = streams; has_data = true; length_of = chain.length_of + size }
 

@@ -130,7 +130,7 @@ run_change serial (entry ∷ run) h streams =
     ∙ map-same (λ (s : Stream). change_run serial run (cond (nat_eq s.serial entry.serial) (record s { packets = s.packets ++ entry.packet ∷ [] }) s))
     (change_run serial (entry ∷ run)) (λ s. one_more serial entry run s h.0) streams
 
--- ---- the numbers behind a run
+-- ---- the numbers after a run
 -- the stream that was brought on has its new number, and the others keep theirs
 next_here : (serial sequence position : ℕ) (states : List StreamState) → is_none (stream_in states serial) ≡ false → next_in (brought_to serial sequence position states) serial ≡ sequence
 next_here serial sequence position [] known = cc
@@ -176,7 +176,7 @@ next_elsewhere serial sequence position (state ∷ states) other ne =
     either true o p e = refl
     either false o p e = e
 
--- ---- a run more
+-- ---- another run
 -- the stream's next number is that of its state
 pub record IsNumbered (link : List Page) (states : List StreamState) (serial : ℕ) : Type 0 where
   pub known : is_none (stream_in states serial) ≡ false
@@ -198,7 +198,7 @@ packets_timed : (run : List Entry) → map (λ (t : Timed). t.packet) (map timed
 packets_timed [] = refl
 packets_timed (entry ∷ run) = ap (λ l. entry.packet ∷ l) (packets_timed run)
 
--- packets more of one stream
+-- further packets of one stream
 run_grows : (link : List Page) (serial first : ℕ) (run : List Timed) (streams : List Stream) (change : Stream → Stream) →
     IsLink link → HoldsLink link streams → all_ended link ≡ false → has_stream link serial ≡ true → has_ended link serial ≡ false →
     number_behind (pages_with serial link) ≡ first →
@@ -314,7 +314,7 @@ runs_are_pages ((entry ∷ run) ∷ runs) states ones h numbers =
 abbrev ended_in : List StreamState → ℕ → Bool
 ended_in states serial = option_map_or (λ (stream : StreamState). stream.ended) (stream_in states serial) false
 
--- a position that is reached ends no stream
+-- a stream that reaches a position isn't ended by it
 still_ended : (serial position : ℕ) (states : List StreamState) (other : ℕ) → ended_in (with_position serial position states) other ≡ ended_in states other
 still_ended serial position [] other = refl
 still_ended serial position (state ∷ states) other =

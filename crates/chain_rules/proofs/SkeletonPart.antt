@@ -137,7 +137,7 @@ is_skeleton_part head streams size short =
     }
 
 -- ---- the last page
--- with one packet, which is empty
+-- the last page has one packet, which is empty
 abbrev pub last_page : ℕ → ℕ → Page
 last_page serial sequence = record { flags = 4; position = 0; serial = serial; sequence = sequence; lacing = 0 ∷ []; body = [] }
 

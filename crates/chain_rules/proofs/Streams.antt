@@ -1,4 +1,4 @@
--- A new link's streams, looked at one after the other.
+-- A new link's streams, checked one after the other.
 use Rattle.std.proofs.Common.{◌≡◌, ℕ, ◌+◌, ◌<◌, Bool, true, false, List, [], ◌∷◌, ◌++◌, length, map, take, drop, get_or, refl, sym, ◌∙◌, ap}
 use Rattle.std.specs.Prelude.{nat_eq, reverse, ◌||◌}
 use Rattle.std.specs.List.{list_any}

@@ -1,4 +1,4 @@
--- Rules that are looked at group by group.
+-- Rules that are checked group by group.
 use Rattle.std.proofs.Common.{◌≡◌, ℕ, List, ◌++◌, sym, ◌∙◌, ap, append_assoc, Some, None, Err}
 use Rattle.ogg_command.specs.declared.refusal.Refusal.{Refusal}
 use Rattle.link_chain.specs.Rules.{Rule, first_broken}

@@ -1,4 +1,4 @@
--- The streams of a link that has just begun: the Skeleton, where there is one, is the first.
+-- The streams of a link that begins. If the link has a Skeleton, the Skeleton is the first.
 use Rattle.std.specs.Prelude.{ℕ, ◌+◌, Bool, true, false, nat_lt, Option, None, Some, List, [], ◌∷◌, length, map}
 use Rattle.std.specs.List.{list_any}
 use Rattle.ogg_command.specs.declared.command.Begin.{Begin}
@@ -10,12 +10,12 @@ use Rattle.chain_rules.specs.Encoding.{header_pages}
 abbrev pub has_other_headers : NewStream → Bool
 has_other_headers stream = nat_lt 1 (length stream.headers)
 
--- a new stream behind its headers
+-- a new stream after its headers
 abbrev pub new_state : NewStream → StreamState
 new_state stream =
     record { serial = stream.serial; next_sequence = 1 + length (header_pages stream); last_position = 0; ended = false; finished = true }
 
--- a Skeleton behind its fishead, a fisbone for each stream, and the empty packet that ends it
+-- a Skeleton after its fishead, a fisbone for each stream, and the empty packet that ends it
 abbrev pub skeleton_state : ℕ → List NewStream → StreamState
 skeleton_state serial streams =
     record { serial = serial; next_sequence = length streams + 2; last_position = 0; ended = true; finished = true }

@@ -65,7 +65,7 @@ streams_rules chain has_skeleton earlier [] = []
 streams_rules chain has_skeleton earlier (stream ∷ streams) =
     stream_rules chain has_skeleton earlier stream ++ streams_rules chain has_skeleton (stream.serial ∷ earlier) streams
 
--- the Skeleton first, where there is one, and then the streams
+-- the Skeleton first, if there is one, and then the streams
 abbrev pub parts_rules : ChainState → Option SkeletonHead → List NewStream → List (Rule Refusal)
 parts_rules chain None streams = streams_rules chain false [] streams
 parts_rules chain (Some head) streams = skeleton_rules chain head ++ streams_rules chain true (head.serial ∷ []) streams
@@ -87,7 +87,7 @@ entry_rules streams entry =
     ∷ (nat_lt entry.position (position_in streams entry.serial), PositionBack)
     ∷ []
 
--- each entry finds the streams where the entries before it have brought them
+-- each entry finds the streams as the entries before it have left them
 abbrev pub entries_rules : List StreamState → List Entry → List (Rule Refusal)
 entries_rules streams [] = []
 entries_rules streams (entry ∷ entries) = entry_rules streams entry ++ entries_rules (with_position entry.serial entry.position streams) entries
@@ -100,7 +100,7 @@ end_rules chain serial =
     ∷ (option_map_or (λ stream. stream.ended) (stream_in chain.streams serial) false, StreamEnded)
     ∷ []
 
--- ---- by the whole
+-- ---- rules for the whole command
 abbrev pub packet_bytes : Command → ℕ
 packet_bytes (BeginOf begin) = sum_by header_bytes begin.streams
 packet_bytes (PutOf put) = sum_by (λ entry. length entry.packet) put.entries
@@ -122,7 +122,7 @@ room_rules chain command =
     ∷ (nat_lt longest_file (chain.length_of + size_of chain command + 1), FileFull)
     ∷ []
 
--- the rules for a command, in the order in which they are looked at
+-- the rules for a command, in the order in which they are checked
 abbrev pub rules_for : ChainState → Command → List (Rule Refusal)
 rules_for chain (BeginOf begin) = begin_rules chain begin ++ item_rules chain begin ++ room_rules chain (BeginOf begin)
 rules_for chain (PutOf put) = put_rules chain put.entries ++ entries_rules chain.streams put.entries ++ room_rules chain (PutOf put)

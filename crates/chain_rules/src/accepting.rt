@@ -17,7 +17,7 @@ use link_chain::{Chain, MOST_STREAMS, StreamState};
 use ogg_command::{NewStream, Put, SkeletonHead};
 use packetiser::pages_of_run;
 
-/// Counts the packets of a put in, and gives the size of its pages in bytes.
+/// Counts the packets of a put in, and returns the size of its pages in bytes.
 pub fn add_runs(streams: &mut [StreamState], put: &Put) -> u64
     requires distinct { HaveOwnSerials streams.old }
     requires fits { PutFits streams.old put.now.entries }
@@ -28,7 +28,7 @@ pub fn add_runs(streams: &mut [StreamState], put: &Put) -> u64
     size_of_runs(streams, put.entries.as_slice()).unwrap()
 }
 
-/// Moves a chain behind a put.
+/// Moves a chain on after a put.
 pub fn add_put(chain: &mut Chain, put: &Put)
     requires fits { PutFits chain.old.chain.streams put.now.entries }
     requires long { chain.old.chain.length_of + size_of_pages (pages_of_runs chain.old.chain.streams (runs_of put.now.entries)) < 2 ^ 63 }
@@ -45,7 +45,7 @@ pub fn add_put(chain: &mut Chain, put: &Put)
     }
 }
 
-/// Moves a chain behind a put, by way of room for a copy of its streams.
+/// Moves a chain on after a put, with room for a copy of its streams.
 fn add_by(copy: &mut [StreamState], chain: &mut Chain, put: &Put)
     requires streams { length chain.old.chain.streams ≤ length copy.old }
     requires fits { PutFits chain.old.chain.streams put.now.entries }
@@ -60,7 +60,7 @@ fn add_by(copy: &mut [StreamState], chain: &mut Chain, put: &Put)
     chain.go_on(copy, size);
 }
 
-/// The streams of a new link, behind its pages.
+/// The streams of a new link, after its pages.
 pub fn streams_of(
     skeleton: Option<SkeletonHead>,
     new: &[NewStream],
@@ -81,7 +81,7 @@ pub fn streams_of(
     streams
 }
 
-/// Adds the streams of a new link behind its Skeleton.
+/// Adds the streams of a new link after its Skeleton.
 fn push_streams(streams: &mut ArrayVec<StreamState, MOST_STREAMS>, new: &[NewStream])
     requires streams { array_vec_len streams.old + length new.now ≤ most_streams }
     requires short { sum_by header_bytes new.now ≤ longest_batch }
@@ -94,7 +94,7 @@ fn push_streams(streams: &mut ArrayVec<StreamState, MOST_STREAMS>, new: &[NewStr
     }
 }
 
-/// A Skeleton that describes these streams, behind its last page.
+/// A Skeleton that describes these streams, after its last page.
 fn described(serial: u32, streams: &[NewStream]) -> StreamState
     ensures { result ≡ skeleton_state serial streams.now }
 {
@@ -107,7 +107,7 @@ fn described(serial: u32, streams: &[NewStream]) -> StreamState
     }
 }
 
-/// A new stream behind its headers.
+/// A new stream after its headers.
 fn begun(stream: &NewStream) -> StreamState
     requires short { header_bytes stream.now ≤ longest_batch }
     requires few { length stream.now.headers ≤ most_headers }

@@ -1,4 +1,4 @@
-//! The streams of a new link, looked at one after the other.
+//! The streams of a new link, checked one after the other.
 ghost use Rattle.std.specs.Prelude.{◌≡◌, ◌≤◌, ◌<◌, ◌+◌, ◌-◌, ◌*◌, ◌++◌, ℕ, [], ◌∷◌, ◌&&◌, false, Some, IfSome, is_some, length, sum_by, nat_lt, nat_le, nat_eq, take, drop, map, reverse, List};
 ghost use Rattle.std.specs.List.{list_any, list_all, flat_map};
 ghost use Rattle.std.specs.Option.{SomeIff};
@@ -10,13 +10,13 @@ ghost use Rattle.chain_rules.specs.Decision.{stream_rules, streams_rules, skelet
 ghost use Rattle.skeleton3.specs.Fields.{is_field, is_media_type};
 ghost use Rattle.ogg_command.specs.declared.command.NewStream.{NewStream as StreamOf};
 
-use crate::limits::{LONGEST_BATCH, LONGEST_FIRST, LONGEST_PACKET, MOST_FIELDS, MOST_HEADERS};
+use crate::limits::{LONGEST_BATCH, LONGEST_FIRST, LONGEST_PACKET, MOST_HEADERS};
 use command_pages::split_headers;
 use link_chain::{MOST_STREAMS, Serials};
 use ogg_command::{Begin, Listed, NewStream, Refusal, SkeletonHead};
-use skeleton3::{Field, is_field, is_media_type};
+use skeleton3::{Field, MOST_FIELDS, is_field, is_media_type};
 
-/// How many streams a link has, its Skeleton counted.
+/// How many streams a link has; its Skeleton counts.
 pub fn stream_count(begin: &Begin) -> usize
     ensures { result ≡ stream_count begin.now }
 {
@@ -76,7 +76,7 @@ fn broken_by_skeleton(serials: &Serials, head: &SkeletonHead) -> Option<Refusal>
     None
 }
 
-/// The first rule that a stream breaks, behind the streams before it in its link.
+/// The first rule that a stream breaks, after the streams before it in its link.
 fn broken_by_stream(
     serials: &Serials,
     skeleton: Option<SkeletonHead>,
@@ -188,7 +188,8 @@ fn has_longer(packets: &[Listed<u8>], most: usize) -> bool
     packets.iter().any(|packet| packet.len() > most)
 }
 
-/// What is left of a number of bytes behind the packets, where they aren't longer.
+/// What is left of a number of bytes after the packets; none if the packets have more bytes
+/// together.
 fn left_behind(left: u64, packets: &[Listed<u8>]) -> Option<u64>
     ensures { SomeIff result (sum_by length packets.now ≤ left) (left - sum_by length packets.now) }
 {

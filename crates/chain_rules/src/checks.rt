@@ -73,8 +73,8 @@ fn broken_by_put(streams: &[StreamState], entries: &[Entry]) -> Option<Refusal>
     None
 }
 
-/// Whether there is room for a put whose entries break no rule, and its size. The streams are brought
-/// on.
+/// Whether there is room for a put whose entries break no rule, and its size. The streams are moved on to the end of
+/// the put.
 #[tactic(auto, unfolding(command_pages::specs::Encoding::pages_of_command))]
 fn room_for_put(streams: &mut [StreamState], bytes: u64, put: &Put) -> Result<u64, Refusal>
     requires distinct { HaveOwnSerials streams.old }
@@ -96,7 +96,7 @@ fn room_for_put(streams: &mut [StreamState], bytes: u64, put: &Put) -> Result<u6
     Ok(size)
 }
 
-/// The entries of a put, and the room for it, by way of room for a copy of the streams.
+/// The entries of a put, and the room for it, with room for a copy of the streams.
 fn check_by(
     copy: &mut [StreamState],
     streams: &[StreamState],

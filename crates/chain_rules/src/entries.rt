@@ -1,4 +1,4 @@
-//! The packets of a put, looked at one after the other.
+//! The packets of a put, checked one after the other.
 ghost use Rattle.std.specs.Prelude.{◌≡◌, ◌≤◌, ◌<◌, ◌+◌, ◌^◌, ℕ, [], ◌∷◌, length, sum_by, nat_lt, nat_le, nat_eq, take, drop, take_while, map, if◌then◌else◌, List};
 ghost use Rattle.ogg_command.specs.declared.command.Entry.{Entry as EntryOf};
 ghost use Rattle.std.specs.List.{list_any};
@@ -44,8 +44,8 @@ fn broken_by_entry(streams: &[StreamState], place: usize, entry: &Entry) -> Opti
     None
 }
 
-/// The first rule that one of the entries breaks. The streams are left where the entries before it
-/// have brought them.
+/// The first rule that one of the entries breaks. The streams are left as the entries before it
+/// have moved them.
 pub fn broken_by_entries(streams: &mut [StreamState], entries: &[Entry]) -> Option<Refusal>
     requires { HaveOwnSerials streams.old }
     ensures { result ≡ first_broken (entries_rules streams.old entries.now) }

@@ -13,9 +13,8 @@ ghost use Rattle.ogg_command.specs.Refusal.{code_of};
 ghost use Rattle.ogg_command.specs.declared.command.Command.{Command as CommandOf};
 ghost use Rattle.ogg_command.specs.declared.refusal.Refusal.{Refusal as RefusalOf};
 
-/// A command that isn't refused adds its packets, and nothing else changes: the links behind it hold
-/// the recording with the command added, and the bytes that it appends are as many as its size says
-/// (RFC 3533, sections 4 to 6).
+/// A command that isn't refused adds its packets, and nothing else changes. The links after it hold the recording
+/// with the command added, and its size is the number of bytes that it appends (RFC 3533, sections 4 to 6).
 pub fn command_adds_its_packets()
     ensures size { (chain : ChainState) (command : CommandOf) (size : ℕ) →
         decision chain command ≡ Ok size → length (command_bytes chain command) ≡ size }
@@ -36,7 +35,7 @@ pub fn commands_add_their_packets()
         AllByRecursion IsCommand commands → AreLinks bytes links → HoldsLinks links recording → AreKept links commands →
         AreLinks (bytes ++ bytes_of_commands links commands) (links_behind links commands)
         × HoldsLinks (links_behind links commands) (after recording commands) }
-    // From no links on their bytes hold just what they say.
+    // From no links on, the bytes of the commands hold exactly what the commands say.
     ensures holds { (commands : List CommandOf) → AllByRecursion IsCommand commands → AreKept [] commands →
         Holds (bytes_of_commands [] commands) (after [] commands) }
 {}
@@ -51,8 +50,8 @@ pub fn command_adds_pages()
         AllByRecursion IsPage (pages_of_command (chain_state_of links) command) }
 {}
 
-/// `check` refuses a command for a reason of the table alone, `LinkOpen` to `FileFull`: that a recorder
-/// has failed, that memory was refused or that the disk failed is for others to say.
+/// `check` refuses a command only for a reason of the table, `LinkOpen` to `FileFull`. Whether a recorder has failed,
+/// memory was refused or the disk failed is for others to say.
 pub fn refusals_are_of_the_table()
     ensures { (chain : ChainState) (command : CommandOf) (refusal : RefusalOf) → decision chain command ≡ Err refusal →
         (2 ≤ code_of refusal) × (code_of refusal ≤ 19) }

@@ -1,13 +1,14 @@
 //! Commands, and the chain of links that they make (RFC 3533, section 4).
 //!
 //! A command begins a link of logical streams, puts packets, or ends a stream. `Shape` stands for
-//! the chain so far: `check` says why a command is refused, or how long its pages are; `lay` appends
-//! these pages; `prepare` makes the room, without which `accept` couldn't add the command in no
-//! memory. A refusal changes nothing, and nothing walks the file. `take_page` takes pages that were
+//! the chain so far. `check` says why a command is refused, or how long its pages are; `lay`
+//! appends these pages; `prepare` makes the room, and then `accept` adds the command and takes no
+//! memory. A refusal changes nothing, and no call reads the file. `take_page` takes pages that were
 //! read, one by one, and `unfinished` says whether they leave a packet unfinished.
 //!
-//! Start at `specs/Links.antt`, which says what a link and a chain are, at `specs/Decision.antt`,
-//! which is the table of refusals, and at `command_adds_its_packets`, the law that joins the two.
+//! Start at `specs/Links.antt` of link_chain, which says what a link and a chain are, at
+//! `specs/Decision.antt`, which is the table of refusals, and at `command_adds_its_packets`, the
+//! law that joins the two.
 #![tactic(auto)]
 
 mod accepting;

@@ -13,7 +13,7 @@ use ogg_page::Page;
 use std::alloc::Global;
 use std::marker::Model;
 
-/// The chain of the links so far, as far as the rules for a next command look at it.
+/// The chain of the links so far, as far as the rules for a next command depend on it.
 #[derive(Debug, Drop)]
 pub struct Shape {
     chain: Chain,
@@ -46,7 +46,7 @@ impl Shape {
         }
     }
 
-    /// The chain that a command is added to next, as that of a file which is opened.
+    /// The chain to which a command is added next, as that of a file that is opened.
     pub fn of(chain: Chain) -> Self
         ensures { result ≡ chain }
     {
@@ -60,8 +60,8 @@ impl Shape {
         self.chain.len()
     }
 
-    /// The size in bytes of the pages that a command would add, or why it is refused: the first
-    /// reason in the order of `Refusal`. With them, and the byte behind them, the file fits.
+    /// The size in bytes of the pages that a command would add, or why it is refused: the first reason in the order
+    /// of `Refusal`. With them, and the byte after them, the file isn't longer than it may be.
     pub fn check(&self, command: &Command) -> Result<u64, Refusal>
         ensures decides { result ≡ decision self.now.chain command.now }
         ensures fits { IfOk result (λ size. self.now.chain.length_of + size < longest_file) }
@@ -163,12 +163,11 @@ impl Shape {
         self.chain.add_link(streams.as_slice(), has_data, size);
     }
 
-    /// Takes a page that was read into the chain, or says why it may not follow: the first fault in
-    /// this order. A page that isn't its stream's first: `BosPlace`, `NoStream`, `AfterEos`,
-    /// `Sequence`, `Continued`, `EosUnfinished`. A first page where all streams have ended, so that
-    /// it begins a link: `BosShape`, `TooMany`. Another first page: `BosWhileOpen`, `SerialTwice`,
-    /// `BosShape`, `TooMany`. Last `Memory`, which a first page alone can meet. After a fault the
-    /// chain is as it was (RFC 3533, sections 4 to 6).
+    /// Takes a page that was read into the chain, or reports why it may not follow: the first fault in this order. A
+    /// page that isn't its stream's first: `BosPlace`, `NoStream`, `AfterEos`, `Sequence`, `Continued`,
+    /// `EosUnfinished`. A first page that begins a link, since all streams have ended: `BosShape`, `TooMany`. Another
+    /// first page: `BosWhileOpen`, `SerialTwice`, `BosShape`, `TooMany`. Last comes `Memory`, which only a first page
+    /// can meet. After a fault the chain is as it was (RFC 3533, sections 4 to 6).
     pub fn take_page(&mut self, page: &Page<'_>) -> Result<(), ChainFault>
         requires { self.old.chain.length_of + page_size page.now < 2 ^ 63 }
         ensures fault { (fault : ChainFaultOf) → fault_of_page self.old.chain page.now ≡ Some fault → result ≡ Err fault }

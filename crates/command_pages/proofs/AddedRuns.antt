@@ -18,7 +18,7 @@ length-flagged flags (page ∷ pages) = refl
 pub flagged_count : (serial first flags : ℕ) (run : List Timed) → length (flagged flags (pages_of_run serial first run)) ≡ pages_for (length (run_lacing run))
 flagged_count serial first flags run = length-flagged flags (pages_of_run serial first run) ∙ run_pages serial first run
 
--- what is added of a run is its pages
+-- the pages that are added for a run are the run's pages
 pub run_added : (streams : List StreamState) (run : List Entry) (serial next : ℕ) → serial ≡ run_serial run → next ≡ next_in streams (run_serial run) →
     flagged 0 (pages_of_run serial next (map timed run)) ≡ pages_behind streams run
 run_added streams run serial next s n =

@@ -54,7 +54,7 @@ size_more serial first streams i d lt =
     ap size_of_pages (pages_more serial first streams i d lt)
     ∙ sum_by-append page_size (fisbone_pages serial first (take i streams)) (pages_of_run serial (first + i) (header (fisbone_packet (get_or streams i d)) ∷ []))
 
--- the pages so far are within all
+-- the size of the pages so far is within the size of all
 pub size_behind : (serial first : ℕ) (streams : List NewStream) (i : ℕ) → size_of_pages (fisbone_pages serial first (take i streams)) ≤ size_of_pages (fisbone_pages serial first streams)
 size_behind serial first [] zero = omega arith
 size_behind serial first [] (suc i) = omega arith

@@ -67,7 +67,7 @@ run_sized streams run = run_bytes_all (run_serial run) (next_in streams (run_ser
 pub bytes_both : (xs ys : List Page) → bytes_of_pages (xs ++ ys) ≡ bytes_of_pages xs ++ bytes_of_pages ys
 bytes_both xs ys = flat_map-append page_bytes xs ys
 
--- what is written of a run is its pages
+-- the bytes that are written for a run are those of its pages
 pub run_written : (streams : List StreamState) (run : List Entry) (serial next : ℕ) → serial ≡ run_serial run → next ≡ next_in streams (run_serial run) →
     bytes_of_pages (flagged 0 (pages_of_run serial next (map timed run))) ≡ bytes_of_pages (pages_behind streams run)
 run_written streams run serial next s n =

@@ -60,7 +60,7 @@ front_run entry entries =
 pub front_some : (entry : Entry) (entries : List Entry) → 0 < front entry.serial (entry ∷ entries)
 front_some entry entries = omega (arith, front_same entry.serial entry entries refl)
 
--- so it is for a first entry that was read from the list
+-- the same for a first entry that was read from the list
 pub first_run : (entries : List Entry) (first : Entry) (n : ℕ) → 0 < length entries → first ≡ get_or entries 0 first → n ≡ front first.serial entries → Splits n entries
 first_run [] first n h is e = absurd (omega arith)
 first_run (entry ∷ entries) first n h is e = splits_at n (front entry.serial (entry ∷ entries)) (entry ∷ entries) (e ∙ ap (λ (f : Entry). front f.serial (entry ∷ entries)) is) (front_run entry entries)

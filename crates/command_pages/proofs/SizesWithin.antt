@@ -11,7 +11,7 @@ size_of_all pages [] = refl
 size_of_all pages (x ∷ xs) =
     sum_by-append page_size (pages x) (flat_map pages xs) ∙ ap (λ n. size_of_pages (pages x) + n) (size_of_all pages xs) ∙ sym (sum_by-cons (λ y. size_of_pages (pages y)) x xs)
 
--- those so far and the next are within all
+-- the sizes of those so far and of the next are within the size of all
 pub size_within : {X : Type 0} (pages : X → List Page) (xs : List X) (i : ℕ) (d : X) → i < length xs →
     size_of_pages (flat_map pages (take i xs)) + size_of_pages (pages (get_or xs i d)) ≤ size_of_pages (flat_map pages xs)
 size_within pages xs i d lt =

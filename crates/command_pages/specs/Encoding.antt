@@ -1,4 +1,4 @@
--- The pages that a command adds (RFC 3533, section 4): which pages, and in which order.
+-- The pages that a command adds (RFC 3533, section 4), and their order.
 use Rattle.std.specs.Prelude.{ℕ, ◌+◌, nat_eq, if◌then◌else◌, pos, Option, None, Some, List, [], ◌∷◌, ◌++◌, length, map, take, drop}
 use Rattle.std.specs.List.{flat_map}
 use Rattle.ogg_page.specs.Page.{Page, bytes_of_pages}
@@ -63,11 +63,11 @@ skeleton_stream head streams =
       shift = 0;
     }
 
--- its first page, which holds the fishead
+-- a Skeleton's first page, which holds the fishead
 abbrev pub fishead_pages : SkeletonHead → List Page
 fishead_pages head = flagged first_flag (pages_of_run head.serial 0 (header (fishead_bytes (fishead_of head)) ∷ []))
 
--- the pages of the fisbones, each in a page of its own
+-- the pages of the fisbones, one page for each fisbone
 abbrev pub fisbone_pages : ℕ → ℕ → List NewStream → List Page
 fisbone_pages serial first [] = []
 fisbone_pages serial first (stream ∷ streams) =
@@ -77,9 +77,9 @@ fisbone_pages serial first (stream ∷ streams) =
 abbrev pub skeleton_end : ℕ → ℕ → List Page
 skeleton_end serial first = flagged last_flag (pages_of_run serial first (header [] ∷ []))
 
--- The pages of a new link: the first page of each stream, and then those of its other headers. Of a Skeleton the first
--- page comes before all, those of the fisbones stand between the first pages and the other headers, and the last page
--- comes last (Ogg Skeleton 3.0).
+-- The pages of a new link: the first page of each stream, and then the pages of the streams' other headers. A
+-- Skeleton's first page comes before all of them. The pages of its fisbones stand between the first pages and the
+-- other headers, and its last page comes last (Ogg Skeleton 3.0).
 abbrev pub pages_of_begin : Option SkeletonHead → List NewStream → List Page
 pages_of_begin None streams = flat_map first_pages streams ++ flat_map header_pages streams
 pages_of_begin (Some head) streams =
@@ -140,6 +140,6 @@ pages_of_command chain (BeginOf begin) = pages_of_begin begin.skeleton begin.str
 pages_of_command chain (PutOf put) = pages_of_runs chain.streams (runs_of put.entries)
 pages_of_command chain (EndOf serial) = end_page chain serial ∷ []
 
--- the bytes that it adds
+-- the bytes that the command adds
 abbrev pub command_bytes : ChainState → Command → List ℕ
 command_bytes chain command = bytes_of_pages (pages_of_command chain command)

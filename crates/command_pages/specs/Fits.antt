@@ -21,7 +21,7 @@ header_bytes stream = sum_by length stream.headers
 abbrev pub has_many_headers : NewStream → Bool
 has_many_headers stream = nat_lt most_headers (length stream.headers)
 
--- longer than a media type and fields that are allowed make it
+-- the stream's message is longer than an allowed media type and allowed fields can make it
 abbrev pub has_long_message : NewStream → Bool
 has_long_message stream = nat_lt longest_message (length (message_of stream.media stream.fields))
 

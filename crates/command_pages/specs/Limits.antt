@@ -17,8 +17,8 @@ abbrev pub most_entries : ℕ
 most_entries = 4096
 
 -- ---- bounds of sizes, which the code's sums stay within
--- Bytes of pages for each packet and for each of its bytes, at most: those of a page's fixed part, a lacing value and the
--- byte.
+-- Bytes of pages for each packet and for each of its bytes, at most: those of a page's fixed part, a lacing value and
+-- the byte.
 abbrev pub most_for_each : ℕ
 most_for_each = fixed_size + 2
 

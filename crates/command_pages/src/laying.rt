@@ -20,14 +20,8 @@ use crate::sizes::{size_of_begin, split_headers};
 use crate::skeleton::{lay_fisbones, lay_fishead, lay_skeleton_end};
 use link_chain::{Chain, MOST_STREAMS, StreamState, next_sequence, place_of, stream_in};
 use ogg_command::{Command, Entry, NewStream, SkeletonHead};
-use ogg_page::{PageHead, write_page};
+use ogg_page::{FIRST, LAST, PageHead, write_page};
 use packetiser::{TimedPacket, lay_run};
-
-/// The flag of a stream's first page (RFC 3533, section 6, field 3).
-pub const FIRST: u8 = 2;
-
-/// The flag of a stream's last page.
-pub const LAST: u8 = 4;
 
 /// Appends the pages of a command. After `Memory` the vector is unchanged.
 pub fn lay_command(chain: &Chain, command: &Command, out: &mut Vec<u8>) -> Result<(), Memory>
@@ -76,7 +70,7 @@ fn lay_put(streams: &[StreamState], entries: &[Entry], out: &mut Vec<u8>) -> Res
     ensures err { OnErr result (out.new.items ≡ out.old.items) }
     ensures full { OnErr result (vec_capacity out.old < vec_len out.old + size_of_pages (pages_of_runs streams.now (runs_of entries.now))) }
 {
-    // Room is cleared before it is filled, so that a link of few streams takes little.
+    // The array is cleared before it is filled, so a link of few streams has a small one.
     if streams.len() <= FEW_STREAMS {
         let mut copy = [StreamState::NOBODY; FEW_STREAMS];
         lay_by(&mut copy, streams, entries, out)
@@ -113,8 +107,7 @@ fn lay_by(
     }
 }
 
-/// Appends the pages of a put, run after run. After `Memory` those of the runs before stand in the
-/// vector.
+/// Appends the pages of a put, run after run. After `Memory` the pages of the runs before stand in the vector.
 fn lay_runs(streams: &mut [StreamState], entries: &[Entry], out: &mut Vec<u8>) -> Result<(), Memory>
     requires distinct { HaveOwnSerials streams.old }
     requires fits { PutFits streams.old entries.now }
@@ -246,7 +239,7 @@ fn lay_other(stream: &NewStream, out: &mut Vec<u8>)
     append_run(stream.serial, 1, 0, others, out);
 }
 
-/// Appends the pages of a run for which there is room, and gives their number.
+/// Appends the pages of a run for which there is room, and returns their number.
 pub fn append_run<T: TimedPacket>(
     serial: u32,
     first_sequence: u32,

@@ -1,9 +1,8 @@
 //! The pages of a command (RFC 3533, sections 4 to 6).
 //!
-//! A command begins a link of logical streams, puts packets, or ends a stream: each adds pages, and
-//! which they are depends on the command and on where the streams of the last link stand. `lay_command`
-//! appends their bytes. `CommandPages` makes them one at a time, in the caller's buffer. The sizes can
-//! be had before.
+//! A command begins a link of logical streams, puts packets, or ends a stream. Each adds pages, which depend on the
+//! command and on the state of the last link's streams. `lay_command` appends the pages' bytes. `CommandPages` makes
+//! the pages one at a time, in the caller's buffer. The sizes can be found before any page is made.
 //!
 //! Start at `specs/Encoding.antt`, which says what the pages of a command are, and at `specs/Fits.antt`,
 //! which says what is asked of a command.

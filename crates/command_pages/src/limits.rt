@@ -1,4 +1,4 @@
-//! What is few, how many numbers there are, and the one size that is always the same.
+//! How many streams are few, how many sequence numbers there are, and the one size that is always the same.
 
 use ogg_page::FIXED_SIZE;
 

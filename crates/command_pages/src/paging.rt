@@ -12,7 +12,7 @@ use ogg_page::PageBuffer;
 use std::alloc::Global;
 use std::marker::Model;
 
-/// The pages of a command that are still to come. They are made one at a time, in the caller's buffer.
+/// The pages of a command that are still to come. `next` makes one at a time, in the caller's buffer.
 #[derive(Drop)]
 pub struct CommandPages<'a> {
     parts: Vec<Part<'a>>,
@@ -37,8 +37,8 @@ impl<'a> CommandPages<'a> {
     ghost use Rattle.command_pages.specs.Encoding.{pages_of_command};
     ghost use Rattle.command_pages.specs.Fits.{CommandFits};
 
-    /// The pages of a command, as [`lay_command`](crate::lay_command) appends them. It takes all the
-    /// memory that they need.
+    /// The pages of a command, as [`lay_command`](crate::lay_command) appends them. All the memory that the pages need
+    /// is taken here.
     pub fn of(
         alloc: Global,
         chain: &Chain,
@@ -71,7 +71,7 @@ impl<'a> CommandPages<'a> {
         self.left
     }
 
-    /// Makes the next page in the buffer, if one is still to come. It takes no memory.
+    /// Makes the next page in the buffer, if one is still to come. No memory is taken.
     pub fn next(&mut self, buffer: &mut PageBuffer) -> bool
         ensures { NextPage self.old result self.new buffer.new.finished }
     {
@@ -96,8 +96,8 @@ fn count_left(parts: &[Part<'_>]) -> u64
     left
 }
 
-/// Makes the next page of these parts, from part `done` on, if one is still to come. It gives the part
-/// from which the next one comes.
+/// Makes the next page of these parts, from part `done` on, if one is still to come, and says whether it did. The
+/// number is that of the first part that may have pages left.
 fn next_of(parts: &mut [Part<'_>], done: usize, buffer: &mut PageBuffer) -> (usize, bool)
     ensures { NextPage (pages_of_parts (drop done parts.old)) result.1 (pages_of_parts (drop result.0 parts.new)) buffer.new.finished }
 {

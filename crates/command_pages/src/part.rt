@@ -10,11 +10,11 @@ use packetiser::{Item, RunPages};
 /// Pages of a command that are still to come, of one stream and in one place.
 #[derive(Drop)]
 pub enum Part<'a> {
-    /// Those of packets that the command lends.
+    /// The pages of packets that the command lends.
     Lent(RunPages<Item<'a>>),
-    /// Those of a packet that isn't the command's own: a Skeleton's.
+    /// The pages of a packet that isn't the command's own: a Skeleton's.
     Made(RunPages<Listed<u8>>),
-    /// One without packets, until it is made.
+    /// A page without packets, until it is made.
     Bare(Option<PageHead>),
 }
 

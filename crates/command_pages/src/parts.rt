@@ -11,13 +11,14 @@ ghost use Rattle.command_pages.specs.Limits.{longest_batch, most_headers, most_s
 ghost use Rattle.ogg_page.specs.Sizes.{longest_whole};
 
 use crate::Memory;
-use crate::laying::{FIRST, LAST, end_head};
+use crate::laying::end_head;
 use crate::part::Part;
 use crate::runs::{bring_stream, next_at, run_length, run_position, run_serial};
 use crate::sizes::split_headers;
 use crate::skeleton::{fisbone_of, fishead_of};
 use link_chain::{Chain, MOST_STREAMS, StreamState, place_of};
 use ogg_command::{Command, Entry, Listed, NewStream, SkeletonHead};
+use ogg_page::{FIRST, LAST};
 use packetiser::{Item, RunPages, TimedPacket};
 use std::alloc::Global;
 
@@ -54,7 +55,7 @@ fn lend_run<'a, T: TimedPacket>(alloc: Global, run: &'a [T]) -> Result<Vec<Item<
     Ok(items)
 }
 
-/// Adds the pages of a run, and gives their number.
+/// Adds the pages of a run, and returns their number.
 fn add_run<'a, T: TimedPacket>(
     parts: &mut Vec<Part<'a>>,
     serial: u32,

@@ -15,7 +15,7 @@ use link_chain::{StreamState, place_of, stream_at};
 use ogg_command::Entry;
 use packetiser::{pages_of, size_of, values_and_bytes};
 
-/// The number after that many pages, if each of them can have a number.
+/// The sequence number after this many pages, if each of them can have a number.
 fn number_behind(next: u64, pages: u64) -> Option<u64>
     ensures { SomeIff result (next + pages ≤ 2 ^ 32) (next + pages) }
 {
@@ -61,8 +61,8 @@ pub fn bring_stream(streams: &mut [StreamState], place: usize, sequence: u64, po
     stream.finished = true;
 }
 
-/// How many bytes the pages of a put have, or `None` if one of them can't have a number. The streams, a
-/// copy of a chain's, are brought to where the pages leave them; after `None`, to where some of them do.
+/// How many bytes the pages of a put have, or `None` if one of them can't have a number. The streams, a copy of a
+/// chain's, are brought to the state that the pages leave; after `None`, to the state that some of the pages leave.
 pub fn size_of_runs(streams: &mut [StreamState], entries: &[Entry]) -> Option<u64>
     requires distinct { HaveOwnSerials streams.old }
     requires few { length entries.now ≤ most_entries }

@@ -10,7 +10,7 @@ use crate::skeleton::size_of_skeleton;
 use ogg_command::{Listed, NewStream, SkeletonHead};
 use packetiser::size_of_run;
 
-/// A stream's first header, where it has one, and its other headers.
+/// A stream's first header, if it has one, and its other headers.
 pub fn split_headers(headers: &[Listed<u8>]) -> (&[Listed<u8>], &[Listed<u8>])
     ensures first { result.0.now ≡ take 1 headers.now }
     ensures others { result.1.now ≡ drop 1 headers.now }

@@ -10,8 +10,9 @@ ghost use Rattle.command_pages.specs.Encoding.{header, fishead_of, fisbone_of, f
 ghost use Rattle.link_chain.specs.Size.{size_of_pages};
 ghost use Rattle.ogg_page.specs.Sizes.{empty_packet_page, longest_whole};
 
-use crate::laying::{FIRST, LAST, append_run};
+use crate::laying::append_run;
 use ogg_command::{NewStream, SkeletonHead};
+use ogg_page::{FIRST, LAST};
 use packetiser::{Item, size_of, values_of};
 use skeleton3::{Fisbone, Fishead};
 

@@ -1,4 +1,4 @@
--- Lacing values of a page, as a program looks at them.
+-- Lacing values of a page, as a program goes over them.
 use Rattle.std.proofs.Common.{◌≡◌, ◌≤◌, ◌-◌, ℕ, suc, Bool, true, false, List, [], ◌∷◌, length, take, slice_index_or, refl, sym, ◌∙◌, ap, arith}
 use Rattle.std.specs.Prelude.{nat_eq, nat_lt, ◌&&◌}
 use Rattle.std.specs.List.{list_all}

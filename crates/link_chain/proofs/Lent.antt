@@ -1,7 +1,7 @@
--- A vector whose items were lent, and a chain that was looked into.
+-- A vector whose items were lent, and a chain that was read.
 use Rattle.std.proofs.Common.{◌≡◌, ℕ, List, ◌++◌, length, take, drop, sym, ◌∙◌, ap}
 use Rattle.std.proofs.Math.Seq.{take-append_seam}
 
--- all items were lent, so just what they are now is given back
+-- all items were lent, so exactly what they are now is given back
 pub given_back : {X : Type 0} (now was : List X) (n : ℕ) → length now ≡ n → take n (now ++ drop (length now) was) ≡ now
 given_back now was n e = ap (λ k. take k (now ++ drop (length now) was)) (sym e) ∙ take-append_seam now (drop (length now) was)

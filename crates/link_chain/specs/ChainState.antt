@@ -1,4 +1,4 @@
--- What the rules for a next command or page look at, of all pages so far.
+-- What the rules for a next command or page depend on, of all pages so far.
 use Rattle.std.specs.Prelude.{ℕ, ◌^◌, Bool, not, nat_lt, if◌then◌else◌, List, [], ◌∷◌, length, map, sum_by}
 use Rattle.std.specs.List.{flat_map, list_any, fold}
 use Rattle.ogg_page.specs.Page.{Page, page_size}
@@ -11,7 +11,7 @@ pub record ChainState : Type 0 where
   pub streams : List StreamState
   -- a page that is no stream's first one stands in the last link
   pub has_data : Bool
-  -- of all streams of all links
+  -- the serials of all streams of all links
   pub serials : List ℕ
   pub links : ℕ
   pub length_of : ℕ

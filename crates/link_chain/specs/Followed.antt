@@ -1,4 +1,4 @@
--- The chain state behind a page that may follow, behind a link more, and behind pages more of the last one.
+-- The chain state after a page that may follow, after another link, and after further pages of the last link.
 use Rattle.std.specs.Prelude.{◌+◌, ◌^◌, ℕ, List, Bool, true, false, not, ◌||◌, nat_lt, if◌then◌else◌, [], ◌∷◌, ◌++◌, map}
 use Rattle.ogg_page.specs.Page.{Page, page_size}
 use Rattle.ogg_page.specs.LogicalStream.{is_last}
@@ -7,7 +7,7 @@ use Rattle.link_chain.specs.ChainState.{ChainState}
 use Rattle.link_chain.specs.Progress.{change_at}
 use Rattle.link_chain.specs.Taking.{leaves_open}
 
--- a stream behind one page more
+-- a stream after one more page
 abbrev pub followed : Page → StreamState → StreamState
 followed page stream =
     record {
@@ -22,11 +22,11 @@ followed page stream =
 abbrev pub without_pages : ℕ → StreamState
 without_pages serial = record { serial = serial; next_sequence = 0; last_position = 0; ended = false; finished = true }
 
--- a stream behind its first page
+-- a stream after its first page
 abbrev pub entered : Page → StreamState
 entered page = followed page (without_pages page.serial)
 
--- behind the first page of a link
+-- after the first page of a link
 abbrev pub opened : ChainState → Page → ChainState
 opened chain page =
     record {
@@ -37,7 +37,7 @@ opened chain page =
       length_of = chain.length_of + page_size page;
     }
 
--- behind the first page of one more stream of the last link
+-- after the first page of one more stream of the last link
 abbrev pub joined : ChainState → Page → ChainState
 joined chain page =
     record chain {
@@ -46,7 +46,7 @@ joined chain page =
       length_of = chain.length_of + page_size page;
     }
 
--- behind another page of a stream of the last link
+-- after another page of a stream of the last link
 abbrev pub continued : ChainState → Page → ChainState
 continued chain page =
     record chain {
@@ -55,7 +55,7 @@ continued chain page =
       length_of = chain.length_of + page_size page;
     }
 
--- behind a link more, whose streams are left so
+-- after another link, which leaves these streams
 abbrev pub with_link : ChainState → List StreamState → Bool → ℕ → ChainState
 with_link chain streams has_data bytes =
     record {
@@ -66,10 +66,10 @@ with_link chain streams has_data bytes =
       length_of = chain.length_of + bytes;
     }
 
--- behind pages of the last link that are no stream's first, by which its streams are left so
+-- after pages of the last link that are no stream's first, and that leave these streams
 abbrev pub moved_on : ChainState → List StreamState → ℕ → ChainState
 moved_on chain streams bytes = record chain { streams = streams; has_data = true; length_of = chain.length_of + bytes }
 
--- behind pages of one stream of the last link that aren't its first
+-- after pages of one stream of the last link that aren't its first
 abbrev pub moved_by : ChainState → ℕ → (StreamState → StreamState) → ℕ → ChainState
 moved_by chain serial change bytes = moved_on chain (map (change_at serial change) chain.streams) bytes

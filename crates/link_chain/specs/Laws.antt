@@ -1,4 +1,5 @@
--- What holds of links, of their chain state and of rules, and why LinkLaws holds. Nobody needs these to read a contract.
+-- What holds of links, of their chain state and of rules, and why LinkLaws holds. Nobody needs these to read a
+-- contract.
 pub mod Rules
 pub mod Grow
 pub mod LastLink

@@ -1,7 +1,7 @@
 -- What a chain may hold. Ours.
 use Rattle.std.specs.Prelude.{ℕ}
 
--- streams of a link, its Skeleton counted
+-- the greatest number of streams of a link; its Skeleton counts
 abbrev pub most_streams : ℕ
 most_streams = 64
 

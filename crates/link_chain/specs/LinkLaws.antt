@@ -27,7 +27,7 @@ all_bytes_of_links bytes links l = OneChain.all_bytes_of_links bytes links l
 pub pages_flattened : (links : List (List Page)) → AllByRecursion (AllByRecursion IsPage) links → AllByRecursion IsPage (flattened links)
 pages_flattened links are = InTurn.pages_flattened links are
 
--- pages are taken in turn, from no links on, exactly where their bytes are links
+-- pages are taken in turn, from no links on, exactly if their bytes are links
 pub in_turn : (pages : List Page) (links : List (List Page)) → AllByRecursion IsPage pages → AreTaken [] pages links ↔ AreLinks (bytes_of_pages pages) links
 in_turn pages links are = InTurn.in_turn pages links are
 

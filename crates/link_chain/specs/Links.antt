@@ -25,7 +25,7 @@ has_ended pages serial = list_any is_last (pages_with serial pages)
 abbrev pub all_ended : List Page → Bool
 all_ended pages = list_all (λ page. has_ended pages page.serial) pages
 
--- Pages that are a link: first one first page for each of its streams, then pages of just these.
+-- Pages that are a link: one first page for each of its streams, and then further pages of these streams only.
 pub record IsLink (pages : List Page) : Type 0 where
   pub first_pages : List Page
   pub others : List Page
@@ -58,7 +58,7 @@ pub record AreLinks (bytes : List ℕ) (links : List (List Page)) : Type 0 where
 abbrev pub flattened : List (List Page) → List Page
 flattened links = flat_map (λ link. link) links
 
--- pages more for the last link
+-- the last link has these further pages
 abbrev pub with_pages : List (List Page) → List Page → List (List Page)
 with_pages [] pages = []
 with_pages (link ∷ []) pages = (link ++ pages) ∷ []

@@ -4,7 +4,7 @@ use Rattle.link_chain.specs.ChainState.{ChainState}
 
 pub record ChainWithRoom : Type 0 where
   pub chain : ChainState
-  -- for how many streams of a link there is room
+  -- the number of streams of a link for which there is room
   pub stream_room : ℕ
-  -- for how many serials more there is room
+  -- the number of further serials for which there is room
   pub serial_room : ℕ

@@ -4,5 +4,5 @@ use Rattle.std.specs.Prelude.{ℕ, List}
 pub record SerialState : Type 0 where
   -- in the order of their first pages
   pub listed : List ℕ
-  -- how many more there is room for
+  -- the number of further serials for which there is room
   pub room : ℕ

@@ -10,6 +10,6 @@ has_no_number page = nat_le (2 ^ 32) page.sequence
 abbrev pub size_of_pages : List Page → ℕ
 size_of_pages pages = sum_by page_size pages
 
--- their size, where each page can have its number
+-- their size, if each page can have its number
 abbrev pub numbered_size : List Page → Option ℕ
 numbered_size pages = if list_any has_no_number pages then None else Some (size_of_pages pages)

@@ -16,8 +16,8 @@ use Rattle.link_chain.specs.Rules.{Rule, first_broken}
 use Rattle.link_chain.specs.Room.{ChainWithRoom}
 use Rattle.ogg_page.specs.Sizes.{full_value}
 
--- ---- the links with a page more
--- a stream's first page begins a link where there is none yet, or where all streams of the last one have ended
+-- ---- the links with another page
+-- a stream's first page begins a link if there is none yet, or if all streams of the last one have ended
 abbrev pub begins_link : ChainState → Page → Bool
 begins_link chain page = is_first page && not (is_open chain)
 
@@ -48,7 +48,7 @@ joining_rules chain page =
     ∷ []
 
 -- ---- another page
--- the stream's packet goes on behind the page: a page without lacing values leaves it as it is
+-- the stream's packet goes on after the page: a page without lacing values leaves it as it is
 abbrev pub leaves_open : Page → StreamState → Bool
 leaves_open page stream = if nat_eq (length page.lacing) 0 then not stream.finished else ends_open page.lacing
 
@@ -74,7 +74,7 @@ rules_for_page chain page =
 unfoldable pub fault_of_page : ChainState → Page → Option ChainFault
 fault_of_page chain page = first_broken (rules_for_page chain page)
 
--- Each of the pages may follow those before it, behind the links from which they start, and then the links are these.
+-- Each of the pages may follow those before it, after the links from which they start, and then the links are these.
 abbrev pub AreTaken : List (List Page) → List Page → List (List Page) → Type 0
 AreTaken start [] links = links ≡ start
 AreTaken start (page ∷ pages) links = (fault_of_page (chain_state_of start) page ≡ None) × AreTaken (links_with start page) pages links

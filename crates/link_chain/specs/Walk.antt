@@ -1,4 +1,4 @@
--- What comes of taking the pages of bytes into a chain.
+-- What taking the pages of bytes into a chain leaves.
 use Rattle.std.specs.Prelude.{◌≡◌, ◌≢◌, ◌⊎◌, ◌+◌, ℕ, Option, Some, None, Err, List, [], ◌++◌, length}
 use Rattle.std.specs.List.{AllByRecursion}
 use Rattle.ogg_page.specs.Page.{Page, IsPage, page_bytes, bytes_of_pages}
@@ -10,7 +10,7 @@ use Rattle.link_chain.specs.declared.walking.WalkFault.{WalkFault}
 use Rattle.link_chain.specs.declared.walking.WalkFault.TheVariants.{Page as PageOf, Chain as ChainOf}
 use Rattle.link_chain.specs.declared.chain_fault.ChainFault.TheVariants.{Memory}
 
--- The bytes begin with these pages, which are taken in turn behind the links, and then the rest is left.
+-- The bytes begin with these pages, which are taken in turn after the links, and then the rest is left.
 pub record TakesSome (links : List (List Page)) (bytes : List ℕ) (chain : ChainState) (rest : List ℕ) : Type 0 where
   pub pages : List Page
   pub after : List (List Page)
@@ -19,7 +19,7 @@ pub record TakesSome (links : List (List Page)) (bytes : List ℕ) (chain : Chai
   pub taken : AreTaken links pages after
   pub state : chain ≡ chain_state_of after
 
--- why nothing more is taken of what is left: a page may meet want of memory in place of being taken
+-- why nothing more is taken of what is left: memory may be refused for a page that would be taken otherwise
 abbrev pub IsLeft : ChainState → List ℕ → Option WalkFault → Type 0
 IsLeft chain rest None = rest ≡ []
 IsLeft chain rest (Some (PageOf fault)) = (rest ≢ []) × (page_at rest ≡ Err fault)

@@ -14,10 +14,10 @@ use ogg_page::{FIXED_SIZE, Page};
 use std::alloc::Global;
 use std::marker::Model;
 
-/// The chain of the links so far, as far as the rules for a next page or command look at it.
+/// The chain of the links so far, as far as the rules for a next page or command depend on it.
 #[derive(Debug, Drop)]
 pub struct Chain {
-    // those of the last link
+    // the streams of the last link
     streams: Vec<StreamState>,
     has_data: bool,
     serials: Serials,
@@ -100,19 +100,18 @@ impl Chain {
         self.bytes
     }
 
-    /// Why a page may not follow: the fault that `take_page` reports, `Memory` aside. The chain stays as it is.
+    /// Why a page may not follow: the fault that `take_page` reports, apart from `Memory`. The chain stays as it is.
     pub fn fault_of(&self, page: &Page<'_>) -> Option<ChainFault>
         ensures { result ≡ fault_of_page self.now.chain page.now }
     {
         broken_by_page(self.streams.as_slice(), self.has_data, self.links, page)
     }
 
-    /// Takes a page that was read into the chain, or says why it may not follow: the first fault in
-    /// this order. A page that isn't its stream's first: `BosPlace`, `NoStream`, `AfterEos`,
-    /// `Sequence`, `Continued`, `EosUnfinished`. A first page where all streams have ended, so that
-    /// it begins a link: `BosShape`, `TooMany`. Another first page: `BosWhileOpen`, `SerialTwice`,
-    /// `BosShape`, `TooMany`. Last `Memory`, which a first page alone can meet. After a fault the
-    /// chain is as it was (RFC 3533, sections 4 to 6).
+    /// Takes a page that was read into the chain, or reports why it may not follow: the first fault in this order. A
+    /// page that isn't its stream's first: `BosPlace`, `NoStream`, `AfterEos`, `Sequence`, `Continued`,
+    /// `EosUnfinished`. A first page that begins a link, since all streams have ended: `BosShape`, `TooMany`. Another
+    /// first page: `BosWhileOpen`, `SerialTwice`, `BosShape`, `TooMany`. Last comes `Memory`, which only a first page
+    /// can meet. After a fault the chain is as it was (RFC 3533, sections 4 to 6).
     pub fn take_page(&mut self, page: &Page<'_>) -> Result<(), ChainFault>
         requires { self.old.chain.length_of + page_size page.now < 2 ^ 63 }
         ensures fault { (fault : ChainFaultOf) → fault_of_page self.old.chain page.now ≡ Some fault → result ≡ Err fault }
@@ -173,8 +172,8 @@ impl Chain {
         Ok(())
     }
 
-    /// Makes the room for a link of so many streams. The chain stays as it is. After `Memory` a part
-    /// of the room may be made.
+    /// Makes the room for a link of this number of streams. The chain stays as it is. After `Memory` a part of the
+    /// room may be made.
     pub fn reserve_link(&mut self, streams: usize) -> Result<(), Memory>
         ensures chain { self.new.chain ≡ self.old.chain }
         ensures streams { OnOk result (streams ≤ self.new.stream_room) }
@@ -187,8 +186,8 @@ impl Chain {
         Ok(())
     }
 
-    /// Adds a link of these streams, whose pages have so many bytes, and of which some are no stream's
-    /// first where it has data. It takes no memory: `reserve_link` has made the room.
+    /// Adds a link of these streams, whose pages have `bytes` bytes in all. `has_data` says whether some of them are
+    /// no stream's first. It takes no memory: `reserve_link` has made the room.
     pub fn add_link(&mut self, streams: &[StreamState], has_data: bool, bytes: u64)
         requires few { length streams.now ≤ most_streams }
         requires own { HaveOwnSerials streams.now }
@@ -206,8 +205,8 @@ impl Chain {
         self.bytes += bytes;
     }
 
-    /// Goes on behind pages of the last link's streams that aren't their first, of so many bytes in all:
-    /// the streams are these now, in the same order. It takes no memory.
+    /// Goes on after further pages of the last link, of `bytes` bytes in all. None of them is its stream's first. The
+    /// streams are these now, in the same order. It takes no memory.
     pub fn go_on(&mut self, streams: &[StreamState], bytes: u64)
         requires count { length streams.now ≡ length self.old.chain.streams }
         requires own { HaveOwnSerials streams.now }

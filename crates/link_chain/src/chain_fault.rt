@@ -17,7 +17,7 @@ pub enum ChainFault {
     /// The first page of all isn't marked as a stream's first.
     #[error("the first page doesn't begin a stream")]
     BosPlace,
-    /// A stream's first page doesn't hold just one whole packet.
+    /// A stream's first page doesn't hold exactly one whole packet.
     #[error("a first page doesn't hold just one whole packet")]
     BosShape,
     /// The link has a stream with this serial already.
@@ -29,7 +29,7 @@ pub enum ChainFault {
     /// The stream has its last page already.
     #[error("the stream has ended")]
     AfterEos,
-    /// A stream begins behind the first pages of a link that is still open.
+    /// A stream begins after the first pages of a link that is still open.
     #[error("a stream begins in the middle of a link")]
     BosWhileOpen,
     /// There are as many streams as a link may have, or as many links as a file.

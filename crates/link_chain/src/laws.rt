@@ -7,7 +7,7 @@ ghost use Rattle.link_chain.specs.Recording.{Recording, HoldsLinks, Holds};
 ghost use Rattle.link_chain.specs.ChainState.{chain_state_of};
 ghost use Rattle.link_chain.specs.Taking.{AreTaken, unfinished_stream};
 
-/// The pages of a list are taken in turn, from no links on, exactly where their bytes are a chain of
+/// The pages of a list are taken in turn, from no links on, exactly if their bytes are a chain of
 /// links, and then the links are these (RFC 3533, section 4).
 pub fn pages_in_turn_are_links()
     ensures { (pages : List Page) (links : List (List Page)) → AllByRecursion IsPage pages →

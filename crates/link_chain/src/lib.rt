@@ -1,10 +1,9 @@
 //! A chain of links, page by page (RFC 3533, section 4).
 //!
-//! A file is a chain of links, each a group of logical streams. `Chain` stands for the links so far: it
-//! takes pages that were read, one by one, or says why one may not follow, and `unfinished` says
-//! whether they leave a packet unfinished. Crates above move it behind what they add themselves, by
-//! `add_link` and `go_on`. Nothing walks the file, and `reserve_link` has made the room for a link
-//! before it is added.
+//! A file is a chain of links, each a group of logical streams. `Chain` stands for the links so far. A chain takes
+//! pages that were read, one by one, or reports why one may not follow. `unfinished` says whether they leave a
+//! packet unfinished. The crates above add links and pages that they make themselves, by `add_link` and `go_on`. No
+//! call reads the file, and `reserve_link` has made the room for a link before it is added.
 //!
 //! Start at `specs/Links.antt`, which says what a link and a chain are, at `specs/Recording.antt`, which
 //! says what a chain holds, and at `specs/Taking.antt`, the rules for a page.

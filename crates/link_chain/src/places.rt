@@ -1,4 +1,4 @@
-//! Where the streams of a link are.
+//! The places of a link's streams.
 ghost use Rattle.std.specs.Prelude.{◌≡◌, false, slice_get, nat_eq};
 ghost use Rattle.std.specs.Option.{option_map_or};
 ghost use Rattle.std.specs.List.{position};
@@ -31,8 +31,8 @@ fn first_place(streams: &[StreamState], serial: u32) -> Option<usize>
     streams.iter().position(|stream| stream.serial == serial)
 }
 
-/// The place of the stream with this serial, which is looked for at the hint, then behind it, and
-/// then at all places. Where there is none, it is behind them all.
+/// The place of the stream with this serial. The stream is looked for at the hint, then after it,
+/// and then at all places. If there is no such stream, the place is after them all.
 pub fn place_of(streams: &[StreamState], hint: usize, serial: u32) -> usize
     requires { HaveOwnSerials streams.now }
     ensures { IsPlace streams.now serial result }

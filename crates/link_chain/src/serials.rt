@@ -49,7 +49,7 @@ impl Serials {
         self.known.contains(serial)
     }
 
-    /// Makes room for so many more.
+    /// Makes room for this number of further serials.
     pub fn reserve(&mut self, additional: usize) -> Result<(), Memory>
         ensures same { self.new.listed ≡ self.old.listed }
         ensures ok { OnOk result (additional ≤ self.new.room) }

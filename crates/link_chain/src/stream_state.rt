@@ -1,6 +1,6 @@
-//! What the rules look at of a stream of the last link.
+//! What the rules depend on of a stream of the last link.
 
-/// What the rules look at of a stream of the last link.
+/// What the rules depend on of a stream of the last link.
 #[derive(Clone, Copy, Debug, Default, PartialEq, Eq)]
 pub struct StreamState {
     /// The stream's serial.
@@ -16,7 +16,7 @@ pub struct StreamState {
 }
 
 impl StreamState {
-    /// What stands where there is no stream.
+    /// What is read at a place without a stream.
     pub const NOBODY: StreamState = StreamState {
         serial: 0,
         next_sequence: 0,

@@ -1,4 +1,4 @@
-//! The streams of a link, looked through.
+//! The streams of a link, searched.
 ghost use Rattle.std.specs.Prelude.{◌≡◌, ◌<◌, ◌+◌, ◌^◌, ℕ, not, map};
 ghost use Rattle.std.specs.List.{list_any, find};
 ghost use Rattle.link_chain.specs.Progress.{stream_in, next_in, change_at, ended_by};

@@ -48,7 +48,7 @@ fn ends_open(lacing: &[u8]) -> bool
     lacing.last() == Some(&FULL_VALUE)
 }
 
-/// Whether a packet of the stream goes on behind the page.
+/// Whether a packet of the stream goes on after the page.
 fn leaves_open(stream: StreamState, page: &Page<'_>) -> bool
     ensures { result ≡ leaves_open page.now stream }
 {
@@ -139,7 +139,7 @@ pub fn broken_by_page(
     }
 }
 
-/// A stream behind one page more.
+/// A stream after one more page.
 fn behind_page(stream: StreamState, page: &Page<'_>) -> StreamState
     ensures { result ≡ followed page.now stream }
 {
@@ -156,7 +156,7 @@ fn behind_page(stream: StreamState, page: &Page<'_>) -> StreamState
     }
 }
 
-/// A stream behind its first page.
+/// A stream after its first page.
 fn behind_first(page: &Page<'_>) -> StreamState
     ensures { result ≡ entered page.now }
 {

@@ -17,17 +17,17 @@ pub enum WalkFault {
     Chain(ChainFault),
 }
 
-/// What came of taking the pages of bytes.
+/// What taking the pages of bytes has done.
 #[derive(Clone, Copy, Debug, PartialEq, Eq)]
 pub struct Walk {
-    /// How many bytes the pages have that were taken.
+    /// How many bytes the pages that were taken have.
     pub end: usize,
-    /// Why the page behind them wasn't taken, where bytes are left.
+    /// Why the page after them wasn't taken, if bytes are left.
     pub fault: Option<WalkFault>,
 }
 
-/// Takes the pages that the bytes begin with into the chain, one by one, up to the first place where
-/// no page stands, or one that may not follow.
+/// Takes the pages that the bytes begin with into the chain, one by one. It stops at the first
+/// place with no page, or with one that may not follow.
 pub fn take_pages(chain: &mut Chain, bytes: &[u8]) -> Walk
     requires { chain.old.chain.length_of + length bytes.now < 2 ^ 63 }
     ensures walk { (links : List (List Page)) → chain.old.chain ≡ chain_state_of links → TakesPages links bytes.now chain.new.chain result }
@@ -50,7 +50,7 @@ pub fn take_pages(chain: &mut Chain, bytes: &[u8]) -> Walk
     }
 }
 
-/// The walk stops where these bytes are left.
+/// The walk stops with these bytes left.
 fn stopped(bytes: &[u8], rest: &[u8], fault: WalkFault) -> Walk
     requires { length rest.now ≤ length bytes.now }
     ensures end { result.end + length rest.now ≡ length bytes.now }

@@ -9,7 +9,7 @@ use Rattle.ogg_page.specs.Laws.ReadAgain.{length-page_bytes}
 use Rattle.ogg_page.specs.Laws.Sight.{sum_small}
 use Rattle.ogg_page.specs.declared.head.PageHead.{PageHead}
 
--- the head's place, the values, the body and what lies behind it
+-- the head's place, the values, the body and what follows it
 pub in_parts : (values size : ℕ) (room : List ℕ) →
     room ≡ take 27 room ++ (lacing_in values room ++ (body_in values size room ++ drop (27 + values + size) room))
 in_parts values size room =

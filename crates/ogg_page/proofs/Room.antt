@@ -19,7 +19,7 @@ front_is room start end o l =
     take_at (take (end - start) (drop start room)) (drop (0 + (end - start)) room) (end - start)
     (length-take-le (end - start) (drop start room) (omega (arith, o, l, length-drop start room)))
 
--- what was held, and what is read behind it
+-- what was held, and what is read after it
 pub joined : (front buffer rest bytes : List ℕ) (kept more at wanted : ℕ) → kept + more ≡ wanted → length front ≡ kept → length buffer ≡ more →
     front ≡ take kept (drop at bytes) → buffer ≡ take more (drop (at + kept) bytes) → take wanted (front ++ (buffer ++ rest)) ≡ take wanted (drop at bytes)
 joined front buffer rest bytes kept more at wanted sum_is lf lb f b =
@@ -30,7 +30,7 @@ joined front buffer rest bytes kept more at wanted sum_is lf lb f b =
     ∙ sym (take-add kept more (drop at bytes))
     ∙ ap (λ n. take n (drop at bytes)) sum_is
 
--- a fault in what is held, where that is all or as much as the longest page has
+-- a fault in what is held, if that is all there is or as much as the longest page has
 pub shown : (held bytes : List ℕ) (n at to : ℕ) (fault : PageFault) → AreBytes held → n ≡ min (to - at) 65307 → held ≡ take n (drop at bytes) →
     page_at held ≡ Err fault → page_at (take (to - at) (drop at bytes)) ≡ Err fault
 shown held bytes n at to fault h size is e = by_length (nat_lt (to - at) 65307) refl
@@ -89,7 +89,7 @@ stands room held n ordered inside begins =
       whole = begins.whole ∙ sized (take n (drop held.start room)) page both.0 read;
     }
 
--- behind the page what is held is still the source's
+-- what is held after the page is still the source's
 pub behind : (bytes : List ℕ) (honest : Type 0) (size : ℕ) (room : List ℕ) (held : Held) (at to n : ℕ) → HoldsBytes bytes honest size room held at to → held.start + n ≤ held.end →
     HoldsBytes bytes honest size room (record { start = held.start + n; end = held.end }) (at + n) to
 behind bytes honest size room held at to n holds fits =

@@ -1,4 +1,4 @@
--- A message of words more, by the checksum of what came before and of each byte.
+-- A message followed by words, by the checksum of what came before and of each byte.
 use Rattle.std.proofs.Common.{◌≡◌, ℕ, zero, suc, ◌+◌, ◌*◌, ◌^◌, ◌<◌, Bool, false, List, [], ◌∷◌, ◌++◌, length, replicate, get_or, refl, sym, ◌∙◌, ap, subst, arith, append_assoc, length-append, take, drop}
 use Rattle.std.specs.Prelude.{bit_xor}
 use Rattle.std.specs.Int.{byte_at, to_be_bytes, from_be_bytes, w32}
@@ -27,7 +27,7 @@ unfolding message_bits bits_of
 zero_bits zero = refl
 zero_bits (suc n) = ap (λ l. zeros 8 ++ l) (zero_bits n) ∙ replicate-append-replicate 8 (8 * n) false ∙ ap zeros (let e : 8 + 8 * n ≡ 8 * suc n = omega arith in e)
 
--- zero coefficients in two parts, as many as these
+-- zero coefficients in two parts, together as many as these
 padded : (a b : ℕ) (xs : List Bool) → a + b ≡ length xs → add (zeros a ++ zeros b) xs ≡ xs
 padded a b xs e = ap (λ l. add l xs) (replicate-append-replicate a b false ∙ ap zeros e) ∙ zeros-add xs
 
@@ -185,7 +185,7 @@ checksum-folded front bytes rest sum word is four =
     ∙ ap (λ l. number_of (left_of l)) (sym (joined (to_be_bytes w32 (bit_xor sum word)) rest))
     ∙ sym (is_number (to_be_bytes w32 (bit_xor sum word) ++ rest))
 
--- ---- words, each with the zeros behind it
+-- ---- words, each followed by zeros
 abbrev pub word_before : ℕ → ℕ → ℕ
 word_before zeros word = checksum_of (to_be_bytes w32 word ++ replicate zeros 0)
 
@@ -205,7 +205,7 @@ no_checksum = refl
 last_word : (bytes : List ℕ) (word : ℕ) → IsWord bytes word → checksum_of (bytes ++ []) ≡ word_before 0 word
 last_word bytes word four = ap (λ l. checksum_of (l ++ [])) (sym four.spelled)
 
--- one word behind a message with this checksum, two words and four
+-- one word after a message with this checksum, two words and four
 pub checksum-on_four : (front a : List ℕ) (sum v : ℕ) → sum ≡ checksum_of front → IsWord a v →
     word_before 0 (bit_xor sum v) ≡ checksum_of (front ++ (a ++ []))
 checksum-on_four front a sum v is h = sym (checksum-folded front a [] sum v is h)
@@ -254,7 +254,7 @@ four_words a b c d v w x y ha hb hc hd =
     ∙ ap (λ l. a ++ (b ++ (l ++ to_be_bytes w32 y))) hc.spelled
     ∙ ap (λ l. a ++ (b ++ (c ++ l))) hd.spelled
 
--- ---- the bytes of a word, each with the zeros behind it
+-- ---- the bytes of a word, each followed by zeros
 checksum-first : (byte : ℕ) (rest : List ℕ) → checksum_of (byte ∷ rest) ≡ bit_xor (entry_before (length rest) byte) (checksum_of rest)
 checksum-first byte rest = checksum-apart (byte ∷ []) rest
 
@@ -326,7 +326,7 @@ small_behind a b ha hb (suc (suc zero)) = ha
 small_behind a b ha hb (suc (suc (suc zero))) = hb
 small_behind a b ha hb (suc (suc (suc (suc i)))) = omega arith
 
--- two bytes with zeros behind them, or before them
+-- two bytes with zeros after them, or before them
 pub word_of_two : (a b word : ℕ) → a < 256 → b < 256 → word ≡ from_be_bytes w32 (a ∷ b ∷ 0 ∷ 0 ∷ []) → IsWord (a ∷ b ∷ 0 ∷ 0 ∷ []) word
 word_of_two a b word ha hb is = word_of 0 (a ∷ b ∷ 0 ∷ 0 ∷ []) word (two_small a b ha hb) is
 

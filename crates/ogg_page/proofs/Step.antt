@@ -82,7 +82,7 @@ moved bytes honest size failures only_reads old new at to n was lent room held p
     ok_err : (let r : Result (Option (ℕ × PageValue)) WindowFault = Ok (Some (at, page)) in r) ≡ Err Source → ⊥
     ok_err e = cc
 
--- the room still holds what is behind the page, and the page that is lent
+-- the room still holds what follows the page, and the page that is lent
 pub still : (bytes : List ℕ) (honest : Type 0) (size : ℕ) (room again : List ℕ) (held : Held) (at to n : ℕ) → again ≡ room → HoldsBytes bytes honest size room held at to → (here : Stands room held n) →
     HoldsBytes bytes honest size again (record { start = held.start + n; end = held.end }) (at + n) to × IsLent again (Some (record { offset = at; start = held.start; end = held.start + n }))
 still bytes honest size room again held at to n same holds here =

@@ -8,7 +8,7 @@ use Rattle.ogg_page.specs.Laws.Division.{zeros, length-remainder, length-add}
 use Rattle.ogg_page.specs.Laws.BitNumbers.{number-add, number-append, number-zeros, number-bits_of, bits_of-number, length-bits_of, number_lt, small_mod}
 use Rattle.ogg_page.specs.Laws.ByteStep.{left_of, left_of-push, length-left_of}
 
--- what the byte i in front of 32 zero bits leaves
+-- what the byte i before 32 zero bits leaves
 unfoldable pub entry : ℕ → ℕ
 entry i = number_of (remainder 8 (bits_of 8 i ++ zeros 32))
 

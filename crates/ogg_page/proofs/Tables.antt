@@ -1,4 +1,4 @@
--- The tables have the checksum of each byte with up to fifteen zeros behind it.
+-- The tables have the checksum of each byte with up to fifteen zeros after it.
 use Rattle.std.proofs.Common.{◌≡◌, ℕ, zero, suc, ◌+◌, ◌*◌, ◌/◌, ◌%◌, ◌^◌, ◌<◌, Bool, true, false, List, [], ◌∷◌, length, replicate, refl, sym, ◌∙◌, ap, subst, arith, drop, get_or}
 use Rattle.std.specs.Prelude.{nat_eq, bit_xor, ◌&&◌}
 use Rattle.std.specs.Int.Bits.{xor_zero_l, xor_zero_r}
@@ -14,7 +14,7 @@ use Rattle.ogg_page.proofs.TableRule.{entry, checksum-push}
 abbrev first_of : ℕ → ℕ
 first_of i = get_or (get_or ENTRIES 0 []) i 0
 
--- what a checksum is with a zero more
+-- what a checksum is with one more zero
 abbrev moved : ℕ → ℕ
 moved sum = bit_xor (sum * 2 ^ 8 % 2 ^ 32) (first_of (sum / 2 ^ 24))
 
@@ -30,7 +30,7 @@ are_moved [] (y ∷ ys) = false
 are_moved (x ∷ xs) [] = false
 are_moved (x ∷ xs) (y ∷ ys) = nat_eq y (moved x) && are_moved xs ys
 
--- the tables behind this one
+-- the tables after this one
 are_tables : List ℕ → List (List ℕ) → Bool
 are_tables xs [] = true
 are_tables xs (ys ∷ tables) = are_moved xs ys && are_tables ys tables
@@ -71,7 +71,7 @@ same_long [] (y ∷ ys) h = absurd (cc)
 same_long (x ∷ xs) [] h = absurd (cc)
 same_long (x ∷ xs) (y ∷ ys) h = ap suc (same_long xs ys (both (nat_eq y (moved x)) (are_moved xs ys) h).1)
 
--- ---- each zero more moves the checksum
+-- ---- each further zero moves the checksum
 checksum_small : (bytes : List ℕ) → checksum_of bytes < 2 ^ 32
 unfolding checksum_of left_of
 checksum_small bytes = subst (λ n. number_of (left_of (message_bits bytes)) < 2 ^ n) (length-left_of (message_bits bytes)) (number_lt (left_of (message_bits bytes)))
@@ -94,7 +94,7 @@ alone i h =
     ∙ ap (λ sum. bit_xor (sum * 2 ^ 8 % 2 ^ 32) (entry (bit_xor (sum / 2 ^ 24) i))) (sym no_message)
     ∙ sym (checksum-push [] i h)
 
--- this table has the checksums with so many zeros behind
+-- this table has the checksums of bytes with this number of zeros after them
 abbrev IsTable : ℕ → List ℕ → Type 0
 IsTable zeros xs = (length xs ≡ 256) × ((i : ℕ) → i < 256 → get_or xs i 0 ≡ entry_before zeros i)
 

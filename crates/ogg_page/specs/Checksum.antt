@@ -1,5 +1,5 @@
 -- The checksum of a page (RFC 3533, section 6): a cyclic redundancy check of 32 bits, most significant bit first,
--- from 0 on and with no final change. It is said here by long division of polynomials over two elements; a
+-- from 0 on and with no final change. The definition uses long division of polynomials over two elements; a
 -- polynomial is the list of its coefficients, the highest first.
 use Rattle.std.specs.Prelude.{ℕ, zero, suc, ◌+◌, ◌/◌, ◌%◌, ◌^◌, Bool, true, false, not, nat_eq, if◌then◌else◌, List, [], ◌∷◌, ◌++◌, length, replicate}
 use Rattle.std.specs.List.{flat_map}
@@ -29,11 +29,11 @@ add [] ys = []
 add (x ∷ xs) [] = x ∷ xs
 add (x ∷ xs) (y ∷ ys) = exclusive_or x y ∷ add xs ys
 
--- the divisor behind its leading coefficient, that of x ^ 32
+-- the divisor after its leading coefficient, which is that of x ^ 32
 unfoldable pub divisor : List Bool
 divisor = bits_of 32 0x04C11DB7
 
--- Long division: n times the leading coefficient goes, and where it was 1 the divisor is subtracted.
+-- Long division: n times the leading coefficient goes, and if it was 1 the divisor is subtracted.
 unfoldable pub remainder : ℕ → List Bool → List Bool
 remainder zero dividend = dividend
 remainder (suc n) [] = []
@@ -43,7 +43,7 @@ remainder (suc n) (b ∷ rest) = remainder n (if b then add rest divisor else re
 unfoldable pub checksum_of : List ℕ → ℕ
 checksum_of bytes = let message = message_bits bytes in number_of (remainder (length message) (message ++ replicate 32 false))
 
--- the checksum of a byte with so many zeros behind it
+-- the checksum of a byte with this number of zeros after it
 abbrev pub entry_before : ℕ → ℕ → ℕ
 entry_before zeros byte = checksum_of (byte ∷ replicate zeros 0)
 

@@ -8,12 +8,14 @@ pub mod LogicalStream
 pub mod Reading
 pub mod Pages
 pub mod Output
+pub mod OutputLaws
 pub mod PageLaws
 pub mod StreamLaws
 pub mod ReadingLaws
 pub mod PagesLaws
 pub mod Laws
 pub mod Source
+pub mod SourceLaws
 pub mod Window
 pub mod WindowFault
 pub mod LentPage

@@ -2,6 +2,6 @@
 use Rattle.std.specs.Prelude.{ℕ, ◌≤◌, List, Option, length, take}
 use Rattle.std.specs.Io.KnownBytes.{Appends}
 
--- Where the writer tells its bytes, a prefix of the text was written. It may be empty, or the whole.
+-- If the writer shows its bytes, a prefix of the text was written; the prefix may be empty, or the whole.
 abbrev pub WritesPrefix : Option (List ℕ) → Option (List ℕ) → List ℕ → Type 0
 WritesPrefix old new text = (n : ℕ) × (n ≤ length text) × Appends old new (take n text)

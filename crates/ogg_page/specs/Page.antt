@@ -19,7 +19,7 @@ pub record Page : Type 0 where
 abbrev pub IsByte : ℕ → Type 0
 IsByte x = x < 256
 
--- each number is a byte (behind the end `slice_index` is 0)
+-- each number is a byte (after the end `slice_index` is 0)
 abbrev pub AreBytes : List ℕ → Type 0
 AreBytes bytes = (i : ℕ) → slice_index bytes i < 256
 

@@ -27,7 +27,7 @@ abbrev pub finished_in : Option PageHead → ℕ → ℕ → List ℕ → Option
 finished_in None values size room = None
 finished_in (Some head) values size room = Some (page_in head values size room)
 
--- a finished page stands in front, and the byte behind it is 0
+-- a finished page stands in front, and the byte after it is 0
 abbrev pub IsClosed : Option PageHead → ℕ → ℕ → List ℕ → Type 0
 IsClosed None values size room = ⊤
 IsClosed (Some head) values size room =

@@ -20,7 +20,7 @@ abbrev pub located : ℕ → List Page → List FoundPage
 located offset [] = []
 located offset (page ∷ pages) = Ok (offset, page) ∷ located (offset + page_size page) pages
 
--- the fault at this offset, where bytes are left
+-- the fault at this offset, if bytes are left
 abbrev pub fault_of : ℕ → Result Page PageFault → List FoundPage
 fault_of offset (Ok page) = []
 fault_of offset (Err fault) = Err (offset, fault) ∷ []
@@ -29,14 +29,15 @@ abbrev pub fault_at : ℕ → List ℕ → List FoundPage
 fault_at offset [] = []
 fault_at offset (byte ∷ rest) = fault_of offset (page_at (byte ∷ rest))
 
--- all that is found in these bytes: their longest prefix of pages, and then one fault where bytes remain
+-- all that is found in these bytes: their longest prefix of pages, and then one fault if bytes remain
 pub record AreFoundIn (bytes : List ℕ) (found : List FoundPage) : Type 0 where
   pub pages : List Page
   pub rest : List ℕ
   pub begins : BeginsWithPages bytes pages rest
   pub all : found ≡ located 0 pages ++ fault_at (length (bytes_of_pages pages)) rest
 
--- The same, found from page to page: in these bytes, of which the first is at this offset, and in so many steps at most.
+-- The same, found from page to page: the first of these bytes is at this offset, and at most this number of steps is
+-- made.
 unfoldable pub found_within : ℕ → ℕ → List ℕ → List FoundPage
 found_within zero offset bytes = []
 found_within (suc steps) offset [] = []
@@ -46,16 +47,17 @@ found_within (suc steps) offset (byte ∷ bytes) =
       | Err fault ↦ Err (offset, fault) ∷ []
     ]
 
--- no page is empty, so there is no step for which a byte is lacking
+-- no page is empty, so there are as many steps at most as bytes
 abbrev pub found_in : ℕ → List ℕ → List FoundPage
 found_in offset bytes = found_within (length bytes) offset bytes
 
--- how far a walk over bytes has come, and the bytes that it has still to look at
+-- how far a walk over bytes has come, and the bytes that it hasn't passed yet
 pub record PagesLeft : Type 0 where
   pub offset : ℕ
   pub bytes : List ℕ
 
--- One step of the walk: a page in front is passed. Where none begins, the fault ends the walk, as the end of the bytes does.
+-- One step of the walk: a page in front is passed. If none begins, the fault ends the walk, as the end of the bytes
+-- does.
 abbrev pub NextPage : PagesLeft → Option FoundPage → PagesLeft → Type 0
 NextPage old None new = (old.bytes ≡ []) × (new.bytes ≡ [])
 NextPage old (Some (Ok found)) new =

@@ -8,7 +8,7 @@ use Rattle.ogg_page.specs.declared.fault.PageFault.{PageFault}
 use Rattle.ogg_page.specs.declared.fault.PageFault.TheVariants.{Short, Pattern, Version, Checksum}
 use Rattle.ogg_page.specs.Sizes.{fixed_size}
 
--- the lacing values, of which byte 26 gives the number
+-- the lacing values; byte 26 is their number
 abbrev pub lacing_at : List ℕ → List ℕ
 lacing_at bytes = take (slice_index bytes 26) (drop fixed_size bytes)
 
@@ -46,7 +46,7 @@ page_at bytes =
     else (if not (nat_eq (little_number 4 (drop 22 bytes)) (checksum_of (blanked (take (size_at bytes) bytes)))) then Err Checksum
     else Ok (fields_at bytes))))))
 
--- the page at the front has so many lacing values and so many bytes of body
+-- the page at the front has this number of lacing values and this number of bytes of body
 pub record IsPageOf (bytes : List ℕ) (values size : ℕ) : Type 0 where
   pub page : page_at bytes ≡ Ok (fields_at bytes)
   pub table : values ≡ slice_index bytes 26

@@ -16,7 +16,7 @@ pub read_is_page : (bytes : List ℕ) (page : Page) → AreBytes bytes → page_
     IsPage page × (more : List ℕ) × (bytes ≡ page_bytes page ++ more)
 read_is_page bytes page small read = Sight.found_there bytes page small read
 
--- no page stands where a fault does
+-- if there is a fault in front, no page stands there
 pub fault_is_no_page : (bytes : List ℕ) (fault : PageFault) → page_at bytes ≡ Err fault
     → (page : Page) (more : List ℕ) → IsPage page → bytes ≢ page_bytes page ++ more
 fault_is_no_page bytes fault read page more is = Sight.no_page bytes fault read page more is

@@ -31,7 +31,7 @@ pub record BeginsWithPage (bytes : List ℕ) (size : ℕ) : Type 0 where
   pub fits : size ≤ length bytes
   pub small : AreBytes bytes
 
--- what is found at an offset, of which the bytes of the range are left
+-- what is found at an offset, if these bytes of the range are left there
 abbrev pub IsFoundAt : Type 0 → ℕ → List ℕ → List ℕ → Result ℕ WindowFault → Type 0
 IsFoundAt honest at rest front (Ok size) = BeginsWithPage front size
 IsFoundAt honest at rest front (Err Source) = ⊤

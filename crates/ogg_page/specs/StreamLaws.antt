@@ -1,19 +1,21 @@
--- What holds of the pages of a logical stream and their lacing values (RFC 3533, sections 5 and 6). These are laws, to be cited.
+-- What holds of the pages of a logical stream and their lacing values (RFC 3533, sections 5 and 6). These are laws,
+-- to be cited.
 use Rattle.std.proofs.Common.{◌≡◌, ◌≢◌, ℕ, zero, suc, ◌<◌, ◌+◌, ◌-◌, ◌/◌, ◌%◌, Bool, true, false, List, [], ◌∷◌, ◌++◌, length, replicate, refl, sym, ◌∙◌, ap, subst, arith, append_assoc, length-append}
-use Rattle.std.specs.Prelude.{nat_eq, slice_index}
-use Rattle.std.specs.List.{flat_map, concat}
+use Rattle.std.specs.Prelude.{nat_eq, slice_index, ◌||◌}
+use Rattle.std.specs.List.{flat_map, concat, list_any}
 use Rattle.std.proofs.lemmas.List.{append-nil, get_or-append-add}
 use Rattle.std.proofs.lemmas.List.Concat.{flat_map-append}
-use Rattle.std.proofs.lemmas.Bool.{ne_eqb}
+use Rattle.std.proofs.lemmas.List.Folds.{list_any-append}
+use Rattle.std.proofs.lemmas.Bool.{ne_eqb, false≢true}
 use Rattle.ogg_page.specs.Page.{Page}
 use Rattle.ogg_page.specs.Lacing.{lace, lacing_of, ends_open}
 use Rattle.ogg_page.specs.Laws.Prefixes.{same_fronts}
-use Rattle.ogg_page.specs.LogicalStream.{HoldsPackets, EachBehind, joined_lacing, joined_bodies}
+use Rattle.ogg_page.specs.LogicalStream.{HoldsPackets, FitsBehind, EachBehind, joined_lacing, joined_bodies, is_last}
 
 pub false_is_not_true : (b : Bool) {A : Type 0} → b ≡ false → b ≡ true → A
 false_is_not_true b e f = cc
 
--- ---- each behind
+-- ---- pages after pages
 pub behind_both : (R : List Page → Page → Type 0) (before xs ys : List Page) →
     EachBehind R before xs → EachBehind R (before ++ xs) ys → EachBehind R before (xs ++ ys)
 behind_both R before [] ys a b = rw append-nil at b
@@ -105,3 +107,18 @@ pub held_once : (pages : List Page) (ps qs : List (List ℕ)) → HoldsPackets p
 held_once pages ps qs a b =
     same_packets ps qs (sym (append-nil (flat_map lace ps)) ∙ sym a.lacing ∙ b.lacing ∙ append-nil (flat_map lace qs))
     (sym (append-nil (concat ps)) ∙ sym a.bodies ∙ b.bodies ∙ append-nil (concat qs))
+
+-- ---- a stream that has ended leaves no packet unfinished
+pub last_closes : (before pages : List Page) → EachBehind FitsBehind before pages → list_any is_last before ≡ false → list_any is_last (before ++ pages) ≡ true →
+    ends_open (joined_lacing (before ++ pages)) ≡ false
+last_closes before [] fit none ended = absurd (false≢true (sym none ∙ sym (ap (list_any is_last) (append-nil before)) ∙ ended))
+last_closes before (page ∷ []) fit none ended =
+    fit.0.last_packet (sym (sym ended ∙ list_any-append is_last before (page ∷ []) ∙ ap (λ b. b || (is_last page || false)) none ∙ or_nothing (is_last page)))
+  where
+    or_nothing : (b : Bool) → (b || false) ≡ b
+    or_nothing true = refl
+    or_nothing false = refl
+last_closes before (page ∷ next ∷ pages) fit none ended =
+    let all : (before ++ page ∷ []) ++ (next ∷ pages) ≡ before ++ page ∷ next ∷ pages = append_assoc before (page ∷ []) (next ∷ pages) in
+    subst (λ (l : List Page). ends_open (joined_lacing l) ≡ false) all
+    (last_closes (before ++ page ∷ []) (next ∷ pages) fit.1 fit.1.0.last (ap (list_any is_last) all ∙ ended))

@@ -10,7 +10,8 @@ use Rattle.ogg_page.specs.declared.fault.WindowFault.TheVariants.{Source, Page}
 abbrev pub LentAt : Type 0
 LentAt = ℕ × PageValue
 
--- its source, the offset behind the page that is lent, where the range ends, the fault that ended it, and the page that is lent
+-- its source, the offset after the page that is lent, the end of the range, the fault that ended it, and the page
+-- that is lent
 pub record WindowState (S : Type 0) : Type 0 where
   pub source : S
   pub at : ℕ
@@ -26,12 +27,12 @@ window source from to = record { source = source; at = from; to = to; fault = No
 abbrev pub left_of : {S : Type 0} → (S → List ℕ) → WindowState S → PagesLeft
 left_of bytes w = record { offset = w.at; bytes = take (w.to - w.at) (drop w.at (bytes w.source)) }
 
--- what ended the window, where this is its answer
+-- what ended the window, if this is its answer
 abbrev pub fault_left : {T : Type 0} → Result T WindowFault → Option WindowFault
 fault_left (Ok value) = None
 fault_left (Err fault) = Some fault
 
--- One step of the walk over the pages of the range, as `Pages` makes it. Where the source fails, nothing is known.
+-- One step of the walk over the pages of the range, as `Pages` makes it. If the source fails, nothing is known.
 abbrev pub NextLent : PagesLeft → Result (Option LentAt) WindowFault → PagesLeft → Type 0
 NextLent old (Ok None) new = (old.bytes ≡ []) × (new.bytes ≡ [])
 NextLent old (Ok (Some lent)) new = NextPage old (Some (Ok lent)) new
@@ -50,12 +51,12 @@ pub record KeepsSource {S : Type 0} (bytes : S → List ℕ) (honest : S → Typ
   pub size_same : size new ≡ size old
   pub only : only_reads old new
 
--- what `next` answers where `advance` answers this
+-- what `next` answers if `advance` answers this
 abbrev pub answer : Result (Unit {0}) WindowFault → Option LentAt → Result (Option LentAt) WindowFault
 answer (Ok done) lent = Ok lent
 answer (Err fault) lent = Err fault
 
--- the page is the one at the window's place, which is now behind it
+-- the page is the one at the window's place; the place is now after it
 pub record Passes {S : Type 0} (old : WindowState S) (lent : LentAt) (new : WindowState S) : Type 0 where
   pub is_page : IsPage lent.1
   pub offset : lent.0 ≡ old.at
@@ -76,7 +77,7 @@ pub record HasMoved {S : Type 0} (bytes : S → List ℕ) (honest : S → Type 0
   pub source : KeepsSource bytes honest size only_reads old.source new.source
   pub to : new.to ≡ old.to
 
--- the window lends these pages, one call after the other, and then ends so
+-- the window lends these pages, one call after the other, and then ends with this result
 abbrev pub IsRun : PagesLeft → List LentAt → Result (Unit {0}) WindowFault → Type 0
 IsRun left [] (Ok done) = (new : PagesLeft) × NextLent left (Ok None) new
 IsRun left [] (Err fault) = (new : PagesLeft) × NextLent left (Err fault) new
@@ -86,7 +87,7 @@ IsRun left (lent ∷ more) end = (new : PagesLeft) × NextLent left (Ok (Some le
 abbrev pub found : LentAt → FoundPage
 found lent = Ok lent
 
--- These pages and then this end are all that is found. Where the source fails, they are what is found first.
+-- These pages and then this end are all that is found. If the source fails, they are what is found first.
 abbrev pub AreAll : List FoundPage → List LentAt → Result (Unit {0}) WindowFault → Type 0
 AreAll all lent (Ok done) = all ≡ map found lent
 AreAll all lent (Err (Page offset fault)) = all ≡ map found lent ++ Err (offset, fault) ∷ []

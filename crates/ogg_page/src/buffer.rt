@@ -11,7 +11,7 @@ use crate::sizes::{FIXED_SIZE, LONGEST_PAGE};
 use std::alloc::Global;
 use std::marker::Model;
 
-/// The longest page, and the byte that closes a file behind it.
+/// The longest page, and the byte that closes a file after it.
 pub(crate) const ROOM: usize = LONGEST_PAGE + 1;
 
 /// Room for one page, made once. A page is made in it: [`start`](PageBuffer::start) with its lacing
@@ -39,8 +39,8 @@ impl Model for PageBuffer {
 }
 
 impl PageBuffer {
-    /// Makes the room, of 65,308 bytes. No other call takes memory. It stands as after a `start`
-    /// with no values.
+    /// Makes the room, of 65,308 bytes. No other call takes memory. The buffer is then as after a
+    /// `start` with no values.
     pub fn new(alloc: Global) -> Result<PageBuffer, Memory>
         ensures { IfOk result (λ buffer. buffer ≡ started []) }
     {
@@ -89,7 +89,7 @@ impl PageBuffer {
         self.size += bytes.len();
     }
 
-    /// Makes it a page, of which the body is as long as the lacing values add up to.
+    /// Makes it a page. The body is as long as the lacing values add up to.
     pub fn finish(&mut self, head: &PageHead)
         requires { length self.old.body ≡ sum self.old.lacing }
         ensures { self.new ≡ record {
@@ -110,7 +110,7 @@ impl PageBuffer {
         &self.room[..FIXED_SIZE + self.values + self.size]
     }
 
-    /// The bytes of the finished page, and the byte 0 that closes a file behind it.
+    /// The bytes of the finished page, and the byte 0 that closes a file after it.
     pub fn closed(&self) -> &[u8]
         requires { IsSome self.now.finished }
         ensures { (page : Page) → self.now.finished ≡ Some page → result.now ≡ page_bytes page ++ 0 ∷ [] }

@@ -46,7 +46,7 @@ fn checksum_on_sixteen(before: u32, bytes: &[u8; 16]) -> u32
 }
 
 /// The same of sixteen bytes, as four words: what came before adds to the first word, and then each
-/// word adds the checksum that it has with the words behind it as zeros.
+/// word adds the checksum that it has with the words after it as zeros.
 pub(crate) fn checksum_on_words(
     before: u32,
     first: u32,
@@ -56,7 +56,7 @@ pub(crate) fn checksum_on_words(
 ) -> u32
     ensures { (front : List ℕ) → before ≡ checksum_of front → result ≡ checksum_of (front ++ bytes_of first second third fourth) }
 {
-    // The first word is the last to be added, since it alone waits for the bytes before.
+    // The first word is the last to be added, since only that word waits for the bytes before.
     checksum_of_word(second, 8)
         ^ checksum_of_word(third, 4)
         ^ checksum_of_word(fourth, 0)
@@ -79,7 +79,7 @@ fn checksum_on_four(before: u32, bytes: &[u8; 4]) -> u32
     checksum_of_word(before ^ u32::from_be_bytes(*bytes), 0)
 }
 
-/// The checksum of a word's bytes, the highest first, with so many zeros behind them.
+/// The checksum of a word's bytes, the highest first, with this number of zeros after them.
 fn checksum_of_word(word: u32, zeros: usize) -> u32
     requires { zeros ≤ 12 }
     ensures { result ≡ checksum_of (to_be_bytes w32 word ++ replicate zeros 0) }
@@ -88,7 +88,7 @@ fn checksum_of_word(word: u32, zeros: usize) -> u32
     entry(b0, zeros + 3) ^ entry(b1, zeros + 2) ^ entry(b2, zeros + 1) ^ entry(b3, zeros)
 }
 
-/// The checksum of a byte with so many zeros behind it.
+/// The checksum of a byte with this number of zeros after it.
 fn entry(byte: u8, zeros: usize) -> u32
     requires { zeros < 16 }
     ensures { result ≡ entry_before zeros byte }

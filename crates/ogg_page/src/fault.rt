@@ -64,7 +64,7 @@ pub enum WindowFault {
     /// The source couldn't be read.
     #[error("the source can't be read")]
     Source,
-    /// No page begins at this offset of the source, and what is wrong there.
+    /// No page begins at this offset of the source, for this reason.
     #[error("no page begins at byte {0}: {1}")]
     Page(u64, PageFault),
 }

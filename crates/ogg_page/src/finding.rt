@@ -11,8 +11,8 @@ use crate::reading::size_in_front;
 use crate::sizes::LONGEST_PAGE;
 use crate::source::PageSource;
 
-/// Moves what is held to the front of the room, and reads behind it as much as the longest page
-/// has, or up to the end of the range. After a fault nothing is held.
+/// Moves what is held to the front of the room, and reads on after it as far as the longest page
+/// goes, or up to the end of the range. After a fault nothing is held.
 fn read_on<S: PageSource>(
     source: &mut S,
     room: &mut [u8],
@@ -37,7 +37,7 @@ fn read_on<S: PageSource>(
     Ok(())
 }
 
-/// The size of the page at `at`. Where it isn't held as a whole, the room is filled first.
+/// The size of the page at `at`. If it isn't held as a whole, the room is filled first.
 pub(crate) fn find<S: PageSource>(
     source: &mut S,
     room: &mut [u8],

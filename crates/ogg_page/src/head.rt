@@ -14,7 +14,7 @@ pub const LAST: u8 = 4;
 pub struct PageHead {
     /// [`CONTINUED`], [`FIRST`] and [`LAST`], added up.
     pub flags: u8,
-    /// The granule position of the last packet that ends in the page; all ones where none ends.
+    /// The granule position of the last packet that ends in the page; all ones if none ends.
     pub position: u64,
     /// Which logical stream the page is of.
     pub serial: u32,

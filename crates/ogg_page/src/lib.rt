@@ -1,9 +1,9 @@
 //! Pages of an Ogg bitstream: their checksum and their bytes, written and read (RFC 3533, section 6).
 //!
-//! A page is a head of 27 bytes, a table of at most 255 lacing values, and a body whose length is
-//! their sum. Writing appends to the caller's vector, and leaves it as it was where memory is
-//! refused. Reading lends the parts of the page at the front of bytes, and takes no memory. The
-//! bytes of no page begin those of another, so bytes are joined pages in one way at most.
+//! A page is a head of 27 bytes, a table of at most 255 lacing values, and a body whose length is their sum. Writing
+//! appends to the caller's vector, and leaves it as it was if memory is refused. Reading lends the parts of the page
+//! at the front of bytes, and takes no memory. The bytes of no page begin those of another, so bytes are joined pages
+//! in one way at most.
 //!
 //! A file may be larger than memory: a `Window` over a `PageSource` lends its pages one at a time, out
 //! of the room of one `PageBuffer`.

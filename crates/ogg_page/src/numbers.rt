@@ -5,7 +5,7 @@ ghost use Rattle.ogg_page.specs.Numbers.{u16_bytes, u32_bytes, u64_bytes, i64_by
 
 use byteorder::{ByteOrder, LittleEndian};
 
-/// Takes the first byte off the bytes, and gives what follows.
+/// Takes the first byte off the bytes, and returns it with what follows.
 pub fn take_u8(bytes: &[u8]) -> (u8, &[u8])
     requires { 1 ≤ length bytes.now }
     ensures fits { result.0 < 2 ^ 8 }
@@ -16,7 +16,7 @@ pub fn take_u8(bytes: &[u8]) -> (u8, &[u8])
     (number[0], rest)
 }
 
-/// Takes the number of two bytes off the front, and gives what follows.
+/// Takes the number of two bytes off the front, and returns it with what follows.
 pub fn take_u16(bytes: &[u8]) -> (u16, &[u8])
     requires { 2 ≤ length bytes.now }
     ensures fits { result.0 < 2 ^ 16 }
@@ -27,7 +27,7 @@ pub fn take_u16(bytes: &[u8]) -> (u16, &[u8])
     (LittleEndian::read_u16(number), rest)
 }
 
-/// Takes the number of four bytes off the front, and gives what follows.
+/// Takes the number of four bytes off the front, and returns it with what follows.
 pub fn take_u32(bytes: &[u8]) -> (u32, &[u8])
     requires { 4 ≤ length bytes.now }
     ensures fits { result.0 < 2 ^ 32 }
@@ -38,7 +38,7 @@ pub fn take_u32(bytes: &[u8]) -> (u32, &[u8])
     (LittleEndian::read_u32(number), rest)
 }
 
-/// Takes the number of eight bytes off the front, and gives what follows.
+/// Takes the number of eight bytes off the front, and returns it with what follows.
 pub fn take_u64(bytes: &[u8]) -> (u64, &[u8])
     requires { 8 ≤ length bytes.now }
     ensures fits { result.0 < 2 ^ 64 }
@@ -49,8 +49,8 @@ pub fn take_u64(bytes: &[u8]) -> (u64, &[u8])
     (LittleEndian::read_u64(number), rest)
 }
 
-/// Takes the number of eight bytes with a sign, as two's complement, off the front, and gives what
-/// follows.
+/// Takes the number of eight bytes with a sign, as two's complement, off the front, and returns it
+/// with what follows.
 pub fn take_i64(bytes: &[u8]) -> (i64, &[u8])
     requires { 8 ≤ length bytes.now }
     ensures fits { FitsSigned w64 result.0 }
@@ -61,7 +61,8 @@ pub fn take_i64(bytes: &[u8]) -> (i64, &[u8])
     (number.cast_signed(), rest)
 }
 
-/// Takes a numerator and a denominator, eight bytes each, off the front, and gives what follows.
+/// Takes a numerator and a denominator, eight bytes each, off the front, and returns them with what
+/// follows.
 pub fn take_fraction(bytes: &[u8]) -> ((i64, i64), &[u8])
     requires { 16 ≤ length bytes.now }
     ensures fits { IsFraction result.0 }

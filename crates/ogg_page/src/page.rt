@@ -69,7 +69,7 @@ impl<'a> Page<'a> {
         self.flags() & LAST != 0
     }
 
-    /// The granule position of the last packet that ends in the page; all ones where none ends.
+    /// The granule position of the last packet that ends in the page; all ones if none ends.
     pub fn position(&self) -> u64
         ensures { result ≡ self.now.position }
     {

@@ -6,9 +6,10 @@ use crate::page::Page;
 use crate::reading::split_page;
 use std::marker::Model;
 
-/// The pages that bytes begin with, each with the offset of its first byte, as an iterator. Where
-/// bytes are left that begin with no page, their offset and the first fault come last. It ends at
-/// the end of the bytes or after its first fault, and then stays ended. It takes no memory.
+/// The pages that bytes begin with, each with the offset of its first byte, as an iterator. If
+/// bytes are left that begin with no page, their offset and the first fault come last. The iterator
+/// ends at the end of the bytes or after its first fault, and then stays ended. No call takes
+/// memory.
 #[derive(Debug, Drop)]
 pub struct Pages<'a> {
     rest: &'a [u8],

@@ -20,8 +20,8 @@ pub(crate) fn put_at(room: &mut [u8], at: usize, bytes: &[u8])
     place.copy_from_slice(bytes);
 }
 
-/// Makes a page of the lacing values and the body that lie in the room: its head in front of them,
-/// with the checksum, and the byte 0 behind them.
+/// Makes a page of the lacing values and the body that lie in the room: its head before them, with
+/// the checksum, and the byte 0 after them.
 pub(crate) fn close_room(room: &mut [u8], head: &PageHead, values: usize, size: usize)
     requires few { values ≤ most_values }
     requires room { fixed_size + values + size < length room.old }

@@ -15,15 +15,15 @@ use crate::page::Page;
 use crate::sizes::FIXED_SIZE;
 use byteorder::{ByteOrder, LittleEndian};
 
-/// Reads the page at the front of the bytes (RFC 3533, section 6), and lends its parts. Bytes
-/// behind it are not looked at. Where no page stands there, the fault is the first one of
-/// [`PageFault`] in the order `Short` (under 27 bytes), `Pattern`, `Version`, `Short` (the lacing
-/// values or the body run past the end), `Checksum`. It takes no memory.
+/// Reads the page at the front of the bytes (RFC 3533, section 6), and lends its parts. Bytes after
+/// it are not read. If no page stands there, the fault is the first one of [`PageFault`] in the
+/// order `Short` (under 27 bytes), `Pattern`, `Version`, `Short` (the lacing values or the body run
+/// past the end), `Checksum`. It takes no memory.
 pub fn read_page(bytes: &[u8]) -> Result<Page<'_>, PageFault>
-    // It accepts exactly the bytes that begin with a page's bytes, and gives that page.
+    // It accepts exactly the bytes that begin with a page's bytes, and returns that page.
     ensures found { IfOk result (λ page. IsPage page × (rest : List ℕ) × (bytes.now ≡ page_bytes page ++ rest)) }
     ensures each { (page : PageValue) (rest : List ℕ) → IsPage page → bytes.now ≡ page_bytes page ++ rest → result ≡ Ok page }
-    // Of the others it tells the first fault.
+    // Of the others it returns the first fault.
     ensures exact { result ≡ page_at bytes.now }
 {
     page_or_fault(bytes)
@@ -37,7 +37,7 @@ fn page_or_fault(bytes: &[u8]) -> Result<Page<'_>, PageFault>
     Ok(page_in_front(bytes, values, size))
 }
 
-/// Splits the page at the front from the bytes behind it. The faults are those of [`read_page`].
+/// Splits the page at the front from the bytes after it. The faults are those of [`read_page`].
 pub fn split_page(bytes: &[u8]) -> Result<(Page<'_>, &[u8]), PageFault>
     ensures split { MatchResult result (λ (page, rest). IsPage page × (bytes.now ≡ page_bytes page ++ rest.now)) (λ fault. page_at bytes.now ≡ Err fault) }
     ensures size { IfOk result (λ (page, rest). length bytes.now ≡ page_size page + length rest.now) }
@@ -47,8 +47,8 @@ pub fn split_page(bytes: &[u8]) -> Result<(Page<'_>, &[u8]), PageFault>
     Ok((page, rest))
 }
 
-/// Splits a page that is known to stand at the front from the bytes behind it: its checksum isn't
-/// looked at again, so this takes no time for its body.
+/// Splits a page that is known to stand at the front from the bytes after it. Its checksum isn't
+/// checked again, so this takes no time for its body.
 pub fn split_known_page(bytes: &[u8]) -> (Page<'_>, &[u8])
     requires { IsOk (page_at bytes.now) }
     ensures { IsPage result.0 × (bytes.now ≡ page_bytes result.0 ++ result.1.now) }
@@ -108,7 +108,7 @@ fn sizes_of_page(bytes: &[u8]) -> Result<(usize, usize), PageFault>
     Ok((values, size))
 }
 
-/// The page at the front, which has so many lacing values and so many bytes of body.
+/// The page at the front, which has this number of lacing values and this number of bytes of body.
 fn page_in_front(bytes: &[u8], values: usize, size: usize) -> Page<'_>
     requires { IsPageOf bytes.now values size }
     ensures { page_at bytes.now ≡ Ok result }
@@ -141,8 +141,8 @@ fn blanked_checksum(whole: &[u8]) -> u32
     }
 }
 
-/// The same of a page's first bytes. They stay in registers: a copy that is blanked would be written
-/// and read again.
+/// The same of a page's first bytes. The bytes stay in registers: a copy that is blanked would be
+/// written and read again.
 fn checksum_of_front(front: &[u8; 32]) -> u32
     ensures sum { result ≡ checksum_of (blanked front.now) }
     ensures front { (rest : List ℕ) → blanked front.now ++ rest ≡ blanked (front.now ++ rest) }

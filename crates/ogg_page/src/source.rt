@@ -4,8 +4,8 @@ ghost use Rattle.ogg_page.specs.Source.{HasCause};
 
 use crate::fault::SourceFault;
 
-/// Bytes that can be read piece by piece. What it says of the bytes holds where it is honest; that
-/// a fault has a cause, and that a read only reads, holds always.
+/// Bytes that can be read piece by piece. What it says of the bytes holds if it is honest; that a
+/// fault has a cause, and that a read only reads, holds always.
 pub trait PageSource {
     /// The bytes that stand there.
     ghost bytes: { Self → List ℕ };
@@ -39,10 +39,10 @@ pub trait PageSource {
     /// An honest source has as many bytes as may be asked for.
     ghost fits: { (source : Self) → is_honest source → length (bytes source) ≡ size source };
 
-    /// No read is some reads.
+    /// A source that wasn't read at all counts as only read.
     ghost reads_nothing: { (source : Self) → only_reads source source };
 
-    /// So are reads that follow reads.
+    /// A source that was only read, and then only read again, was only read.
     ghost reads_on: { (first second third : Self) → only_reads first second → only_reads second third → only_reads first third };
 }
 

@@ -71,8 +71,8 @@ impl<S: PageSource> Window<S> {
         self.lent = None;
     }
 
-    /// Passes on to the next page of the range, which is lent from then on. Where none begins, that
-    /// is its fault until the range is set anew.
+    /// Passes on to the next page of the range, which is lent from then on. If none begins, that is
+    /// its fault until the range is set anew.
     pub fn advance(&mut self) -> Result<(), WindowFault>
         ensures { HasMoved S.bytes S.is_honest S.size S.failures S.only_reads self.old (answer result self.new.lent) self.new }
     {
@@ -119,8 +119,8 @@ impl<S: PageSource> Window<S> {
     }
 
     /// Lends the next page and its offset, until the window is used again; `None` at the end of the
-    /// range. Where reads give the source's bytes, it is what [`Pages`](crate::Pages) gives over
-    /// them. A fault stays until the range is set anew.
+    /// range. If the source is honest, it is what [`Pages`](crate::Pages) returns for its bytes. A
+    /// fault stays until the range is set anew.
     pub fn next(&mut self) -> Result<Option<LentPage<'_>>, WindowFault>
         ensures* after_borrow { sem 𝓛 (Rests (the_row S.row S.PageSource) self.entry (λ new. HasMoved S.bytes S.is_honest S.size S.failures S.only_reads self.old (lent_answer result) new)) }
     {

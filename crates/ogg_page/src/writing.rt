@@ -32,8 +32,8 @@ pub fn write_page(
     Ok(())
 }
 
-/// Appends what a page has before its body, with zero as the checksum, and for which there is room.
-/// The body belongs behind it, and then `close_page` makes them the page.
+/// Appends what a page has before its body, with zero as the checksum. There must be room for it.
+/// The body belongs after it, and then `close_page` makes them the page.
 pub fn open_page(head: &PageHead, lacing: &[u8], out: &mut Vec<u8>)
     requires values { length lacing.now ≤ most_values }
     requires room { vec_len out.old + (fixed_size + length lacing.now) ≤ vec_capacity out.old }
@@ -74,7 +74,7 @@ fn put_number(number: u32, at: usize, out: &mut Vec<u8>)
     out[at + 3] = b3;
 }
 
-/// Appends bytes for which there is room.
+/// Appends bytes. There must be room for them.
 fn append(out: &mut Vec<u8>, bytes: &[u8])
     requires { vec_len out.old + length bytes.now ≤ vec_capacity out.old }
     ensures items { out.new.items ≡ out.old.items ++ bytes.now }

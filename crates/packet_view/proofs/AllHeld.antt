@@ -59,7 +59,7 @@ goes_on_behind : (pages : List Page) (packets : List (List ℕ)) (segments : ℕ
 goes_on_behind pages packets segments rest h =
     ap ends_open h.lacing ∙ ends_open-append (flat_map lace packets) (replicate segments 255) (ends_open-laces packets) ∙ ends_open-full segments
 
--- ---- one page more
+-- ---- another page
 
 concat-append : (xs ys : List (List ℕ)) → concat (xs ++ ys) ≡ concat xs ++ concat ys
 concat-append [] ys = refl
@@ -153,7 +153,7 @@ located_found : (offset : ℕ) (pages : List Page) (behind : List FoundPage) →
 located_found offset [] behind are all = all
 located_found offset (page ∷ pages) behind are all = (are.0, located_found (offset + page_size page) pages behind are.1 all)
 
--- the packets behind earlier pages of the stream, which hold those before
+-- the packets after earlier pages of the stream, which hold those before
 record HeldFrom (serial : ℕ) (earlier : List Page) (before : List (List ℕ)) (found : List FoundPage) (left : PacketsLeft) : Type 0 where
   pub good : List (ℕ × Page)
   pub rest : List FoundPage
@@ -234,7 +234,7 @@ ended_in parts at = packets_in (position_in at.1) parts (body_place at.0 at.1) 0
 abbrev behind_it : List Part → ℕ × Page → List Part
 behind_it parts at = parts_behind parts (body_place at.0 at.1) 0 at.1.lacing at.1.body
 
--- a page of the stream, which is misplaced or isn't
+-- a page of the stream, misplaced or not
 by_misplaced : (serial : ℕ) (behind : Behind) (parts : List Part) (earlier : List Page) (before : List (List ℕ)) (segments : ℕ) (at : ℕ × Page) (found : List FoundPage) → IsPage at.1 →
     HoldsPackets earlier before segments (joined_parts parts) → behind ≡ behind_pages earlier → is_some_part parts ≡ not (nat_eq segments 0) → nat_eq at.1.serial serial ≡ true →
     ((left : ℕ) → HoldsPackets (earlier ++ at.1 ∷ []) (before ++ texts (ended_in parts at)) left (joined_parts (behind_it parts at)) → behind_page at.1 ≡ behind_pages (earlier ++ at.1 ∷ []) →

@@ -28,7 +28,7 @@ more_pages serial (at ∷ pages) more [] h = tt
 more_pages serial (at ∷ pages) more (part ∷ parts) (inl (lies, h)) = inl (lies, more_pages serial pages more parts h)
 more_pages serial (at ∷ pages) more (part ∷ parts) (inr h) = inr (more_pages serial pages more (part ∷ parts) h)
 
--- a part more, in a page more
+-- one more part, in one more page
 one_more : (serial : ℕ) (pages : List (ℕ × Page)) (at : ℕ × Page) (parts : List Part) (part : Part) → LiesIn serial at part → LieApart serial pages parts →
     LieApart serial (pages ++ at ∷ []) (parts ++ part ∷ [])
 one_more serial [] at [] part lies h = inl (lies, tt)
@@ -37,7 +37,7 @@ one_more serial (a ∷ pages) at [] part lies h = inr (one_more serial pages at 
 one_more serial (a ∷ pages) at (p ∷ parts) part lies (inl (first, h)) = inl (first, one_more serial pages at parts part lies h)
 one_more serial (a ∷ pages) at (p ∷ parts) part lies (inr h) = inr (one_more serial pages at (p ∷ parts) part lies h)
 
--- these bytes of the page more, if there are any
+-- these bytes of the additional page, if there are any
 pushed : (serial : ℕ) (pages : List (ℕ × Page)) (at : ℕ × Page) (parts : List Part) (place : ℕ) (bytes : List ℕ) → at.1.serial ≡ serial → body_place at.0 at.1 ≤ place →
     place + length bytes ≤ body_place at.0 at.1 + length at.1.body → LieApart serial pages parts → LieApart serial (pages ++ at ∷ []) (with_part parts place bytes)
 pushed serial pages at parts place [] its from to h = more_pages serial pages (at ∷ []) parts h
@@ -49,7 +49,7 @@ pushed serial pages at parts place (byte ∷ bytes) its from to h =
 abbrev AllApart : ℕ → List (ℕ × Page) → List PacketParts → Type 0
 AllApart serial pages packets = AllByRecursion (λ (packet : PacketParts). LieApart serial pages packet.parts) packets
 
--- the packets that end in a page, and the one that goes on behind it
+-- the packets that end in a page, and the one that goes on after it
 abbrev ApartIn : ℕ → List (ℕ × Page) → List PacketParts → List Part → Type 0
 ApartIn serial pages packets behind = AllApart serial pages packets × LieApart serial pages behind
 

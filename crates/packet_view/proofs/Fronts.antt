@@ -1,4 +1,4 @@
--- The lacing values of one packet in a page, and what stands behind them.
+-- The lacing values of one packet in a page, and what comes after them.
 use Rattle.std.proofs.Common.{◌≡◌, ◌≢◌, ℕ, zero, suc, ◌+◌, ◌*◌, ◌<◌, ◌≤◌, Bool, true, false, List, [], ◌∷◌, ◌++◌, length, take, drop, get_or, refl, sym, ◌∙◌, ap, subst, arith, Option, None, sum}
 use Rattle.std.specs.Prelude.{nat_eq, if◌then◌else◌, replicate, cond}
 use Rattle.std.specs.List.{prefix_len}

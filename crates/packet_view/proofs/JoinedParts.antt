@@ -21,7 +21,7 @@ use Rattle.packet_view.proofs.Reaches.{by_place, parts-page, parts-other}
 
 -- ---- the packets of a page
 
--- what a part is joined to
+-- the bytes to which a part is joined
 begun : (parts : List Part) (first : Bool) (before : List ℕ) → first ≡ not (is_some_part parts) → before ≡ joined_parts parts → (if first then [] else before) ≡ joined_parts parts
 begun [] true before e is = refl
 begun [] false before e is = is

@@ -92,7 +92,7 @@ opens serial from first fits =
       fits = fits;
     }
 
--- the pages up to the stream's next page, and the part in that one
+-- the pages up to the stream's next page, and the part in that page
 pub record Grown (serial : ℕ) (from next : Place) (first piece : List ℕ) (parts : List Part) : Type 0 where
   pub pages : List Page
   pub are_pages : AllByRecursion IsPage pages
@@ -125,7 +125,7 @@ counted_more serial from place next first piece len so_far g =
     sym (ap (λ l. length (joined_parts l)) g.parts_are ∙ ap length (joined-with_part (opened serial from first so_far.pages) next.unread.place piece)
     ∙ length-append (joined_parts (opened serial from first so_far.pages)) piece ∙ ap (λ n. n + length piece) (sym so_far.counted))
 
--- the packet goes on behind the next page
+-- the packet goes on after the next page
 pub goes_on : (serial : ℕ) (from place next : Place) (first piece : List ℕ) (len : ℕ) (so_far : Opened serial from place first len) → Reaches serial place.offset place.rest.now next →
     GoesOnBehind next.unread piece → packets_from serial place.behind (opened serial from first so_far.pages) (found_in place.offset place.rest.now) ≡ packets_at serial next (opened serial from first so_far.pages) →
     Opened serial from next first (len + length piece)
@@ -183,7 +183,7 @@ no_parts place first serial offset more e =
     ∙ ap (λ l. with_part [] place first ++ parts_in serial l) (found-nothing offset)
     ∙ append-nil (with_part [] place first)
 
--- the pages behind the one where the packet begins, up to the one where it ends
+-- the pages after the one in which the packet begins, up to the one in which it ends
 pub pages_between : (serial : ℕ) (from next : Place) (first piece : List ℕ) (parts : List Part) (g : Grown serial from next first piece parts) (more : List ℕ) →
     more ≡ take (length from.rest.now - length next.rest.now) from.rest.now → more ≡ bytes_of_pages g.pages
 pages_between serial from next first piece parts g more e =
@@ -194,7 +194,7 @@ pub packet_parts : (serial : ℕ) (from : Place) (first : List ℕ) (pages : Lis
     opened serial from first pages ≡ parts_of from.unread.place first serial from.offset more
 packet_parts serial from first pages more are e = ap (λ l. with_part [] from.unread.place first ++ l) (sym (parts-pages serial from.offset pages more are e))
 
--- no packet is unfinished behind a page whose values are none
+-- no packet is unfinished after a page without lacing values
 pub closed : (serial : ℕ) (place : Place) (piece : List ℕ) → GoesOnBehind place.unread piece → piece ≡ [] →
     packets_at serial place [] ≡ packets_from serial place.behind [] (found_in place.offset place.rest.now)
 closed serial place piece on e =

@@ -15,7 +15,8 @@ use Rattle.packet_view.proofs.Opened.{joined-with_part}
 abbrev pub texts : List PacketParts → List (List ℕ)
 texts packets = map (λ packet. joined_parts packet.parts) packets
 
--- these packets end in the page, and these parts go on behind it, where `segments` values of 255 of the first packet lie before `lacing`
+-- these packets end in the page, and these parts go on after it, if `segments` values of 255 of the first packet lie
+-- before `lacing`
 pub record Cuts (segments : ℕ) (before lacing body : List ℕ) (packets : List PacketParts) (behind : List Part) : Type 0 where
   pub left : ℕ
   pub values : replicate segments 255 ++ lacing ≡ flat_map lace (texts packets) ++ replicate left 255

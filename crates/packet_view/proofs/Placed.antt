@@ -1,4 +1,4 @@
--- The parts of a stream's packets are in the source, one behind the other.
+-- The parts of a stream's packets are in the source, one after the other.
 use Rattle.std.proofs.Common.{◌≡◌, ℕ, ◌+◌, ◌≤◌, ◌<◌, Bool, true, false, List, [], ◌∷◌, ◌++◌, length, take, drop, sum, refl, sym, ◌∙◌, ap, subst, arith, append_assoc, length-append, Option, Some, None, Ok, Err, Result}
 use Rattle.std.specs.Prelude.{nat_eq}
 use Rattle.std.specs.List.{AllByRecursion}
@@ -39,7 +39,7 @@ joined : (source : List ℕ) (from middle to : ℕ) (xs ys : List Part) → AreI
 joined source from middle to [] ys h g = from_before source from middle to ys h g
 joined source from middle to (part ∷ parts) ys (a, b, c, d) g = (a, b, c, joined source (part.place + length part.bytes) middle to parts ys d g)
 
--- the place where the first of these end and the others begin
+-- the place at which the first of these end and the others begin
 record Parted (source : List ℕ) (from : ℕ) (xs ys : List Part) (to : ℕ) : Type 0 where
   pub middle : ℕ
   pub first : AreInOrderUpTo source from xs middle
@@ -172,7 +172,7 @@ ended_in parts at = packets_in (position_in at.1) parts (body_place at.0 at.1) 0
 abbrev goes_on_behind : List Part → ℕ × Page → List Part
 goes_on_behind parts at = parts_behind parts (body_place at.0 at.1) 0 at.1.lacing at.1.body
 
--- a page of the stream that was found, and what is found behind it
+-- a page of the stream that was found, and what is found after it
 one_page : (serial : ℕ) (behind : Behind) (parts : List Part) (source : List ℕ) (from to : ℕ) (at : ℕ × Page) (found : List FoundPage) (t : Bool) → nat_eq at.1.serial serial ≡ t →
     AllAt source to (Ok at ∷ found) → AreInOrderUpTo source from parts to →
     (AreInOrderUpTo source from parts (at.0 + page_size at.1) → AreInOrder source from (parts_of_all (packets_from serial behind parts found).packets)) →

@@ -14,7 +14,7 @@ ended b = cond b 1 0
 abbrev ending : ℕ → ℕ
 ending value = ended (not (nat_eq value 255))
 
--- no packet ends with a full value, and one with another
+-- a full value ends no packet, and any other value ends one
 ended_full : (value : ℕ) (lacing : List ℕ) → nat_eq value 255 ≡ true → packets_ended (value ∷ lacing) ≡ packets_ended lacing
 ended_full value lacing t =
     let cell : ending value ≡ 0 = ap (λ b. ended (not b)) t in
@@ -25,7 +25,7 @@ ended_small value lacing t =
     let cell : ending value ≡ 1 = ap (λ b. ended (not b)) t in
     omega (arith, cell, sum_by-cons ending value lacing)
 
--- a packet ends where one can be counted
+-- a packet ends if, and only if, the count of those that end isn't 0
 counted : (lacing : List ℕ) → ends_packet lacing ≡ nat_lt 0 (packets_ended lacing)
 counted [] = refl
 counted (value ∷ lacing) = by_cases (nat_eq value 255) refl (counted lacing)
@@ -35,7 +35,7 @@ counted (value ∷ lacing) = by_cases (nat_eq value 255) refl (counted lacing)
     by_cases false t others =
         ap (λ b. not b || ends_packet lacing) t ∙ sym (lt-ltb 0 (packets_ended (value ∷ lacing)) (omega (arith, ended_small value lacing t)))
 
--- one packet more in front
+-- one more packet in front
 one_more : (position : Option ℕ) (n : ℕ) → (if nat_lt 0 n then None else position) ∷ last_alone position n ≡ last_alone position (suc n)
 one_more position zero = refl
 one_more position (suc n) = ap (λ b. (if b then None else position) ∷ last_alone position (suc n)) (lt-ltb 0 (suc n) (omega arith))

@@ -18,7 +18,7 @@ use Rattle.packet_view.proofs.Fronts.{pick_false}
 use Rattle.packet_view.proofs.Walks.{pick_true}
 use Rattle.packet_view.proofs.Opened.{joined-with_part, parts-pages, no_parts}
 
--- where a part lies doesn't change its bytes
+-- a part's place doesn't change its bytes
 same_slice : (a b : ℕ) (bytes : List ℕ) → slices_of (with_part [] a bytes) ≡ slices_of (with_part [] b bytes)
 same_slice a b [] = refl
 same_slice a b (byte ∷ bytes) = refl
@@ -135,7 +135,7 @@ one_part : (place : ℕ) (first : List ℕ) → first ≢ [] → length (with_pa
 one_part place [] some = absurd (some refl)
 one_part place (byte ∷ first) some = refl
 
--- where the first bytes are all bytes, there is no other part
+-- if the first bytes are all bytes, there is no other part
 pub few_parts : (place : ℕ) (first : List ℕ) (serial offset : ℕ) (more : List ℕ) → length first ≡ length (joined_parts (parts_of place first serial offset more)) →
     length (parts_of place first serial offset more) ≤ 1
 few_parts place first serial offset more e =
@@ -143,7 +143,7 @@ few_parts place first serial offset more e =
     let none : length others ≡ 0 = no_bytes serial (found_in offset more) (omega (arith, e, joined_all place first serial offset more)) in
     omega (arith, none, length-append (with_part [] place first) others, part_count place first)
 
--- where there is no other part, the first bytes are all
+-- if there is no other part, the first bytes are all
 pub all_first : (place : ℕ) (first : List ℕ) (serial offset : ℕ) (more : List ℕ) → (first ≡ [] → more ≡ []) → length (parts_of place first serial offset more) ≤ 1 →
     length first ≡ length (joined_parts (parts_of place first serial offset more))
 all_first place [] serial offset more begins le =

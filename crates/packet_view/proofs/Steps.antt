@@ -3,6 +3,7 @@ use Rattle.std.proofs.Common.{◌≡◌, ℕ, ◌+◌, ◌≤◌, inl, inr, Bool
 use Rattle.std.specs.Prelude.{nat_eq, if◌then◌else◌}
 use Rattle.std.specs.Option.{is_some}
 use Rattle.ogg_page.specs.Pages.{PagesLeft, found_in}
+use Rattle.ogg_page.specs.SourceLaws.{keeps_both}
 use Rattle.ogg_page.specs.Window.{LentAt, WindowState, NextLent, HasMoved, HasSourceCause, KeepsSource, left_of}
 use Rattle.ogg_page.specs.declared.fault.WindowFault.{WindowFault}
 use Rattle.ogg_page.specs.declared.fault.WindowFault.TheVariants.{Source as ReadFailed, Page as NoPage}
@@ -18,17 +19,6 @@ use Rattle.packet_view.specs.declared.fault.ViewFault.TheVariants.{Unfinished}
 use Rattle.packet_view.specs.declared.fault.StreamFault.{StreamFault}
 use Rattle.packet_view.specs.declared.fault.StreamFault.TheVariants.{Source, View}
 use Rattle.packet_view.proofs.Reaches.{parts-nothing, parts-fault, lent_first}
-
--- reads that follow reads
-pub keeps_both : {S : Type 0} (bytes : S → List ℕ) (honest : S → Type 0) (size : S → ℕ) (only : S → S → Type 0) (old mid new : S)
-    → ((first second third : S) → only first second → only second third → only first third)
-    → KeepsSource bytes honest size only old mid → KeepsSource bytes honest size only mid new → KeepsSource bytes honest size only old new
-keeps_both bytes honest size only old mid new reads_on a b = record {
-  bytes_same = λ sure. b.bytes_same (a.honest_same.0 sure) ∙ a.bytes_same sure;
-  honest_same = ((λ h. b.honest_same.0 (a.honest_same.0 h)), (λ h. a.honest_same.1 (b.honest_same.1 h)));
-  size_same = b.size_same ∙ a.size_same;
-  only = reads_on old mid new a.only b.only;
-}
 
 -- a stream that goes on with its next page
 abbrev pub next_page : Behind → Bool → Progress

@@ -40,7 +40,7 @@ unfolding packets_from
 from-other serial behind parts offset page rest is e =
     ap (packets_from serial behind parts) (found-page offset page rest is) ∙ pick_false (nat_eq page.serial serial) _ _ e
 
--- the packets from a page of the stream on, which is misplaced or isn't
+-- the packets from a page of the stream on, misplaced or not
 abbrev pub by_place : ℕ → List Part → ℕ → Page → List FoundPage → Option ViewFault → PacketsLeft
 by_place serial parts offset page found (Some fault) = no_packet (Some fault)
 by_place serial parts offset page found None =
@@ -91,7 +91,7 @@ bytes_push : (pages : List Page) (page : Page) → bytes_of_pages (pages ++ page
 bytes_push [] page = append-nil (page_bytes page)
 bytes_push (p ∷ pages) page = ap (λ l. page_bytes p ++ l) (bytes_push pages page) ∙ sym (append_assoc (page_bytes p) (bytes_of_pages pages) (page_bytes page))
 
--- the part in the page behind these
+-- the part in the page after these
 abbrev part_of : ℕ → ℕ → Page → List Part
 part_of serial offset page = if nat_eq page.serial serial then with_part [] (body_place offset page) (take (front_size page.lacing) page.body) else []
 

@@ -15,7 +15,7 @@ use Rattle.packet_view.specs.declared.cut.Cut.{Cut}
 use Rattle.packet_view.specs.declared.cut.Given.{Given}
 use Rattle.packet_view.specs.declared.cut.Progress.{Progress}
 
--- the parts of a page that aren't given yet
+-- the parts of a page that haven't been lent yet
 abbrev pub parts_behind_cut : Page → Bool → Cut → List PagePart
 parts_behind_cut page unfinished cut =
     page_parts (position_in page) (not unfinished) 0 (drop cut.values page.lacing) (drop cut.bytes page.body)
@@ -43,7 +43,7 @@ IsCut fault lent None = ⊤
 IsCut fault None (Some cut) = ⊥
 IsCut fault (Some lent) (Some cut) = (fault ≡ None) × CutFits lent.1 cut
 
--- a page is read so far, and these lacing values of it are left
+-- the page is read as far as this, and these lacing values of it are left
 abbrev pub rest_cut : List ℕ → ℕ → ℕ → Option Cut
 rest_cut [] values bytes = None
 rest_cut (value ∷ left) values bytes = Some (record { values = values; bytes = bytes })

@@ -18,7 +18,7 @@ packets_left unread parts = packets_in unread.position parts unread.place 0 unre
 abbrev pub parts_left : Unread → List Part → List Part
 parts_left unread parts = parts_behind parts unread.place 0 unread.lacing.now unread.body.now
 
--- the position of a packet that ends in a page, behind which this is left of the page
+-- the position of a packet that ends in a page, after which this is left of the page
 abbrev pub position_behind : Unread → Option ℕ
 position_behind left = if ends_packet left.lacing.now then None else left.position
 

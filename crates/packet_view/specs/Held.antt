@@ -33,8 +33,9 @@ number_after (page ∷ pages) = Some (number_behind (page ∷ pages))
 abbrev pub behind_pages : List Page → Behind
 behind_pages before = record { number = number_after before; ended = list_any is_last before }
 
--- The fault behind the stream's pages `before`, which leave so many segments of a packet that goes on, and in front of the rest:
--- at the end an unfinished packet; where no page begins, the page's fault; or else a page of the stream that doesn't fit.
+-- The fault after the stream's pages `before`, which leave this number of segments of a packet that goes on. The
+-- rest decides it: at the end of the bytes it is an unfinished packet; if no page begins, the page's fault; or else
+-- that of a page of the stream that doesn't fit.
 abbrev pub IsFaultBehind : ℕ → List Page → ℕ → List FoundPage → Option ViewFault → Type 0
 IsFaultBehind serial before segments [] fault = fault ≡ (if nat_eq segments 0 then None else Some Unfinished)
 IsFaultBehind serial before segments (Err at ∷ rest) fault = fault ≡ Some (PageIsAtFault at.0 at.1)

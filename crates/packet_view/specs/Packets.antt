@@ -14,7 +14,7 @@ pub record Part : Type 0 where
   pub place : ℕ
   pub bytes : List ℕ
 
--- a packet: its parts, and the position of the page where it ends, if that is the packet's
+-- a packet: its parts, and its position, which is that of the page in which it ends, if it has one
 pub record PacketParts : Type 0 where
   pub parts : List Part
   pub position : Option ℕ
@@ -32,8 +32,8 @@ with_part parts place (byte ∷ bytes) = parts ++ record { place = place; bytes 
 abbrev pub ends_packet : List ℕ → Bool
 ends_packet lacing = list_any (λ value. not (nat_eq value full_value)) lacing
 
--- The packets that end in a page with these lacing values and this body. The first of them has `parts` of the pages before
--- and `size` bytes of this page. The last of them has the page's position.
+-- The packets that end in a page with these lacing values and this body. The first of them has `parts` of the pages
+-- before and `size` bytes of this page. The last of them has the page's position.
 unfoldable pub packets_in : Option ℕ → List Part → ℕ → ℕ → List ℕ → List ℕ → List PacketParts
 packets_in position parts place size [] body = []
 packets_in position parts place size (value ∷ lacing) body =
@@ -41,7 +41,7 @@ packets_in position parts place size (value ∷ lacing) body =
     else record { parts = with_part parts place (take (size + value) body); position = if ends_packet lacing then None else position }
     ∷ packets_in position [] (place + (size + value)) 0 lacing (drop (size + value) body)
 
--- the parts of the packet that goes on behind such a page; none where no packet does
+-- the parts of the packet that goes on after such a page; none if no packet does
 unfoldable pub parts_behind : List Part → ℕ → ℕ → List ℕ → List ℕ → List Part
 parts_behind parts place size [] body = with_part parts place (take size body)
 parts_behind parts place size (value ∷ lacing) body =
@@ -64,7 +64,8 @@ abbrev pub is_some_part : List Part → Bool
 is_some_part [] = false
 is_some_part (part ∷ parts) = true
 
--- the first thing that is wrong with the stream's page at this offset, behind a page that left a packet unfinished, or not
+-- the first thing that is wrong with the stream's page at this offset, after a page that left a packet unfinished, or
+-- not
 abbrev pub misplaced : Behind → Bool → ℕ → Page → Option ViewFault
 misplaced behind unfinished offset page =
     if behind.ended then Some (AfterEos offset)
@@ -72,7 +73,7 @@ misplaced behind unfinished offset page =
     else (if differ (is_continued page) unfinished then Some (Continued offset)
     else None))
 
--- the page's position, where a packet ends in the page
+-- the page's position, if a packet ends in the page
 abbrev pub position_in : Page → Option ℕ
 position_in page = if nat_eq page.position (2 ^ 64 - 1) then None else Some page.position
 
@@ -91,8 +92,8 @@ no_packet fault = record { packets = []; fault = fault }
 abbrev pub after_packets : List PacketParts → PacketsLeft → PacketsLeft
 after_packets packets left = record { packets = packets ++ left.packets; fault = left.fault }
 
--- The packets of the stream in what is found from some place on, up to the first fault. The first of them has `parts` of the
--- pages before.
+-- The packets of the stream in what is found from some place on, up to the first fault. The first of them has
+-- `parts` of the pages before.
 unfoldable pub packets_from : ℕ → Behind → List Part → List FoundPage → PacketsLeft
 packets_from serial behind parts [] = no_packet (if is_some_part parts then Some Unfinished else None)
 packets_from serial behind parts (Err fault ∷ found) = no_packet (Some (PageIsAtFault fault.0 fault.1))
@@ -106,6 +107,6 @@ packets_from serial behind parts (Ok place ∷ found) =
     ]
     else packets_from serial behind parts found
 
--- the packets of the stream in these bytes, and the fault behind them, if there is one
+-- the packets of the stream in these bytes, and the fault after them, if there is one
 abbrev pub packets_of : ℕ → List ℕ → PacketsLeft
 packets_of serial bytes = packets_from serial (record { number = None; ended = false }) [] (found_in 0 bytes)

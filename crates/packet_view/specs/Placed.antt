@@ -1,4 +1,4 @@
--- Where the parts of packets are in the source.
+-- The places of packets' parts in the source.
 use Rattle.std.specs.Prelude.{◌≡◌, ◌≤◌, ◌<◌, ◌+◌, ℕ, ⊤, List, [], ◌∷◌, length, take, drop}
 use Rattle.std.specs.List.{flat_map}
 use Rattle.packet_view.specs.Packets.{Part, PacketParts}
@@ -7,7 +7,8 @@ use Rattle.packet_view.specs.Packets.{Part, PacketParts}
 abbrev pub IsAtItsPlace : List ℕ → Part → Type 0
 IsAtItsPlace source part = take (length part.bytes) (drop part.place source) ≡ part.bytes
 
--- From this place of the source on: none is empty, each is at its place, and none begins before the end of the one before it.
+-- From this place of the source on: no part is empty, each is at its place, and none begins before the end of the one
+-- before it.
 abbrev pub AreInOrder : List ℕ → ℕ → List Part → Type 0
 AreInOrder source from [] = ⊤
 AreInOrder source from (part ∷ parts) =

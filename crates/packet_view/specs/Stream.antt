@@ -1,4 +1,4 @@
--- What a stream over a window gives: one part of a packet after the other. Ours.
+-- What a stream over a window lends: one part of a packet after the other. Ours.
 use Rattle.std.specs.Prelude.{◌≡◌, ◌⊎◌, ℕ, ◌+◌, ◌-◌, ◌^◌, ◌<◌, ◌≤◌, Bool, false, Option, Some, None, Result, Ok, Err, List, [], ◌∷◌, length, ⊤}
 use Rattle.ogg_page.specs.Pages.{found_in}
 use Rattle.ogg_page.specs.Window.{WindowState, KeepsSource, left_of}
@@ -11,8 +11,8 @@ use Rattle.packet_view.specs.declared.fault.StreamFault.{StreamFault}
 use Rattle.packet_view.specs.declared.fault.StreamFault.TheVariants.{Source, View}
 use Rattle.packet_view.specs.declared.fault.ViewFault.TheVariants.{Page as PageIsAtFault}
 
--- Its window, and the serial of its stream; the parts that aren't given yet of the page that is lent, and what the stream's
--- next page must fit; the fault that ended it, and the part that is lent.
+-- Its window, and the serial of its stream; the parts of the page that is lent that haven't been lent yet, and what
+-- the stream's next page must fit; the fault that ended it, and the part that is lent.
 pub record StreamState (S : Type 0) : Type 0 where
   pub window : WindowState S
   pub serial : ℕ
@@ -33,7 +33,7 @@ first_fault (Some fault) window = Some fault
 first_fault None None = None
 first_fault None (Some fault) = Some (fault_of_window fault)
 
--- the stream that has given nothing of its window
+-- the stream that has lent nothing of its window
 abbrev pub stream : {S : Type 0} → WindowState S → ℕ → StreamState S
 stream window serial =
     record {
@@ -46,7 +46,7 @@ stream window serial =
       given = None;
     }
 
--- the parts that are still to come, where reads give these bytes
+-- the parts that are still to come, if reads return these bytes
 abbrev pub parts_left : {S : Type 0} → (S → List ℕ) → StreamState S → PartsLeft
 parts_left bytes s =
     after_parts s.left
@@ -64,18 +64,18 @@ abbrev pub lent_parts : Result (Option Part) StreamFault → Result (Option Page
 lent_parts (Ok part) = Ok (lent_part part)
 lent_parts (Err fault) = Err fault
 
--- what `next_part` answers where `advance` answers this
+-- what `next_part` answers if `advance` answers this
 abbrev pub part_answer : Result (Unit {0}) StreamFault → Option PagePart → Result (Option PagePart) StreamFault
 part_answer (Ok done) part = Ok part
 part_answer (Err fault) part = Err fault
 
--- what ended the stream, where this is its answer
+-- what ended the stream, if this is its answer
 abbrev pub stream_fault_left : {T : Type 0} → Result T StreamFault → Option StreamFault
 stream_fault_left (Ok value) = None
 stream_fault_left (Err fault) = Some fault
 
--- A call gives the first of the parts that are left. If none is left it gives the fault or the end. If the source fails,
--- nothing is known.
+-- A call lends the first of the parts that are left. If none is left it returns the fault or the end. If the source
+-- fails, nothing is known.
 abbrev pub TakesPart : PartsLeft → Result (Option PagePart) StreamFault → PartsLeft → Type 0
 TakesPart old (Ok (Some part)) new = old ≡ after_parts (part ∷ []) new
 TakesPart old (Ok None) new = (old ≡ no_part None) × (new ≡ old)
@@ -86,14 +86,14 @@ TakesPart old (Err (View fault)) new = old ≡ no_part (Some fault)
 abbrev pub HasReadCause : {T : Type 0} → ℕ → ℕ → Result T StreamFault → Type 0
 HasReadCause before now result = (before ≤ now) × (result ≡ Err Source → (before < now) ⊎ (now ≡ 2 ^ 64 - 1))
 
--- at most this many calls give a part: the parts of the page that is lent, and the bytes of the range after it
+-- at most this many calls lend a part: the parts of the page that is lent, and the bytes of the range after it
 abbrev pub calls_left : {S : Type 0} → StreamState S → ℕ
 calls_left s = length s.left + (s.window.to - s.window.at)
 
 -- what a call of `next_part` leaves
 pub record HasGiven {S : Type 0} (bytes : S → List ℕ) (honest : S → Type 0) (size failures : S → ℕ) (only_reads : S → S → Type 0)
     (old : StreamState S) (result : Result (Option PagePart) StreamFault) (new : StreamState S) : Type 0 where
-  -- it gives the first of the parts that are left
+  -- it lends the first of the parts that are left
   pub part : honest old.window.source → old.fault ≡ None → TakesPart (parts_left bytes old) result (parts_left bytes new)
   -- fewer are left after it, honest or not, so that a walk ends
   pub fewer : (part : PagePart) → result ≡ Ok (Some part) → calls_left new < calls_left old

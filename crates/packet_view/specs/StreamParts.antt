@@ -14,9 +14,9 @@ pub record PagePart : Type 0 where
   pub last : Bool
   pub position : Option ℕ
 
--- The parts in a page with these lacing values and this body: one for each packet that has a lacing value there. The first
--- of them has `size` bytes by the lacing values before these, and `first` says whether its packet begins with it. Only the
--- last packet that ends in the page has the page's position.
+-- The parts in a page with these lacing values and this body: one for each packet that has a lacing value there.
+-- The first of them has `size` bytes by the lacing values before these, and `first` says whether its packet begins
+-- with it. Only the last packet that ends in the page has the page's position.
 unfoldable pub page_parts : Option ℕ → Bool → ℕ → List ℕ → List ℕ → List PagePart
 page_parts position first size [] body =
     if nat_eq size 0 then [] else record { bytes = take size body; first = first; last = false; position = None } ∷ []
@@ -45,8 +45,8 @@ no_part fault = record { parts = []; fault = fault }
 abbrev pub after_parts : List PagePart → PartsLeft → PartsLeft
 after_parts parts left = record { parts = parts ++ left.parts; fault = left.fault }
 
--- The parts of the stream's packets in what is found from some place on, up to the first fault. The pages before left a
--- packet unfinished, or not.
+-- The parts of the stream's packets in what is found from some place on, up to the first fault. The pages before
+-- left a packet unfinished, or not.
 unfoldable pub parts_from : ℕ → Behind → Bool → List FoundPage → PartsLeft
 parts_from serial behind unfinished [] = no_part (if unfinished then Some Unfinished else None)
 parts_from serial behind unfinished (Err fault ∷ found) = no_part (Some (PageIsAtFault fault.0 fault.1))

@@ -11,7 +11,7 @@ use Rattle.packet_view.specs.declared.place.Place.{Place}
 use Rattle.packet_view.specs.declared.fault.ViewFault.{ViewFault}
 use Rattle.packet_view.specs.declared.fault.ViewFault.TheVariants.{Unfinished}
 
--- the packets from a place on, where the first of them has these parts of the pages before
+-- the packets from a place on, if the first of them has these parts in the pages before
 abbrev pub packets_at : ℕ → Place → List Part → PacketsLeft
 packets_at serial place parts =
     after_packets (packets_left place.unread parts) (packets_from serial place.behind (parts_left place.unread parts) (found_in place.offset place.rest.now))
@@ -23,7 +23,7 @@ pub record IsPlaceWith (place : Place) (left : Unread) (new : Place) : Type 0 wh
   pub rest : new.rest ≡ place.rest
   pub offset : new.offset ≡ place.offset
 
--- the parts that a packet of the stream has in these pages, where each of the stream's pages begins with bytes of it
+-- the parts that a packet of the stream has in these pages, if each of the stream's pages begins with bytes of it
 unfoldable pub parts_in : ℕ → List FoundPage → List Part
 parts_in serial [] = []
 parts_in serial (Err fault ∷ found) = []
@@ -32,7 +32,8 @@ parts_in serial (Ok place ∷ found) =
     then with_part [] (body_place place.0 place.1) (take (front_size place.1.lacing) place.1.body) ++ parts_in serial found
     else parts_in serial found
 
--- the place is in front of the lacing values and the body of the page at this offset, behind which these bytes are left
+-- the place is in front of the lacing values and the body of the page at this offset, after which these bytes are
+-- left
 pub record IsBefore (page : Page) (offset : ℕ) (rest : List ℕ) (end : ℕ) (place : Place) : Type 0 where
   pub behind : place.behind ≡ behind_page page
   pub lacing : place.unread.lacing.now ≡ page.lacing
@@ -42,7 +43,8 @@ pub record IsBefore (page : Page) (offset : ℕ) (rest : List ℕ) (end : ℕ) (
   pub left : place.rest.now ≡ rest
   pub left_is_at : place.offset ≡ end
 
--- from these bytes on, the stream's next page is the last of `pages`, and the place is in front of its lacing values and body
+-- from these bytes on, the stream's next page is the last of `pages`, and the place is in front of its lacing
+-- values and body
 pub record Reaches (serial start : ℕ) (source : List ℕ) (place : Place) : Type 0 where
   pub pages : List Page
   pub are_pages : AllByRecursion IsPage pages
@@ -52,7 +54,8 @@ pub record Reaches (serial start : ℕ) (source : List ℕ) (place : Place) : Ty
   pub shorter : length place.rest.now < length source
   pub parts : parts_in serial (located start pages) ≡ with_part [] place.unread.place (take (front_size place.unread.lacing.now) place.unread.body.now)
 
--- where the next page of a stream is looked for, the packets are those from there on, or there is none, for this reason
+-- A search for the stream's next page finds its place, and the packets are those from there on; or there is no next
+-- page, for this reason.
 abbrev pub Leads : ℕ → Behind → List Part → ℕ → List ℕ → Result (Option Place) ViewFault → Type 0
 Leads serial behind parts start source (Err fault) = packets_from serial behind parts (found_in start source) ≡ no_packet (Some fault)
 Leads serial behind parts start source (Ok None) =

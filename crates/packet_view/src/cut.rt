@@ -54,7 +54,7 @@ pub(crate) fn cut_lent<S: PageSource>(
     Some(cut_front(&page, progress, cut))
 }
 
-/// Cuts the front part off a page that is read so far. It looks at the lacing values of that part only, and at those that
+/// Cuts the front part off a page that is read so far. It reads only the lacing values of that part, and those that
 /// follow it up to the next end of a packet.
 fn cut_front(page: &Page<'_>, progress: Progress, cut: Cut) -> (Given, Progress)
     requires { CutFits page.now cut }
@@ -98,7 +98,7 @@ fn cut_front(page: &Page<'_>, progress: Progress, cut: Cut) -> (Given, Progress)
     )
 }
 
-/// How far a page is read, of which these lacing values are left.
+/// How far a page is read if these lacing values are left of it.
 fn rest_of(left: &[u8], values: usize, bytes: usize) -> Option<Cut>
     ensures { result ≡ rest_cut left.now values bytes }
 {
@@ -109,7 +109,7 @@ fn rest_of(left: &[u8], values: usize, bytes: usize) -> Option<Cut>
     }
 }
 
-/// The position of a packet that ends in a page, of which these lacing values follow its own.
+/// The position of a packet that ends in a page, if these lacing values follow its own.
 fn position_before(left: &[u8], page: &Page<'_>) -> Option<u64>
     ensures { result ≡ (if ends_packet left.now then None else position_in page.now) }
 {

@@ -6,7 +6,7 @@ ghost use Rattle.packet_view.specs.StreamFault.{code_of as stream_code_of, name_
 use ogg_page::PageFault;
 use thiserror::Error;
 
-/// Why a stream gives no further packet. For one page `Page` is looked for first, and then
+/// Why a stream returns no further packet. For one page `Page` is checked first, and then
 /// `AfterEos`, `Sequence` and `Continued`. An offset is that of the page's first byte.
 #[derive(Clone, Copy, Debug, PartialEq, Eq, Error)]
 pub enum ViewFault {
@@ -16,7 +16,7 @@ pub enum ViewFault {
     /// The number of the stream's page isn't one more than that of its page before.
     #[error("at byte {0}: a page of the stream is missing")]
     Sequence(u64),
-    /// The stream's page begins with a continued packet where its page before left none
+    /// The stream's page begins with a continued packet although its page before left none
     /// unfinished, or the other way round.
     #[error("at byte {0}: a packet isn't continued where it should be")]
     Continued(u64),
@@ -56,13 +56,13 @@ impl ViewFault {
     }
 }
 
-/// Why a stream over a window gives no further part.
+/// Why a stream over a window lends no further part.
 #[derive(Clone, Copy, Debug, PartialEq, Eq, Error)]
 pub enum StreamFault {
     /// The source couldn't be read.
     #[error("the source can't be read")]
     Source,
-    /// The stream gives no further packet, for this reason. An offset is one in the source.
+    /// The stream has no further packet, for this reason. An offset is one in the source.
     #[error("{0}")]
     View(ViewFault),
 }

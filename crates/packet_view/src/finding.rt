@@ -13,7 +13,7 @@ use crate::place::Place;
 use crate::unread::{Front, Unread};
 use crate::walking::next_page;
 
-/// The next packet from this place on, and the place behind it.
+/// The next packet from this place on, and the place after it.
 pub(crate) fn next_packet<'a>(
     serial: u32,
     from: Place<'a>,
@@ -40,7 +40,7 @@ pub(crate) fn next_packet<'a>(
     }
 }
 
-/// A packet that begins and ends in the page at this place, behind which `left` is left of the page.
+/// A packet that begins and ends in the page at this place. After it `left` is left of the page.
 fn in_one_page<'a>(serial: u32, piece: &'a [u8], place: Place<'a>, left: Unread<'a>) -> Packet<'a>
     ensures { result ≡ record { parts = with_part [] place.entry.unread.place piece.now; position = position_behind left.entry } }
 {
@@ -56,7 +56,7 @@ fn in_one_page<'a>(serial: u32, piece: &'a [u8], place: Place<'a>, left: Unread<
     )
 }
 
-/// The position of a packet that ends in a page, behind which this is left of the page.
+/// The position of a packet that ends in a page, if this is left of the page after it.
 fn position_behind(left: Unread<'_>) -> Option<u64>
     ensures { result ≡ position_behind left.entry }
 {
@@ -67,8 +67,8 @@ fn position_behind(left: Unread<'_>) -> Option<u64>
     }
 }
 
-/// The packet that begins with these bytes, which are not none and go on behind the page at this
-/// place, and the place behind it.
+/// The packet that begins with these bytes, and the place after it. There are such bytes, and the
+/// packet goes on after the page at this place.
 fn finish<'a>(
     serial: u32,
     first: &'a [u8],
@@ -107,7 +107,7 @@ fn finish<'a>(
     }
 }
 
-/// The place behind a packet that ends in the page at this place.
+/// The place after a packet that ends in the page at this place.
 fn behind_packet<'a>(place: Place<'a>, left: Unread<'a>) -> Place<'a>
     requires { left.place + length left.body.now ≤ place.offset }
     ensures { IsPlaceWith place.entry left.entry result }

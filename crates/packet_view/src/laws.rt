@@ -8,10 +8,10 @@ ghost use Rattle.packet_view.specs.Held.{AreHeld};
 ghost use Rattle.packet_view.specs.StreamParts.{AreTheirParts, at_start, parts_from};
 ghost use Rattle.packet_view.specs.Placed.{AreInOrder, parts_of_all};
 
-/// The packets that [`Packets`](crate::Packets) gives are those that the stream's pages before the
-/// first page at fault hold, in order and whole; each of those pages fits the stream's pages before
-/// it, and the fault is that of what comes next. Of the packets that end in a page the last has the
-/// page's position, and those before it have none.
+/// The packets that [`Packets`](crate::Packets) returns are those that the stream's pages before the first page at
+/// fault hold, in order and whole. Each of those pages fits the stream's pages before it, and the fault is that of
+/// what comes next. Of the packets that end in a page the last has the page's position, and those before it have
+/// none.
 pub fn packets_are_held()
     ensures { (serial : ℕ) (bytes : List ℕ) → ((i : ℕ) → slice_index bytes i < 256) → AreHeld serial (found_in 0 bytes) (packets_of serial bytes) }
 {}
@@ -29,9 +29,9 @@ pub fn a_page_has_one_part_of_a_packet()
         → AllByRecursion (λ packet. LieApart serial (pages_found (found_in 0 bytes)) packet.parts) (packets_of serial bytes).packets }
 {}
 
-/// The parts that [`Stream`](crate::Stream) gives are those of the packets that [`Packets`](crate::Packets) gives over the
-/// same bytes. Joined from a first part to the next last one they are the packets, in order and with their positions, and
-/// the same fault follows. The first byte is at this offset of the source.
+/// The parts that [`Stream`](crate::Stream) lends are those of the packets that [`Packets`](crate::Packets) returns
+/// for the same bytes. Joined from a first part to the next last one they are the packets, in order and with their
+/// positions, and the same fault follows. The first byte is at this offset of the source.
 pub fn parts_are_of_the_packets()
     ensures { (serial offset : ℕ) (bytes : List ℕ) → ((i : ℕ) → slice_index bytes i < 256)
         → AreTheirParts (packets_from serial at_start [] (found_in offset bytes))

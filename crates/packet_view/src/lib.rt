@@ -1,8 +1,8 @@
 //! The packets of one stream, as slices of bytes that somebody else owns (RFC 3533, sections 5 and 6).
 //!
-//! `Packets` walks over bytes page by page and gives the packets of one stream that end before the
-//! first page at fault, and then that fault. A `Packet` is its parts, one for each page that has
-//! bytes of it: nothing is copied, and no call takes memory.
+//! `Packets` walks over bytes page by page and returns the packets of one stream that end before the first page at
+//! fault, and then that fault. A `Packet` is its parts, one for each page that has bytes of it: nothing is copied,
+//! and no call takes memory.
 //!
 //! A file may be larger than memory: a `Stream` over a window lends the same packets part by part, out
 //! of the memory of one page.

@@ -15,10 +15,10 @@ use std::marker::Model;
 /// and no call takes memory.
 #[derive(Debug, Drop)]
 pub struct Packet<'a> {
-    /// The bytes in the page where the packet begins, and their place in the source.
+    /// The bytes in the page in which the packet begins, and their place in the source.
     first: &'a [u8],
     place: u64,
-    /// The pages behind that one, up to the page where the packet ends, and their place.
+    /// The pages after that one, up to the page in which the packet ends, and their place.
     more: &'a [u8],
     offset: u64,
     serial: u32,
@@ -79,7 +79,7 @@ impl<'a> Packet<'a> {
         Parts::new(self.first, self.serial, self.more)
     }
 
-    /// The packet's bytes, where it has at most one part.
+    /// The packet's bytes, if it has at most one part.
     pub fn as_slice(&self) -> Option<&'a [u8]>
         ensures some { IsSome result ↔ (length self.now.parts ≤ 1) }
         ensures bytes { IfSome result (λ bytes. bytes.now ≡ joined_parts self.now.parts) }
@@ -114,7 +114,7 @@ impl<'a> Packet<'a> {
         write_parts(self.parts(), writer)
     }
 
-    /// The position of the page where the packet ends, if no packet ends there behind it and the
+    /// The position of the page in which the packet ends, if no packet ends there after it and the
     /// page has one.
     pub fn position(&self) -> Option<u64>
         ensures { result ≡ self.now.position }

@@ -10,9 +10,9 @@ use crate::place::{Behind, Place};
 use crate::unread::Unread;
 use std::marker::Model;
 
-/// The packets of one stream in bytes, in order: those that end before the first page at fault, and
-/// then that fault. Pages of other streams are passed over, but one of them that is broken is a
-/// fault too. What a stream's first page may be isn't asked: it may have any number.
+/// The packets of one stream in bytes, in order: those that end before the first page at fault, and then that fault.
+/// Pages of other streams are passed over, but one of them that is broken is a fault too. The stream's first page
+/// isn't checked against any before it: it may have any number.
 #[derive(Debug, Drop)]
 pub struct Packets<'a> {
     serial: u32,
@@ -64,8 +64,8 @@ impl<'a> Packets<'a> {
         }
     }
 
-    /// The stream's next packet, or `None` at the end of the bytes. A fault is the first in the order
-    /// of [`ViewFault`]; each later call gives it again.
+    /// The stream's next packet, or `None` at the end of the bytes. A fault is the first in the order of
+    /// [`ViewFault`]; each later call returns it again.
     pub fn next(&mut self) -> Result<Option<Packet<'a>>, ViewFault>
         ensures { TakesFirst self.old result self.new }
     {

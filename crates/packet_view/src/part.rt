@@ -1,7 +1,7 @@
 //! A part of a packet, lent out of a window.
 
-/// A part of a packet (RFC 3533, sections 5 and 6): what one page has of it, lent until its stream is used again. A packet
-/// has a part for each page that has a lacing value of it.
+/// A part of a packet (RFC 3533, sections 5 and 6): what one page has of it, lent until its stream is used again. A
+/// packet has a part for each page that has a lacing value of it.
 #[derive(Clone, Copy, Debug)]
 pub struct Part<'a> {
     /// The bytes, in the window's page. There may be none.

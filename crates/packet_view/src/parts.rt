@@ -15,7 +15,7 @@ use std::marker::Model;
 pub struct Parts<'a> {
     first: &'a [u8],
     serial: u32,
-    /// The pages behind the one where the packet begins, up to the one where it ends.
+    /// The pages after the one in which the packet begins, up to the one in which it ends.
     more: &'a [u8],
 }
 
@@ -65,7 +65,7 @@ impl<'a> Iterator for Parts<'a> {
     }
 }
 
-/// The first part in these pages, and the pages behind its own.
+/// The first part in these pages, and the pages after its own.
 fn next_part<'a>(serial: u32, pages: &'a [u8]) -> Option<(&'a [u8], &'a [u8])>
     requires { ArePages pages.now }
     ensures { MatchOption result (slices_in serial pages.now ≡ []) (λ (part, more). (slices_in serial pages.now ≡ part.now ∷ slices_in serial more.now) × ArePages more.now) }

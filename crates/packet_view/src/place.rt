@@ -18,7 +18,7 @@ pub(crate) struct Place<'a> {
     pub behind: Behind,
     /// What is left of the stream's last page so far.
     pub unread: Unread<'a>,
-    /// What comes behind that page.
+    /// What comes after that page.
     pub rest: &'a [u8],
     /// Where `rest` begins in the source.
     pub offset: u64,

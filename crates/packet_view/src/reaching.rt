@@ -10,8 +10,8 @@ use crate::place::Behind;
 use crate::walking::misplaced;
 use ogg_page::{Page, PageSource, Window, WindowFault};
 
-/// Goes to the stream's next page that has lacing values, if none are left of the page that is lent; `None` at the end of
-/// the range.
+/// Goes to the stream's next page that has lacing values, if none are left of the page that is lent; `None` at the
+/// end of the range.
 pub(crate) fn reach<S: PageSource>(
     window: &mut Window<S>,
     serial: u32,
@@ -67,8 +67,8 @@ fn of_window(fault: WindowFault) -> StreamFault
     }
 }
 
-/// Passes a page: what the stream's next page must fit after it, and whether this is a page of the stream that has lacing
-/// values.
+/// Passes a page: what the stream's next page must fit after it, and whether this is a page of the stream that has
+/// lacing values.
 fn pass(
     page: &Page<'_>,
     offset: u64,

@@ -13,9 +13,9 @@ use crate::reaching::reach;
 use ogg_page::{PageSource, Window};
 use std::marker::Model;
 
-/// The packets of one stream in the range of a window (RFC 3533, sections 5 and 6), part by part and in order: the parts
-/// before the first page at fault, and then that fault. Joined from a first part to the next last one, they are what
-/// [`Packets`](crate::Packets) gives over the same bytes. Only one page is in memory, and no call takes any.
+/// The packets of one stream in the range of a window (RFC 3533, sections 5 and 6), part by part and in order: the
+/// parts before the first page at fault, and then that fault. Joined from a first part to the next last one, they are
+/// what [`Packets`](crate::Packets) returns for the same bytes. Only one page is in memory, and no call takes any.
 #[derive(Drop)]
 pub struct Stream<S: PageSource> {
     window: Window<S>,
@@ -47,8 +47,8 @@ impl<S: PageSource> Model for Stream<S> {
 }
 
 impl<S: PageSource> Stream<S> {
-    /// The packets of the stream with this serial, in what the window hasn't lent yet of its range. Nothing is read yet,
-    /// and the window is the stream's until it is given back. A fault that the window has is the stream's.
+    /// The packets of the stream with this serial, in what the window hasn't lent yet of its range. Nothing is read
+    /// yet, and the window is the stream's until it is given back. A fault that the window has is the stream's.
     pub fn of(window: Window<S>, serial: u32) -> Stream<S>
         ensures { result ≡ stream window serial }
     {
@@ -68,9 +68,9 @@ impl<S: PageSource> Stream<S> {
         }
     }
 
-    /// Lends the next part, until the stream is used again; `None` at the end of the range. `View` is the first fault in
-    /// the order of [`ViewFault`](crate::ViewFault), and `Source` that a read failed; each later call gives it again. Parts
-    /// of an unfinished packet may come before a fault.
+    /// Lends the next part, until the stream is used again; `None` at the end of the range. `View` is the first fault
+    /// in the order of [`ViewFault`](crate::ViewFault), and `Source` says that a read failed; each later call returns
+    /// the same fault again. Parts of an unfinished packet may come before a fault.
     pub fn next_part(&mut self) -> Result<Option<Part<'_>>, StreamFault>
         ensures* after_borrow { sem 𝓛 (Rests (the_row S.row S.PageSource) self.entry
             (λ new. HasGiven S.bytes S.is_honest S.size S.failures S.only_reads self.old (lent_parts result) new)) }
@@ -117,7 +117,7 @@ impl<S: PageSource> Stream<S> {
         })
     }
 
-    /// The window, given back. It is after the last page that the stream has looked at.
+    /// The window, given back. The window's place is after the last page that the stream has read.
     pub fn into_window(self) -> Window<S>
         ensures { result ≡ self.window }
     {

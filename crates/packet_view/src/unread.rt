@@ -8,7 +8,7 @@ pub(crate) struct Unread<'a> {
     pub body: &'a [u8],
     /// Where the body's first byte is in the source.
     pub place: u64,
-    /// That of the last packet that ends in the page.
+    /// The position of the last packet that ends in the page.
     pub position: Option<u64>,
     ghost whole: { sum lacing.now ≡ length body.now },
     ghost fits: { place + length body.now < 2 ^ 64 },
@@ -18,6 +18,6 @@ pub(crate) struct Unread<'a> {
 pub(crate) enum Front<'a> {
     /// The packet ends with these bytes, and this is left of the page.
     Ends(&'a [u8], Unread<'a>),
-    /// These are all bytes of the page, and the packet goes on; where there are none, no packet does.
+    /// These are all bytes of the page, and the packet goes on; if there are none, no packet goes on.
     GoesOn(&'a [u8]),
 }

@@ -96,7 +96,7 @@ fn is_other_number(number: Option<u64>, sequence: u32) -> bool
     }
 }
 
-/// The page's position, where a packet ends in the page.
+/// The page's position, if a packet ends in the page.
 pub(crate) fn position_in(page: &Page<'_>) -> Option<u64>
     ensures { result ≡ position_in page.now }
 {

@@ -30,7 +30,7 @@ pub start : (rest : List Timed) → IsWithin 0 rest
 start [] = refl
 start (item ∷ rest) = omega arith
 
--- what is left of a packet and of those behind it
+-- what is left of a packet and of those after it
 pub left_of : (done : ℕ) (item : Timed) (others : List Timed) → done ≤ length item.packet →
     bytes_left done (item ∷ others) ≡ drop done item.packet ++ run_bytes others
 unfolding run_bytes

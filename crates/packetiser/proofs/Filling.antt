@@ -10,7 +10,7 @@ use Rattle.packetiser.specs.Place.{values_left, bytes_left, IsWithin}
 use Rattle.ogg_page.specs.StreamLaws.{ends_open-at}
 use Rattle.packetiser.specs.Laws.Pieces.{sum_app}
 
--- what a page holds so far of the run of which `run` was left, and what is left now
+-- what a page holds so far of a run, of which `run` was left before the page, and what is left now
 pub record IsFilled (run : List Timed) (begun : ℕ) (lacing : List ℕ) (position : ℕ) (rest : List Timed) (done : ℕ) : Type 0 where
   pub values : values_left begun run ≡ lacing ++ values_left done rest
   pub bytes : bytes_left done rest ≡ drop (sum lacing) (bytes_left begun run)
@@ -69,7 +69,7 @@ drop_all n [] h = drop_none n
 drop_all zero (x ∷ xs) h = absurd (omega arith)
 drop_all (suc n) (x ∷ xs) h = drop_all n xs (omega arith)
 
--- ---- one value more
+-- ---- one more value
 -- a packet that ends in the page
 pub ends_here : (run : List Timed) (begun : ℕ) (lacing : List ℕ) (position : ℕ) (item : Timed) (others : List Timed) (done value : ℕ) →
     IsFilled run begun lacing position (item ∷ others) done → value ≡ length item.packet - done → value < 255 →

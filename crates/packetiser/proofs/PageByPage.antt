@@ -16,7 +16,7 @@ drop_past zero (x ∷ xs) h = absurd (omega (arith, h))
 drop_past (suc n) [] h = refl
 drop_past (suc n) (x ∷ xs) h = drop_past n xs (omega (arith, h))
 
--- what is left behind some, by how many are left
+-- what is left after some items, by the number that is left
 pub dropped_by : {A : Type 0} (n : ℕ) (xs rest : List A) → rest ≡ drop n xs → drop (length xs - length rest) xs ≡ rest
 dropped_by zero xs rest e = ap (λ k. drop k xs) (let z : length xs - length rest ≡ 0 = omega (arith, ap length e) in z) ∙ sym e
 dropped_by {A = A} (suc n) [] rest e = ap (λ k. drop {A = A} k []) (let z : 0 - length rest ≡ 0 = omega arith in z) ∙ sym e
@@ -49,7 +49,7 @@ nth_counted f (suc k) first (suc n) h =
     nth_counted f k (first + 1) n (omega (arith, h))
     ∙ ap (λ m. f m ∷ drop (suc k) (map f (counted (first + 1) n))) (let e : first + 1 + k ≡ first + suc k = omega arith in e)
 
--- a page with flags added to its own
+-- a page with further flags
 abbrev more_flags : ℕ → Page → Page
 more_flags flags page = record page { flags = page.flags + flags }
 
@@ -66,7 +66,7 @@ flagged_at flags zero (p ∷ pages) page e = ap (λ q. more_flags flags q ∷ pa
 flagged_at flags (suc k) [] page e = absurd (omega (arith, ap length e))
 flagged_at flags (suc k) (p ∷ pages) page e = e ∙ ap (λ q. q ∷ drop (suc k) pages) (sym (no_more_flags page))
 
--- the page at a place, and those behind it
+-- the page at a place, and those after it
 pub page_at_place : (serial first flags k : ℕ) (run : List Timed) → k < pages_for (length (run_lacing run)) →
     drop k (flagged flags (pages_of_run serial first run))
     ≡ more_flags (added flags k) (page_of_run serial first run k) ∷ drop (k + 1) (flagged flags (pages_of_run serial first run))

@@ -16,7 +16,7 @@ pub record IsTimed (item : Timed) : Type 0 where
   pub position : item.position < 2 ^ 64
   pub packet : AllByRecursion IsByte item.packet
 
--- the numbers from the first on, so many
+-- this many numbers, from a first one on
 abbrev pub counted : ℕ → ℕ → List ℕ
 counted first zero = []
 counted first (suc n) = first ∷ counted (first + 1) n
@@ -40,7 +40,7 @@ values_at k values = take most_values (drop (most_values * k) values)
 unfoldable pub values_before : ℕ → List ℕ → List ℕ
 values_before k values = take (most_values * k) values
 
--- so many packets end in these values
+-- the number of packets that end in these values
 abbrev pub packets_ended : List ℕ → ℕ
 packets_ended values = count_by (λ value. nat_lt value full_value) values
 
@@ -57,7 +57,8 @@ page_position k run =
     if nat_eq (packets_ended (values_at k (run_lacing run))) 0 then no_position
     else position_of (packets_ended (values_before (k + 1) (run_lacing run))) run
 
--- page k of a run: its values, its share of the bytes, and the continued flag where the page before it leaves a packet unfinished
+-- page k of a run: its values, its share of the bytes, and the continued flag if the page before it leaves a packet
+-- unfinished
 unfoldable pub page_of_run : ℕ → ℕ → List Timed → ℕ → Page
 page_of_run serial first_sequence run k =
     let values = run_lacing run in
@@ -70,7 +71,7 @@ page_of_run serial first_sequence run k =
       body = take (sum (values_at k values)) (drop (sum (values_before k values)) (run_bytes run));
     }
 
--- how many pages so many lacing values take
+-- how many pages this number of lacing values takes
 abbrev pub pages_for : ℕ → ℕ
 pages_for values = (values + (most_values - 1)) / most_values
 

@@ -13,7 +13,7 @@ NextPage old false new finished = (old ≡ []) × (new ≡ [])
 abbrev pub pages_from : ℕ → ℕ → ℕ → ℕ → List Timed → List Page
 pages_from k serial first flags run = drop k (flagged flags (pages_of_run serial first run))
 
--- before page k of a run, of which so many packets and then so many bytes stand before it
+-- the place before page k of a run: the first `ended` packets, and then `done` bytes of the next, stand before it
 pub record IsBeforePage (run : List Timed) (k ended done first flags count : ℕ) : Type 0 where
   pub place : IsAt run k done (drop ended run)
   pub within : ended ≤ length run

@@ -11,8 +11,8 @@ use crate::place::fill;
 use crate::size::{pages_of, size_of, values_and_bytes};
 use ogg_page::{MOST_VALUES, PageHead, close_page, open_page};
 
-/// Appends the pages of a run, and gives their number. `flags` are added to those of the first page.
-/// After `Memory` the vector is unchanged.
+/// Appends the pages of a run, and returns their number. `flags` are added to those of the first page. After `Memory`
+/// the vector is unchanged.
 pub fn lay_run<T: TimedPacket>(
     serial: u32,
     first_sequence: u32,
@@ -41,7 +41,7 @@ pub fn lay_run<T: TimedPacket>(
     Ok(pages_of(values) as u32)
 }
 
-/// Appends the pages of a run, which has so many lacing values and for which there is room.
+/// Appends the pages of a run, which has `values` lacing values. There must be room for them.
 fn append_pages<T: TimedPacket>(
     serial: u32,
     first_sequence: u32,
@@ -67,7 +67,7 @@ fn append_pages<T: TimedPacket>(
     }
 }
 
-/// The flags that are added to page `k`: to the first alone.
+/// The flags that are added to page `k`: only the first page has any.
 pub(crate) fn added_flags(flags: u8, k: u64) -> u8
     requires { flags < 255 }
     ensures value { result ≡ added flags k }
@@ -76,7 +76,7 @@ pub(crate) fn added_flags(flags: u8, k: u64) -> u8
     if k == 0 { flags } else { 0 }
 }
 
-/// Appends the next page of a run of which these packets are left, and gives what is left behind it.
+/// Appends the next page of a run of which these packets are left, and returns what is left after it.
 fn append_page<'a, T: TimedPacket>(
     serial: u32,
     sequence: u32,
@@ -109,8 +109,8 @@ fn append_page<'a, T: TimedPacket>(
     (page.rest, page.done)
 }
 
-/// Appends the first bytes, so many, of what is left of a run where `begun` bytes of the first packet are done, and for
-/// which there is room.
+/// Appends the first `size` bytes of what is left of a run, of whose first packet `begun` bytes are done. There must
+/// be room for them.
 fn append_bytes<T: TimedPacket>(from: &[T], begun: usize, size: usize, out: &mut Vec<u8>)
     requires within { IsWithin begun (map T.timed from.now) }
     requires enough { size ≤ length (bytes_left begun (map T.timed from.now)) }

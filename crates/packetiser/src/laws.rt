@@ -5,7 +5,7 @@ ghost use Rattle.ogg_page.specs.Page.{IsPage};
 ghost use Rattle.ogg_page.specs.LogicalStream.{HoldsPackets};
 ghost use Rattle.packetiser.specs.Run.{Timed, IsTimed, pages_of_run, pages_for, run_lacing};
 
-/// The pages of a run hold just its packets, whole and in order.
+/// The pages of a run hold exactly its packets, whole and in order.
 pub fn run_is_held()
     ensures { (serial first : ℕ) (run : List Timed) →
         HoldsPackets (pages_of_run serial first run) (map (λ item. item.packet) run) 0 [] }

@@ -1,8 +1,8 @@
 //! Runs of packets as pages (RFC 3533, section 6).
 //!
-//! A run is packets of one logical stream, each with its position, that go into pages together:
-//! their lacing values are joined, and each 255 of them, and what is left, make a page. The sizes
-//! can be had before anything is written, by the packets or by counts alone.
+//! A run is packets of one logical stream, each with its position, that go into pages together. The
+//! packets' lacing values are joined; each 255 of them, and what is left, make a page. The sizes
+//! are known before anything is written, from the packets or from counts alone.
 //!
 //! Start at `specs/Run.antt`, which says what the pages of a run are.
 #![tactic(auto)]

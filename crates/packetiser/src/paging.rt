@@ -67,7 +67,7 @@ impl<T: TimedPacket + Drop> RunPages<T> {
         self.count - self.next
     }
 
-    /// Makes the next page in the buffer, where one is still to come. It takes no memory.
+    /// Makes the next page in the buffer, if one is still to come. It takes no memory.
     pub fn next(&mut self, buffer: &mut PageBuffer) -> bool
         ensures { NextPage self.old result self.new buffer.new.finished }
     {
@@ -85,8 +85,8 @@ impl<T: TimedPacket + Drop> RunPages<T> {
     }
 }
 
-/// Makes the next page of a run of which these packets are left, and gives how many of them end in it, and how many
-/// bytes of the one behind these it and the pages before it hold.
+/// Makes the next page of a run of which these packets are left. It returns how many of them end in the page, and how
+/// many bytes of the packet after these lie in the page and those before it.
 fn make_page<T: TimedPacket>(
     serial: u32,
     sequence: u32,
@@ -116,7 +116,7 @@ fn make_page<T: TimedPacket>(
     (from.len() - page.rest.len(), page.done)
 }
 
-/// Puts the first bytes, so many, of what is left of a run where `begun` bytes of the first packet are done.
+/// Puts the first `size` bytes of what is left of a run, of whose first packet `begun` bytes are done.
 fn put_bytes<T: TimedPacket>(from: &[T], begun: usize, size: usize, buffer: &mut PageBuffer)
     requires within { IsWithin begun (map T.timed from.now) }
     requires enough { size ≤ length (bytes_left begun (map T.timed from.now)) }

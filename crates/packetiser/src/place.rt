@@ -11,7 +11,7 @@ use ogg_page::{FULL_VALUE, MOST_VALUES, SEGMENT};
 /// The position of a page in which no packet ends: -1 (RFC 3533, section 6, field 4).
 pub const NO_POSITION: u64 = u64::MAX;
 
-/// The next page of a run, whose lacing values lie elsewhere, and what is left behind it.
+/// The next page of a run, without its lacing values, and what is left after it.
 #[derive(Drop)]
 pub struct Filled<'a, T> {
     /// How many lacing values the page has.
@@ -26,8 +26,8 @@ pub struct Filled<'a, T> {
     pub done: usize,
 }
 
-/// The next page of a run of which these packets are left, where `begun` bytes of the first are done. Its lacing values
-/// come to the front of `lacing`.
+/// The next page of a run of which these packets are left, if `begun` bytes of the first are done. The page's
+/// lacing values are put at the front of `lacing`.
 pub fn fill<'a, T: TimedPacket>(
     from: &'a [T],
     begun: usize,
@@ -81,8 +81,8 @@ pub fn fill<'a, T: TimedPacket>(
     }
 }
 
-/// Whether a packet of which `left` bytes are left ends with the next lacing value, which then isn't a full one
-/// (RFC 3533, section 5).
+/// Whether a packet ends with the next lacing value, if `left` of its bytes are left. That value then isn't a full
+/// one (RFC 3533, section 5).
 fn ends_here(left: usize) -> bool
     ensures { result ≡ nat_lt left full_value }
 {

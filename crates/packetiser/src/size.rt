@@ -6,21 +6,22 @@ ghost use Rattle.ogg_page.specs.Sizes.{full_value};
 use crate::item::TimedPacket;
 use ogg_page::{FIXED_SIZE, MOST_VALUES, SEGMENT};
 
-/// How many lacing values a packet of so many bytes has (RFC 3533, section 5).
+/// How many lacing values a packet of this length has (RFC 3533, section 5).
 pub fn values_of(len: u64) -> u64
     ensures { result ≡ len / full_value + 1 }
 {
     len / SEGMENT as u64 + 1
 }
 
-/// How many pages so many lacing values take.
+/// How many pages this number of lacing values takes.
 pub fn pages_of(values: u64) -> u64
     ensures { result ≡ pages_for values }
 {
     values.div_ceil(MOST_VALUES as u64)
 }
 
-/// How many bytes the pages of a run have, which has so many lacing values and packet bytes.
+/// How many bytes the pages of a run have, by the numbers of its lacing values and of its packets'
+/// bytes.
 pub fn size_of(values: u64, bytes: u64) -> u64
     requires { values + bytes ≤ 2 ^ 63 }
     ensures { result ≡ size_for values bytes }

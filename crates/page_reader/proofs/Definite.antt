@@ -1,5 +1,5 @@
--- What is wrong with bytes and isn't want of bytes stays wrong, whatever follows.
-use Rattle.std.proofs.Common.{◌≡◌, ◌≢◌, ℕ, ◌+◌, ◌-◌, ◌*◌, ◌<◌, ◌≤◌, Bool, true, false, not, List, [], ◌∷◌, ◌++◌, length, take, drop, sum, refl, sym, ◌∙◌, ap, arith, length-append, length-take, Result, Ok, Err}
+-- What is wrong with bytes, and isn't want of bytes, stays wrong, whatever follows.
+use Rattle.std.proofs.Common.{◌≡◌, ◌≢◌, ℕ, ◌+◌, ◌-◌, ◌*◌, ◌<◌, ◌≤◌, Bool, true, false, not, List, ◌++◌, length, take, drop, sum, refl, sym, ◌∙◌, ap, arith, length-append, length-take, Result, Ok, Err}
 use Rattle.std.specs.Prelude.{nat_eq, nat_lt, if◌then◌else◌, codes, slice_index}
 use Rattle.std.specs.List.{starts_with}
 use Rattle.std.proofs.lemmas.Bool.{le-ltb, ltb-true, ltb-false}
@@ -11,7 +11,7 @@ use Rattle.ogg_page.specs.Reading.{page_at, fields_at, lacing_at, behind_lacing,
 use Rattle.ogg_page.specs.declared.fault.PageFault.{PageFault}
 use Rattle.ogg_page.specs.declared.fault.PageFault.TheVariants.{Short, Pattern, Version, Checksum}
 use Rattle.ogg_page.specs.Laws.ReadAgain.{drop_bytes}
-use Rattle.ogg_page.specs.Laws.Sight.{sum_small, take_bytes}
+use Rattle.ogg_page.specs.Laws.Sight.{number_in_front, pattern_in_front, sum_small, take_bytes}
 
 -- the tests that a reading makes, in their order
 judged : Bool → Bool → Bool → Bool → Bool → Bool → Page → Result Page PageFault
@@ -44,21 +44,7 @@ as_tests : (bytes : List ℕ) →
 unfolding page_at judged
 as_tests bytes = refl
 
-pattern_in_front : (front back : List ℕ) → 4 ≤ length front → starts_with nat_eq (front ++ back) (codes "OggS") ≡ starts_with nat_eq front (codes "OggS")
-pattern_in_front [] back l = absurd (omega arith)
-pattern_in_front (a ∷ []) back l = absurd (omega arith)
-pattern_in_front (a ∷ b ∷ []) back l = absurd (omega arith)
-pattern_in_front (a ∷ b ∷ c ∷ []) back l = absurd (omega arith)
-pattern_in_front (a ∷ b ∷ c ∷ d ∷ front) back l = refl
-
-number_in_front : (front back : List ℕ) → 4 ≤ length front → little_number 4 (front ++ back) ≡ little_number 4 front
-number_in_front [] back l = absurd (omega arith)
-number_in_front (a ∷ []) back l = absurd (omega arith)
-number_in_front (a ∷ b ∷ []) back l = absurd (omega arith)
-number_in_front (a ∷ b ∷ c ∷ []) back l = absurd (omega arith)
-number_in_front (a ∷ b ∷ c ∷ d ∷ front) back l = refl
-
--- a head in front is that of all the bytes
+-- the head at the front is the same in these bytes and in all of them
 record SameHead (front all : List ℕ) : Type 0 where
   fixed : nat_lt (length all) 27 ≡ false
   pattern : no_pattern all ≡ no_pattern front
@@ -73,7 +59,7 @@ same_head front back is =
       version = ap (λ n. not (nat_eq n 0)) (get_or_append_left front back 0 4 (omega (arith, long)));
     }
 
--- so is a page's end
+-- the same of a page's body
 record SameBody (front all : List ℕ) : Type 0 where
   table : no_table all ≡ false
   body : no_body all ≡ false

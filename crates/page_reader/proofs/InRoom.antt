@@ -14,9 +14,10 @@ use Rattle.std.specs.Io.KnownBytes.{Consumes}
 use Rattle.std.proofs.KnownBytes.{Consumes-trans}
 use Rattle.ogg_page.specs.Window.{LentAt}
 use Rattle.page_reader.specs.declared.fault.PageReaderFault.{PageReaderFault}
-use Rattle.page_reader.specs.Room.{BeginsWithPage, Finds, IsHeld, IsLent, ReadsMore, held_of}
+use Rattle.ogg_page.specs.Room.{BeginsWithPage}
+use Rattle.page_reader.specs.Room.{Finds, IsHeld, IsLent, ReadsMore, held_of}
 
--- what is held, and then what is read behind it
+-- what is held, and then what is read after it
 pub read_behind_held : (room front read : List ℕ) (start end count : ℕ) → start ≤ end → end ≤ length room → front ≡ take end room →
     take (end + count - start) (drop start (front ++ read)) ≡ take (end - start) (drop start room) ++ take count read
 read_behind_held room front read start end count ordered inside is =
@@ -136,7 +137,7 @@ stands room held n whole begins =
           ∙ ap (λ l. page_bytes page ++ take behind l) (drop-drop n held.start room);
     }
 
--- the room still holds what is behind the page, and the page that is lent
+-- the room still holds what follows the page, and the page that is lent
 pub still : (room again : List ℕ) (held : Held) (offset n : ℕ) → again ≡ room → IsHeld room held → Stands room held n →
     IsHeld again (record { start = held.start + n; end = held.end }) × IsLent again (Some (record { offset = offset; start = held.start; end = held.start + n }))
 still room again held offset n same holds here =
@@ -150,7 +151,7 @@ still room again held offset n same holds here =
       ),
     )
 
--- a page is given
+-- a page is lent
 pub moved : (before : List ℕ) (offset behind : ℕ) (was : Option LentAt) (outcome : Option (Result (Unit {0}) PageReaderFault)) (from left : Option (List ℕ)) (room again : List ℕ) (held : Held) (n : ℕ) →
     outcome ≡ None → again ≡ room → IsHeld room held → Finds before from (Ok (Some n)) (held_of room held) left → behind ≡ min (offset + n) (2 ^ 64 - 1) →
     HasAdvanced (record { unread = before; offset = offset; lent = was; outcome = outcome }) from (Ok tt)
@@ -176,7 +177,7 @@ moved before offset behind was outcome from left room again held n none same hol
       };
     }
 
--- what is found, where that is a page
+-- what is found, if that is a page
 pub finds_page : (before : List ℕ) (from : Option (List ℕ)) (result : Option ℕ) (n : ℕ) (now : List ℕ) (left : Option (List ℕ)) → result ≡ Some n →
     Finds before from (Ok result) now left → Finds before from (Ok (Some n)) now left
 finds_page before from result n now left is found = subst (λ (r : Option ℕ). Finds before from (Ok r) now left) is found

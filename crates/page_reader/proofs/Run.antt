@@ -1,4 +1,4 @@
--- What a run of calls gives is what is found.
+-- What a run of calls lends is what is found.
 use Rattle.std.proofs.Common.{◌≡◌, ◌≢◌, ℕ, ◌+◌, ◌<◌, ◌^◌, List, [], ◌∷◌, ◌++◌, length, refl, sym, ◌∙◌, ap, subst, arith, append_assoc, append-nil, length-append, Option, Some, None, Result, Ok, Err}
 use Rattle.std.specs.Io.KnownBytes.{Consumes}
 use Rattle.ogg_page.specs.Page.{Page as PageValue, page_bytes, page_size}
@@ -19,7 +19,7 @@ page_found offset page = Ok (offset, page)
 abbrev fault_found : ℕ → PageFault → FoundPage
 fault_found offset fault = Err (offset, fault)
 
--- what is wrong with the bytes that were looked at is wrong with all
+-- what is wrong with the bytes that were read is wrong with all
 whole_fault : (bytes rest : List ℕ) (fault : PageFault) → IsFaultOf bytes (Some rest) fault → page_at (bytes ++ rest) ≡ Err fault
 whole_fault bytes rest Short is = ap (λ l. page_at (bytes ++ l)) (is.short refl) ∙ ap page_at (append-nil bytes) ∙ is.read
 whole_fault bytes rest Pattern is = is.definite (λ e. cc) rest
@@ -46,7 +46,7 @@ end_given unread bytes taken (Some rest) offset (Err (Page fault)) lent last non
     ∙ ap (λ n. fault_found n fault ∷ []) (sym gives.offset_is)
 end_given unread bytes taken (Some rest) offset (Err Read) lent last none consumed gives = (found_in offset (unread ++ bytes), refl)
 
--- a page, and then what is found behind it
+-- a page, and then what is found after it
 record PageGiven (state : ReaderState) (bytes rest : List ℕ) (lent : LentAt) (new : ReaderState) : Type 0 where
   all : found_in state.offset (state.unread ++ bytes) ≡ found lent ∷ found_in new.offset (new.unread ++ rest)
   fits : new.offset + length (new.unread ++ rest) < 2 ^ 64

@@ -1,4 +1,4 @@
--- What a page reader gives of bytes that can be read once only. Ours.
+-- What a page reader lends of bytes that can be read once only. Ours.
 use Rattle.std.specs.Prelude.{◌≡◌, ◌≢◌, ℕ, ◌+◌, ◌-◌, ◌^◌, min, Option, Some, None, Result, Ok, Err, List, [], ◌∷◌, ◌++◌, map, ⊤}
 use Rattle.std.specs.Io.KnownBytes.{Consumes, IsAtEnd}
 use Rattle.ogg_page.specs.Page.{IsPage, page_bytes, page_size}
@@ -10,7 +10,7 @@ use Rattle.ogg_page.specs.declared.fault.PageFault.TheVariants.{Short}
 use Rattle.page_reader.specs.declared.fault.PageReaderFault.{PageReaderFault}
 use Rattle.page_reader.specs.declared.fault.PageReaderFault.TheVariants.{Page, Read}
 
--- the bytes that were read and are of no page that was given, the offset of the first of them in the input, the page
+-- the bytes that were read and are of no page lent so far, the offset of the first of them in the input, the page
 -- that is lent, and how the input has ended, if it has
 pub record ReaderState : Type 0 where
   pub unread : List ℕ
@@ -21,15 +21,15 @@ pub record ReaderState : Type 0 where
 abbrev pub started : ReaderState
 started = record { unread = []; offset = 0; lent = None; outcome = None }
 
--- These bytes are no page's beginning, and this is the first thing that is wrong with them: for want of further bytes
--- only if there are none, and else whatever follows.
+-- These bytes are no page's beginning, and this is the first thing that is wrong with them. The fault is want of
+-- further bytes only if none come; any other fault stays, whatever follows.
 pub record IsFaultOf (bytes : List ℕ) (left : Option (List ℕ)) (fault : PageFault) : Type 0 where
   pub some : bytes ≢ []
   pub read : page_at bytes ≡ Err fault
   pub short : fault ≡ Short → IsAtEnd left
   pub definite : fault ≢ Short → (more : List ℕ) → page_at (bytes ++ more) ≡ Err fault
 
--- where the reader fails, nothing is known of the bytes
+-- if the reader fails, nothing is known of the bytes
 abbrev pub HasFault : List ℕ → Option (List ℕ) → PageReaderFault → Type 0
 HasFault bytes left (Page fault) = IsFaultOf bytes left fault
 HasFault bytes left Read = ⊤
@@ -58,20 +58,22 @@ pub record GivesFault (bytes : List ℕ) (left : Option (List ℕ)) (offset : �
   pub ended : new.outcome ≡ Some (Err fault)
   pub lent_is : new.lent ≡ None
 
--- what these bytes give, of which the first is at this offset
+-- what a call finds in these bytes, the first of which is at this offset
 abbrev pub Gives : List ℕ → Option (List ℕ) → ℕ → Result (Unit {0}) PageReaderFault → Option LentAt → ReaderState → Type 0
 Gives bytes left offset (Ok done) (Some lent) new = GivesPage bytes offset lent new
 Gives bytes left offset (Ok done) None new = GivesEnd bytes left offset new
 Gives bytes left offset (Err fault) lent new = GivesFault bytes left offset fault new
 
--- what a call leaves: it gives from the bytes that were unread, and then those that it took of the reader
+-- what a call leaves: it finds a page, the end or a fault in the bytes that were unread, and then those that it took
+-- of the reader
 pub record HasAdvanced (old : ReaderState) (from : Option (List ℕ)) (result : Result (Unit {0}) PageReaderFault) (new : ReaderState)
     (left : Option (List ℕ)) : Type 0 where
   pub taken : List ℕ
   pub consumed : Consumes from left taken
   pub gives : Gives (old.unread ++ taken) left old.offset result new.lent new
 
--- the reader, of which these bytes are left, gives these pages, one call after the other, then ends so, and is left so
+-- The reader, which has these bytes left, lends these pages, one call after the other. Then it ends with this
+-- result, and is left in this state.
 abbrev pub IsRun : ReaderState → Option (List ℕ) → List LentAt → Result (Unit {0}) PageReaderFault → ReaderState → Type 0
 IsRun state from [] end last = (left : Option (List ℕ)) × HasAdvanced state from end last left × (last.lent ≡ None)
 IsRun state from (lent ∷ more) end last =

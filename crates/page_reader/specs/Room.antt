@@ -1,8 +1,8 @@
 -- What a page reader holds in its room. Ours.
 use Rattle.std.specs.Prelude.{◌≡◌, ℕ, ◌-◌, ◌≤◌, Option, Some, None, Result, Ok, Err, List, [], ◌++◌, length, take, drop, ⊤}
 use Rattle.std.specs.Io.KnownBytes.{Consumes, IsAtEnd}
-use Rattle.ogg_page.specs.Page.{Page as PageValue, IsPage, AreBytes, page_size}
 use Rattle.ogg_page.specs.Reading.{page_at, fields_at}
+use Rattle.ogg_page.specs.Room.{BeginsWithPage}
 use Rattle.ogg_page.specs.Window.{LentAt}
 use Rattle.page_reader.specs.Reader.{HasFault}
 use Rattle.page_reader.specs.declared.held.Held.{Held}
@@ -10,7 +10,7 @@ use Rattle.page_reader.specs.declared.held.Lent.{Lent}
 use Rattle.page_reader.specs.declared.fault.PageReaderFault.{PageReaderFault}
 use Rattle.ogg_page.specs.Sizes.{longest_page}
 
--- of the room the bytes that are held
+-- the bytes of the room that are held
 abbrev pub held_of : List ℕ → Held → List ℕ
 held_of room held = take (held.end - held.start) (drop held.start room)
 
@@ -19,16 +19,7 @@ pub record IsHeld (room : List ℕ) (held : Held) : Type 0 where
   pub ordered : held.start ≤ held.end
   pub fits : held.end ≤ longest_page
 
--- These bytes begin with a page of this size.
-pub record BeginsWithPage (bytes : List ℕ) (size : ℕ) : Type 0 where
-  pub page : PageValue
-  pub is : IsPage page
-  pub read : page_at bytes ≡ Ok page
-  pub whole : size ≡ page_size page
-  pub fits : size ≤ length bytes
-  pub small : AreBytes bytes
-
--- one read added this many bytes to those that were held, none only at the end of the input
+-- one read added this number of bytes to those that were held; the number is 0 only at the end of the input
 pub record ReadsMore (before : List ℕ) (from : Option (List ℕ)) (count : ℕ) (now : List ℕ) (left : Option (List ℕ)) : Type 0 where
   pub taken : List ℕ
   pub consumed : Consumes from left taken

@@ -1,14 +1,14 @@
-//! Why no further page is given.
+//! Why no further page is lent.
 ghost use Rattle.std.specs.Prelude.{◌≡◌};
 ghost use Rattle.page_reader.specs.PageReaderFault.{code_of, name_of};
 
 use ogg_page::PageFault;
 use thiserror::Error;
 
-/// Why a page reader gives no further page.
+/// Why a page reader lends no further page.
 #[derive(Clone, Copy, Debug, PartialEq, Eq, Error)]
 pub enum PageReaderFault {
-    /// No page begins where the pages that were given end, and what is wrong there.
+    /// No page begins at the end of the pages lent so far, for this reason.
     #[error("{0}")]
     Page(PageFault),
     /// The reader failed.

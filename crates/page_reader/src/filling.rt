@@ -9,8 +9,8 @@ use crate::held::Held;
 use ogg_page::LONGEST_PAGE;
 use std::io::Read;
 
-/// Moves what is held to the front of the room if no byte behind it is free. What is held then is the beginning of
-/// one page, which fits from there on: so no byte is moved twice.
+/// Moves what is held to the front of the room if no byte after it is free. What is held then is the beginning of one
+/// page, which fits from there on: so no byte is moved twice.
 fn make_room(room: &mut [u8], held: &mut Held)
     requires held { IsHeld room.old held.old }
     requires part { held.old.end - held.old.start < longest_page }
@@ -27,7 +27,7 @@ fn make_room(room: &mut [u8], held: &mut Held)
     }
 }
 
-/// Reads once, as many bytes as come, behind what is held. An error of any kind is `Read` and isn't tried again.
+/// Reads once, as many bytes as come, after what is held. An error of any kind is `Read` and isn't tried again.
 fn read_behind<R: Read + Drop>(
     reader: &mut R,
     room: &mut [u8],
@@ -51,7 +51,7 @@ fn read_behind<R: Read + Drop>(
     }
 }
 
-/// Reads once, as many bytes as come, behind what is held.
+/// Reads once, as many bytes as come, after what is held.
 pub(crate) fn read_more<R: Read + Drop>(
     reader: &mut R,
     room: &mut [u8],

@@ -11,8 +11,8 @@ use crate::held::Held;
 use ogg_page::{LONGEST_PAGE, PageFault};
 use std::io::Read;
 
-/// The size of the page at the front of what is held, or none at the end of the input. What is held is looked at
-/// first, and then after each read.
+/// The size of the page at the front of what is held, or none at the end of the input. What is held is checked first,
+/// and then again after each read.
 pub(crate) fn find<R: Read + Drop>(
     reader: &mut R,
     room: &mut [u8],
@@ -55,6 +55,6 @@ fn read_on<R: Read + Drop>(
             Err(fault) => return Err(PageReaderFault::Page(fault)),
         }
     }
-    // Each turn read a byte, and so many bytes are a page or none.
+    // Each turn read a byte, and 65,307 bytes show a page or a fault.
     unreachable!()
 }

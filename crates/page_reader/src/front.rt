@@ -2,11 +2,11 @@
 ghost use Rattle.std.specs.Prelude.{◌≡◌, ◌≢◌, MatchResult, Ok, Err, true, false};
 ghost use Rattle.ogg_page.specs.Page.{AreBytes};
 ghost use Rattle.ogg_page.specs.Reading.{page_at, fields_at};
-ghost use Rattle.page_reader.specs.Room.{BeginsWithPage};
+ghost use Rattle.ogg_page.specs.Room.{BeginsWithPage};
 
 use ogg_page::{Page, PageFault, read_page, split_known_page};
 
-/// The size of the page at the front. The checksum is computed only where the whole page is there.
+/// The size of the page at the front. The checksum is computed only if the whole page is there.
 pub(crate) fn size_in_front(bytes: &[u8]) -> Result<usize, PageFault>
     ensures bytes { AreBytes bytes.now }
     ensures found { MatchResult result (λ size. BeginsWithPage bytes.now size) (λ fault. page_at bytes.now ≡ Err fault) }
@@ -23,7 +23,7 @@ pub(crate) fn known_page(bytes: &[u8]) -> Page<'_>
     split_known_page(bytes).0
 }
 
-/// Whether it is for want of bytes that no page is there.
+/// Whether no page is there for want of bytes.
 pub(crate) fn is_short(fault: PageFault) -> bool
     ensures short { result ≡ true → fault ≡ PageFault.Short }
     ensures other { result ≡ false → fault ≢ PageFault.Short }

@@ -1,6 +1,6 @@
 //! Which bytes of its room a page reader holds, and which of them it lends.
 
-/// The bytes of the room from `start` to `end`: those that were read and are of no page that was given.
+/// The bytes of the room from `start` to `end`: those that were read and are of no page lent so far.
 #[derive(Clone, Copy, Debug)]
 pub(crate) struct Held {
     pub(crate) start: usize,

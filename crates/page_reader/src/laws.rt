@@ -15,8 +15,8 @@ pub fn definite_faults_stay()
         → page_at (bytes ++ more) ≡ Err fault }
 {}
 
-/// What a page reader gives, call by call up to its end or its first fault, is what is found in the reader's bytes
-/// behind those that it holds, however the reads cut them. Where the reader fails, it is what is found first.
+/// What a page reader lends, call by call up to its end or its first fault, is what is found in the bytes that it
+/// holds and then in the reader's, however the reads cut them. If the reader fails, it is what is found first.
 pub fn pages_of_any_reads_are_those_found()
     ensures { (state : ReaderState) (bytes : List ℕ) (lent : List LentAt) (end : Result (Unit {0}) PageReaderFault) (last : ReaderState) →
         state.offset + length (state.unread ++ bytes) < 2 ^ 64 → IsRun state (Some bytes) lent end last

@@ -1,9 +1,9 @@
 //! Pages out of bytes that can be read once only, one after the other, as an encoder's that come through a pipe.
 //!
-//! A `PageReader` has the memory of one page. It gives each page as soon as its last byte is there, and asks the
-//! reader for no more than what comes at once.
+//! A `PageReader` has the memory of one page. It lends each page as soon as the page's last byte is there, and asks
+//! the reader for no more than what comes at once.
 //!
-//! Start at `specs/Reader.antt`, which says what a call gives.
+//! Start at `specs/Reader.antt`, which says what a call leaves.
 #![tactic(auto)]
 
 mod fault;

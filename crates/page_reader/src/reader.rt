@@ -14,8 +14,8 @@ use std::io::Read;
 use std::marker::Model;
 
 /// Pages of a stream of bytes, one after the other, in the memory of one page. What a contract sees of it is the
-/// bytes that were read and are of no page that was given, their offset in the input, the page that is lent, and how
-/// the input has ended, if it has.
+/// bytes that were read and are of no page lent so far, their offset in the input, the page that is lent, and how the
+/// input has ended, if it has.
 #[derive(Drop)]
 pub struct PageReader {
     room: Vec<u8>,
@@ -62,7 +62,7 @@ impl PageReader {
     pub fn advance<R: Read + Drop>(&mut self, reader: &mut R) -> Result<(), PageReaderFault>
         ensures gives { self.old.outcome ≡ None
             → HasAdvanced self.old (R.remaining reader.old) result self.new (R.remaining reader.new) }
-        // A page that was read already, or a fault, is given without the reader.
+        // A page that was read already, or a fault, needs no call of the reader.
         ensures prompt { page_at self.old.unread ≢ Err PageFault.Short → reader.new ≡ reader.old }
         ensures stays { IfSome self.old.outcome (λ outcome. (result ≡ outcome) × (self.new ≡ self.old) × (reader.new ≡ reader.old)) }
     {
@@ -103,8 +103,8 @@ impl PageReader {
         }
     }
 
-    /// The offset in the input of the first byte of which no page was given. It is where a fault stands. Beyond
-    /// the largest `u64` it stays there.
+    /// The offset in the input of the first byte that is of no page lent so far. A fault stands there. Beyond the
+    /// largest `u64` it stays there.
     pub fn offset(&self) -> u64
         ensures { result ≡ self.now.offset }
     {

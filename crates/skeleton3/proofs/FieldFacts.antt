@@ -31,15 +31,15 @@ one_piece rest piece behind false e h =
 abbrev pub lines_of_pieces : List (List ℕ) → List (List ℕ)
 lines_of_pieces pieces = filter (λ line. not (length line == 0)) (map strip_carriage_return pieces)
 
--- the media type, where this one was found before these fields
+-- the media type, if this one was found before these fields
 abbrev chosen : Option (List ℕ) → List NamedValue → Option (List ℕ)
 chosen found fields = option_or found (option_map (λ field. field.1) (find (λ field. is_content_type field.0) fields))
 
--- the media type, where this one was found before these pieces
+-- the media type, if this one was found before these pieces
 abbrev pub media_from : Option (List ℕ) → List (List ℕ) → Option (List ℕ)
 media_from found pieces = option_and_then (chosen found) (fields_of_lines (lines_of_pieces pieces))
 
--- at the end it is the one that was found
+-- at the end the media type is the one that was found
 pub nothing_left : (found : Option (List ℕ)) → media_from found [] ≡ found
 nothing_left None = refl
 nothing_left (Some media) = refl
@@ -55,14 +55,14 @@ with_line : (found : Option (List ℕ)) (piece : List ℕ) (pieces : List (List 
 with_line found piece pieces isnt =
     ap (λ b. option_and_then (chosen found) (fields_of_lines (cond (not b) (strip_carriage_return piece ∷ lines_of_pieces pieces) (lines_of_pieces pieces)))) isnt
 
--- a line without a colon leaves none
+-- after a line without a colon there is no media type
 pub no_field : (found : Option (List ℕ)) (piece : List ℕ) (pieces : List (List ℕ)) → (length (strip_carriage_return piece) == 0) ≡ false
     → field_of (strip_carriage_return piece) ≡ None → media_from found (piece ∷ pieces) ≡ None
 no_field found piece pieces isnt none =
     with_line found piece pieces isnt
     ∙ ap (λ field. option_and_then (chosen found) (option_and_then (λ f. option_map (λ fs. f ∷ fs) (fields_of_lines (lines_of_pieces pieces))) field)) none
 
--- what a field makes of what was found
+-- the media type that was found, once this field was read
 abbrev pub chosen_with : Option (List ℕ) → NamedValue → Option (List ℕ)
 chosen_with found field = option_or found (cond (is_content_type field.0) (Some field.1) None)
 
@@ -76,7 +76,7 @@ in_front_of : (found : Option (List ℕ)) (field : NamedValue) (rest : Option (L
 in_front_of found field None = refl
 in_front_of found field (Some fields) = in_front found field fields (is_content_type field.0)
 
--- a line's field is chosen if none was, and it is named Content-Type
+-- a line's field is chosen if none was chosen before and it is named Content-Type
 pub one_field : (found : Option (List ℕ)) (piece : List ℕ) (pieces : List (List ℕ)) (field : NamedValue) → (length (strip_carriage_return piece) == 0) ≡ false
     → field_of (strip_carriage_return piece) ≡ Some field → media_from found (piece ∷ pieces) ≡ media_from (chosen_with found field) pieces
 one_field found piece pieces field isnt is =

@@ -29,7 +29,7 @@ behind_fixed_part offset padding message fisbone three =
     ap (λ n. drop n (fixed_part offset padding fisbone ++ message)) (sym (length-fixed_part offset padding fisbone three))
     ∙ drop-append_seam (fixed_part offset padding fisbone) message
 
--- what is looked at in turn
+-- what is checked in turn
 abbrev fault_of : Bool → List ℕ → List ℕ → Option SkeletonFault
 fault_of short packet message =
     cond short (Some Length)
@@ -39,7 +39,7 @@ named : (offset : ℕ) (padding message fields : List ℕ) (fisbone : Fisbone) �
 unfolding fixed_part
 named offset padding message fields fisbone = refl
 
--- with its fixed part, a packet's fault is one of its message fields
+-- if the fixed part is right, a packet's fault is one of its message fields
 pub fault_behind : (offset : ℕ) (padding message : List ℕ) (fisbone : Fisbone) → length padding ≡ 3
     → fisbone_fault (fixed_part offset padding fisbone ++ message) ≡ cond (not (is_some (media_in message))) (Some Fields) None
 fault_behind offset padding message fisbone three =
@@ -56,7 +56,7 @@ held_has_no_fault packet fisbone holds =
     ∙ fault_behind holds.offset holds.padding holds.message fisbone holds.three
     ∙ ap (λ media. cond (not (is_some media)) (Some Fields) None) holds.media
 
--- what has no fault isn't one
+-- an outcome without a fault is no `Err`
 pub has_no_fault : {X : Type 0} (outcome : Result X SkeletonFault) (fault : SkeletonFault) → outcome ≡ Err fault → result_err outcome ≡ None → ⊥
 has_no_fault outcome fault is none = cc (ap result_err is)
 

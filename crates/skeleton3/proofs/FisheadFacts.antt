@@ -11,7 +11,7 @@ use Rattle.skeleton3.specs.declared.fault.SkeletonFault.TheVariants.{Length, Nam
 use Rattle.ogg_page.specs.Laws.NumberBytes.{behind_u16, same_u16, same_fraction}
 use Rattle.ogg_page.specs.Laws.Prefixes.{same_fronts}
 
--- what is looked at once the length is right
+-- what is checked once the length is right
 abbrev fault_of_size : Bool → List ℕ → Option SkeletonFault
 fault_of_size right packet =
     cond (not right) (Some Length)

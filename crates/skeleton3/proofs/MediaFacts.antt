@@ -1,4 +1,4 @@
--- The media type: what is written of it is read so.
+-- A media type is read as it was written.
 use Rattle.std.proofs.Common.{◌≡◌, ◌≢◌, ℕ, zero, suc, ◌+◌, ◌-◌, ◌<◌, ◌≤◌, List, [], ◌∷◌, length, take, drop, get_or, Bool, true, false, not, ◌&&◌, ◌||◌, ◌==◌, nat_eq, nat_le, refl, sym, ap, ◌∙◌, arith, drop-cons}
 use Rattle.std.proofs.Math.ListN.{drop_of_length-le}
 use Rattle.std.proofs.lemmas.Bool.{and_parts, or_parts, not-true, leb-true, ne_eqb, eqb-false}

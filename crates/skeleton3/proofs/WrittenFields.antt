@@ -59,7 +59,7 @@ without_return line =
 in_turn : (field : NamedValue) (rest : List ℕ) → field_line field ++ rest ≡ (line_of field ++ 13 ∷ []) ++ (10 ∷ rest)
 in_turn field rest = simp append_assoc
 
--- a line that was written is read as its field, and then come the fields of the rest
+-- a line that was written is read as its field, and the fields of the rest follow
 line_is_read : (field : NamedValue) (rest : List ℕ) → IsField field → fields_of (field_line field ++ rest) ≡ option_map (λ fields. field ∷ fields) (fields_of rest)
 line_is_read field rest is =
     let line : List ℕ = line_of field in
@@ -92,6 +92,6 @@ message_is_read media fields value are =
     line_is_read (media_field media) (flat_map field_line fields) (content_type_is_name, value)
     ∙ ap (option_map (λ rest. media_field media ∷ rest)) (lines_are_read fields are)
 
--- and the media type among them
+-- the media type is found among them
 pub media_is_read : (media : List ℕ) (fields : List NamedValue) → IsFieldValue media → AllByRecursion IsField fields → media_in (message_of media fields) ≡ Some media
 media_is_read media fields value are = ap (option_and_then (λ fs. option_map (λ f. f.1) (Rattle.std.specs.Prelude.find (λ f. Rattle.skeleton3.specs.Fields.is_content_type f.0) fs))) (message_is_read media fields value are)

@@ -1,4 +1,4 @@
--- The message fields of a fisbone (Xiph, Ogg Skeleton 3.0, "Message header fields"): each is `Name: value`, ended by CR LF.
+-- The message fields of a fisbone (Xiph, Ogg Skeleton 3.0, "Message header fields"). Each is `Name: value`, CR and LF.
 use Rattle.std.specs.Prelude.{◌≡◌, ◌≢◌, ℕ, ◌+◌, ◌-◌, Bool, not, cond, ◌&&◌, ◌||◌, ◌==◌, nat_eq, nat_le, List, [], ◌∷◌, ◌++◌, length, take, drop, map, filter, find, position, All, Option, Some, option_map, option_and_then, codes}
 use Rattle.std.specs.Char.{to_ascii_lowercase}
 use Rattle.std.specs.Borrow.{Bor}
@@ -12,7 +12,7 @@ use Rattle.skeleton3.specs.Sizes.{longest_value, longest_name}
 abbrev pub lines_of : List ℕ → List (List ℕ)
 lines_of text = filter (λ line. not (length line == 0)) (map strip_carriage_return (slice_split (λ b. b == 10) text))
 
--- lines with this one in front, unless it is empty
+-- lines with this one in front, unless this one is empty
 abbrev pub kept_line : List ℕ → List (List ℕ) → List (List ℕ)
 kept_line line lines = cond (not (length line == 0)) (line ∷ lines) lines
 
@@ -40,11 +40,11 @@ NamedValue = List ℕ × List ℕ
 abbrev pub shown : Bor (List ℕ) × Bor (List ℕ) → NamedValue
 shown lent = (lent.0.now, lent.1.now)
 
--- the name before the first colon, and the value behind it without spaces and tabs at its ends
+-- the name before the first colon, and the value after it without spaces and tabs at its ends
 abbrev pub field_of : List ℕ → Option NamedValue
 field_of line = option_map (λ at. (take at line, trimmed (drop (at + 1) line))) (first_colon line)
 
--- the fields of these lines, where each has a colon
+-- the fields of these lines, if each has a colon
 abbrev pub fields_of_lines : List (List ℕ) → Option (List NamedValue)
 fields_of_lines [] = Some []
 fields_of_lines (line ∷ lines) =
@@ -57,11 +57,11 @@ fields_of text = fields_of_lines (lines_of text)
 abbrev pub is_content_type : List ℕ → Bool
 is_content_type name = bytes_eq (map to_ascii_lowercase name) (codes "content-type")
 
--- the media type: the value of the first field that is named Content-Type, where each line has a colon
+-- the media type: the value of the first field that is named Content-Type, if each line has a colon
 abbrev pub media_in : List ℕ → Option (List ℕ)
 media_in text = option_and_then (λ fields. option_map (λ field. field.1) (find (λ field. is_content_type field.0) fields)) (fields_of text)
 
--- the field that is written: the media type's
+-- the media type's field, as it is written
 abbrev pub content_type : List ℕ → List ℕ
 content_type media = codes "Content-Type: " ++ media ++ codes "\r\n"
 
@@ -97,8 +97,8 @@ is_media_type media =
 abbrev pub is_name_byte : ℕ → Bool
 is_name_byte c = nat_le 0x41 c && nat_le c 0x5a || nat_le 0x61 c && nat_le c 0x7a || nat_le 0x30 c && nat_le c 0x39 || c == 0x2d
 
--- Ours: the field of a command is named by 1 to 64 letters, digits and `-`, and not as the media type's. Its value
--- follows the rule for media types.
+-- Ours: the name of a command's field is 1 to 64 letters, digits and `-`, and isn't that of the media type's field.
+-- The value follows the rule for media types.
 abbrev pub is_field_name : List ℕ → Bool
 is_field_name name =
     nat_le 1 (length name) && nat_le (length name) longest_name && list_all is_name_byte name && not (is_content_type name)

@@ -11,7 +11,7 @@ use Rattle.skeleton3.specs.declared.fault.SkeletonFault.TheVariants.{Length, Nam
 use Rattle.skeleton3.specs.declared.fisbone.Fisbone.{Fisbone as LentFisbone}
 use Rattle.skeleton3.specs.Sizes.{fixed_size, message_offset}
 
--- a fisbone, without where its media type lies in memory
+-- a fisbone, without the place of its media type in memory
 pub record Fisbone : Type 0 where
   pub serial : ℕ
   pub headers : ℕ
@@ -37,8 +37,8 @@ abbrev pub fisbone_name : List ℕ
 fisbone_name = codes "fisbone" ++ 0 ∷ []
 
 -- The 52 bytes before the message fields: the name, the offset of the message fields counted from byte 8, the stream's
--- serial, the number of its header packets, its rate as a numerator and a denominator, its base granule, its preroll,
--- its granule shift, and three bytes of padding.
+-- serial, and the number of its header packets. Then come its rate as a numerator and a denominator, its base granule,
+-- its preroll, its granule shift, and three bytes of padding.
 unfoldable pub fixed_part : ℕ → List ℕ → Fisbone → List ℕ
 fixed_part offset padding fisbone =
     fisbone_name ++ (u32_bytes offset ++ (u32_bytes fisbone.serial ++ (u32_bytes fisbone.headers ++ (fraction_bytes fisbone.rate
@@ -47,7 +47,7 @@ fixed_part offset padding fisbone =
 abbrev pub fisbone_with : ℕ → List ℕ → List ℕ → Fisbone → List ℕ
 fisbone_with offset padding message fisbone = fixed_part offset padding fisbone ++ message
 
--- the packet as it is written: the media type is the one message field, the padding is zero
+-- the packet as it is written: the media type is the one message field, and the padding is zero
 abbrev pub fisbone_bytes : Fisbone → List ℕ
 fisbone_bytes fisbone = fisbone_with message_offset (0 ∷ 0 ∷ 0 ∷ []) (content_type fisbone.media) fisbone
 
@@ -55,7 +55,7 @@ fisbone_bytes fisbone = fisbone_with message_offset (0 ∷ 0 ∷ 0 ∷ []) (cont
 abbrev pub fisbone_bytes_with : List NamedValue → Fisbone → List ℕ
 fisbone_bytes_with fields fisbone = fisbone_with message_offset (0 ∷ 0 ∷ 0 ∷ []) (message_of fisbone.media fields) fisbone
 
--- each number is in its field's range, as it is in every fisbone of a program
+-- each number is in its field's range, as in every fisbone that a program has
 pub record IsFisbone (fisbone : Fisbone) : Type 0 where
   pub serial : fisbone.serial < 2 ^ 32
   pub headers : fisbone.headers < 2 ^ 32

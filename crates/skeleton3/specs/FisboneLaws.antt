@@ -47,7 +47,8 @@ lines_size (field ∷ fields) all =
       media_size field.1 (and_parts _ _ parts.0).1,
     )
 
--- the message fields of a command are short: those of the longest field of a media type, and of the longest other field for each
+-- The message fields of a command are short: no longer than the longest field of a media type, and the longest other
+-- field for each other.
 pub message_size : (media : List ℕ) (fields : List NamedValue) → is_media_type media ≡ true → list_all is_field fields ≡ true
     → length (message_of media fields) ≤ longest_media_field + length fields * longest_field
 message_size media fields is all =

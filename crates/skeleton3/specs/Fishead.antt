@@ -23,7 +23,7 @@ fishead_with minor fishead =
 abbrev pub fishead_bytes : Fishead → List ℕ
 fishead_bytes fishead = fishead_with 0 fishead
 
--- each number is in its field's range, as it is in every fishead of a program
+-- each number is in its field's range, as in every fishead that a program has
 pub record IsFishead (fishead : Fishead) : Type 0 where
   pub presentation : IsFraction fishead.presentation
   pub base : IsFraction fishead.base

@@ -3,8 +3,8 @@ ghost use Rattle.std.specs.Prelude.{◌≡◌};
 
 use std::marker::Model;
 
-/// A message field: a name and its value (Ogg Skeleton 3.0, "Message header fields"). It owns both;
-/// contracts see the pair of byte lists alone, and not where they lie or how much room they have.
+/// A message field (Ogg Skeleton 3.0, "Message header fields"): a name and its value, both of which it owns. Contracts
+/// see only the two byte lists, not where they lie or how much room they have.
 #[derive(Debug, Drop)]
 pub struct Field {
     name: Vec<u8>,

@@ -33,7 +33,7 @@ fn first_colon(line: &[u8]) -> Option<usize>
     line.iter().position(|b| *b == b':')
 }
 
-/// The name before the line's first colon, and the value behind it.
+/// The name before the line's first colon, and the value after it.
 pub(crate) fn field_of(line: &[u8]) -> Option<(&[u8], &[u8])>
     ensures { option_map shown result ≡ field_of line.now }
 {
@@ -41,13 +41,15 @@ pub(crate) fn field_of(line: &[u8]) -> Option<(&[u8], &[u8])>
     Some((&line[..colon], trimmed(&line[colon + 1..])))
 }
 
-pub(crate) fn is_content_type(name: &[u8]) -> bool
+/// Whether a message field of this name has the media type: the name is `Content-Type`, in any case. No memory is
+/// taken.
+pub fn is_content_type(name: &[u8]) -> bool
     ensures { result ≡ is_content_type name.now }
 {
     name.eq_ignore_ascii_case(b"content-type")
 }
 
-/// The value of the first field that is named `Content-Type`, where each line has a colon.
+/// The value of the first field that is named `Content-Type`, if each line has a colon.
 pub fn media_in(message: &[u8]) -> Option<&[u8]>
     ensures { option_copied result ≡ media_in message.now }
 {

@@ -19,13 +19,13 @@ use ogg_page::{take_fraction, take_i64, take_u8, take_u32};
 /// How many bytes come before the message fields.
 const FIXED: usize = 52;
 
-/// How many bytes the longest packet has that is made without memory: the fixed part, a media type of 255 bytes, and
-/// 16 fields with a name of 64 and a value of 255.
+/// How many bytes the longest packet has that is made without memory: those of the fixed part, a media type of 255
+/// bytes, and 16 fields with a name of 64 bytes and a value of 255 bytes each.
 const MOST: usize = 5_491;
 
 const NAME: &[u8; 8] = b"fisbone\0";
 
-/// Where the message fields begin, counted from the byte behind the name.
+/// Where the message fields begin, counted from the byte after the name.
 const OFFSET: u32 = 44;
 
 /// What a Skeleton says of a stream (Ogg Skeleton 3.0, "fisbone"). The media type lies in the bytes that
@@ -51,9 +51,9 @@ pub struct Fisbone<'a> {
 impl<'a> Fisbone<'a> {
     /// Reads a packet. The media type is borrowed from it, and no memory is taken.
     pub fn read(packet: &'a [u8]) -> Result<Fisbone<'a>, SkeletonFault>
-        // It accepts exactly the packets that have no fault, and of the others it gives the first.
+        // `read` accepts exactly the packets that have no fault; of any other it reports the first fault.
         ensures fault { result_err result ≡ fisbone_fault packet.now }
-        // What it reads is what the packet holds.
+        // What is read is what the packet holds.
         ensures ok { IfOk result (λ fisbone. HoldsFisbone packet.now (fisbone_of fisbone)) }
         ensures each { (fisbone : FisboneValue) → IsFisbone fisbone
             → HoldsFisbone packet.now fisbone → IsOkAnd result (λ read. fisbone_of read ≡ fisbone) }
@@ -142,8 +142,9 @@ impl<'a> Fisbone<'a> {
         Ok(())
     }
 
-    /// The packet with these message fields after the media type's, if it has at most 5,491 bytes: as many as 16
-    /// fields make it whose names have 64 and whose values have 255. It takes no memory.
+    /// The packet with these message fields after the media type's, if it has at most 5,491 bytes. A packet with a
+    /// media type of 255 bytes and 16 fields with names of 64 and values of 255 bytes has that many. No memory is
+    /// taken.
     pub fn packet_with(&self, fields: &[Field]) -> ArrayVec<u8, MOST>
         requires { length (fisbone_bytes_with fields.now (fisbone_of self.now)) ≤ longest_fisbone }
         ensures { result.items ≡ fisbone_bytes_with fields.now (fisbone_of self.now) }
@@ -157,14 +158,14 @@ impl<'a> Fisbone<'a> {
         packet
     }
 
-    /// The message fields of a packet, in order, the media type's among them. They are borrowed from it, and no
-    /// memory is taken.
+    /// The message fields of a packet, in order, the media type's among them. The fields are borrowed from the packet,
+    /// and no memory is taken.
     pub fn message(packet: &'a [u8]) -> Result<MessageFields<'a>, SkeletonFault>
-        // It accepts exactly the packets that `read` accepts, and of the others it gives the same fault.
+        // `message` accepts exactly the packets that `read` accepts; of any other it reports the same fault.
         ensures fault { result_err result ≡ fisbone_fault packet.now }
         // The fields are those of the bytes after the first 52.
         ensures fields { IfOk result (λ fields. fields_of (drop fixed_size packet.now) ≡ Some fields) }
-        // What was written is read so.
+        // What was written is read as the same media type and fields.
         ensures written { (fisbone : FisboneValue) (fields : List NamedValue) → IsFieldValue fisbone.media
             → AllByRecursion IsField fields → packet.now ≡ fisbone_bytes_with fields fisbone
             → IsOkAnd result (λ read. read ≡ (codes "Content-Type", fisbone.media) ∷ fields) }
@@ -174,7 +175,7 @@ impl<'a> Fisbone<'a> {
         Ok(MessageFields::of(message))
     }
 
-    /// How many bytes the packet has with these fields, or the greatest number there is, if that is less.
+    /// How many bytes the packet has with these fields, or the greatest `usize` if that is less.
     fn capped_size(&self, fields: &[Field]) -> usize
         ensures { result ≡ min (length (fisbone_bytes_with fields.now (fisbone_of self.now))) (2 ^ 64 - 1) }
     {
@@ -203,7 +204,7 @@ impl<'a> Fisbone<'a> {
     }
 }
 
-/// How many bytes the line of a field has, or the greatest number there is, if that is less.
+/// How many bytes the line of a field has, or the greatest `usize` if that is less.
 fn size_of_field(field: &Field) -> usize
     ensures { result ≡ min (length (field_line field.now)) (2 ^ 64 - 1) }
 {
@@ -214,7 +215,7 @@ fn size_of_field(field: &Field) -> usize
         .saturating_add(4)
 }
 
-/// Appends the lines of fields for which there is room.
+/// Appends the lines of these fields; there is room for them.
 fn append_fields(fields: &[Field], out: &mut Vec<u8>)
     requires { vec_len out.old + length (flat_map field_line fields.now) ≤ vec_capacity out.old }
     ensures { out.new.items ≡ out.old.items ++ flat_map field_line fields.now }
@@ -224,7 +225,7 @@ fn append_fields(fields: &[Field], out: &mut Vec<u8>)
     }
 }
 
-/// Appends the line of a field for which there is room.
+/// Appends the line of this field; there is room for it.
 fn append_field(field: &Field, out: &mut Vec<u8>)
     requires { vec_len out.old + length (field_line field.now) ≤ vec_capacity out.old }
     ensures items { out.new.items ≡ out.old.items ++ field_line field.now }
@@ -237,7 +238,7 @@ fn append_field(field: &Field, out: &mut Vec<u8>)
     append(out, b"\r\n");
 }
 
-/// Appends the lines of fields for which a packet has room.
+/// Appends the lines of these fields; the packet has room for them.
 fn push_fields(fields: &[Field], packet: &mut ArrayVec<u8, MOST>)
     requires { array_vec_len packet.old + length (flat_map field_line fields.now) ≤ longest_fisbone }
     ensures { packet.new.items ≡ packet.old.items ++ flat_map field_line fields.now }
@@ -247,7 +248,7 @@ fn push_fields(fields: &[Field], packet: &mut ArrayVec<u8, MOST>)
     }
 }
 
-/// Appends the line of a field for which a packet has room.
+/// Appends the line of this field; the packet has room for it.
 fn push_field(field: &Field, packet: &mut ArrayVec<u8, MOST>)
     requires { array_vec_len packet.old + length (field_line field.now) ≤ longest_fisbone }
     ensures items { packet.new.items ≡ packet.old.items ++ field_line field.now }
@@ -259,7 +260,7 @@ fn push_field(field: &Field, packet: &mut ArrayVec<u8, MOST>)
     push(packet, b"\r\n");
 }
 
-/// Appends bytes for which there is room.
+/// Appends these bytes; there is room for them.
 fn append(out: &mut Vec<u8>, bytes: &[u8])
     requires { vec_len out.old + length bytes.now ≤ vec_capacity out.old }
     ensures items { out.new.items ≡ out.old.items ++ bytes.now }
@@ -269,7 +270,7 @@ fn append(out: &mut Vec<u8>, bytes: &[u8])
     out.extend_from_slice(bytes).unwrap();
 }
 
-/// Appends bytes for which a packet has room.
+/// Appends these bytes; the packet has room for them.
 fn push(packet: &mut ArrayVec<u8, MOST>, bytes: &[u8])
     requires { array_vec_len packet.old + length bytes.now ≤ longest_fisbone }
     ensures items { packet.new.items ≡ packet.old.items ++ bytes.now }

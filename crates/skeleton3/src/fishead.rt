@@ -23,16 +23,16 @@ pub struct Fishead {
     pub presentation: (i64, i64),
     /// The time of the granule position 0, in seconds: a numerator and a denominator.
     pub base: (i64, i64),
-    /// The time in UTC that the base time stands for, as a text. It's neither made nor looked at here.
+    /// The time in UTC that the base time stands for, as a text, which is neither made nor checked here.
     pub utc: [u8; 20],
 }
 
 impl Fishead {
     /// Reads a packet. Nothing of it is borrowed, and no memory is taken.
     pub fn read(packet: &[u8]) -> Result<Fishead, SkeletonFault>
-        // It accepts exactly the packets that have no fault, and of the others it gives the first.
+        // `read` accepts exactly the packets that have no fault; of any other it reports the first fault.
         ensures fault { result_err result ≡ fishead_fault packet.now }
-        // What it reads is what the packet holds; so what was written is read as the same value.
+        // What is read is what the packet holds; so what was written is read as the same value.
         ensures ok { IfOk result (λ fishead. HoldsFishead packet.now fishead) }
         ensures each { (fishead : Fishead) → IsFishead fishead
             → HoldsFishead packet.now fishead → result ≡ Ok fishead }
@@ -76,7 +76,7 @@ impl Fishead {
         out.extend_from_slice(&self.bytes())
     }
 
-    /// The packet, of version 3.0. It takes no memory.
+    /// The packet, of version 3.0. No memory is taken.
     pub fn packet(&self) -> [u8; 64]
         ensures { result ≡ fishead_bytes self.now }
     {

@@ -1,9 +1,9 @@
 //! Packets of an Ogg Skeleton, version 3.0, read and written (Xiph, "Ogg Skeleton 3.0").
 //!
-//! A Skeleton is a logical stream that says what the other streams of its link are: one fishead for
-//! the link, and one fisbone for each stream. Reading borrows from the packet and takes no memory; it
-//! accepts exactly the packets without a fault, and tells the first fault of any other. Writing
-//! appends to the caller's vector, all of the packet or nothing, and what it wrote is read as it was.
+//! A Skeleton is a logical stream that says what the other streams of its link are: one fishead for the link, and one
+//! fisbone for each stream. Reading borrows from the packet and takes no memory; it accepts exactly the packets
+//! without a fault, and reports the first fault of any other. Writing appends the whole packet to the caller's vector,
+//! or nothing. What was written is read as the same value.
 //!
 //! Start at `specs/Fishead.antt` and `specs/Fisbone.antt`, which say what the packets are, and at
 //! `specs/Fields.antt` for the message fields, in which a fisbone names its media type.
@@ -20,11 +20,12 @@ mod rules;
 
 pub use fault::SkeletonFault;
 pub use field::Field;
+pub use fields::is_content_type;
 pub use fisbone::Fisbone;
 pub use fishead::Fishead;
 pub use laws::{
     fields_of_commands_are_fields, fisbones_with_fields_are_held, media_types_are_field_values,
 };
 pub use message::MessageFields;
-pub use rules::{is_field, is_media_type};
+pub use rules::{LONGEST_NAME, LONGEST_VALUE, MOST_FIELDS, is_field, is_media_type};
 pub use std::alloc::AllocError as Memory;

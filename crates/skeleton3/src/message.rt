@@ -5,8 +5,8 @@ ghost use Rattle.skeleton3.specs.Fields.{fields_of, kept_line, lines_of, shown};
 use crate::fields::{field_of, without_return};
 use std::marker::Model;
 
-/// The message fields of a fisbone as names and values, in order, lent from the packet. The value is
-/// without spaces and tabs at its ends. It takes no memory.
+/// The message fields of a fisbone as names and values, in order, lent from the packet. A value has no spaces and tabs
+/// at its ends. No memory is taken.
 #[derive(Debug, Drop)]
 pub struct MessageFields<'a> {
     /// What is left of the packet.

@@ -6,11 +6,14 @@ ghost use Rattle.skeleton3.specs.Fields.{is_media_type, is_name_byte, is_field_n
 use crate::field::Field;
 use crate::fields::is_content_type;
 
-/// Bytes of a media type, and of a field's value.
-const LONGEST_VALUE: usize = 255;
+/// The most bytes of a media type, and of a field's value, in a command.
+pub const LONGEST_VALUE: usize = 255;
 
-/// Bytes of a field's name.
-const LONGEST_NAME: usize = 64;
+/// The most bytes of a field's name in a command.
+pub const LONGEST_NAME: usize = 64;
+
+/// The most message fields that a command may have for a stream, without that of its media type.
+pub const MOST_FIELDS: usize = 16;
 
 /// Whether a text has only printing characters.
 fn is_printing(text: &[u8]) -> bool
@@ -27,7 +30,7 @@ fn has_space(text: &[u8]) -> bool
 }
 
 /// Whether a command with a Skeleton may name this media type: 1 to 255 printing ASCII characters, with no space
-/// at the ends. It takes no memory.
+/// at the ends. No memory is taken.
 pub fn is_media_type(media: &[u8]) -> bool
     ensures { result ≡ is_media_type media.now }
 {
@@ -63,7 +66,7 @@ fn is_field_name(name: &[u8]) -> bool
 }
 
 /// Whether a command with a Skeleton may have this field: its name is 1 to 64 ASCII letters, digits and `-`, and not
-/// `Content-Type` in any case, and its value follows the rule for media types. It takes no memory.
+/// `Content-Type` in any case, and its value follows the rule for media types. No memory is taken.
 pub fn is_field(field: &Field) -> bool
     ensures { result ≡ is_field field.now }
 {

@@ -14,7 +14,7 @@ header_lengths headers = sum_by length headers
 pub lengths_of_headers : (headers : List (List ℕ)) → lengths (map header headers) ≡ header_lengths headers
 lengths_of_headers headers = sum_by-map bytes_in header headers
 
--- their pages are few
+-- the pages of the headers are few
 pub few_pages : (headers : List (List ℕ)) → header_lengths headers ≤ longest_batch → length headers ≤ most_headers → pages_for (length (run_lacing (map header headers))) < 2 ^ 31
 few_pages headers s f = omega (arith, few_values (map header headers), lengths_of_headers headers, length-map headers header)
 

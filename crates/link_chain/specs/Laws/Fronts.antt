@@ -1,4 +1,4 @@
--- A front of a link is a link, and what stands before a page of a link.
+-- A front of a link is a link; and what comes before a page of a link.
 use Rattle.std.proofs.Common.{append_assoc, ◌≡◌, ◌≢◌, ℕ, ◌<◌, ◌≤◌, true, false, List, [], ◌∷◌, ◌++◌, length, map, refl, sym, ◌∙◌, ap, subst, arith, eq-eqb, inl, inr, ◌⊎◌, length-append}
 use Rattle.std.specs.Prelude.{nat_eq}
 use Rattle.std.specs.List.{AllByRecursion, IsDistinct, list_any, filter}
@@ -13,7 +13,7 @@ use Rattle.link_chain.specs.Laws.Grow.{all_weaker, serials_same}
 use Rattle.link_chain.specs.Laws.LastLink.{all_split}
 use Rattle.link_chain.specs.Laws.PageState.{serials_both}
 
--- ---- each behind those before it
+-- ---- each after those before it
 parts_of : {X : Type 0} (x y : X) (xs ys : List X) → x ∷ xs ≡ y ∷ ys → (x ≡ y) × (xs ≡ ys)
 parts_of x y xs ys e = (cc, cc)
 
@@ -71,7 +71,7 @@ unfolding IsDistinct
 distinct_front [] ys d = tt
 distinct_front (x ∷ xs) ys d = ((all_split (λ y. nat_eq x y ≡ false) xs ys d.0).0, distinct_front xs ys d.1)
 
--- what is behind a list of distinct numbers isn't in it
+-- what comes after a list of distinct numbers isn't in it
 pub distinct_at : (xs : List ℕ) (y : ℕ) (ys : List ℕ) → IsDistinct nat_eq (xs ++ y ∷ ys) → list_any (nat_eq y) xs ≡ false
 unfolding IsDistinct
 distinct_at [] y ys d = refl
@@ -129,7 +129,7 @@ front_is_link front rest ne l =
           })
     ]
 
--- ---- what a page of a link is like, behind those before it
+-- ---- what a page of a link is like, after those before it
 pub page_fits : (front : List Page) (page : Page) (back : List Page) → IsLink (front ++ page ∷ back) → FitsBehind (pages_with page.serial front) page
 page_fits front page back l =
     behind_at FitsBehind [] (pages_with page.serial (front ++ page ∷ back)) (l.streams page.serial) (pages_with page.serial front) (pages_with page.serial back) page

@@ -1,4 +1,4 @@
--- A link with pages more of one stream.
+-- A link with further pages of one stream.
 use Rattle.std.proofs.Common.{◌≡◌, ◌≢◌, ℕ, Bool, true, false, List, [], ◌∷◌, ◌++◌, map, refl, sym, ◌∙◌, ap, subst, append_assoc, eq-eqb, inl, inr}
 use Rattle.std.specs.Prelude.{nat_eq, ◌||◌, ◌&&◌}
 use Rattle.std.specs.List.{AllByRecursion, AllZip, filter, list_any, list_all, IsDistinct}
@@ -158,7 +158,7 @@ grow_link link serial pages l there own unmarked fits one = record {
   one = behind_both (λ (before : List Page) (page : Page). before ≢ [] → all_ended before ≡ false) [] link pages l.one one;
 }
 
--- a stream with packets more, perhaps ended
+-- a stream with further packets, perhaps ended
 abbrev pub grown : Stream → List (List ℕ) → Bool → Stream
 grown stream packets ends = record { serial = stream.serial; packets = stream.packets ++ packets; ended = stream.ended || ends }
 

@@ -1,10 +1,10 @@
--- The last link: what the chain state says of it, what pages more do to it, and a link more behind it.
+-- The last link: what the chain state says of it, what further pages do to it, and another link after it.
 use Rattle.std.proofs.Common.{◌≡◌, ◌≢◌, ℕ, suc, ◌<◌, ◌≤◌, ◌^◌, Bool, true, false, cond, List, [], ◌∷◌, ◌++◌, length, map, refl, sym, ◌∙◌, ap, subst, arith, append_assoc, eq-eqb, inl, inr, Option, Some}
 use Rattle.std.specs.Prelude.{nat_eq, nat_lt, ◌||◌, ◌&&◌, not, is_none}
 use Rattle.std.specs.List.{AllByRecursion, filter, list_any, list_all, find, fold, flat_map}
 use Rattle.std.specs.Option.{option_map_or}
 use Rattle.std.proofs.lemmas.List.{append-nil}
-use Rattle.std.proofs.lemmas.Bool.{ne_eqb, cases_eq, cases_Bool, cond-true, cond-false, cond_both, ltb-true, or_parts, or_left, or_right, and_from}
+use Rattle.std.proofs.lemmas.Bool.{eqb-true, ne_eqb, cases_eq, cases_Bool, cond-true, cond-false, cond_both, ltb-true, or_parts, or_left, or_right, and_from}
 use Rattle.ogg_page.specs.Page.{Page, IsPage, bytes_of_pages, page_bytes}
 use Rattle.ogg_page.specs.LogicalStream.{number_behind, is_first}
 use Rattle.link_chain.specs.declared.stream_state.StreamState.{StreamState}
@@ -116,7 +116,7 @@ position_from (page ∷ pages) found h =
 pub position_small : (pages : List Page) → last_position pages < 2 ^ 63
 position_small pages = position_from pages 0 (omega arith)
 
--- ---- pages more for the last link
+-- ---- further pages for the last link
 pub spelled_more : (links : List (List Page)) (pages : List Page) → links ≢ [] →
     flat_map bytes_of_pages links ++ bytes_of_pages pages ≡ flat_map bytes_of_pages (with_pages links pages)
 spelled_more [] pages some = absurd (some refl)
@@ -147,7 +147,7 @@ ended_more P (link ∷ []) pages a = tt
 ended_more P (link ∷ next ∷ []) pages a = (a.0, tt)
 ended_more P (link ∷ next ∷ third ∷ links) pages a = (a.0, ended_more P (next ∷ third ∷ links) pages a.1)
 
--- what pages more do to a link and its streams
+-- what further pages do to a link and its streams
 abbrev pub Grows : List Page → List Page → (List Stream → List Stream) → Type 0
 Grows link pages change = (streams : List Stream) → IsLink link → HoldsLink link streams → IsLink (link ++ pages) × HoldsLink (link ++ pages) (change streams)
 
@@ -231,7 +231,7 @@ closed_link links l e =
     (all_weaker (λ (p : Page). has_stream link p.serial ≡ true) (λ (p : Page). has_ended link p.serial ≡ true)
     (λ p there. ended_serial (has_ended link) (serials_of link) none p.serial there) link (each_known link l))
 
--- ---- a link more
+-- ---- another link
 pub ended_links : (P : List Page → Type 0) (links : List (List Page)) (new : List Page) → AllButLast P links → (links ≢ [] → P (last_link links)) → AllButLast P (links ++ new ∷ [])
 ended_links P [] new h last = tt
 ended_links P (link ∷ []) new h last = (last (λ e. cc), tt)
@@ -241,3 +241,15 @@ pub last_is_link : (links : List (List Page)) → AllByRecursion IsLink links �
 last_is_link [] h ne = absurd (ne refl)
 last_is_link (link ∷ []) h ne = h.0
 last_is_link (link ∷ next ∷ links) h ne = last_is_link (next ∷ links) h.1 (λ e. cc)
+
+-- one of the serials hasn't ended
+pub some_not : (ended : ℕ → Bool) (serial : ℕ) (serials : List ℕ) → list_any (nat_eq serial) serials ≡ true → ended serial ≡ false →
+    list_any (λ s. not (ended s)) serials ≡ true
+some_not ended serial [] e f = cc
+some_not ended serial (s ∷ serials) e f =
+    elim (cases_Bool (nat_eq serial s)) [
+      | inl same ↦ or_left (not (ended s)) (list_any (λ s. not (ended s)) serials) (ap (λ n. not (ended n)) (sym (eqb-true serial s same)) ∙ ap not f)
+      | inr other ↦
+          or_right (not (ended s)) (list_any (λ s. not (ended s)) serials)
+          (some_not ended serial serials (sym (ap (λ b. b || list_any (nat_eq serial) serials) other) ∙ e) f)
+    ]

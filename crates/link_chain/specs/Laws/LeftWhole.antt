@@ -4,13 +4,12 @@ use Rattle.std.specs.Prelude.{nat_eq, ◌||◌}
 use Rattle.std.specs.List.{AllByRecursion, AllZip, flat_map, concat, find, list_any}
 use Rattle.std.specs.Option.{option_map}
 use Rattle.std.proofs.lemmas.List.{append-nil, length-take-le}
-use Rattle.std.proofs.lemmas.List.Folds.{list_any-append}
 use Rattle.std.proofs.lemmas.List.Sums.{sum_by-cons, sum_by-append}
 use Rattle.std.proofs.lemmas.Bool.{eqb-true, eq-eqb, false≢true}
 use Rattle.ogg_page.specs.Page.{Page, IsPage, IsByte}
 use Rattle.ogg_page.specs.Lacing.{lace, lacing_of, ends_open}
-use Rattle.ogg_page.specs.LogicalStream.{FitsBehind, EachBehind, joined_lacing, joined_bodies, is_first, is_last}
-use Rattle.ogg_page.specs.StreamLaws.{ends_open-at, ends_open-append, ends_open-lace}
+use Rattle.ogg_page.specs.LogicalStream.{joined_lacing, joined_bodies, is_first}
+use Rattle.ogg_page.specs.StreamLaws.{ends_open-at, ends_open-append, ends_open-lace, last_closes}
 use Rattle.link_chain.specs.declared.stream_state.StreamState.{StreamState}
 use Rattle.link_chain.specs.Links.{IsLink, AreLinks, AllButLast, pages_with, serials_of, has_ended, all_ended}
 use Rattle.link_chain.specs.Recording.{Stream, Recording, HoldsStream, HoldsLink, HoldsLinks}
@@ -59,7 +58,7 @@ one_packet segments value values packet rest bytes laced split p = record {
   rest_size = p.rest_size;
 }
 
--- behind so many values of 255
+-- after this number of values of 255
 packets_behind : (values : List ℕ) (segments : ℕ) (bytes : List ℕ) → AllByRecursion IsByte values → 255 * segments + sum values ≡ length bytes → Packets (replicate segments 255 ++ values) bytes
 packets_behind [] segments bytes all e = record {
   packets = [];
@@ -89,7 +88,7 @@ laces_closed : (packets : List (List ℕ)) → ends_open (flat_map lace packets)
 laces_closed [] = refl
 laces_closed (packet ∷ packets) = ends_open-append (lace packet) (flat_map lace packets) (ends_open-lace packet) ∙ laces_closed packets
 
--- where the last value ends its packet, no segment is left
+-- if the last value ends its packet, no segment is left
 no_segment : (packets : List (List ℕ)) (segments : ℕ) → ends_open (flat_map lace packets ++ replicate segments 255) ≡ false → segments ≡ 0
 no_segment packets zero closed = refl
 no_segment packets (suc n) closed =
@@ -148,21 +147,6 @@ held_streams pages (serial ∷ serials) all closed =
     (one.0 ∷ rest.0, (one.1, rest.1))
 
 -- ---- a stream that has ended
-
-last_closes : (before pages : List Page) → EachBehind FitsBehind before pages → list_any is_last before ≡ false → list_any is_last (before ++ pages) ≡ true →
-    ends_open (joined_lacing (before ++ pages)) ≡ false
-last_closes before [] fit none ended = absurd (false≢true (sym none ∙ sym (ap (list_any is_last) (append-nil before)) ∙ ended))
-last_closes before (page ∷ []) fit none ended =
-    fit.0.last_packet (sym (sym ended ∙ list_any-append is_last before (page ∷ []) ∙ ap (λ b. b || (is_last page || false)) none ∙ or_nothing (is_last page)))
-  where
-    or_nothing : (b : Bool) → (b || false) ≡ b
-    or_nothing true = refl
-    or_nothing false = refl
-last_closes before (page ∷ next ∷ pages) fit none ended =
-    let all : (before ++ page ∷ []) ++ (next ∷ pages) ≡ before ++ page ∷ next ∷ pages = append_assoc before (page ∷ []) (next ∷ pages) in
-    subst (λ (l : List Page). ends_open (joined_lacing l) ≡ false) all
-    (last_closes (before ++ page ∷ []) (next ∷ pages) fit.1 fit.1.0.last (ap (list_any is_last) all ∙ ended))
-
 -- each stream of a link in which all have ended is closed
 closed_by_end : (pages : List Page) (serials : List ℕ) → IsLink pages → list_any (λ serial. not (has_ended pages serial)) serials ≡ false → AllByRecursion (IsClosed pages) serials
 closed_by_end pages [] link e = tt
@@ -185,7 +169,7 @@ none_open pages e = by_cases (list_any (λ serial. not (has_ended pages serial))
 
 -- ---- the last link
 
--- each of its streams is closed where none is unfinished
+-- each of its streams is closed if none is unfinished
 closed_by_state : (pages : List Page) (serials : List ℕ) → option_map (λ (stream : StreamState). stream.serial) (find (λ (stream : StreamState). not stream.finished) (map (state_of pages) serials)) ≡ None →
     AllByRecursion (IsClosed pages) serials
 closed_by_state pages [] e = tt

@@ -1,4 +1,4 @@
--- Streams that have serials of their own, and where they are.
+-- Streams with distinct serials, and their places.
 use Rattle.std.proofs.Common.{◌≡◌, ℕ, zero, suc, ◌≤◌, Bool, true, false, List, [], ◌∷◌, ◌++◌, length, map, cond, Option, Some, None, refl, sym, ◌∙◌, ap, subst, arith, inl, inr}
 use Rattle.std.specs.Prelude.{nat_eq, nat_lt, slice_get, slice_set, unwrap_or}
 use Rattle.std.specs.Option.{option_map_or}
@@ -89,7 +89,7 @@ pub change_none : (serial : ℕ) (change : StreamState → StreamState) (streams
     → map (change_at serial change) streams ≡ streams
 change_none serial change streams i is past = lacking_stay serial change streams (not_found serial streams (sym is ∙ slice_get_past streams i past))
 
--- ---- looking
+-- ---- searching
 -- what stands at the hint has the serial
 pub hinted : (serial : ℕ) (streams : List StreamState) (i : ℕ) → HaveOwnSerials streams
     → option_map_or (λ (stream : StreamState). nat_eq stream.serial serial) (slice_get streams i) false ≡ true → IsPlace streams serial i
@@ -135,7 +135,7 @@ pub own_stay : (serial : ℕ) (change : StreamState → StreamState) (streams : 
     → HaveOwnSerials streams → HaveOwnSerials (map (change_at serial change) streams)
 own_stay serial change streams keeps d = subst (λ l. IsDistinct nat_eq l) (sym (serials_stay serial change streams keeps)) d
 
--- one stream more, whose serial no other has
+-- one more stream, whose serial no other has
 pub own_push : (streams : List StreamState) (stream : StreamState) → HaveOwnSerials streams → stream_in streams stream.serial ≡ None →
     HaveOwnSerials (streams ++ stream ∷ [])
 unfolding IsDistinct

@@ -1,4 +1,4 @@
--- The rules that a page keeps that may follow.
+-- The rules that a page keeps if it may follow.
 use Rattle.std.proofs.Common.{◌≡◌, true, false, cond, sym, ◌∙◌, ap, None}
 use Rattle.std.proofs.lemmas.Bool.{cond-true, cond-false}
 use Rattle.ogg_page.specs.Page.{Page}

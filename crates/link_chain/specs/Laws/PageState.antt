@@ -1,4 +1,4 @@
--- The chain state behind a page that may follow.
+-- The chain state after a page that may follow.
 use Rattle.std.proofs.Common.{◌≡◌, ◌≢◌, ◌+◌, ◌<◌, ◌^◌, ℕ, Bool, true, false, cond, List, [], ◌∷◌, ◌++◌, length, map, refl, sym, ◌∙◌, ap, arith, None, Some, inl, inr, eq-eqb, length-append, append_assoc}
 use Rattle.std.specs.Prelude.{nat_eq, nat_lt, not, ◌||◌, ◌&&◌, is_some}
 use Rattle.std.specs.List.{AllByRecursion, list_any, flat_map, filter}
@@ -51,7 +51,7 @@ goes_on_later links page later =
 pub not_zero : (links : List (List Page)) → nat_eq (length links) 0 ≡ false → links ≢ []
 not_zero links e f = eqb-false (length links) 0 e (ap length f)
 
--- ---- a stream with a page more
+-- ---- a stream with another page
 not_not : (b : Bool) → not (not b) ≡ b
 not_not true = refl
 not_not false = refl
@@ -155,7 +155,7 @@ unmatched serial (page ∷ pages) e =
     or_parts (nat_eq serial page.serial) (list_any (λ (p : Page). nat_eq serial p.serial) pages) e in
     (ne_eqb page.serial serial (λ f. eqb-false serial page.serial parts.0 (sym f)), unmatched serial pages parts.1)
 
--- where all pages are first ones, there is no page of it either
+-- if all pages are first ones, there is no page of it either
 pub no_pages : (link : List Page) (serial : ℕ) → list_any (λ p. not (is_first p)) link ≡ false → has_stream link serial ≡ false → pages_with serial link ≡ []
 no_pages link serial bare none =
     let firsts : filter is_first link ≡ link = filter_all is_first link (all_first link bare) in

@@ -1,4 +1,4 @@
--- Rules of which none is broken, and rules that are looked at group by group.
+-- Rules of which none is broken, and rules that are checked group by group.
 use Rattle.std.proofs.Common.{◌≡◌, Bool, true, false, cond, List, [], ◌∷◌, ◌++◌, refl, sym, ◌∙◌, Option, None, Some}
 use Rattle.std.specs.Prelude.{is_some}
 use Rattle.std.specs.List.{AllByRecursion}
@@ -41,7 +41,7 @@ settles (rule ∷ xs) ys fault e = settled rule.0 rule.1 (first_broken xs) (firs
     settled true first own both fault h e = e
     settled false first own both fault h e = h e
 
--- the same, where it was asked whether a rule is broken
+-- the same, if the question was whether a rule is broken
 pub none_if : {X : Type 0} (o : Option X) → is_some o ≡ false → o ≡ None
 none_if None e = refl
 none_if (Some x) e = cc

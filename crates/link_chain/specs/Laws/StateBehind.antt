@@ -1,4 +1,4 @@
--- The chain state behind pages more of one stream.
+-- The chain state after further pages of one stream.
 use Rattle.std.proofs.Common.{◌≡◌, ◌≢◌, ℕ, ◌+◌, ◌<◌, Bool, true, List, [], ◌∷◌, ◌++◌, length, map, sum_by, refl, sym, ◌∙◌, ap, arith, inl, inr, eq-eqb}
 use Rattle.std.specs.Prelude.{nat_eq, not}
 use Rattle.std.specs.List.{list_any, flat_map}
@@ -18,7 +18,7 @@ use Rattle.link_chain.specs.Size.{size_of_pages}
 use Rattle.link_chain.specs.Laws.Grow.{Own, Unmarked, with_other, serials_same}
 use Rattle.link_chain.specs.Laws.LastLink.{length_more}
 
--- ---- what pages more for the last link leave
+-- ---- what further pages of the last link leave
 pub last_is : (done : List (List Page)) (link : List Page) → last_link (done ++ link ∷ []) ≡ link
 last_is [] link = refl
 last_is (d ∷ []) link = refl

@@ -24,7 +24,7 @@ use Rattle.link_chain.specs.Laws.Rules.{NoneBroken}
 use Rattle.link_chain.specs.Laws.PageRules.{later_kept, joining_kept, opening_kept}
 use Rattle.link_chain.specs.Laws.PageState.{begins_here, goes_on_open, goes_on_later, not_zero, open_with, absent, all_first, serials_both}
 
--- ---- pages more for the last link
+-- ---- further pages for the last link
 each_more : (links : List (List Page)) (pages : List Page) → (IsLink (last_link links) → IsLink (last_link links ++ pages)) → AllByRecursion IsLink links → AllByRecursion IsLink (with_pages links pages)
 each_more [] pages step h = tt
 each_more (link ∷ []) pages step h = (step h.0, tt)

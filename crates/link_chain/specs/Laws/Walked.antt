@@ -7,8 +7,8 @@ use Rattle.link_chain.specs.ChainState.{ChainState, chain_state_of}
 use Rattle.link_chain.specs.Taking.{AreTaken, links_with, fault_of_page}
 use Rattle.link_chain.specs.Walk.{TakesSome}
 
--- one page more
-taken_more : (start : List (List Page)) (pages : List Page) (page : Page) (after : List (List Page)) → AreTaken start pages after →
+-- one more page
+pub taken_more : (start : List (List Page)) (pages : List Page) (page : Page) (after : List (List Page)) → AreTaken start pages after →
     fault_of_page (chain_state_of after) page ≡ None → AreTaken start (pages ++ page ∷ []) (links_with after page)
 taken_more start [] page after t none =
     (ap (λ (l : List (List Page)). fault_of_page (chain_state_of l) page) (sym t) ∙ none, ap (λ (l : List (List Page)). links_with l page) t)

@@ -27,7 +27,7 @@ xor_digits true false = refl
 xor_digits false true = refl
 xor_digits false false = refl
 
--- to add polynomials is to take their numbers apart bit by bit
+-- to add polynomials is to add their numbers bit by bit, without carrying
 pub number-add : (xs ys : List Bool) → length xs ≡ length ys → number_of (add xs ys) ≡ bit_xor (number_of xs) (number_of ys)
 unfolding add number_of
 number-add [] [] h = refl
@@ -83,7 +83,7 @@ digit_same true false h = absurd (omega arith)
 digit_same false true h = absurd (omega arith)
 digit_same false false h = refl
 
--- bits of one length are told apart by their number
+-- bits of one length that have the same number are the same
 pub same_number : (xs ys : List Bool) → length xs ≡ length ys → number_of xs ≡ number_of ys → xs ≡ ys
 same_number [] [] h e = refl
 same_number [] (y ∷ ys) h e = absurd (omega arith)

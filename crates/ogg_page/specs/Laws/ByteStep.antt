@@ -4,7 +4,7 @@ use Rattle.std.proofs.lemmas.List.{length-replicate}
 use Rattle.ogg_page.specs.Checksum.{add, remainder}
 use Rattle.ogg_page.specs.Laws.Division.{zeros, add_parts, add-zeros, zeros-add, remainder-append, remainder-add, remainder-zeros, remainder-more, length-remainder, length-add}
 
--- what 32 zero coefficients behind the message leave
+-- what 32 zero coefficients after the message leave
 unfoldable pub left_of : List Bool → List Bool
 left_of message = remainder (length message) (message ++ zeros 32)
 

@@ -2,7 +2,7 @@
 use Rattle.std.proofs.Common.{◌≡◌, ℕ, zero, suc, ◌+◌, ◌≤◌, Bool, true, false, List, [], ◌∷◌, ◌++◌, length, replicate, refl, sym, ◌∙◌, ap, arith}
 use Rattle.ogg_page.specs.Checksum.{bits_of, exclusive_or, add, divisor, remainder}
 
--- so many zero coefficients
+-- this number of zero coefficients
 abbrev pub zeros : ℕ → List Bool
 zeros n = replicate n false
 
@@ -51,7 +51,7 @@ unfolding add
 add-nil [] = refl
 add-nil (x ∷ xs) = refl
 
--- a short addend leaves what lies behind it
+-- a short addend leaves what comes after it
 pub add-append : (xs zs ys : List Bool) → length ys ≤ length xs → add (xs ++ zs) ys ≡ add xs ys ++ zs
 unfolding add
 add-append [] [] [] h = refl

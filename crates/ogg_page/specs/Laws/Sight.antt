@@ -54,21 +54,21 @@ same_fault false false false false true f p q fault is = is
 same_fault false false false false false true p q fault is = is
 same_fault false false false false false false p q fault is = cc
 
-pattern_in_front : (front back : List ℕ) → 4 ≤ length front → starts_with nat_eq (front ++ back) (codes "OggS") ≡ starts_with nat_eq front (codes "OggS")
+pub pattern_in_front : (front back : List ℕ) → 4 ≤ length front → starts_with nat_eq (front ++ back) (codes "OggS") ≡ starts_with nat_eq front (codes "OggS")
 pattern_in_front [] back l = absurd (omega arith)
 pattern_in_front (a ∷ []) back l = absurd (omega arith)
 pattern_in_front (a ∷ b ∷ []) back l = absurd (omega arith)
 pattern_in_front (a ∷ b ∷ c ∷ []) back l = absurd (omega arith)
 pattern_in_front (a ∷ b ∷ c ∷ d ∷ front) back l = refl
 
-number_in_front : (front back : List ℕ) → 4 ≤ length front → little_number 4 (front ++ back) ≡ little_number 4 front
+pub number_in_front : (front back : List ℕ) → 4 ≤ length front → little_number 4 (front ++ back) ≡ little_number 4 front
 number_in_front [] back l = absurd (omega arith)
 number_in_front (a ∷ []) back l = absurd (omega arith)
 number_in_front (a ∷ b ∷ []) back l = absurd (omega arith)
 number_in_front (a ∷ b ∷ c ∷ []) back l = absurd (omega arith)
 number_in_front (a ∷ b ∷ c ∷ d ∷ front) back l = refl
 
--- so many bytes are at most so much
+-- what bytes add up to is at most 255 for each of them
 pub sum_small : (bytes : List ℕ) → AreBytes bytes → sum bytes ≤ 255 * length bytes
 sum_small [] h = omega arith
 sum_small (a ∷ bytes) h =
@@ -136,7 +136,7 @@ fault_stays front back fault h long e =
     ∙ ap (λ t. judged a1 a2 a3 a4 a5 t page) t6
     ∙ same_fault a1 a2 a3 a4 a5 a6 (fields_at front) page fault (sym (as_tests front) ∙ e)
 
--- the first bytes of these, which are all of them or as many as the longest page has
+-- the same of the first bytes of a list: all of them, or as many as the longest page has
 pub fault_in_front : (n : ℕ) (bytes : List ℕ) (fault : PageFault) → AreBytes (take n bytes) → 65307 ≤ n → page_at (take n bytes) ≡ Err fault → page_at bytes ≡ Err fault
 fault_in_front n bytes fault h long e = by_length (nat_lt n (length bytes)) refl
   where

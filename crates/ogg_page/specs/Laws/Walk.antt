@@ -51,7 +51,7 @@ last_fault left next found step = record {
   all = ap (λ n. fault_found n found.1 ∷ []) (step.0 ∙ sym (add-zero left.offset)) ∙ same_fault (left.offset + 0) left.bytes found.1 step.1 step.2;
 }
 
--- nothing is found behind the end
+-- nothing is found after the end
 end_stays : (left t : PagesLeft) (found : List FoundPage) → left.bytes ≡ [] → Yields NextPage left found t → found ≡ []
 end_stays left t [] e y = refl
 end_stays left t (Ok page ∷ found) e (j, step, more) = absurd (nothing_is_no_page page.1 j.bytes (sym e ∙ step.2))

@@ -17,7 +17,7 @@ pub before_more : (k : ℕ) (values : List ℕ) → values_before (k + 1) values
 unfolding values_before values_at
 before_more k values = ap (λ n. take n values) (let e : 255 * (k + 1) ≡ 255 * k + 255 = omega arith in e) ∙ take-add (255 * k) 255 values
 
--- the pieces from one on, behind what comes before them
+-- the pieces from one on, after what comes before them
 pieces : (values : List ℕ) (first n : ℕ) → values_before first values ++ flat_map (λ k. values_at k values) (counted first n) ≡ values_before (first + n) values
 pieces values first zero = append-nil (values_before first values) ∙ ap (λ k. values_before k values) (omega arith)
 pieces values first (suc n) =

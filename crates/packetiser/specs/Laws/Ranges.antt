@@ -112,7 +112,7 @@ pub run_is_pages : (serial first : ℕ) (run : List Timed) → serial < 2 ^ 32 �
 unfolding pages_of_run
 run_is_pages serial first run small h numbers = are_pages_from serial first run (pages_for (length (run_lacing run))) 0 small h numbers
 
--- numbers from a first one on, of which the last fits
+-- numbers from a first one on, if the last of them fits
 numbers_fit : (serial first : ℕ) (run : List Timed) (n j : ℕ) → first + j + n ≤ 2 ^ 32 →
     AllByRecursion (λ page. page.sequence < 2 ^ 32) (map (page_of_run serial first run) (counted j n))
 numbers_fit serial first run zero j h = tt

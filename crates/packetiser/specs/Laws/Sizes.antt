@@ -30,7 +30,7 @@ length-run_bytes (item ∷ run) =
     length-append item.packet (run_bytes run)
     ∙ omega (arith, length-run_bytes run, sum_by-cons bytes_in item run)
 
--- counted before the packets are looked at as such
+-- a sum over packets is the sum over the items that they are made from
 pub sum_by-map : {X : Type 0} (f : Timed → ℕ) (timed : X → Timed) (xs : List X) → sum_by f (map timed xs) ≡ sum_by (λ x. f (timed x)) xs
 sum_by-map f timed [] = refl
 sum_by-map f timed (x ∷ xs) =

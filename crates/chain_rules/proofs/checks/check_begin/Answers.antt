@@ -11,7 +11,7 @@ use Rattle.chain_rules.proofs.Kept.{items_short}
 use Rattle.chain_rules.proofs.Turns.{refused_first, refused_item, by_room}
 use Rattle.chain_rules.proofs.checks.check_begin.Goals as goal
 
--- what was asked of the streams that were lent is so of the link's items
+-- what was found of the streams that were lent holds of the link's items
 of_items : (chain : ChainState) (begin : Begin) (lent : List NewStream) (broken : Option Refusal) → lent ≡ begin.streams →
     broken ≡ first_broken (parts_rules chain begin.skeleton lent) → first_broken (item_rules chain begin) ≡ broken
 of_items chain begin lent broken e h = sym (h ∙ ap (λ l. first_broken (parts_rules chain begin.skeleton l)) e)
@@ -40,7 +40,7 @@ returns c = λ chain s t l b.
     (sym (c.in_default.ensures.rules chain s))
     (of_items chain c.args.begin.now c.as_slice.result.now None c.as_slice.ensures (c.in_default-broken_by_parts.ensures chain t))
 
--- a chain with just these serials, to ask the rules of
+-- a chain that has only these serials, to check rules with
 abbrev some_chain : List ℕ → ChainState
 some_chain serials = record { streams = []; has_data = false; serials = serials; links = 0; length_of = 0 }
 

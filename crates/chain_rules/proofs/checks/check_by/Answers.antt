@@ -10,7 +10,7 @@ use Rattle.chain_rules.specs.Decision.{entries_rules, room_rules, size_of, answe
 use Rattle.link_chain.specs.Laws.Rules.{settles, passes}
 use Rattle.chain_rules.proofs.checks.check_by.Goals as goal
 
--- what was asked of the streams that were copied and of the entries that were lent is so of the chain's and the put's
+-- what was found of the streams that were copied and of the entries that were lent holds of the chain's and the put's
 of_entries : (chain : ChainState) (streams : List StreamState) (lent entries : List Entry) (broken : Option Refusal) → chain.streams ≡ streams →
     lent ≡ entries →
     broken ≡ first_broken (entries_rules streams lent) → first_broken (entries_rules chain.streams entries) ≡ broken

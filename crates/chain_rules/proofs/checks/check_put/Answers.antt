@@ -9,7 +9,7 @@ use Rattle.chain_rules.specs.Decision.{decision, put_rules, entries_rules, room_
 use Rattle.chain_rules.proofs.Turns.{refused_first, behind_whole}
 use Rattle.chain_rules.proofs.checks.check_put.Goals as goal
 
--- what was asked of the entries that were lent is so of the put's entries
+-- what was found of the entries that were lent holds of the put's entries
 of_whole : (chain : ChainState) (lent entries : List Entry) (broken : Option Refusal) → lent ≡ entries → broken ≡ first_broken (put_rules chain lent) →
     first_broken (put_rules chain entries) ≡ broken
 of_whole chain lent entries broken e h = sym (h ∙ ap (λ l. first_broken (put_rules chain l)) e)

@@ -9,7 +9,7 @@ use Rattle.link_chain.specs.Size.{has_no_number, size_of_pages}
 use Rattle.link_chain.specs.Places.{HaveOwnSerials}
 use Rattle.command_pages.proofs.laying.lay_runs.Given as goal
 
--- with the pages that are left it will be all pages, and each has a number; what stood in the vector stays
+-- the pages so far and those that are left are all pages, and each has a number; what stood in the vector stays
 abbrev pub invariant-loop-rest : goal.invariant-loop-rest
 invariant-loop-rest l = record {
   items : l.out.items ++ bytes_of_pages (pages_of_runs l.streams (runs_of l.rest)) ≡ l.fn.out.items ++ bytes_of_pages (pages_of_runs l.initial.streams (runs_of l.entries));

@@ -8,7 +8,7 @@ use Rattle.link_chain.specs.Size.{has_no_number}
 use Rattle.link_chain.specs.Places.{HaveOwnSerials}
 use Rattle.command_pages.proofs.parts.add_runs.Given as goal
 
--- with the pages that are left it will be all pages, and each has a number
+-- the pages so far and those that are left are all pages, and each has a number
 abbrev pub invariant-loop-rest : goal.invariant-loop-rest
 invariant-loop-rest l = record {
   pages : pages_of_parts l.parts.items ++ pages_of_runs l.streams (runs_of l.rest)

@@ -6,7 +6,7 @@ use Rattle.link_chain.specs.Size.{has_no_number, size_of_pages}
 use Rattle.link_chain.specs.Places.{HaveOwnSerials}
 use Rattle.command_pages.proofs.runs.size_of_runs.Given as goal
 
--- the streams have serials of their own, and the runs so far have their numbers and are counted
+-- the streams have distinct serials, and the runs so far have their numbers and are counted
 abbrev pub invariant-loop-rest : goal.invariant-loop-rest
 invariant-loop-rest l = record {
   own : HaveOwnSerials l.streams;

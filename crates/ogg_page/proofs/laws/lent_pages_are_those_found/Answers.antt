@@ -23,7 +23,7 @@ one old new lent is =
     ∙ ap (λ n. page_found n lent.1 ∷ found_in (old.offset + page_size lent.1) new.bytes) (sym is.0)
     ∙ ap (λ n. page_found lent.0 lent.1 ∷ found_in n new.bytes) (sym is.3)
 
--- and the others are those that are found behind it
+-- and the others are those that are found after it
 more : (all rest : List FoundPage) (lent : LentAt) (others : List LentAt) (end : Result (Unit {0}) WindowFault) →
     all ≡ found lent ∷ rest → AreAll rest others end → AreAll all (lent ∷ others) end
 more all rest lent others (Ok done) first are = first ∙ ap (λ l. found lent ∷ l) are

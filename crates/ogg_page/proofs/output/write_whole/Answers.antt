@@ -9,7 +9,7 @@ use Rattle.ogg_page.proofs.output.write_whole.Goals as goal
 within : (xs : List ℕ) (k n : ℕ) → n ≤ length (take k xs) → (n ≤ k) × (n ≤ length xs)
 within xs k n le = (omega (arith, length-take k xs, le), omega (arith, length-take k xs, le))
 
--- the first d bytes and then n of the rest are the first d + n
+-- the first d bytes, and then n of the rest, are the first d + n
 take_more : (t : List ℕ) (d k n : ℕ) → n ≤ length (take k (drop d t)) → take d t ++ take n (take k (drop d t)) ≡ take (d + n) t
 take_more t d k n le = ap (λ l. take d t ++ l) (take-take n k (drop d t) (within (drop d t) k n le).0) ∙ sym (take-add d n t)
 

@@ -6,7 +6,7 @@ use Rattle.ogg_page.specs.Checksum.{checksum_of}
 use Rattle.ogg_page.specs.Page.{Page, fixed_part, page_bytes, bytes_with}
 use Rattle.ogg_page.proofs.writing.close_page.Goals as goal
 
--- what stands before the checksum, and what behind it
+-- what stands before the checksum, and what follows it
 before : Page → List ℕ
 before p = codes "OggS" ++ 0 ∷ p.flags ∷ [] ++ little_bytes 8 p.position ++ little_bytes 4 p.serial ++ little_bytes 4 p.sequence
 

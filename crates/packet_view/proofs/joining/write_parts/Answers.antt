@@ -1,20 +1,10 @@
-use Rattle.std.proofs.Common.{◌≡◌, ◌≤◌, ◌+◌, ◌∙◌, ◌++◌, List, [], ◌∷◌, ℕ, suc, length, take, ap, sym, subst, arith, append_assoc, length-append}
+use Rattle.std.proofs.Common.{◌≡◌, ◌+◌, ◌∙◌, ◌++◌, List, ℕ, length, ap, sym, subst, arith, append_assoc, length-append}
 use Rattle.std.specs.List.{concat}
 use Rattle.std.specs.Io.KnownBytes.{Appends}
 use Rattle.std.proofs.KnownBytes.{Appends-trans}
-use Rattle.std.proofs.lemmas.List.{take-append-le}
 use Rattle.std.proofs.lemmas.Result.{err_from_is_err_and}
+use Rattle.ogg_page.specs.OutputLaws.{front_part}
 use Rattle.packet_view.proofs.joining.write_parts.Goals as goal
-
-front_of : (written more : List ℕ) (n : ℕ) → take (length written + n) (written ++ more) ≡ written ++ take n more
-front_of [] more n = ap (λ k. take k more) (let none : 0 + n ≡ n = omega arith in none)
-front_of (byte ∷ written) more n =
-    let one : length (byte ∷ written) + n ≡ suc (length written + n) = omega arith in
-    ap (λ k. take k (byte ∷ written ++ more)) one ∙ ap (λ l. byte ∷ l) (front_of written more n)
-
-front_part : (all written part rest : List ℕ) (n : ℕ) → all ≡ written ++ (part ++ rest) → n ≤ length part → take (length written + n) all ≡ written ++ take n part
-front_part all written part rest n e le =
-    ap (take (length written + n)) e ∙ front_of written (part ++ rest) n ∙ ap (λ l. written ++ l) (take-append-le n part rest le)
 
 pub loop-part-preserved : goal.loop-part-preserved
 loop-part-preserved g c =

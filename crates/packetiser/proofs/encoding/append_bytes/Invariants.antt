@@ -14,6 +14,6 @@ invariant-loop-left g l = record {
   capacity : vec_capacity l.fn.out ≤ vec_capacity l.out;
 }
 
--- each step leaves a packet less
+-- each step leaves one packet fewer
 abbrev pub decreases-loop-left : goal.decreases-loop-left
 decreases-loop-left g l = length l.rest

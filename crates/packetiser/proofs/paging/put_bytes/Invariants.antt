@@ -13,6 +13,6 @@ invariant-loop-left g l = record {
   lacing : l.buffer.lacing ≡ l.fn.buffer.lacing;
 }
 
--- each step leaves a packet less
+-- each step leaves one packet fewer
 abbrev pub decreases-loop-left : goal.decreases-loop-left
 decreases-loop-left g l = length l.rest

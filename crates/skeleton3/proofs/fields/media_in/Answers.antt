@@ -6,7 +6,7 @@ use Rattle.skeleton3.proofs.FieldFacts.{is_feed, media_from, pieces_left, next_p
 use Rattle.skeleton3.proofs.fields.media_in.Goals as goal
 use Rattle.skeleton3.proofs.fields.media_in.Goals.{In-Some, Else-is_empty, else-is_none-via-then-is_none+else-is_content_type, else-is_none-via-else-is_none}
 
--- the piece and what is left behind it give the answer
+-- the media type found so far, the piece and the pieces after it make the answer
 with_piece : (c : In-Some) → media_from (option_copied c.loop-piece.media) (c.in-Some.piece.now ∷ pieces_left c.next.new.self.done c.next.new.self.rest.now) ≡ media_in c.args.message.now
 with_piece c =
     let step = c.in-Some.ensures.steps in

@@ -3,7 +3,7 @@ use Rattle.skeleton3.specs.Fields.{media_in}
 use Rattle.skeleton3.proofs.FieldFacts.{media_from, pieces_left}
 use Rattle.skeleton3.proofs.fields.media_in.Given as goal
 
--- what is left to the loop gives the answer
+-- the media type found so far and the pieces that are left make the answer
 abbrev pub invariant-loop-piece : goal.invariant-loop-piece
 invariant-loop-piece l =
     (goal.iterator-loop-piece).can_next l.piece-iterator ×

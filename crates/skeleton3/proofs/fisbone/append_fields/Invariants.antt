@@ -3,7 +3,7 @@ use Rattle.std.specs.List.{flat_map}
 use Rattle.skeleton3.specs.Fields.{field_line}
 use Rattle.skeleton3.proofs.fisbone.append_fields.Given as goal
 
--- with the lines that are left, it is the whole, and there is room for them
+-- what is written and the lines that are left make the whole, and there is room for these lines
 abbrev pub invariant-loop-field : goal.invariant-loop-field
 invariant-loop-field l =
     (l.out.items ++ flat_map field_line (drop l.field-index l.fields) ≡ l.initial.out.items ++ flat_map field_line l.fields) ×

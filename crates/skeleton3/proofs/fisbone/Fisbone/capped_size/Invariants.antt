@@ -4,7 +4,7 @@ use Rattle.skeleton3.specs.Fields.{field_line}
 use Rattle.skeleton3.specs.Fisbone.{fisbone_of, fisbone_bytes_with}
 use Rattle.skeleton3.proofs.fisbone.Fisbone.capped_size.Given as goal
 
--- with the lines that are left, it is the whole
+-- the size so far and the lines that are left make the whole size
 abbrev pub invariant-loop-field : goal.invariant-loop-field
 invariant-loop-field l =
     (l.size < 2 ^ 64) ×

@@ -10,7 +10,7 @@ use Rattle.link_chain.specs.ChainState.{ChainState, chain_state_of}
 use Rattle.chain_rules.specs.Encoding.{pages_of_command}
 use Rattle.chain_rules.specs.Decision.{decision}
 use Rattle.link_chain.specs.Taking.{fault_of_page, AreTaken, unfinished_stream}
-use Rattle.chain_rules.proofs.Rows.{begin, put, hello}
+use Rattle.chain_rules.proofs.Examples.{begin, put, hello}
 
 abbrev page : ℕ → ℕ → ℕ → List ℕ → Page
 page flags serial sequence lacing = record { flags = flags; position = 0; serial = serial; sequence = sequence; lacing = lacing; body = [] }
@@ -34,7 +34,7 @@ two_links : AreTaken [] (three ++ three) (three ∷ three ∷ [])
 unfolding fault_of_page
 two_links = (refl, (refl, (refl, (refl, (refl, (refl, refl))))))
 
--- what a page behind these pages of one link meets
+-- the fault of a page after these pages of one link
 abbrev met : List Page → Page → Option ChainFault
 met pages next = fault_of_page (chain_state_of (pages ∷ [])) next
 
@@ -114,7 +114,7 @@ no_number : decision (chain_state_of ((page 2 1 4294967295 (3 ∷ []) ∷ []) �
 unfolding decision pages_of_command pages_of_run page_of_run page_position run_lacing run_bytes values_at values_before lacing_of
 no_number = refl
 
--- the chain state of so many links, each of which has ended
+-- the chain state of this number of links, each of which has ended
 abbrev after_links : ℕ → ChainState
 after_links links = record { streams = record { serial = 1; next_sequence = 3; last_position = 0; ended = true; finished = true } ∷ []; has_data = true; serials = 1 ∷ []; links = links; length_of = 91 }
 

@@ -57,69 +57,69 @@ grown_by links (command ∷ commands) = grown_by (grown links command) commands
 abbrev answer : List Command → Command → Result ℕ Refusal
 answer before command = decision (chain_state_of (grown_by [] before)) command
 
-row_1 : answer [] (begin (1 ∷ [])) ≡ Ok 31
+size_of_a_begin : answer [] (begin (1 ∷ [])) ≡ Ok 31
 unfolding decision pages_of_command pages_of_run page_of_run page_position run_lacing run_bytes values_at values_before lacing_of
-row_1 = refl
+size_of_a_begin = refl
 
-row_2 : answer (begin (1 ∷ []) ∷ []) (put 1 5 hello) ≡ Ok 33
+size_of_a_put : answer (begin (1 ∷ []) ∷ []) (put 1 5 hello) ≡ Ok 33
 unfolding decision pages_of_command pages_of_run page_of_run page_position run_lacing run_bytes values_at values_before lacing_of
-row_2 = refl
+size_of_a_put = refl
 
-row_3 : answer (begin (1 ∷ []) ∷ put 1 5 hello ∷ []) (EndOf 1) ≡ Ok 27
+size_of_an_end : answer (begin (1 ∷ []) ∷ put 1 5 hello ∷ []) (EndOf 1) ≡ Ok 27
 unfolding decision pages_of_command pages_of_run page_of_run page_position run_lacing run_bytes values_at values_before lacing_of
-row_3 = refl
+size_of_an_end = refl
 
-row_3_page : pages_of_command (chain_state_of (grown_by [] (begin (1 ∷ []) ∷ put 1 5 hello ∷ []))) (EndOf 1) ≡ record { flags = 4; position = 5; serial = 1; sequence = 2; lacing = []; body = [] } ∷ []
+page_of_an_end : pages_of_command (chain_state_of (grown_by [] (begin (1 ∷ []) ∷ put 1 5 hello ∷ []))) (EndOf 1) ≡ record { flags = 4; position = 5; serial = 1; sequence = 2; lacing = []; body = [] } ∷ []
 unfolding pages_of_command pages_of_run page_of_run page_position run_lacing run_bytes values_at values_before lacing_of
-row_3_page = refl
+page_of_an_end = refl
 
-row_8 : answer (begin (1 ∷ []) ∷ []) (PutOf (record { entries = record { serial = 1; position = 5; packet = hello } ∷ record { serial = 7; position = 5; packet = 120 ∷ [] } ∷ [] })) ≡ Err UnknownSerial
+unknown_serial : answer (begin (1 ∷ []) ∷ []) (PutOf (record { entries = record { serial = 1; position = 5; packet = hello } ∷ record { serial = 7; position = 5; packet = 120 ∷ [] } ∷ [] })) ≡ Err UnknownSerial
 unfolding decision pages_of_command pages_of_run page_of_run page_position run_lacing run_bytes values_at values_before lacing_of
-row_8 = refl
+unknown_serial = refl
 
-row_9_two : answer [] (begin (1 ∷ 2 ∷ [])) ≡ Ok 62
+begin_of_two : answer [] (begin (1 ∷ 2 ∷ [])) ≡ Ok 62
 unfolding decision pages_of_command pages_of_run page_of_run page_position run_lacing run_bytes values_at values_before lacing_of
-row_9_two = refl
+begin_of_two = refl
 
-row_9_ended : answer (begin (1 ∷ 2 ∷ []) ∷ EndOf 1 ∷ []) (EndOf 1) ≡ Err StreamEnded
+ended_twice : answer (begin (1 ∷ 2 ∷ []) ∷ EndOf 1 ∷ []) (EndOf 1) ≡ Err StreamEnded
 unfolding decision pages_of_command pages_of_run page_of_run page_position run_lacing run_bytes values_at values_before lacing_of
-row_9_ended = refl
+ended_twice = refl
 
-row_9_open : answer (begin (1 ∷ 2 ∷ []) ∷ EndOf 1 ∷ []) (begin (3 ∷ [])) ≡ Err LinkOpen
+begin_in_an_open_link : answer (begin (1 ∷ 2 ∷ []) ∷ EndOf 1 ∷ []) (begin (3 ∷ [])) ≡ Err LinkOpen
 unfolding decision pages_of_command pages_of_run page_of_run page_position run_lacing run_bytes values_at values_before lacing_of
-row_9_open = refl
+begin_in_an_open_link = refl
 
-row_9_closed : answer (begin (1 ∷ 2 ∷ []) ∷ EndOf 1 ∷ EndOf 2 ∷ []) (put 2 5 hello) ≡ Err NoLink
+put_after_the_link : answer (begin (1 ∷ 2 ∷ []) ∷ EndOf 1 ∷ EndOf 2 ∷ []) (put 2 5 hello) ≡ Err NoLink
 unfolding decision pages_of_command pages_of_run page_of_run page_position run_lacing run_bytes values_at values_before lacing_of
-row_9_closed = refl
+put_after_the_link = refl
 
-row_9_taken : answer (begin (1 ∷ 2 ∷ []) ∷ EndOf 1 ∷ EndOf 2 ∷ []) (begin (2 ∷ [])) ≡ Err SerialTaken
+serial_taken : answer (begin (1 ∷ 2 ∷ []) ∷ EndOf 1 ∷ EndOf 2 ∷ []) (begin (2 ∷ [])) ≡ Err SerialTaken
 unfolding decision pages_of_command pages_of_run page_of_run page_position run_lacing run_bytes values_at values_before lacing_of
-row_9_taken = refl
+serial_taken = refl
 
-row_9_next : answer (begin (1 ∷ 2 ∷ []) ∷ EndOf 1 ∷ EndOf 2 ∷ []) (begin (3 ∷ [])) ≡ Ok 31
+begin_after_the_link : answer (begin (1 ∷ 2 ∷ []) ∷ EndOf 1 ∷ EndOf 2 ∷ []) (begin (3 ∷ [])) ≡ Ok 31
 unfolding decision pages_of_command pages_of_run page_of_run page_position run_lacing run_bytes values_at values_before lacing_of
-row_9_next = refl
+begin_after_the_link = refl
 
-row_20 : answer (begin (1 ∷ []) ∷ put 1 5 hello ∷ []) (put 1 4 hello) ≡ Err PositionBack
+position_back : answer (begin (1 ∷ []) ∷ put 1 5 hello ∷ []) (put 1 4 hello) ≡ Err PositionBack
 unfolding decision pages_of_command pages_of_run page_of_run page_position run_lacing run_bytes values_at values_before lacing_of
-row_20 = refl
+position_back = refl
 
 -- a header of three, and one run of two neighbours, two of one stream each
-row_22 : map (λ (p : Page). p.serial) (pages_of_command (chain_state_of (grown_by [] (begin (1 ∷ 2 ∷ []) ∷ [])))
+runs_by_stream : map (λ (p : Page). p.serial) (pages_of_command (chain_state_of (grown_by [] (begin (1 ∷ 2 ∷ []) ∷ [])))
     (PutOf (record { entries = record { serial = 1; position = 0; packet = 97 ∷ [] } ∷ record { serial = 1; position = 0; packet = 98 ∷ [] } ∷ record { serial = 2; position = 0; packet = 99 ∷ [] } ∷ record { serial = 1; position = 0; packet = 100 ∷ [] } ∷ [] }))) ≡ 1 ∷ 2 ∷ 1 ∷ []
 unfolding pages_of_command pages_of_run page_of_run page_position run_lacing run_bytes values_at values_before lacing_of
-row_22 = refl
+runs_by_stream = refl
 
-row_22_sequence : map (λ (p : Page). p.sequence) (pages_of_command (chain_state_of (grown_by [] (begin (1 ∷ 2 ∷ []) ∷ [])))
+numbers_of_the_runs : map (λ (p : Page). p.sequence) (pages_of_command (chain_state_of (grown_by [] (begin (1 ∷ 2 ∷ []) ∷ [])))
     (PutOf (record { entries = record { serial = 1; position = 0; packet = 97 ∷ [] } ∷ record { serial = 1; position = 0; packet = 98 ∷ [] } ∷ record { serial = 2; position = 0; packet = 99 ∷ [] } ∷ record { serial = 1; position = 0; packet = 100 ∷ [] } ∷ [] }))) ≡ 1 ∷ 1 ∷ 2 ∷ []
 unfolding pages_of_command pages_of_run page_of_run page_position run_lacing run_bytes values_at values_before lacing_of
-row_22_sequence = refl
+numbers_of_the_runs = refl
 
 -- byte by byte: the page of a begin of one stream, without its checksum
-row_1_bytes : length (command_bytes (chain_state_of []) (begin (1 ∷ []))) ≡ 31
+bytes_of_a_begin : length (command_bytes (chain_state_of []) (begin (1 ∷ []))) ≡ 31
 unfolding pages_of_command pages_of_run page_of_run page_position run_lacing run_bytes values_at values_before lacing_of page_bytes page_head checksum_of message_bits number_of remainder bits_of divisor crc.add
-row_1_bytes = refl
+bytes_of_a_begin = refl
 
 recording : after [] (begin (1 ∷ []) ∷ put 1 5 hello ∷ EndOf 1 ∷ []) ≡ (record { serial = 1; packets = abc ∷ hello ∷ []; ended = true } ∷ []) ∷ []
 recording = refl
@@ -195,7 +195,7 @@ seventeen_fields : answer [] (begin_with (head_of 9 (pos 1000)) (with_fields (re
 unfolding decision
 seventeen_fields = refl
 
--- without a Skeleton they are counted and not looked at
+-- without a Skeleton they are counted and not checked
 seventeen_fields_alone : answer [] (BeginOf (record { skeleton = None; streams = with_fields (replicate 17 title) ∷ [] })) ≡ Err TooMany
 unfolding decision
 seventeen_fields_alone = refl
