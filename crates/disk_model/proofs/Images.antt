@@ -6,7 +6,7 @@ use Rattle.std.proofs.lemmas.List.{get_or-append_right, get_or-drop, get_or-take
 use Rattle.std.proofs.lemmas.Option.{slice_get-get_or}
 use Rattle.disk_model.specs.Image.{DiskState, IsImage, is_written, overwritten, after_cut}
 
--- a range more
+-- another range
 is_written-push : (ranges : List (ℕ × ℕ)) (at n k : ℕ) → is_written (ranges ++ (at, n) ∷ []) k ≡ false → is_written ranges k ≡ false
 is_written-push [] at n k none = refl
 is_written-push (range ∷ ranges) at n k none = grind (arith, is_written-push ranges at n k)

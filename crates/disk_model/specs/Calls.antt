@@ -5,18 +5,18 @@ use Rattle.disk_model.specs.Image.{DiskState, IsImage, written_at, cut_to, settl
 use Rattle.disk_model.specs.declared.memory.Call.{Call}
 use Rattle.disk_model.specs.declared.memory.Call.TheVariants.{Write, Cut, Sync}
 
--- after a call that succeeded
+-- the disk state after a call that succeeded
 abbrev pub after_call : Call → DiskState → DiskState
 after_call (Write at bytes) disk = written_at at bytes.items disk
 after_call (Cut to) disk = cut_to to disk
 after_call Sync disk = settled disk.contents
 
--- after these calls, the first of them first
+-- the disk state after these calls, the first of them first
 abbrev pub after_calls : List Call → DiskState → DiskState
 after_calls [] disk = disk
 after_calls (call ∷ calls) disk = after_calls calls (after_call call disk)
 
--- an image at some moment since t, where a moment is a number of calls
+-- an image at some moment since t; a moment is a number of calls here
 abbrev pub WasImageSince : DiskState → List Call → ℕ → List ℕ → Type 0
 WasImageSince first calls t image = (k : ℕ) × (t ≤ k) × (k ≤ length calls) × IsImage (after_calls (take k calls) first) image
 

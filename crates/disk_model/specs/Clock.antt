@@ -3,7 +3,8 @@ use Rattle.std.specs.Prelude.{◌⊎◌, ℕ, ◌<◌, ◌≤◌, ◌^◌, List}
 use Rattle.std.proofs.Common.{inl, inr, ⊎_elim, arith}
 use Rattle.disk_model.specs.Image.{DiskState, IsImage}
 
--- What holds at each moment of what a stop may leave: of its state, of the moment, and of the images since each moment.
+-- What holds at each moment of what a stop may leave: of its state, of the moment, and of the images since each
+-- moment.
 pub record HasImages (disk : DiskState) (moment : ℕ) (since : ℕ → List ℕ → Type 0) : Type 0 where
   -- the contents are an image
   pub contents_is_image : IsImage disk disk.contents
@@ -16,7 +17,8 @@ pub record HasImages (disk : DiskState) (moment : ℕ) (since : ℕ → List ℕ
   -- a disk is at most 2^63 - 1 bytes long
   pub fits : disk.greatest < 2 ^ 63
 
--- From one moment to another: since a moment up to the first there are the images that there were, and those of the bound.
+-- From one moment to another. Since a moment up to the first there are the images that there were, and those of the
+-- bound.
 pub record TimePasses (before now : ℕ) (past since : ℕ → List ℕ → Type 0) (bound : DiskState) : Type 0 where
   pub later : before ≤ now
   pub nothing_else : (t : ℕ) (image : List ℕ) → t ≤ before → since t image → past t image ⊎ IsImage bound image
@@ -26,7 +28,7 @@ pub record TimePasses (before now : ℕ) (past since : ℕ → List ℕ → Type
 abbrev pub Elapses : {D : Type 0} → (D → ℕ) → (D → ℕ → List ℕ → Type 0) → D → D → DiskState → Type 0
 Elapses moment images_since old new bound = TimePasses (moment old) (moment new) (images_since old) (images_since new) bound
 
--- every image since the disk was the old one has P
+-- every image since the disk was the old one has the property P
 pub record LeavesOnly {D : Type 0} (moment : D → ℕ) (images_since : D → ℕ → List ℕ → Type 0) (old new : D) (P : List ℕ → Type 0) : Type 0 where
   pub later : moment old ≤ moment new
   pub each : (image : List ℕ) → images_since new (moment old) image → P image
@@ -38,7 +40,7 @@ module _ {D : Type 0} (moment : D → ℕ) (images_since : D → ℕ → List �
   pub started : (old : D) (P : List ℕ → Type 0) → ((image : List ℕ) → images_since old (moment old) image → P image) → LeavesOnly moment images_since old old P
   started old P here = record { later = omega arith; each = here; before = λ t image le since. inl since }
 
-  -- one call more, whose images have P
+  -- another call, whose images have P
   pub goes_on : (old mid new : D) (disk : DiskState) (P : List ℕ → Type 0) → LeavesOnly moment images_since old mid P
       → Elapses moment images_since mid new disk → ((image : List ℕ) → IsImage disk image → P image)
       → LeavesOnly moment images_since old new P

@@ -1,4 +1,4 @@
--- How a file is opened. No mode shortens it, and one alone makes it.
+-- How a file is opened. No mode shortens it, and only one makes it.
 use Rattle.std.specs.Prelude.{true}
 use Rattle.std.specs.Fs.{new_options, with_read, with_write, with_create}
 use Rattle.std.specs.declared.fs.options.OpenOptions.{OpenOptions}

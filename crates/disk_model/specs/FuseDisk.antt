@@ -27,7 +27,7 @@ failures_of failures f = min (failures f.disk + f.failures) (2 ^ 64 - 1)
 abbrev pub is_blown : {D : Type 0} → FuseDisk D → Bool
 is_blown f = blows_after f.fuse f.made
 
--- a blown call fails and does nothing, another one fails only where the disk does, and each is counted
+-- a blown call fails and does nothing, another one fails only if the disk does, and each is counted
 pub record Spends {D T E : Type 0} (failures : D → ℕ) (old new : FuseDisk D) (result : Result T E) : Type 0 where
   pub blown : is_blown old ≡ true → IsErr result × (disk_of new ≡ disk_of old)
   pub passed : is_blown old ≡ false → HasCause (failures (disk_of old)) (failures (disk_of new)) result

@@ -2,7 +2,7 @@
 use Rattle.std.specs.Prelude.{◌≡◌, ℕ, ◌+◌, ◌<◌, ◌≤◌, min, max, Bool, false, nat_le, nat_lt, ◌&&◌, List, [], ◌∷◌, ◌++◌, length, take, drop, slice_get}
 use Rattle.std.specs.List.{list_any}
 
--- What a read gives, the bytes at the last sync that succeeded, the ranges written since (where each begins, and
+-- What a read returns, the bytes at the last sync that succeeded, the ranges written since (the offset of each, and
 -- how many bytes it has), and the least and the greatest length since.
 pub record DiskState : Type 0 where
   pub contents : List ℕ
@@ -45,7 +45,7 @@ written_at at bytes disk = record (after_write at (length bytes) disk) { content
 abbrev pub cut_to : ℕ → DiskState → DiskState
 cut_to n disk = record (after_cut n disk) { contents = take n disk.contents }
 
--- after a sync that succeeds: what a read gives is the only image
+-- after a sync that succeeds: what a read returns is the only image
 abbrev pub settled : List ℕ → DiskState
 settled contents = disk_state contents contents [] (length contents) (length contents)
 
@@ -56,6 +56,6 @@ pub record IsWithin (disk bound : DiskState) : Type 0 where
   pub least : bound.least ≤ disk.least
   pub greatest : disk.greatest ≤ bound.greatest
 
--- the contents are the only image, and a write changes its range alone
+-- the contents are the only image, and a write changes only its range
 abbrev pub IsSettled : DiskState → Type 0
 IsSettled disk = IsWithin disk (settled disk.contents)

@@ -17,7 +17,7 @@ pub record IsShortened (to : ℕ) (old image : List ℕ) : Type 0 where
   pub no_shorter : to ≤ length image
   pub front : image ≡ take (length image) old
 
--- each image begins with these n bytes, and goes on to do so under writes behind them
+-- each image begins with these n bytes, and goes on to do so under writes after them
 pub record KeepsFront (n : ℕ) (front : List ℕ) (disk : DiskState) : Type 0 where
   pub long : n ≤ disk.least
   pub unwritten : (k : ℕ) → k < n → is_written disk.written k ≡ false
@@ -50,7 +50,7 @@ settled_image disk contents image within is =
     let long : length image ≡ length contents = omega (arith, only.no_shorter, only.no_longer) in
     same_number_lists image contents long (λ k below. same_byte image contents k (only.kept k below refl))
 
--- a range more, which has no such position
+-- another range, which doesn't have this position
 pub unwritten : (ranges : List (ℕ × ℕ)) (at n k : ℕ) → is_written ranges k ≡ false → (k < at) ⊎ (at + n ≤ k) → is_written (ranges ++ (at, n) ∷ []) k ≡ false
 unwritten [] at n k none away = grind (arith, nat_tests)
 unwritten (range ∷ ranges) at n k none away = grind (arith, unwritten ranges at n k)
@@ -70,7 +70,7 @@ torn_same at n contents image same = record {
   outside = λ k below away. ap (λ (bytes : List ℕ). slice_get bytes k) same;
 }
 
--- its parts: what stood before the range, anything, and what stood behind it
+-- its parts: what stood before the range, anything, and what stood after the range
 pub torn_front : (old image : List ℕ) (at n : ℕ) → at ≤ length old → IsTorn at n old image → take at image ≡ take at old
 torn_front old image at n room torn =
     let long : at ≤ length image = omega (arith, room, torn.no_shorter) in
@@ -105,7 +105,7 @@ settled_front n disk within le = record {
   size = omega (arith, le, ap length within.synced);
 }
 
--- a write behind the front keeps it
+-- a write after the front keeps the front
 pub keeps_front : (n : ℕ) (front : List ℕ) (disk new : DiskState) (at m : ℕ) → KeepsFront n front disk → IsWithin new (after_write at m disk) → n ≤ at → KeepsFront n front new
 keeps_front n front disk new at m keeps wrote le = record {
   long = omega (arith, keeps.long, wrote.least);

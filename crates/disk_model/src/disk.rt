@@ -14,9 +14,9 @@ pub(crate) const MAX_LENGTH: u64 = (1 << 63) - 1;
 #[error("the disk failed")]
 pub struct DiskFault;
 
-/// A disk. What it says of contents and images holds where it is honest; that a fault has a cause holds always.
+/// A disk. What it says of contents and images holds if it is honest; that a fault has a cause holds always.
 pub trait Disk {
-    /// What a read gives, and what bounds the images that a stop may leave now.
+    /// What a read returns, and what bounds the images that a stop may leave now.
     ghost state: { Self → DiskState };
 
     ghost is_honest: { Self → Type 0 };

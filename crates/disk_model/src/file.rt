@@ -1,4 +1,4 @@
-//! A file of the system. That it is honest is a premise, which no clause can give.
+//! A file of the system. That it is honest is a premise: no contract can give it.
 ghost use Rattle.std.specs.Prelude.{◌≡◌, [], IfOk};
 ghost use Rattle.disk_model.specs.Image.{settled};
 
@@ -10,7 +10,7 @@ use std::rt::Files;
 /// How a file is opened. None of them makes it shorter.
 #[derive(Clone, Copy, Debug, PartialEq, Eq)]
 pub enum FileMode {
-    /// To read and to write; an empty file is made where there is none.
+    /// To read and to write; an empty file is made if there is none.
     Create,
     /// To read and to write.
     ReadWrite,
@@ -43,7 +43,7 @@ impl FileMode {
 impl FileDisk {
     ghost use Rattle.disk_model.specs.FileDisk.{failures_of};
 
-    /// Opens the file. It isn't made where the mode doesn't say so.
+    /// Opens the file, which is made only if the mode says so.
     pub fn open<R: Files<File = File>>(
         rt: &R,
         path: &str,

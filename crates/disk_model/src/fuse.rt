@@ -25,7 +25,7 @@ impl<D: Disk> FuseDisk<D> {
     ghost use Rattle.disk_model.specs.Fuse.{blows_after};
     ghost use Rattle.disk_model.specs.FuseDisk.{disk_of, fuse_of, calls_made, own_failures};
 
-    /// Every call after so many fails and does nothing.
+    /// Every call after the first `calls` fails and does nothing.
     pub fn stop_after(disk: D, calls: u64) -> FuseDisk<D>
         ensures disk { disk_of result ≡ disk }
         ensures fuse { fuse_of result ≡ Fuse.StopAfter calls }
@@ -69,7 +69,7 @@ impl<D: Disk> FuseDisk<D> {
     }
 }
 
-/// Counts a call, and fails where the fuse blows.
+/// Counts a call, and fails if the fuse blows.
 fn spend(fuse: &Fuse, made: &mut u64, failures: &mut u64) -> Result<(), DiskFault>
     ensures blown { IsErr result ↔ IsTrue (blows_after fuse.now made.old) }
     ensures made { made.new ≡ min (made.old + 1) (2 ^ 64 - 1) }

@@ -6,7 +6,7 @@ ghost use Rattle.disk_model.specs.Torn.{IsTorn, IsShortened, KeepsFront};
 
 use crate::Disk;
 
-/// A bound has every image of what lies within it, and what lies within that too.
+/// A bound has every image of a disk state within it, and every image of a state within that one too.
 pub fn bounds_have_every_image()
     ensures image { (disk bound : DiskState) (image : List ℕ)
         → IsWithin disk bound → IsImage disk image → IsImage bound image }
@@ -30,7 +30,7 @@ pub fn calls_keep_images()
         → IsImage disk image → to ≤ length image → IsImage (after_cut to disk) (take to image) }
 {}
 
-/// A write that wasn't synced leaves what stood before its range and behind it.
+/// A write that wasn't synced leaves what stood before its range and after it.
 pub fn torn_writes_keep_the_rest()
     ensures torn { (disk : DiskState) (image : List ℕ) (at n : ℕ)
         → IsSettled disk → IsImage (after_write at n disk) image → IsTorn at n disk.contents image }
@@ -47,7 +47,7 @@ pub fn unsynced_cuts_leave_a_front()
         → IsShortened to disk.contents image }
 {}
 
-/// Writes behind a front leave it in every image. A settled disk has its contents in front, as far as one likes.
+/// Writes after a front leave it in every image. A settled disk has its contents in front, as far as one likes.
 pub fn writes_behind_keep_the_front()
     ensures settled { (n : ℕ) (disk : DiskState)
         → IsSettled disk → n ≤ length disk.contents

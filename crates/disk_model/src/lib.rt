@@ -1,9 +1,9 @@
-//! Disks: what a read gives, and what a stop may leave.
+//! Disks: what a read returns, and what a stop may leave.
 //!
 //! `Disk` says what an honest disk promises of its contents and of its images, which are what a stop at this moment
-//! may leave, and keeps a clock, so that a caller can speak of every image since a moment. `MemDisk` proves these
-//! promises and tells whether bytes are an image; `FuseDisk` makes chosen calls of another disk fail; `FileDisk` is
-//! a file of the system, or any other raw file.
+//! may leave. A disk keeps a clock, so that a caller can speak of every image since a moment. `MemDisk` proves
+//! these promises and reports whether bytes are an image; `FuseDisk` makes chosen calls of another disk fail;
+//! `FileDisk` is a file of the system, or any other raw file.
 //!
 //! Start at `specs/Image.antt`, which says what an image is, and go on to `specs/Clock.antt`.
 #![tactic(auto)]

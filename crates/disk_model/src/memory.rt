@@ -10,7 +10,7 @@ use std::alloc::Global;
 /// Memory was refused.
 pub use std::alloc::AllocError as Memory;
 
-/// A call that succeeded and that the images depend on.
+/// A call that succeeded and on which the images depend.
 #[derive(Drop)]
 pub enum Call {
     Write(u64, Vec<u8>),
@@ -18,7 +18,7 @@ pub enum Call {
     Sync,
 }
 
-/// A disk in memory. It is honest always, and fails where memory is refused: for the bytes, or for the record of the
+/// A disk in memory. It is honest always, and fails if memory is refused: for the bytes, or for the record of the
 /// calls.
 #[derive(Drop)]
 pub struct MemDisk {
@@ -57,7 +57,7 @@ impl MemDisk {
         })
     }
 
-    /// What a read gives.
+    /// What a read returns.
     pub fn contents(&self) -> &[u8]
         ensures { result.now ≡ (state_of self.now).contents }
     {

@@ -7,7 +7,7 @@ use crate::disk::{MAX_LENGTH, fail};
 use crate::{Disk, DiskFault};
 use std::fs::File;
 
-/// A file of the system, as its calls are documented. What it says of contents and images holds where it is honest.
+/// A file of the system, as its calls are documented. What it says of contents and images holds if it is honest.
 pub trait RawFile {
     ghost state: { Self → DiskState };
 
@@ -25,7 +25,7 @@ pub trait RawFile {
             → Elapses moment images_since self.old self.new (state self.old) }
         ensures honest { is_honest self.old ↔ is_honest self.new };
 
-    /// Reads into a front of the buffer, and says how long it is.
+    /// Reads into a front of the buffer, and returns how long the front is.
     fn read_some(&mut self, at: u64, buffer: &mut [u8]) -> Result<usize, DiskFault>
         ensures count { IfOk result (λ n. n ≤ length buffer.old) }
         ensures read { IfOk result (λ n. is_honest self.old
@@ -35,7 +35,7 @@ pub trait RawFile {
             → Elapses moment images_since self.old self.new (state self.old) }
         ensures honest { is_honest self.old ↔ is_honest self.new };
 
-    /// Writes a front of the bytes, and says how long it is. After a fault any of them may be written.
+    /// Writes a front of the bytes, and returns how long the front is. After a fault any of the bytes may be written.
     fn write_some(&mut self, at: u64, bytes: &[u8]) -> Result<usize, DiskFault>
         requires { is_honest self.old → at ≤ length (state self.old).contents }
         ensures count { IfOk result (λ n. n ≤ length bytes.now) }
@@ -118,7 +118,7 @@ fn read_all<F: RawFile>(file: &mut F, at: u64, buffer: &mut [u8]) -> Result<(), 
     Ok(())
 }
 
-/// A disk over a raw file; plainly a `FileDisk`, over a file of the system.
+/// A disk over a raw file. Without a parameter `FileDisk` is over a file of the system.
 #[derive(Drop)]
 pub struct FileDisk<F: RawFile = File> {
     file: F,

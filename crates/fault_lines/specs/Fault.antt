@@ -82,6 +82,6 @@ fault_of_run (RunFeed fault) = Feed fault
 fault_of_run RunWrite = Write
 fault_of_run RunTooMany = TooMany
 
--- what is made of a run's fault
+-- the fault that is made of a run's fault
 abbrev pub IsOfRun : RunFault → Fault → Type 0
 IsOfRun run fault = fault ≡ fault_of_run run

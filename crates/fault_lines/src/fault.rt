@@ -52,7 +52,7 @@ pub enum Fault {
     /// The address can't be listened to.
     #[error("the address can't be listened to")]
     Net,
-    /// A connection wasn't served for what the hub is.
+    /// A connection wasn't served, for this reason of the hub.
     #[error("{0}")]
     Serve(HubFault),
     /// The disk has failed while it recorded.
@@ -144,7 +144,7 @@ fn line_of(fault: Fault) -> Line
     }
 }
 
-/// A line of words alone.
+/// A line of words only.
 fn words(text: &[u8]) -> Line
     requires { length text.now ≤ 60 }
     ensures { result.text ≡ text.now ++ line_end }

@@ -162,7 +162,7 @@ skeletons_named : (names : List (ℕ × ℕ)) (streams : List NewStream)
 skeletons_named names [] = refl
 skeletons_named names (stream ∷ streams) = ap (λ b. is_skeleton stream && b) (skeletons_named names streams)
 
--- whether a stream is a Skeleton hangs on its headers
+-- whether a stream is a Skeleton depends on its headers
 abbrev pub begins_skeleton : List (List ℕ) → Bool
 begins_skeleton headers = is_fishead (first_of headers)
 
@@ -186,7 +186,7 @@ made_alike (Made from) streams now same =
     ∙ ap (λ n. if list_all is_skeleton streams || nat_le most_streams n then None else Some from)
     (length_by_headers now ∙ ap length same ∙ sym (length_by_headers streams))
 
--- no Skeleton is among them, or nothing else
+-- no Skeleton is among the streams, or nothing but Skeletons
 abbrev pub AreApart : List NewStream → Type 0
 AreApart streams = (list_all is_skeleton streams ≡ true) ⊎ AllByRecursion (λ stream. is_skeleton stream ≡ false) streams
 
@@ -231,7 +231,7 @@ apart_alike skeletons streams now same apart asked = by (apart asked)
     by (inr all) = inr (headers_by_none now
         (subst (AllByRecursion (λ headers. begins_skeleton headers ≡ false)) (sym same) (none_by_headers streams all)))
 
--- ---- the packets of those that are left out
+-- ---- the packets of the Skeletons that are left out
 none_others : (streams : List NewStream) → the_others (map (λ stream. true) streams) (map begun streams) ≡ []
 none_others [] = refl
 none_others (stream ∷ streams) = none_others streams

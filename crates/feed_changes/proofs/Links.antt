@@ -190,7 +190,7 @@ last_changes change [] link = refl
 last_changes change (l ∷ []) link = refl
 last_changes change (l ∷ k ∷ links) link = ap (λ r. l ∷ r) (last_changes change (k ∷ links) link)
 
--- a change that is none
+-- a change that changes nothing
 pub same_last : (recording : Recording) → change_last (λ link. link) recording ≡ recording
 same_last [] = refl
 same_last (l ∷ []) = refl

@@ -52,7 +52,7 @@ begun_still names change now with (b ∷ begun) [] all = absurd all
 begun_still names change now with (b ∷ begun) (stream ∷ stay) ((same, f), all) =
     ((with.serial stream ∙ same, with.front stream b.headers f), begun_still names change now with begun stay all)
 
--- what is before a link's streams stays right where its streams grow
+-- what stands before a link's streams stays right when its streams grow
 pub before_still : (names : List (ℕ × ℕ)) (change now : Stream → Stream) → GoesWith names change now → (skeletons : Skeletons)
     (left stay : List Stream) (earlier serials : List ℕ) (before : List Stream)
     → IsBefore skeletons left stay earlier serials before → IsBefore skeletons (map change left) (map change stay) earlier serials before

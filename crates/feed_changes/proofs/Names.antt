@@ -137,7 +137,7 @@ clash t f = absurd (true_false (sym t ∙ f))
     true_false : true ≡ false → ⊥
     true_false e = cc
 
--- a stream that isn't named has a serial that is given
+-- a stream that isn't named has a serial that is taken
 kept_given : (b : Bool) (k : Bool) (now serial : ℕ) → (b ≡ false → k ≡ true) → k ≡ false → b ≡ false → now ≡ serial
 kept_given b k now serial kept none new = clash (kept new) none
 

@@ -22,7 +22,7 @@ clash t f = absurd (true_false (sym t ∙ f))
     true_false : true ≡ false → ⊥
     true_false e = cc
 
--- ---- names tell serials apart
+-- ---- distinct serials have distinct names
 -- a serial's name is one of the names
 pub named_now : (names : List (ℕ × ℕ)) (serial now : ℕ) → name_of names serial ≡ Some now → list_any (nat_eq now) (values_of names) ≡ false
     → ⊥
@@ -86,7 +86,7 @@ has_name names serial e = by (name_of names serial) refl (is_some-lookup (nat_eq
     by None p q = clash q refl
     by (Some now) p q = record { now = now; is = p; named_is = ap (λ o. unwrap_or o serial) p }
 
--- the names of two serials are equal where these are
+-- the names of two serials are equal if the serials are
 pub eq_named : (names : List (ℕ × ℕ)) (s t now : ℕ) → IsDistinct nat_eq (values_of names) → list_any (nat_eq s) (keys_of names) ≡ true
     → name_of names t ≡ Some now →
     nat_eq (named names s) now ≡ nat_eq s t

@@ -41,7 +41,7 @@ use Rattle.feed_changes.proofs.Begins.{stays_of}
 after_push : (commands : List Command) (command : Command) → after [] (commands ++ command ∷ []) ≡ add (after [] commands) command
 after_push commands command = fold-append add [] commands (command ∷ [])
 
--- ---- where something is changed
+-- ---- if something is changed
 followed_of : (b : Bool) (state : ChangeState) (recording now : Recording) → b ≡ false → FollowsIf b state recording now
     → IsFollowed state recording now
 followed_of true state recording now e f = clash refl e
@@ -80,7 +80,7 @@ stay_push options commands given command now begin begin_now is now_is all those
     (ap (λ o. begins_of given ++ cons_option o []) (sym now_is) ∙ sym (begins_push given now))
     (zip_push (BeginsThose options) (begins_of commands) (begins_of given) begin begin_now all those))
 
--- these begin none
+-- these commands begin no link
 none_begin : (commands : List Command) (command : Command) → begin_of command ≡ None
     → begins_of commands ≡ begins_of (commands ++ command ∷ [])
 none_begin commands command is = sym (append-nil (begins_of commands)) ∙ ap (λ o. begins_of commands ++ cons_option o []) (sym is)
@@ -410,7 +410,7 @@ end_changed state serial commands given is h =
     (change_step state (with_end serial) (end_list now) (after [] commands) (after [] given) (end_serials now)
     (λ earlier. end_under state earlier serial now refl) (by_of state commands given is h))))
 
--- ---- where nothing is changed
+-- ---- if nothing is changed
 plain_begun : (skeletons : Skeletons) (renumber : Bool) (command : Command) → is_none_with skeletons renumber ≡ true → IsPlain command
     → IsBegunAs (record { renumber = renumber; skeletons = skeletons }) command
 plain_begun Kept renumber (BeginOf begin) e plain = ((λ asked. clash asked refl), plain)

@@ -1,4 +1,4 @@
--- What changed commands have to do with those that they were. Ours.
+-- How changed commands relate to those that they were. Ours.
 use Rattle.std.specs.Prelude.{◌≡◌, ℕ, Bool, true, false, nat_eq, None, List, [], ◌∷◌, ◌++◌, map, ⊤, ◌⊎◌}
 use Rattle.std.specs.List.{AllByRecursion, AllZip, flat_map, list_any}
 use Rattle.std.specs.Map.{values_of}
@@ -30,7 +30,7 @@ pub record ChangeState : Type 0 where
   pub options : ChangeOptions
   -- the serials that streams have now, in the order in which they were begun
   pub given : List ℕ
-  -- of the last link: what each serial is now
+  -- of the last link: each serial that a stream had, with the one that it has now
   pub names : List (ℕ × ℕ)
 
 -- ---- the recordings so far
@@ -41,7 +41,7 @@ stream_under names stream = record stream { serial = named names stream.serial }
 abbrev pub IsNoName : List (ℕ × ℕ) → ℕ → Type 0
 IsNoName names serial = list_any (nat_eq serial) (values_of names) ≡ false
 
--- the last link: its streams that stay are under their names
+-- the last link: the streams that stay are under their names
 pub record IsUnderNames (state : ChangeState) (earlier : List ℕ) (link now : List Stream) : Type 0 where
   pub stays : List Bool
   pub left_out : AllZip (HasReason state.options.skeletons) stays link
@@ -78,7 +78,7 @@ FollowsIf false state recording now = IsFollowed state recording now
 abbrev pub Follows : ChangeState → Recording → Recording → Type 0
 Follows state recording now = FollowsIf (is_none state.options) state recording now
 
--- These commands were given for those.
+-- These commands became those in `given`.
 pub record HasChanged (state : ChangeState) (commands given : List Command) : Type 0 where
   pub changed : IsChanged state.options (after [] commands) (after [] given)
   pub stay : BeginThose state.options commands given

@@ -1,4 +1,5 @@
--- A recording whose links are changed: some Skeletons are left out, others are made, and streams have other serials. Ours.
+-- A recording whose links are changed: some Skeletons are left out, others are made, and streams have other serials.
+-- Ours.
 use Rattle.std.specs.Prelude.{◌≡◌, ℕ, Bool, true, false, nat_eq, not, Some, List, [], ◌∷◌, ◌++◌, map, ⊤}
 use Rattle.std.specs.List.{AllZip, IsDistinct, flat_map}
 use Rattle.ogg_command.specs.declared.command.NewStream.{NewStream}
@@ -12,14 +13,14 @@ use Rattle.feed_changes.specs.Renumbered.{IsRenumberedStream, avoided, serials}
 use Rattle.feed_changes.specs.Said.{IsSaidBy, first_of}
 use Rattle.feed_changes.specs.Skeletons.{is_fishead, leaves_out}
 
--- the elements that stay, one answer for each
+-- the elements that stay; each has one answer
 abbrev pub those : {X : Type 0} → List Bool → List X → List X
 those [] xs = []
 those (stays ∷ more) [] = []
 those (true ∷ more) (x ∷ xs) = x ∷ those more xs
 those (false ∷ more) (x ∷ xs) = those more xs
 
--- those that don't
+-- the elements that don't stay
 abbrev pub the_others : {X : Type 0} → List Bool → List X → List X
 the_others stays xs = those (map not stays) xs
 
@@ -36,7 +37,7 @@ HasReason skeletons stays stream = stays ≡ false → IsLeftOut skeletons strea
 abbrev pub IsFrontOf : List (List ℕ) → Stream → Type 0
 IsFrontOf front stream = (more : List (List ℕ)) × (stream.packets ≡ front ++ more)
 
--- and the first of them is a fishead
+-- a stream's packets begin with these, and the first of them is a fishead
 abbrev pub IsSkeletonFront : List (List ℕ) → Stream → Type 0
 IsSkeletonFront front stream = IsFrontOf front stream × (is_fishead (first_of front) ≡ true)
 
@@ -50,8 +51,9 @@ pub record AreFronts (skeletons : List Stream) (said : List (List ℕ)) : Type 0
   pub each : AllZip IsSkeletonFront fronts skeletons
   pub said_is : said ≡ flat_map (λ front. front) fronts
 
--- A Skeleton that is made for the streams that stay, which have these serials now: it has another serial, and one that no
--- stream of an earlier link has. It says what packets say that those begin with that are left out.
+-- A Skeleton that is made for the streams that stay, which have these serials now. Its serial is none of these, nor
+-- that of a stream of an earlier link. The Skeleton says what the packets say with which the Skeletons begin that are
+-- left out.
 pub record IsMadeFor (from : ℕ) (left stay : List Stream) (earlier serials : List ℕ) (skeleton : Stream) : Type 0 where
   pub head : SkeletonHead
   pub streams : List NewStream
@@ -72,8 +74,8 @@ IsBefore LeftOut left stay earlier serials (skeleton ∷ more) = ⊥
 IsBefore (Made from) left stay earlier serials (skeleton ∷ []) = IsMadeFor from left stay earlier serials skeleton
 IsBefore (Made from) left stay earlier serials (skeleton ∷ next ∷ more) = ⊥
 
--- A link's streams but for Skeletons that are left out, in order, perhaps with a Skeleton before them. They have distinct
--- serials if they had.
+-- A link's streams in order, but for Skeletons that are left out, perhaps with a Skeleton before them. The serials are
+-- distinct if those of the link's streams were.
 pub record IsChangedLink (options : ChangeOptions) (earlier : List ℕ) (link now : List Stream) : Type 0 where
   pub stays : List Bool
   pub left_out : AllZip (HasReason options.skeletons) stays link

@@ -24,15 +24,15 @@ entry_with entry (Some serial) = Some (record entry { serial = serial })
 abbrev pub entries_named : List (ℕ × ℕ) → List Entry → List Entry
 entries_named names entries = filter_map (λ (entry : Entry). entry_with entry (name_of names entry.serial)) entries
 
--- these serials are named
+-- these serials have names
 abbrev pub AreNamed : List (ℕ × ℕ) → List ℕ → Type 0
 AreNamed names serials = AllByRecursion (λ serial. list_any (nat_eq serial) (keys_of names) ≡ true) serials
 
--- no others are
+-- no other serials have names
 abbrev pub AreOnlyOf : List (ℕ × ℕ) → List ℕ → Type 0
 AreOnlyOf names serials = AllByRecursion (λ serial. list_any (nat_eq serial) serials ≡ true) (keys_of names)
 
--- no serial is named that was given already, and one that wasn't is its own name
+-- the name isn't a serial that is taken already, and a serial that isn't taken is its own name
 pub record IsFreshName (given : List ℕ) (name : ℕ × ℕ) : Type 0 where
   pub free : list_any (nat_eq name.1) given ≡ false
   pub kept : list_any (nat_eq name.0) given ≡ false → name.1 ≡ name.0
@@ -46,11 +46,11 @@ abbrev pub serials_of : List NewStream → List ℕ
 serials_of streams = map (λ (stream : NewStream). stream.serial) streams
 
 -- ---- one stream after the other
--- This stream's serial is named, if it isn't given already.
+-- This stream's serial has a name, if it isn't taken already.
 abbrev pub IsKept : List ℕ → List (ℕ × ℕ) → ℕ → Type 0
 IsKept given names serial = list_any (nat_eq serial) given ≡ false → list_any (nat_eq serial) (keys_of names) ≡ true
 
--- each of these streams keeps its serial, and so the other way round
+-- each of these streams keeps its serial if it isn't taken, and each serial with a name is one of theirs
 pub record KeepsAll (given : List ℕ) (names : List (ℕ × ℕ)) (serials : List ℕ) : Type 0 where
   pub are : AreNames given names
   pub own : keys_of names ≡ values_of names
@@ -76,14 +76,14 @@ pub record Renames (given : List ℕ) (serial : ℕ) (old new : List (ℕ × ℕ
 abbrev pub is_had : List ℕ → List ℕ → ℕ → Bool
 is_had earlier serials serial = list_any (nat_eq serial) earlier || list_any (nat_eq serial) serials
 
--- it is the first from this one on that isn't among these, or if there is none, the first at all
+-- the serial is the first from this one on that isn't among these, or if there is none, the first of all
 pub record IsFirstFree (from : ℕ) (earlier serials : List ℕ) (serial : ℕ) : Type 0 where
   pub free : is_had earlier serials serial ≡ false
   pub first : (other : ℕ) → from ≤ other → other < serial → is_had earlier serials other ≡ true
   pub none : serial < from → (other : ℕ) → from ≤ other → other < 2 ^ 32 → is_had earlier serials other ≡ true
   pub least : serial < from → (other : ℕ) → other < serial → is_had earlier serials other ≡ true
 
--- whether there is one from this one on
+-- whether there is a free one from this one on, and which
 abbrev pub IsFreeFrom : ℕ → List ℕ → List ℕ → Option ℕ → Type 0
 IsFreeFrom from earlier serials None = (other : ℕ) → from ≤ other → other < 2 ^ 32 → is_had earlier serials other ≡ true
 IsFreeFrom from earlier serials (Some serial) =

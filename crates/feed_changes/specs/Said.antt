@@ -32,7 +32,7 @@ abbrev pub IsHeadIn : List ℕ → Option Fishead → Type 0
 IsHeadIn packet None = (fishead : Fishead) → IsFishead fishead → HoldsFishead packet fishead → is_head fishead ≡ false
 IsHeadIn packet (Some fishead) = HoldsFishead packet fishead × (is_head fishead ≡ true)
 
--- It says what the fishead says. Without one it presents its link from 0 seconds on, and knows no time of day.
+-- The head says what the fishead says. Without one it presents its link from 0 seconds on, and knows no time of day.
 abbrev pub head_of : ℕ → Option Fishead → SkeletonHead
 head_of serial None = record { serial = serial; presentation = (pos 0, pos 1000); base = (pos 0, pos 1000); utc = replicate 20 0 }
 head_of serial (Some fishead) =
@@ -45,7 +45,7 @@ pub record IsHeadSaid (said : List (List ℕ)) (head : SkeletonHead) : Type 0 wh
   pub is : head ≡ head_of head.serial found
 
 -- ---- of a stream
--- it is of the stream with this serial, and a `Begin` may have its media type and its rate
+-- the fisbone is of the stream with this serial, and a `Begin` may have its media type and its rate
 abbrev pub is_of : ℕ → Fisbone → Bool
 is_of serial fisbone =
     nat_eq fisbone.serial serial && (is_media_type fisbone.media && (is_positive fisbone.rate.0 && is_positive fisbone.rate.1))
@@ -59,7 +59,7 @@ pub record IsOf (serial : ℕ) (packet : List ℕ) (fisbone : Fisbone) : Type 0 
 abbrev pub IsSilent : ℕ → List ℕ → Type 0
 IsSilent serial packet = (fisbone : Fisbone) → IsFisbone fisbone → HoldsFisbone packet fisbone → is_of serial fisbone ≡ false
 
--- the fisbone that a packet is read as, if it is such a one
+-- the fisbone that a packet is read as, if it is such a fisbone
 abbrev pub IsOfIn : ℕ → List ℕ → Option Fisbone → Type 0
 IsOfIn serial packet None = IsSilent serial packet
 IsOfIn serial packet (Some fisbone) = IsOf serial packet fisbone
@@ -83,7 +83,7 @@ found_of found = (found.0.now, fisbone_of found.1)
 abbrev pub further : List NamedValue → List NamedValue
 further fields = filter (λ (field : NamedValue). not (is_content_type field.0)) fields
 
--- all of them, if a `Begin` may have them
+-- all of the fields, if a `Begin` may have them
 abbrev pub kept_fields : List NamedValue → List NamedValue
 kept_fields fields = if list_all is_field fields && nat_le (length fields) most_fields then fields else []
 
@@ -104,7 +104,7 @@ described stream =
       shift = shift_of (first_of stream.headers);
     }
 
--- a stream described as the packet says that is found, or as its first header does
+-- a stream, described as the packet says that is found, or as its first header says if none is found
 abbrev pub described_as : Option (List ℕ × Fisbone) → NewStream → NewStream
 described_as None stream = described stream
 described_as (Some (packet, fisbone)) stream =
@@ -119,7 +119,7 @@ described_as (Some (packet, fisbone)) stream =
       shift = fisbone.shift;
     }
 
--- the stream so described, with whatever serial it has now
+-- the stream, described in this way, with whatever serial it has now
 pub record IsDescribedBy (said : List (List ℕ)) (stream now : NewStream) : Type 0 where
   pub found : Option (List ℕ × Fisbone)
   pub finds : IsFoundIn stream.serial said found

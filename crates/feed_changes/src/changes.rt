@@ -16,14 +16,14 @@ use ogg_command::{Begin, Command, Listed, Memory, NewStream, Put, SkeletonHead};
 use std::alloc::{AllocError, Global};
 use std::marker::Model;
 
-/// What is changed, and what has to be known of the streams so far for that.
+/// What is changed, and what must be known for that of the streams so far.
 #[derive(Debug, Drop)]
 pub struct Changes {
     alloc: Global,
     options: ChangeOptions,
     // the serials that streams have now
     given: Serials,
-    // all serials below this one are given
+    // all serials below this one are taken
     low: u32,
     // of the last link: the serial that a stream had, and the one that it has now
     names: Vec<(u32, u32)>,
@@ -40,7 +40,7 @@ impl Model for Changes {
 impl Changes {
     ghost use Rattle.feed_changes.specs.Steps.{Begins, BeginsDescribed, BeginsPlain, Names, end_of, option_list, put_of};
 
-    /// No commands yet. It takes no memory.
+    /// No commands yet. No memory is taken.
     pub fn new(alloc: Global, options: ChangeOptions) -> Changes
         ensures changed { HasChanged result [] [] }
         ensures options { result.options ≡ options }
@@ -86,8 +86,8 @@ impl Changes {
         }))
     }
 
-    /// Begins these streams with a Skeleton, whose serial is the first free one from `from` on. It says what the Skeletons
-    /// say that have these packets.
+    /// Begins these streams with a Skeleton that says what the Skeletons with these packets say. The new Skeleton's
+    /// serial is the first free one from `from` on.
     fn begin_described(
         &mut self,
         from: u32,
@@ -122,7 +122,7 @@ impl Changes {
         }
     }
 
-    /// Packets of the last link's streams, if there are any.
+    /// The put with the packets that are of the last link's streams, if there are any.
     fn put(&self, put: Put) -> Result<Option<Command>, Memory>
         ensures { IfOk result (λ now. now ≡ put_of (entries_named self.now.names put.entries)) }
     {
@@ -145,7 +145,7 @@ impl Changes {
         }
     }
 
-    /// The command that is given for this one, if any is. After `Memory` change no command any more.
+    /// The command that this one becomes, if it isn't left out. After `Memory` change no further command.
     pub fn change(&mut self, command: Command) -> Result<Option<Command>, Memory>
         ensures changed { IfOk result (λ now. (commands given : List CommandOf) → HasChanged self.old commands given → IsPlain command
             → HasChanged self.new (commands ++ command ∷ []) (given ++ option_list now)) }
@@ -168,8 +168,8 @@ impl Changes {
         }
     }
 
-    /// The commands that are given for these. After `Memory`, which comes only if something is changed, change no command
-    /// any more.
+    /// The commands that these become. After `Memory`, which comes only if something is changed, change no further
+    /// command.
     pub fn apply(&mut self, commands: Vec<Command>) -> Result<Vec<Command>, Memory>
         ensures changed { IfOk result (λ now. (before given : List CommandOf) → HasChanged self.old before given
             → AllByRecursion IsPlain commands.items → HasChanged self.new (before ++ commands.items) (given ++ now.items)) }

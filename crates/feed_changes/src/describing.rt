@@ -13,8 +13,8 @@ use ogg_feed::{Codec, rate_of, shift_of};
 use skeleton3::Fisbone;
 use std::alloc::Global;
 
-/// The head of a Skeleton with this serial, with the times that the Skeletons say that have these packets. If they say none, its
-/// link is presented from 0 seconds on, and no time of day is known.
+/// The head of a Skeleton with this serial, with the times that the Skeletons with these packets say. If they say
+/// none, its link is presented from 0 seconds on, and no time of day is known.
 pub fn head_said(said: &[Listed<u8>], serial: u32) -> SkeletonHead
     ensures said { IsHeadSaid said.now result }
     ensures serial { result.serial ≡ serial }
@@ -59,7 +59,7 @@ fn described(alloc: Global, stream: NewStream) -> Result<NewStream, Memory>
     })
 }
 
-/// The stream described as this packet says, which is read as this fisbone.
+/// The stream, described as this packet says, which is read as this fisbone.
 fn described_as(
     alloc: Global,
     packet: &[u8],
@@ -82,7 +82,7 @@ fn described_as(
     })
 }
 
-/// The stream described as the Skeletons say that have these packets, or as its first header says if they don't.
+/// The stream, described as the Skeletons with these packets say, or as its first header says if they don't.
 fn described_by(alloc: Global, said: &[Listed<u8>], stream: NewStream) -> Result<NewStream, Memory>
     ensures described { IfOk result (λ now. IsDescribedBy said.now stream now) }
     ensures serial { IfOk result (λ now. now.serial ≡ stream.serial) }
@@ -93,7 +93,7 @@ fn described_by(alloc: Global, said: &[Listed<u8>], stream: NewStream) -> Result
     }
 }
 
-/// The streams under the serials that they have now, so described.
+/// The streams under the serials that they have now, described in this way.
 pub fn all_described(
     alloc: Global,
     said: &[Listed<u8>],

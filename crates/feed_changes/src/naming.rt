@@ -45,7 +45,7 @@ fn free_from(given: &Serials, names: &[(u32, u32)], from: u32) -> Option<u32>
     None
 }
 
-/// The first serial from `from` on that no stream has now, or if there is none, the first at all.
+/// The first serial from `from` on that no stream has now, or if there is none, the first of all.
 pub fn free_serial(given: &Serials, names: &[(u32, u32)], from: u32) -> Result<u32, Memory>
     ensures { IfOk result (λ serial. IsFirstFree from given.now.listed (values_of names.now) serial) }
 {
@@ -53,7 +53,7 @@ pub fn free_serial(given: &Serials, names: &[(u32, u32)], from: u32) -> Result<u
         Some(free) => Ok(free),
         None => match free_from(given, names, 0) {
             Some(free) => Ok(free),
-            // All serials are given.
+            // All serials are taken.
             None => Err(AllocError),
         },
     }
@@ -88,7 +88,8 @@ fn keep_all(
     Ok(())
 }
 
-/// Names the stream with this serial, if it isn't named yet, by a free one from `low` on, which goes on to it.
+/// Names the stream with this serial, if it isn't named yet, by the first free serial from `low` on. `low` becomes
+/// that serial.
 fn rename(
     given: &Serials,
     names: &mut Vec<(u32, u32)>,
@@ -106,7 +107,7 @@ fn rename(
             names.push((serial, free))?;
             Ok(())
         }
-        // All serials are given.
+        // All serials are taken.
         None => Err(AllocError),
     }
 }

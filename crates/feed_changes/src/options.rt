@@ -7,19 +7,19 @@ ghost use Rattle.feed_changes.specs.Options.{is_none, no_options};
 pub enum Skeletons {
     /// A Skeleton of the input stays as it is.
     Kept,
-    /// It is left out, if its link has another stream.
+    /// A Skeleton is left out if its link has another stream.
     LeftOut,
-    /// It is left out likewise, and each link of other streams begins with one made anew, if a `Begin` may have one
-    /// stream more. Its serial is the first from this one on that no stream has had and none of the link has. It says of
-    /// the link and of each stream what the one says that is left out, if that keeps the rules of a `Begin`, and else what
-    /// the stream's first packet does.
+    /// Skeletons are left out likewise, and each link of other streams begins with a new one, if a `Begin` may have
+    /// one stream more. The new Skeleton's serial is the first from this one on that no stream has had and none of the
+    /// link has. The new Skeleton says of the link and of each stream what the one says that is left out, if that
+    /// keeps the rules of a `Begin`, and otherwise what the stream's first packet says.
     Made(u32),
 }
 
 /// What is changed.
 #[derive(Clone, Copy, Debug, PartialEq, Eq)]
 pub struct ChangeOptions {
-    /// Whether a stream whose serial a stream of an earlier link has gets another one.
+    /// Whether a stream gets another serial if a stream of an earlier link has its serial.
     pub renumber: bool,
     /// What becomes of Skeletons.
     pub skeletons: Skeletons,

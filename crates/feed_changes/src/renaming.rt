@@ -40,7 +40,7 @@ pub fn streams_named(
     Ok(now)
 }
 
-/// The packets under the serials that their streams have now, without those of none of the streams.
+/// The packets under the serials that their streams have now, without the packets that are of none of the streams.
 pub fn entries_named(
     alloc: Global,
     names: &[(u32, u32)],
@@ -62,7 +62,7 @@ pub fn entries_named(
     Ok(now)
 }
 
-/// Adds the serials of these streams to those that are given.
+/// Adds the serials of these streams to those that are taken.
 pub fn give_all(given: &mut Serials, streams: &[NewStream]) -> Result<(), Memory>
     ensures { OnOk result (given.new.listed ≡ given.old.listed ++ serials_of streams.now) }
 {

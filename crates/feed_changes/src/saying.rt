@@ -1,22 +1,16 @@
-//! What Skeletons that are left out say, where a `Begin` may have it.
+//! What the Skeletons that are left out say, if a `Begin` may have it.
 ghost use Rattle.std.specs.Prelude.{◌≡◌, ◌∷◌, [], Some, None, IfOk, if◌then◌else◌, option_map, unwrap_or, drop};
 ghost use Rattle.chain_rules.specs.Decision.{is_positive};
-ghost use Rattle.skeleton3.specs.Fields.{fields_of, is_content_type, is_field};
+ghost use Rattle.skeleton3.specs.Fields.{fields_of, is_field};
 ghost use Rattle.skeleton3.specs.Fisbone.{fisbone_of};
 ghost use Rattle.feed_changes.specs.Said.{IsFoundIn, IsHeadIn, IsOfIn, fields_said, found_of, further, is_head, is_of, kept_fields};
 
 use ogg_command::{Listed, Memory};
-use skeleton3::{Field, Fisbone, Fishead, MessageFields, is_field, is_media_type};
+use skeleton3::{
+    Field, Fisbone, Fishead, LONGEST_NAME, LONGEST_VALUE, MOST_FIELDS, MessageFields,
+    is_content_type, is_field, is_media_type,
+};
 use std::alloc::Global;
-
-/// Message fields of a stream.
-const MOST_FIELDS: usize = 16;
-
-/// Bytes of a message field's name.
-const LONGEST_NAME: usize = 64;
-
-/// Bytes of a message field's value.
-const LONGEST_VALUE: usize = 255;
 
 /// Whether a number is above 0.
 fn is_positive(number: i64) -> bool
@@ -56,7 +50,8 @@ fn is_of(fisbone: &Fisbone<'_>, serial: u32) -> bool
             && (is_positive(fisbone.rate.0) && is_positive(fisbone.rate.1)))
 }
 
-/// The fisbone that this packet is, if it is such a one.
+/// The fisbone that this packet is, if it is that of the stream with this serial and a `Begin` may have its media type
+/// and its rate.
 fn of_in(packet: &[u8], serial: u32) -> Option<Fisbone<'_>>
     ensures { IsOfIn serial packet.now (option_map fisbone_of result) }
 {
@@ -71,7 +66,7 @@ fn of_in(packet: &[u8], serial: u32) -> Option<Fisbone<'_>>
     }
 }
 
-/// The first of the packets that is such a fisbone, and what it is read as.
+/// The first of the packets that is such a fisbone of the stream, and what it is read as.
 pub fn found_in(said: &[Listed<u8>], serial: u32) -> Option<(&[u8], Fisbone<'_>)>
     ensures { IsFoundIn serial said.now (option_map found_of result) }
 {
@@ -82,13 +77,6 @@ pub fn found_in(said: &[Listed<u8>], serial: u32) -> Option<(&[u8], Fisbone<'_>)
         }
     }
     None
-}
-
-/// Whether a message field names a media type.
-fn is_content_type(name: &[u8]) -> bool
-    ensures { result ≡ is_content_type name.now }
-{
-    name.eq_ignore_ascii_case(b"content-type")
 }
 
 /// A copy of a message field, if a `Begin` may have it.

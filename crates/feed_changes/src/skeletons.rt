@@ -96,7 +96,7 @@ pub fn staying(
     parted(alloc, streams)
 }
 
-/// The serial to begin with in the search for that of the Skeleton of these streams, if one is made for them.
+/// The serial from which the search for a free one begins, if a Skeleton is made for these streams.
 pub fn made_for(skeletons: Skeletons, streams: &[NewStream]) -> Option<u32>
     ensures { result ≡ made_for skeletons streams.now }
 {

@@ -17,7 +17,7 @@ module _ {S : Type 0} (answers : S → Record → Reply → List ℕ → S → T
   abbrev pub All : S → List Record → List Reply → S → Type 0
   All before records replies after = (bytes : List ℕ) × AnswersAll answers before records replies bytes after
 
-  -- one record more
+  -- one more record
   one_more : (before mid after : S) (records : List Record) (replies : List Reply) (bytes own : List ℕ) (given : Record) (reply : Reply)
       → AnswersAll answers before records replies bytes mid → answers mid given reply own after
       → AnswersAll answers before (records ++ given ∷ []) (replies ++ reply ∷ []) (bytes ++ own) after

@@ -67,7 +67,7 @@ pub record HasWaiting {D : Type 0} (state : D → DiskState) (links : Links) (wa
   pub chain : recorder.chain ≡ chain_state_of (links_behind links waiting)
   pub waits : staged state recorder ≡ bytes_of_commands links waiting
 
--- the command that a reply says was accepted; one that met a disk fault was
+-- the command that a reply says was accepted; a command that met a disk fault counts as accepted
 abbrev pub accepted_by : Record → Reply → List Command
 accepted_by (CommandOf command) (HeldReply count) = command ∷ []
 accepted_by (CommandOf command) (KeptReply kept) = command ∷ []
@@ -84,8 +84,8 @@ module _ {D : Type 0} (is_honest : D → Type 0) (state : D → DiskState) (mome
   abbrev pub Stands : Progress D → Type 0
   Stands before = is_honest before.now.file.disk × IsIn is_honest state before.first before.world before.now
 
-  -- Answered in turn, records are steps of the history: commands and flushes, which lead from the one world and disk to
-  -- the other. What they accept and what they acknowledge are the commands that the replies say.
+  -- Records that were answered in turn are steps of the history: commands and flushes, which lead from the one world
+  -- and disk to the other. The replies say which commands these steps accept, and which ones they acknowledge.
   pub record HasSteps (before after : Progress D) (records : List Record) (replies : List Reply) : Type 0 where
     pub steps : List (Step Command × D)
     pub are_commands : AreCommands steps

@@ -1,9 +1,9 @@
 //! A feed is recorded: commands in, a file of links on a disk, reply lines out (RFC 3533).
 //!
-//! `record_feed` reads one record after the other and has a `Recorder` run it. Each command is answered by a
-//! line, which is written after the command is on the disk, or waits for its group, and before the next
-//! record is read. A refusal ends nothing, and after a disk fault each further command is refused. What
-//! waits is kept at the feed's end.
+//! `record_feed` reads one record after the other and has a `Recorder` run it. Each command is answered by a line.
+//! The line is written before the next record is read, once the command is on the disk or waits for its group. A
+//! refusal ends nothing, and after a disk fault each further command is refused. What waits is kept at the feed's
+//! end.
 //!
 //! Start at `specs/Recorded.antt`, which says what a run has recorded at each moment and at its end;
 //! `specs/Running.antt` of ogg_recorder says how each record is answered.

@@ -19,19 +19,19 @@ use std::io::{Read, Write, sink};
 /// Runs the records of a feed. The pages of a command go to the recorder's disk, and then the line of its reply to
 /// `replies`, before the next record is read. A flush keeps what waits; it isn't counted.
 ///
-/// At the end of the feed it flushes what waits, and gives the counts, with the length of the committed bytes. It
+/// At the end of the feed it flushes what waits, and returns the counts, with the length of the committed bytes. It
 /// stops at the first fault. `Feed` is a fault of the feed, and `TooMany` says that a record follows 4,294,967,295
-/// others, which isn't run: in both cases what waits is flushed. `Write` says that `replies` has failed: nothing is
-/// flushed then, and what waits still waits. A disk fault ends nothing: it is the reply of the command that met
-/// it, and each command after it is refused as `Failed`. What waited is lost then, and no reply says that it is kept.
+/// others, and isn't run: in both cases what waits is flushed. `Write` says that `replies` has failed: nothing is
+/// flushed then, and what waits still waits. A disk fault ends nothing: it is the reply of the command that met it,
+/// and each command after it is refused as `Failed`. What waited is lost then, and no reply says that it is kept.
 pub fn record_feed<D: Disk, R: Read + Drop, W: Write>(
     alloc: Global,
     reader: &mut R,
     replies: &mut W,
     recorder: &mut Recorder<D>,
 ) -> Result<Tally, RunFault>
-    // What was read, run and written, on any disk. Of an honest one also what was recorded: the bytes, and in each
-    // history in which the recorder stands what every image showed meanwhile.
+    // What was read, run and written, on any disk. For an honest disk it says also what was recorded: the bytes, and
+    // what every image showed meanwhile in each history in which the recorder stands.
     ensures ok { (first : Recording) (w : World CommandOf)
         → IfOk result (λ tally. (after : Progress D) × (after.now ≡ recorder.new)
         × (run : RunsWhole (Answers D.is_honest D.state D.moment D.images_since D.failures) waiting_in

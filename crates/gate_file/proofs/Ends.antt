@@ -1,4 +1,4 @@
--- Where a walk over pages ends.
+-- The end of a walk over pages.
 use Rattle.std.proofs.Common.{min, ◌≡◌, ◌≢◌, Bool, true, false, ℕ, ◌-◌, ◌<◌, List, [], ◌∷◌, ◌++◌, length, take, drop, get_or, refl, sym, ◌∙◌, ap, subst, arith, length-append, Ok, Err}
 use Rattle.std.specs.Prelude.{not, ⊤}
 use Rattle.std.proofs.lemmas.Grind.{common_steps}

@@ -3,10 +3,10 @@ use Rattle.std.proofs.Common.{◌≡◌, ℕ, ◌+◌, List, [], ◌∷◌, ◌+
 use Rattle.std.specs.List.{AllByRecursion}
 use Rattle.ogg_page.specs.Page.{Page as PageValue, IsPage, page_bytes, page_size, bytes_of_pages}
 use Rattle.ogg_page.specs.PageLaws.{pages_both, bytes_both, length-page_bytes}
-use Rattle.ogg_page.specs.Window.{LentAt, KeepsSource}
+use Rattle.ogg_page.specs.Window.{LentAt}
 use Rattle.gate_file.specs.Visiting.{AreSeen}
 
--- the pages so far, what is left behind them, and how far that is
+-- the pages so far, what is left after them, and how far that is
 pub record PassedTo {V : Type 0} (sees : V → LentAt → V → Type 0) (old now : V) (from : ℕ) (bytes : List ℕ) (at : ℕ) (left : List ℕ) : Type 0 where
   pub pages : List PageValue
   pub are_pages : AllByRecursion IsPage pages
@@ -17,7 +17,7 @@ pub record PassedTo {V : Type 0} (sees : V → LentAt → V → Type 0) (old now
 pub passed_nothing : {V : Type 0} (sees : V → LentAt → V → Type 0) (old : V) (from : ℕ) (bytes : List ℕ) → PassedTo sees old old from bytes from bytes
 passed_nothing sees old from bytes = record { pages = []; are_pages = tt; joined = refl; seen = refl; place = omega arith }
 
--- one more was looked at
+-- the visitor was shown one more
 seen_more : {V : Type 0} (sees : V → LentAt → V → Type 0) (old now new : V) (from : ℕ) (pages : List PageValue) (page : PageValue) (at : ℕ)
     → at ≡ from + length (bytes_of_pages pages) → AreSeen sees old from pages now → sees now (at, page) new → AreSeen sees old from (pages ++ page ∷ []) new
 seen_more {V} sees old now new from [] page at place seen one =
@@ -40,14 +40,3 @@ passed_more sees old now new from bytes at next left more page so_far is split s
       seen = seen_more sees old now new from so_far.pages page at so_far.place so_far.seen one;
       place = omega (arith, size, so_far.place, ap length joined, length-append (bytes_of_pages so_far.pages) (page_bytes page), length-page_bytes page);
     }
-
--- reads that follow reads
-pub keeps_both : {S : Type 0} (bytes : S → List ℕ) (honest : S → Type 0) (size : S → ℕ) (only : S → S → Type 0) (old mid new : S)
-    → ((first second third : S) → only first second → only second third → only first third)
-    → KeepsSource bytes honest size only old mid → KeepsSource bytes honest size only mid new → KeepsSource bytes honest size only old new
-keeps_both bytes honest size only old mid new reads_on a b = record {
-  bytes_same = λ sure. b.bytes_same (a.honest_same.0 sure) ∙ a.bytes_same sure;
-  honest_same = ((λ h. b.honest_same.0 (a.honest_same.0 h)), (λ h. a.honest_same.1 (b.honest_same.1 h)));
-  size_same = b.size_same ∙ a.size_same;
-  only = reads_on old mid new a.only b.only;
-}

@@ -1,4 +1,4 @@
--- Writes behind a closed byte.
+-- Writes after a closed byte.
 use Rattle.std.proofs.Common.{◌≡◌, ◌≢◌, inl, ℕ, ◌+◌, ◌-◌, ◌<◌, List, [], ◌∷◌, ◌++◌, length, take, drop, refl, sym, ◌∙◌, ap, subst, arith, append_assoc, length-append, take-append-drop}
 use Rattle.std.proofs.lemmas.List.{take_at}
 use Rattle.std.proofs.Math.Seq.{drop-append-add}
@@ -10,7 +10,7 @@ use Rattle.gate_file.proofs.Seal.{stood}
 use Rattle.gate_file.proofs.Crash.{IsGrown, at_the_gate, grown, opened as opened_there}
 use Rattle.gate_file.specs.Gate.{StandsAt, Stages, StagesWhole, LiesBehind, IsStaged, IsStagedWhole, IsReadyAt, HasStaged, HasGrown, IsAppend, pages_in, staged_in}
 
--- a write behind a front
+-- a write after a front
 pub behind_front : (front rest bytes : List ℕ) (at : ℕ) → at ≡ length front → overwritten (front ++ rest) at bytes ≡ front ++ (bytes ++ drop (length bytes) rest)
 behind_front front rest bytes at is =
     let front_is : take at (front ++ rest) ≡ front = take_at front rest at (sym is) in
@@ -86,7 +86,7 @@ pub none_left : (all : List ℕ) (count : ℕ) → count ≡ length all → coun
 none_left [] count size none = refl
 none_left (x ∷ all) count size none = absurd (omega (arith, size, none))
 
--- pages more
+-- further pages
 pub stages_more : (b all bytes : List ℕ) (disk : DiskState) → ArePages all → ArePages bytes → LiesBehind b (all ++ bytes) disk → Stages b (all ++ bytes) disk
 stages_more b all bytes disk p q s = record { gate = s.gate; tail = s.tail; contents = s.contents; closed = s.closed; pages = s.pages; more = pages_both all bytes p q; keeps = s.keeps }
 
@@ -118,7 +118,7 @@ stages_last b all bytes disk p c s =
 pub all_image : (b staged : List ℕ) (disk : DiskState) (image : List ℕ) → (s : StagesWhole b staged disk) → IsImage disk image → CommitsToEither b staged image
 all_image b staged disk image s is = inl (closed_image b image s.gate (length b + 1) s.pages s.closed (front_image _ _ disk image s.keeps is))
 
--- the pages and the byte behind them, as one append has them
+-- the pages and the byte after them, as one append has them
 pub as_append : (staged : List ℕ) → ArePages staged → staged ≢ [] → IsAppend (staged ++ 0 ∷ []) × (pages_in (staged ++ 0 ∷ []) ≡ staged)
 as_append staged pages some =
     let same : pages_in (staged ++ 0 ∷ []) ≡ staged = take_at staged (0 ∷ []) (length (staged ++ 0 ∷ []) - 1) (omega (arith, length-append staged (0 ∷ []))) in

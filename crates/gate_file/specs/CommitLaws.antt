@@ -41,7 +41,7 @@ pub one_commit : (b c image : List ℕ) → CommitsTo b image → CommitsTo c im
 one_commit b c image at_b at_c =
     at_b.committed ∙ ap (λ (l : List Page). bytes_of_pages l) (one_prefix at_b.pages at_c.pages image at_b.tail at_c.tail at_b.begins at_c.begins).0 ∙ sym at_c.committed
 
--- where neither a page nor a tail follows the pages, no bytes are committed
+-- if neither a page nor a tail follows the pages, no bytes are committed
 pub none_commits : (pages : List Page) (rest image : List ℕ) → BeginsWithPages image pages rest → (IsTail rest → ⊥) → IsDamaged image
 none_commits pages rest image begins no_tail = λ b is.
     no_tail (subst IsTail (sym (one_prefix pages is.pages image rest is.tail begins is.begins).1) is.is_tail)
@@ -60,7 +60,7 @@ no_pages = record { pages = []; are_pages = tt; spelled = refl }
 pub one_page : (bytes : List ℕ) (page : Page) → IsPage page → bytes ≡ page_bytes page → ArePages bytes
 one_page bytes page is same = record { pages = page ∷ []; are_pages = (is, tt); spelled = same ∙ sym (append-nil (page_bytes page)) }
 
--- pages are nothing, or begin with the capture byte and have another behind it
+-- pages are nothing, or begin with the capture byte and have another after it
 pub pages_begin : (bytes : List ℕ) → ArePages bytes → bytes ≢ [] → (next : ℕ) × (rest : List ℕ) × (bytes ≡ capture ∷ next ∷ rest)
 pages_begin bytes pages some = by_list pages.pages pages.spelled
   where
@@ -68,7 +68,7 @@ pages_begin bytes pages some = by_list pages.pages pages.spelled
     by_list [] same = absurd (some same)
     by_list (p ∷ ps) same = let b = page_begins p in (b.0, b.1 ++ bytes_of_pages ps, same ∙ ap (λ (l : List ℕ). l ++ bytes_of_pages ps) b.2)
 
--- a closed byte behind pages makes a tail of whatever follows
+-- a closed byte after pages makes a tail of whatever follows
 pub tail_closed : (gate : ℕ) (rest : List ℕ) → gate ≢ capture → IsTail (gate ∷ rest)
 tail_closed gate [] shut = tt
 tail_closed gate (byte ∷ rest) shut = shut

@@ -1,7 +1,7 @@
 -- A disk as a source of pages.
 use Rattle.std.specs.Prelude.{ℕ}
 
--- the disk, and how long it said that it is
+-- the disk, and the length that it reported
 pub record SourceState (D : Type 0) : Type 0 where
   pub disk : D
   pub size : ℕ

@@ -10,7 +10,7 @@ use Rattle.gate_file.specs.Commit.{capture, IsTail}
 use Rattle.gate_file.specs.Gate.{EndsAt}
 use Rattle.gate_file.specs.Visiting.{AreSeen}
 
--- the disk, where its committed bytes end, how many bytes follow, and whether the first of these is closed
+-- the disk, the end of its committed bytes, how many bytes follow, and whether the first of these is closed
 pub record FoundState (D : Type 0) : Type 0 where
   pub disk : D
   pub end : ℕ
@@ -28,7 +28,8 @@ found_bytes state found = take found.end (state found.disk).contents
 abbrev pub IsClosedAt : List ℕ → ℕ → Type 0
 IsClosedAt contents end = (end < length contents) × (slice_index contents end ≢ capture)
 
--- the committed bytes of a disk end here, so many bytes follow, and the first of them is closed
+-- the committed bytes of a disk end at `end`, `tail` bytes follow, and `closed` says whether the first of these is
+-- closed
 pub record HasEnd (end tail : ℕ) (closed : Bool) (disk : DiskState) : Type 0 where
   pub settled : IsSettled disk
   pub ends : EndsAt disk.contents end

@@ -18,8 +18,8 @@ pub record StandsAt (b : List ℕ) (disk : DiskState) : Type 0 where
   pub pages : ArePages b
   pub settled : IsSettled disk
 
--- Every image begins with the committed bytes and a closed byte. These bytes follow the committed ones, but for the
--- first of them, in whose place the closed byte stands.
+-- Every image begins with the committed bytes and a closed byte. These bytes follow the committed ones, except that
+-- the closed byte stands in the place of the first of them.
 pub record LiesBehind (b staged : List ℕ) (disk : DiskState) : Type 0 where
   pub gate : ℕ
   pub tail : List ℕ
@@ -49,11 +49,11 @@ pub record StagesWhole (b staged : List ℕ) (disk : DiskState) : Type 0 where
   pub some : staged ≢ []
   pub keeps : KeepsFront (length b + 1) (b ++ gate ∷ []) disk
 
--- the bytes staged behind the first `end`, if there are `count` of them: the first is the one that is still closed
+-- the bytes staged after the first `end`, if there are `count` of them: the first is the one that is still closed
 abbrev pub staged_in : ℕ → ℕ → List ℕ → List ℕ
 staged_in end count contents = take count (capture ∷ drop (end + 1) contents)
 
--- The first `end` bytes are committed, and `count` bytes are staged behind them.
+-- The first `end` bytes are committed, and `count` bytes are staged after them.
 pub record IsStaged (end count : ℕ) (disk : DiskState) : Type 0 where
   pub long : end ≡ length (take end disk.contents)
   pub size : count ≡ length (staged_in end count disk.contents)
@@ -84,12 +84,12 @@ pub record HasGrown (end size : ℕ) (pages : List ℕ) (old new : DiskState) : 
   pub committed : take (end + size) new.contents ≡ take end old.contents ++ pages
   pub ready : IsReadyAt (end + size) new
 
--- From one disk to the next these pages are staged more, and the committed bytes are the same.
+-- From one disk to the next these further pages are staged, and the committed bytes are the same.
 pub record HasStaged (end count size : ℕ) (pages : List ℕ) (old new : DiskState) : Type 0 where
   pub committed : take end new.contents ≡ take end old.contents
   pub staged : staged_in end (count + size) new.contents ≡ staged_in end count old.contents ++ pages
   pub is_staged : IsStaged end (count + size) new
 
--- each image has P
+-- each image has the property P
 abbrev pub EachImage : DiskState → (List ℕ → Type 0) → Type 0
 EachImage disk P = (image : List ℕ) → IsImage disk image → P image

@@ -3,8 +3,8 @@ use Rattle.std.specs.Prelude.{◌≡◌, ℕ, ◌+◌, ◌<◌, ◌≤◌, ◌^�
 use Rattle.disk_model.specs.Image.{DiskState}
 use Rattle.gate_file.specs.Gate.{IsStaged, IsStagedWhole, staged_in}
 
--- its disk, how many bytes are committed and how many staged, whether a closed byte follows the staged ones (the last page
--- is staged), and whether a call of the disk has failed
+-- its disk, how many bytes are committed and how many staged, whether a closed byte follows the staged ones (the
+-- last page is staged), and whether a call of the disk has failed
 pub record GateState (D : Type 0) : Type 0 where
   pub disk : D
   pub end : ℕ
@@ -19,11 +19,11 @@ gate_state disk end staged whole failed = record { disk = disk; end = end; stage
 abbrev pub committed : {D : Type 0} → (D → DiskState) → GateState D → List ℕ
 committed state file = take file.end (state file.disk).contents
 
--- the bytes that are staged behind them
+-- the bytes that are staged after them
 abbrev pub staged_bytes : {D : Type 0} → (D → DiskState) → GateState D → List ℕ
 staged_bytes state file = staged_in file.end file.staged (state file.disk).contents
 
--- What always holds. Where the disk is honest, the committed bytes stand in front, after a fault too.
+-- What always holds. If the disk is honest, the committed bytes stand in front, after a fault too.
 pub record IsKept {D : Type 0} (is_honest : D → Type 0) (state : D → DiskState) (file : GateState D) : Type 0 where
   pub short : file.end + file.staged < 2 ^ 63
   pub some : file.whole ≡ true → 0 < file.staged

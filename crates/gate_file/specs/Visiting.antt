@@ -1,4 +1,4 @@
--- What a walk over pages passes, and what who looks at them has seen.
+-- What a walk over pages passes, and what the visitor has seen.
 use Rattle.std.specs.Prelude.{◌≡◌, ◌≢◌, ℕ, ◌+◌, Result, Ok, Err, List, [], ◌∷◌, ◌++◌, length, ⊤}
 use Rattle.std.specs.List.{AllByRecursion}
 use Rattle.ogg_page.specs.Page.{Page as PageValue, IsPage, page_size, bytes_of_pages}
@@ -8,25 +8,25 @@ use Rattle.ogg_page.specs.Window.{LentAt}
 use Rattle.ogg_page.specs.declared.fault.WindowFault.{WindowFault}
 use Rattle.ogg_page.specs.declared.fault.WindowFault.TheVariants.{Source, Page}
 
--- these pages were looked at, one after the other, the first of them at this offset
+-- these pages were shown, one after the other, the first of them at this offset
 abbrev pub AreSeen : {V : Type 0} → (V → LentAt → V → Type 0) → V → ℕ → List PageValue → V → Type 0
 AreSeen sees old offset [] new = new ≡ old
 AreSeen sees old offset (page ∷ pages) new = (mid : _) × sees old (offset, page) mid × AreSeen sees mid (offset + page_size page) pages new
 
--- why no page follows: no byte is left, or no page begins there, or nobody knows
+-- why no page follows: no byte is left, or no page begins there, or the source failed and nothing is known
 abbrev pub IsEnd : List ℕ → ℕ → Result (Unit {0}) WindowFault → Type 0
 IsEnd rest offset (Ok done) = rest ≡ []
 IsEnd rest offset (Err Source) = ⊤
 IsEnd rest offset (Err (Page place fault)) = (place ≡ offset) × (rest ≢ []) × (page_at rest ≡ Err fault)
 
--- these pages stand in front, and then the walk ended so
+-- these pages stand in front, and then the walk ended with this result
 pub record EndsAfter (pages : List PageValue) (left : PagesLeft) (result : Result (Unit {0}) WindowFault) : Type 0 where
   pub rest : List ℕ
   pub are_pages : AllByRecursion IsPage pages
   pub joined : left.bytes ≡ bytes_of_pages pages ++ rest
   pub ended : IsEnd rest (left.offset + length (bytes_of_pages pages)) result
 
--- the pages in front were passed and looked at
+-- the pages in front were passed and shown
 pub record HasPassed {V : Type 0} (sees : V → LentAt → V → Type 0) (old new : V) (left : PagesLeft) (result : Result (Unit {0}) WindowFault) : Type 0 where
   pub pages : List PageValue
   pub ends : EndsAfter pages left result

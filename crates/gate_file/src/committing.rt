@@ -8,7 +8,7 @@ ghost use Rattle.gate_file.specs.Gate.{IsAppend, IsReadyAt, IsStaged, IsStagedWh
 use crate::steps::{CAPTURE, settle, write_synced};
 use disk_model::{Disk, DiskFault};
 
-/// Commits pages, which one byte 00 follows in the slice. The first `end` bytes are committed.
+/// Commits pages. In the slice one byte 00 follows them. The first `end` bytes are committed.
 pub(crate) fn append_pages<D: Disk>(disk: &mut D, end: u64, bytes: &[u8]) -> Result<(), DiskFault>
     requires pages { IsAppend bytes.now }
     requires end { end < 2 ^ 63 }
@@ -23,12 +23,12 @@ pub(crate) fn append_pages<D: Disk>(disk: &mut D, end: u64, bytes: &[u8]) -> Res
     ensures honest { D.is_honest disk.old ↔ D.is_honest disk.new }
     ensures cause { HasCause (D.failures disk.old) (D.failures disk.new) result }
 {
-    // The pages lie on the disk behind the closed byte before it is opened.
+    // The pages lie on the disk after the closed byte before it is opened.
     write_synced(disk, end + 1, &bytes[1..])?;
     write_synced(disk, end, &[CAPTURE])
 }
 
-/// Commits what is staged behind the first `end` bytes.
+/// Commits what is staged after the first `end` bytes.
 pub(crate) fn commit_staged<D: Disk>(disk: &mut D, end: u64, staged: u64) -> Result<(), DiskFault>
     requires short { end + staged < 2 ^ 63 }
     requires staged { D.is_honest disk.old → IsStaged end staged (D.state disk.old) }

@@ -6,8 +6,8 @@ use link_chain::ChainFault;
 use ogg_page::PageFault;
 use thiserror::Error;
 
-/// Why a file isn't opened. An offset is that of a page's first byte. `GateFile::find` answers the first three alone; the
-/// others are for whoever looks at the pages that it passes.
+/// Why a file isn't opened. An offset is that of a page's first byte. `GateFile::find` returns only the first three;
+/// the others are for callers that check the pages that it passes.
 #[derive(Clone, Copy, Debug, PartialEq, Eq, Error)]
 pub enum OpenFault {
     /// A call of the disk failed.

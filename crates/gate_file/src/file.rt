@@ -14,8 +14,9 @@ use crate::staging::{stage_last_pages, stage_pages};
 use disk_model::{Disk, DiskFault};
 use std::marker::Model;
 
-/// A file whose committed bytes grow by whole appends, and by whole groups of pages that are staged and then committed.
-/// It owns its disk. Once a write or a sync has failed it has failed: it can still be read and given back.
+/// A file whose committed bytes grow by whole appends, and by whole groups of pages that are staged and then
+/// committed. It owns its disk. Once a write or a sync has failed, the file has failed: it can still be read and
+/// given back.
 #[derive(Drop)]
 pub struct GateFile<D: Disk> {
     disk: D,
@@ -38,7 +39,7 @@ impl<D: Disk> Model for GateFile<D> {
 impl<D: Disk> GateFile<D> {
     ghost use Rattle.gate_file.specs.GateFile.{gate_state};
 
-    /// A file whose committed bytes end here, with a closed byte behind them.
+    /// A file whose committed bytes end here, with a closed byte after them.
     pub(crate) fn at(disk: D, end: u64) -> GateFile<D>
         requires short { end < 2 ^ 63 }
         requires ready { D.is_honest disk → IsReadyAt end (D.state disk) }
@@ -102,9 +103,9 @@ impl<D: Disk> GateFile<D> {
         self.disk.read_at(from, buffer)
     }
 
-    /// Commits one page or more, which one byte 00 follows in the slice, by four calls of the disk: a write, a sync, the
-    /// write of the one byte that decides, a sync. After a fault the file has failed, and opening finds the bytes that
-    /// were committed before, without these pages or with them.
+    /// Commits one page or more, by four calls of the disk: a write, a sync, the write of the one byte that decides,
+    /// a sync. In the slice one byte 00 follows the pages. After a fault the file has failed, and opening finds the
+    /// bytes that were committed before, without these pages or with them.
     pub fn append(&mut self, bytes: &[u8]) -> Result<(), DiskFault>
         requires pages { IsAppend bytes.now }
         requires good { self.old.failed ≡ false }
@@ -121,8 +122,8 @@ impl<D: Disk> GateFile<D> {
         ensures front { D.is_honest self.old.disk
             → take self.old.end (D.state self.new.disk).contents ≡ committed D.state self.old }
 
-        // Every image since the call began commits to the bytes before, without the pages or with them; in the end with
-        // them.
+        // Every image since the call began commits to the bytes before, without the pages or with them; in the end
+        // with them.
         ensures any_moment { D.is_honest self.old.disk → LeavesOnly D.moment D.images_since self.old.disk self.new.disk
             (CommitsToEither (committed D.state self.old) (pages_in bytes.now)) }
         ensures only { OnOk result (D.is_honest self.old.disk → EachImage (D.state self.new.disk)
@@ -137,7 +138,7 @@ impl<D: Disk> GateFile<D> {
         Ok(())
     }
 
-    /// Stages pages behind those that are staged, by one write. They count once the last ones are staged and
+    /// Stages pages after those that are staged, by one write. The pages count once the last ones are staged and
     /// committed. After a fault the file has failed, and what was staged is lost.
     pub fn stage(&mut self, pages: &[u8]) -> Result<(), DiskFault>
         requires pages { ArePages pages.now }
@@ -166,8 +167,9 @@ impl<D: Disk> GateFile<D> {
         Ok(())
     }
 
-    /// Stages the last pages, which one byte 00 follows in the slice, by one write. They can be committed then, or further
-    /// pages are staged: these are written over that byte. After a fault the file has failed, and what was staged is lost.
+    /// Stages the last pages, by one write. In the slice one byte 00 follows them. The staged pages can be
+    /// committed then, or further pages can be staged, which are written over that byte. After a fault the file has
+    /// failed, and what was staged is lost.
     pub fn stage_last(&mut self, bytes: &[u8]) -> Result<(), DiskFault>
         requires pages { IsAppend bytes.now }
         requires good { self.old.failed ≡ false }
@@ -194,9 +196,9 @@ impl<D: Disk> GateFile<D> {
         Ok(())
     }
 
-    /// Commits what is staged, by three calls of the disk: a sync, the write of the one byte that decides, a sync. After a
-    /// fault the file has failed, and opening finds the bytes that were committed before, without the staged ones or with
-    /// all of them.
+    /// Commits what is staged, by three calls of the disk: a sync, the write of the one byte that decides, a sync.
+    /// After a fault the file has failed, and opening finds the bytes that were committed before, without the
+    /// staged ones or with all of them.
     pub fn commit(&mut self) -> Result<(), DiskFault>
         requires good { self.old.failed ≡ false }
         requires whole { self.old.whole ≡ true }
@@ -210,8 +212,8 @@ impl<D: Disk> GateFile<D> {
         ensures front { D.is_honest self.old.disk
             → take self.old.end (D.state self.new.disk).contents ≡ committed D.state self.old }
 
-        // Every image since the call began commits to the bytes before, without the staged ones or with them; in the end
-        // with them.
+        // Every image since the call began commits to the bytes before, without the staged ones or with them; in
+        // the end with them.
         ensures any_moment { D.is_honest self.old.disk → LeavesOnly D.moment D.images_since self.old.disk self.new.disk
             (CommitsToEither (committed D.state self.old) (staged_bytes D.state self.old)) }
         ensures only { OnOk result (D.is_honest self.old.disk → EachImage (D.state self.new.disk)
@@ -228,7 +230,8 @@ impl<D: Disk> GateFile<D> {
         Ok(())
     }
 
-    /// Cuts the file to its committed bytes and syncs. After a fault the disk is given back: opening finds the same bytes.
+    /// Cuts the file to its committed bytes and syncs. After a fault the disk is given back: opening finds the same
+    /// bytes.
     pub fn seal(self) -> Result<D, (DiskFault, D)>
         requires good { self.failed ≡ false }
         requires none { self.staged ≡ 0 }

@@ -1,4 +1,4 @@
-//! Where the committed bytes of a file end: one sync, and one pass over its pages.
+//! The end of a file's committed bytes, found by one sync and one pass over its pages.
 ghost use Rattle.std.specs.Prelude.{◌≡◌, ◌≢◌, ◌↔◌, ◌⊎◌, ◌+◌, ◌-◌, ◌^◌, ◌<◌, ◌≤◌, ℕ, length, take, drop, slice_index, OnOk, IfOk, IfErr, IsTrue, List, Err};
 ghost use Rattle.disk_model.specs.Image.{IsImage, IsSettled};
 ghost use Rattle.disk_model.specs.Clock.{LeavesOnly};
@@ -19,8 +19,8 @@ use ogg_page::{PageBuffer, Window, WindowFault};
 use std::alloc::Global;
 
 impl<D: Disk> GateFile<D> {
-    /// Syncs, and finds where the committed bytes end. It writes nothing. It reads the file once, and takes memory for one
-    /// page. The faults are `Disk`, `Page` and `Memory`; after `Memory` no call of the disk was made.
+    /// Syncs, and finds the end of the committed bytes. It writes nothing. It reads the file once, and takes memory
+    /// for one page. The faults are `Disk`, `Page` and `Memory`; after `Memory` no call of the disk was made.
     pub fn find(alloc: Global, disk: D) -> Result<Found<D>, (OpenFault, D)>
         ensures same { IfOk result (λ found. D.is_honest disk
             → (D.state found.disk).contents ≡ (D.state disk).contents) }
@@ -52,8 +52,9 @@ impl<D: Disk> GateFile<D> {
         }
     }
 
-    /// Finds where the committed bytes end, as `find` does, and shows each page to the visitor as it passes, in the same
-    /// pass. The buffer is given back. Every page has passed before a fault `Page` is answered, and `Memory` isn't.
+    /// Finds the end of the committed bytes, as `find` does, and shows each page to the visitor as it passes, in the
+    /// same pass. The buffer is given back. Before it returns the fault `Page` every page has passed. It never
+    /// returns `Memory`.
     pub fn find_with<V: PageVisitor>(
         disk: D,
         buffer: PageBuffer,
@@ -109,7 +110,7 @@ fn measure<D: Disk>(disk: &mut D) -> Result<u64, DiskFault>
     disk.len()
 }
 
-/// Where the committed bytes end and whether a closed byte follows them, by how the walk over their pages ended.
+/// The end of the committed bytes, and whether a closed byte follows them, by how the walk over their pages ended.
 fn end_of<D: Disk>(
     disk: &mut D,
     size: u64,
@@ -142,7 +143,7 @@ fn end_of<D: Disk>(
                 match begins_page(disk, at) {
                     Ok(false) => Ok((at, true)),
                     Ok(true) => {
-                        // One byte alone is what a stop may leave behind the committed ones.
+                        // A stop may leave exactly one byte after the committed ones, whatever it is.
                         if size - at > 1 {
                             Err(OpenFault::Page(at, fault))
                         } else {

@@ -36,7 +36,7 @@ impl<D: Disk> Model for Found<D> {
 impl<D: Disk> Found<D> {
     ghost use Rattle.gate_file.specs.Found.{FoundState, HasEnd, found_bytes, found_state};
 
-    /// The committed bytes end here, and so many follow.
+    /// The committed bytes end here, and `tail` bytes follow.
     pub(crate) fn at(disk: D, end: u64, tail: u64, closed: bool) -> Found<D>
         requires short { end + tail < 2 ^ 63 }
         requires ends { D.is_honest disk → HasEnd end tail closed (D.state disk) }
@@ -85,8 +85,9 @@ impl<D: Disk> Found<D> {
         self.disk.read_at(from, buffer)
     }
 
-    /// Makes the file ready for pages: where no closed byte follows the committed bytes, one byte 00 is written there and
-    /// synced. Otherwise no call of the disk is made. The one fault is `Disk`, and opening then finds the same bytes.
+    /// Makes the file ready for pages: if no closed byte follows the committed bytes, one byte 00 is written there
+    /// and synced. Otherwise no call of the disk is made. The one fault is `Disk`, and opening then finds the same
+    /// bytes.
     pub fn ready(self) -> Result<GateFile<D>, (OpenFault, D)>
         ensures ready { IfOk result (λ file. file ≡ gate_state file.disk self.end 0 false false) }
         ensures same { IfOk result (λ file. D.is_honest self.disk
@@ -119,7 +120,7 @@ impl<D: Disk> Found<D> {
     }
 }
 
-/// Writes a closed byte behind the committed bytes, where there is none.
+/// Writes a closed byte after the committed bytes, if there is none.
 fn close_behind<D: Disk>(disk: &mut D, end: u64, closed: bool) -> Result<(), DiskFault>
     requires ends { D.is_honest disk.old → (tail : ℕ) × HasEnd end tail closed (D.state disk.old) }
     ensures ready { OnOk result (D.is_honest disk.old → IsReadyAt end (D.state disk.new)) }

@@ -9,12 +9,13 @@ pub fn committed_bytes_are_unique()
     ensures { (b c image : List ℕ) → CommitsTo b image → CommitsTo c image → b ≡ c }
 {}
 
-/// Pages alone commit to themselves, so the bytes of a sealed file are those that opening finds.
+/// Pages commit to themselves if nothing follows them, so the bytes of a sealed file are those that
+/// opening finds.
 pub fn pages_commit_to_themselves()
     ensures { (b : List ℕ) → ArePages b → CommitsTo b b }
 {}
 
-/// Bytes that are damaged have no committed bytes, so a file isn't refused where it could be opened.
+/// Damaged bytes have no committed bytes, so no file is refused that could be opened.
 pub fn damaged_bytes_commit_to_nothing()
     ensures { (contents : List ℕ) (offset : ℕ) (fault : PageFault) → IsDamagedAt contents offset fault → IsDamaged contents }
 {}

@@ -1,7 +1,7 @@
 //! A file that grows by whole appends, whenever the machine stops.
 //!
-//! Behind the committed bytes stands one closed byte, which is not the first byte of a page and which no stop
-//! opens. An append lies behind it, synced, before that one byte is opened; so one byte decides whether it counts.
+//! After the committed bytes stands one closed byte, which is not the first byte of a page and which no stop opens.
+//! An append lies after it, synced, before that one byte is opened; so one byte decides whether the append counts.
 //!
 //! Start at `specs/Commit.antt`, which says which bytes of an image are committed, and go on to `specs/Gate.antt`.
 #![tactic(auto)]

@@ -8,7 +8,7 @@ ghost use Rattle.gate_file.specs.Gate.{IsReadyAt};
 
 use disk_model::{Disk, DiskFault};
 
-/// Cuts what stands behind the first `end` bytes, which are committed, and syncs.
+/// Cuts what stands after the first `end` bytes, which are committed, and syncs.
 pub(crate) fn cut_behind<D: Disk>(disk: &mut D, end: u64) -> Result<(), DiskFault>
     requires { D.is_honest disk.old → IsReadyAt end (D.state disk.old) }
     ensures ok { OnOk result (D.is_honest disk.old → IsSettled (D.state disk.new)

@@ -7,7 +7,7 @@ use disk_model::Disk;
 use ogg_page::{PageSource, SourceFault};
 use std::marker::Model;
 
-/// A disk, and how long it said that it is.
+/// A disk, and the length that it reported.
 #[derive(Drop)]
 pub(crate) struct DiskSource<D: Disk> {
     disk: D,

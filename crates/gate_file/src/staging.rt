@@ -1,4 +1,4 @@
-//! Pages are staged: they lie on the disk behind a closed byte, and no stop shows them.
+//! Pages are staged: they lie on the disk after a closed byte, and no stop shows them.
 ghost use Rattle.std.specs.Prelude.{◌≡◌, ◌≢◌, ◌↔◌, ◌+◌, ◌-◌, ◌^◌, ◌<◌, ◌≤◌, ◌++◌, [], length, take, OnOk};
 ghost use Rattle.disk_model.specs.Clock.{LeavesOnly};
 ghost use Rattle.disk_model.specs.Fault.{HasCause};
@@ -8,7 +8,7 @@ ghost use Rattle.gate_file.specs.Gate.{IsAppend, IsStaged, IsStagedWhole, HasSta
 use crate::steps::write_behind;
 use disk_model::{Disk, DiskFault};
 
-/// Stages pages behind those that are staged.
+/// Stages pages after those that are staged.
 pub(crate) fn stage_pages<D: Disk>(
     disk: &mut D,
     end: u64,
@@ -32,7 +32,7 @@ pub(crate) fn stage_pages<D: Disk>(
     write_next(disk, end, staged, pages)
 }
 
-/// Stages the last pages, which one byte 00 follows in the slice and on the disk.
+/// Stages the last pages. In the slice, and on the disk, one byte 00 follows them.
 pub(crate) fn stage_last_pages<D: Disk>(
     disk: &mut D,
     end: u64,
@@ -57,8 +57,8 @@ pub(crate) fn stage_last_pages<D: Disk>(
     write_next(disk, end, staged, bytes)
 }
 
-/// Writes behind what is staged, over the closed byte where one follows it. Of all staged bytes the first is left out:
-/// its place is that of the closed byte behind the committed ones.
+/// Writes after what is staged, over the closed byte if one follows it. The first of all staged bytes is left out: in
+/// its place stands the closed byte after the committed ones.
 fn write_next<D: Disk>(disk: &mut D, end: u64, staged: u64, bytes: &[u8]) -> Result<(), DiskFault>
     requires some { 0 < length bytes.now }
     requires short { end + staged < 2 ^ 63 }

@@ -39,7 +39,7 @@ pub(crate) fn write_synced<D: Disk>(disk: &mut D, at: u64, bytes: &[u8]) -> Resu
     disk.sync()
 }
 
-/// Writes behind bytes that every image begins with. Further such writes may follow, and then a sync.
+/// Writes after bytes that every image begins with. Further such writes may follow, and then a sync.
 pub(crate) fn write_behind<D: Disk>(
     disk: &mut D,
     kept: u64,

@@ -1,21 +1,21 @@
-//! Whoever looks at the pages of a file as they pass, in the one pass that finds where they end.
+//! Whoever is shown the pages of a file as they pass, in the one pass that finds where they end.
 ghost use Rattle.std.specs.Prelude.{◌≡◌, ◌≤◌, ⊤};
 ghost use Rattle.ogg_page.specs.Window.{LentAt, KeepsSource, HasSourceCause, left_of};
 ghost use Rattle.gate_file.specs.Visiting.{HasPassed};
 
 use ogg_page::{Page, PageSource, Window, WindowFault};
 
-/// Looks at pages, one after the other, in the order in which they stand.
+/// Whoever is shown pages, one after the other, in the order in which they stand.
 pub trait PageVisitor {
-    /// What a look at a page, which begins at this offset, makes of it.
+    /// What the visitor is after it was shown a page that begins at this offset.
     ghost sees: { Self → LentAt → Self → Type 0 };
 
-    /// Looks at a page.
+    /// Shows the visitor a page.
     fn see(&mut self, offset: u64, page: &Page<'_>)
         ensures { sees self.old (offset, page.now) self.new };
 }
 
-/// It looks away.
+/// A visitor that ignores every page.
 #[derive(Drop)]
 pub(crate) struct Nobody;
 

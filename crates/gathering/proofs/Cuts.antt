@@ -35,7 +35,7 @@ more_values segments later value values packets e =
     sym (append_assoc (replicate segments 255) values (value ∷ [])) ∙ ap (λ l. l ++ value ∷ []) e
     ∙ append_assoc (flat_map lace packets) (replicate later 255) (value ∷ [])
 
--- a whole segment more
+-- another whole segment
 pub cut_full : (segments : ℕ) (rest values body : List ℕ) (packets : List (List ℕ)) (unfinished left piece others : List ℕ) (value : ℕ) → value ≡ 255 → length piece ≡ value → left ≡ piece ++ others →
     CutSoFar segments rest values body packets unfinished left → CutSoFar segments rest (values ++ value ∷ []) body packets (unfinished ++ piece) others
 cut_full segments rest values body packets unfinished left piece others value full size split c = record {

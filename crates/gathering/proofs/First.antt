@@ -52,7 +52,7 @@ keeps_first pages page is whole none =
       marked = refl;
     }
 
--- a first packet is wanted
+-- at least the first packet is wanted
 cases5 : (a b c d e : Bool) (f g : ℕ) → 1 ≤ cond (a || b) 3 (cond c 2 (cond d (1 + f) (cond e (2 + g) 1)))
 cases5 true b c d e f g = omega arith
 cases5 false true c d e f g = omega arith

@@ -133,7 +133,7 @@ takes links g given page new chain' more is fits h goes_on t c =
       | inr later ↦ take_later links g given page new chain' more is fits h c later (t.follows later)
     ]
 
--- no pages
+-- before any page
 pub nothing_taken : (g : Gathered) → g.chain ≡ chain_state_of [] → g.link ≡ no_link → HasGathered [] g []
 nothing_taken g c e = record {
   bytes = [];
@@ -142,7 +142,7 @@ nothing_taken g c e = record {
   so_far = subst (λ (l : KeptLink). HoldsSoFar [] [] (state g.chain l) []) (sym e) (no_pages_yet [] [] [] g.chain (ap (λ (s : ChainState). s.has_data) c) tt refl);
 }
 
--- the end
+-- the end of the input
 pub ends : (links : List (List Page)) (g : Gathered) (given : List Command) → HasGathered links g given →
     HasGathered links (state g.chain (begun_if (waits g.link) g.link)) (given ++ begin_if (waits g.link) g.link)
 ends links g given h = record {
@@ -159,7 +159,7 @@ no_more_waits link =
       | inr wait ↦ ap (λ b. waits (begun_if b link)) wait ∙ wait
     ]
 
--- all is given
+-- all commands are given
 pub all_given : (bytes : List ℕ) (links : List (List Page)) (g : Gathered) (given : List Command) (recording : Recording) → AreLinks bytes links → HasGathered links g given →
     waits g.link ≡ false → HoldsLinks links recording → after [] given ≡ recording
 all_given bytes links g given recording are h w holds =

@@ -21,7 +21,7 @@ stream_of serial packets ended = record { serial = serial; packets = packets; en
 abbrev pub grown : List (List ℕ) → Bool → Stream → Stream
 grown packets last stream = stream_of stream.serial (stream.packets ++ packets) (stream.ended || last)
 
--- the page's stream has these packets more, and ends or not
+-- the page's stream has these further packets, and ends or not
 abbrev pub grows : Page → List (List ℕ) → Bool → Stream → Stream
 grows page packets last stream = cond (nat_eq stream.serial page.serial) (grown packets last stream) stream
 

@@ -1,4 +1,4 @@
--- What the commands hold so far, behind a page more.
+-- What the commands hold so far, with another page.
 use Rattle.std.proofs.Common.{◌≡◌, ℕ, Bool, true, false, cond, List, [], ◌∷◌, ◌++◌, length, map, drop, refl, sym, ◌∙◌, ap, subst, append-nil, inl, inr, arith, ◌<◌}
 use Rattle.std.specs.Prelude.{nat_eq, not, ◌&&◌, ◌||◌}
 use Rattle.std.specs.List.{AllByRecursion, AllZip, IsDistinct}
@@ -47,7 +47,7 @@ and_true false b e = refl
 abbrev pub state : ChainState → KeptLink → Gathered
 state chain link = record { chain = chain; link = link }
 
--- commands behind those that were given
+-- commands after those that were given
 given_more : (given more : List Command) (r s : Recording) → after [] given ≡ r → after r more ≡ s → after [] (given ++ more) ≡ s
 given_more given more r s e f = fold-append add [] given more ∙ ap (λ x. after x more) e ∙ f
 
@@ -92,7 +92,7 @@ module _ (front : List (List Page)) (pages : List Page) (page : Page) (link : Ke
         waiting = λ e. absurd (false≢true (sym e ∙ begun));
       }
 
-  -- it begins now
+  -- the link begins now
   pub on_begin : link.begun ≡ false → HoldsSoFar front (pages ++ page ∷ []) (state chain' (begun_link (record link { streams = streams })))
       (given ++ (link_begin (record link { streams = streams }) ++ (put_of (map (entry_of page) later) ++ end_of page)))
   on_begin waits_is =
@@ -116,7 +116,7 @@ module _ (front : List (List Page)) (pages : List Page) (page : Page) (link : Ke
         waiting = λ e. absurd (false≢true (sym e));
       }
 
-  -- it waits still
+  -- the link still waits
   pub on_waiting : link.begun ≡ false → later ≡ [] → is_ready streams ≡ false →
       HoldsSoFar front (pages ++ page ∷ []) (state chain' (record { streams = streams; begun = link.begun; ends = link.ends ++ ends_by page })) (given ++ [])
   on_waiting waits_is none unready =
@@ -196,7 +196,7 @@ first_wanted page = record { some = lit; few = one_wanted page.body }
     lit : 0 < length (page.body ∷ [])
     lit = omega arith
 
--- of one stream more
+-- the first page of another stream
 pub joins_on : (front : List (List Page)) (pages : List Page) (page : Page) (link : KeptLink) (given : List Command) (chain chain' : ChainState) → IsPage page → is_first page ≡ true → is_whole_packet page ≡ true →
     pages_with page.serial pages ≡ [] → Others page.serial link.streams → link.begun ≡ false → chain'.has_data ≡ false → HoldsSoFar front pages (state chain link) given →
     HoldsSoFar front (pages ++ page ∷ []) (state chain' (with_first page link)) (given ++ [])
@@ -235,7 +235,7 @@ joins_on front pages page link given chain chain' is first whole none others wai
     each_push P [] x all p = (p, tt)
     each_push P (y ∷ l) x all p = (all.0, each_push P l x all.1 p)
 
--- of no link's stream yet: a part without pages
+-- the last link has no pages yet
 pub no_pages_yet : (front : List (List Page)) (done : Recording) (given : List Command) (chain : ChainState) → chain.has_data ≡ false → HoldsLinks front done → after [] given ≡ done → HoldsSoFar front [] (state chain no_link) given
 no_pages_yet front done given chain bare_is h e = record {
   done = done;

@@ -1,4 +1,4 @@
--- The page's stream among others, which have serials of their own.
+-- The page's stream among others, which have distinct serials.
 use Rattle.std.proofs.Common.{◌≡◌, ℕ, Bool, true, false, List, [], ◌∷◌, ◌++◌, map, refl, sym, ◌∙◌, ap, inl, inr}
 use Rattle.std.specs.Prelude.{nat_eq, ◌||◌}
 use Rattle.std.specs.List.{AllByRecursion, AllZip, IsDistinct, list_any}
@@ -41,7 +41,7 @@ absent_all serial (k ∷ streams) e =
     or_no true b e = cc
     or_no false b e = (refl, e)
 
--- and one that is
+-- a stream that is there
 pub has_from : (serial : ℕ) (streams : List KeptStream) → list_any (nat_eq serial) (serials streams) ≡ true → has_kept serial streams ≡ true
 has_from serial [] e = e
 has_from serial (k ∷ streams) e =

@@ -1,4 +1,4 @@
--- What the pages of a link hold, with a page more.
+-- What the pages of a link hold, with another page.
 use Rattle.std.proofs.Common.{◌≡◌, ℕ, zero, suc, Bool, true, false, List, [], ◌∷◌, ◌++◌, length, replicate, refl, sym, ◌∙◌, ap, subst, arith, append_assoc, append-nil}
 use Rattle.std.specs.Prelude.{nat_eq, ◌||◌}
 use Rattle.std.specs.List.{flat_map, concat, list_any}
@@ -38,7 +38,7 @@ held_more before page packets segments rest more left h c = (
 not_same : (m n : ℕ) → nat_eq m n ≡ false → n ≡ m → ⊥
 not_same m n e f = eqb-false m n e (sym f)
 
--- of another stream nothing has changed
+-- another stream has not changed
 pub keeps_other : (pages : List Page) (page : Page) (kept : KeptStream) (stream : Stream) → nat_eq kept.serial page.serial ≡ false → KeepsUp pages kept stream → KeepsUp (pages ++ page ∷ []) kept stream
 keeps_other pages page kept stream other k =
     let same : pages_with kept.serial (pages ++ page ∷ []) ≡ pages_with kept.serial pages = with_other page.serial kept.serial pages (page ∷ []) (refl, tt) (not_same kept.serial page.serial other) in

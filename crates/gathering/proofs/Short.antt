@@ -15,7 +15,7 @@ parts x y xs ys e = (cc, cc)
 first_ends : (value : ℕ) (values : List ℕ) → value < 255 → first_size (value ∷ values) ≡ value
 first_ends value values small = cond-true (nat_lt value 255) value (value + first_size values) (lt-ltb value 255 small)
 
--- the first packet ends behind so many whole segments
+-- the first packet ends after `full` whole segments
 first_is : (before full value : ℕ) (values others : List ℕ) → value < 255 → replicate before 255 ++ values ≡ replicate full 255 ++ value ∷ others → 255 * full + value ≡ 255 * before + first_size values
 first_is zero zero value values others small e = omega (arith, ap first_size e ∙ first_ends value others small)
 first_is zero (suc full) value values others small e =

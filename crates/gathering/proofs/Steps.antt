@@ -1,4 +1,4 @@
--- The commands given so far, with a page more.
+-- The commands given so far, with another page.
 use Rattle.std.proofs.Common.{◌≡◌, ◌≢◌, ℕ, zero, suc, ◌≤◌, Bool, true, false, cond, List, [], ◌∷◌, ◌++◌, length, map, take, drop, refl, sym, ◌∙◌, ap, subst, arith, append_assoc, append-nil, inl, inr, length-append, take-append-drop}
 use Rattle.std.specs.Prelude.{nat_eq, ◌||◌}
 use Rattle.std.specs.List.{AllByRecursion, AllZip, list_any}
@@ -74,7 +74,8 @@ Marks pages kept = kept.ended ≡ has_ended pages kept.serial
 pub marks : (pages : List Page) (kept : KeptStream) (stream : Stream) → KeepsUp pages kept stream → Marks pages kept
 marks pages kept stream u = u.marked ∙ u.ended
 
--- the `Begin`, the ends, the page's packets and its end give the same as all packets of the page behind what was kept
+-- the `Begin`, the ends, the page's packets and its end make the same as all packets of the page, added to what was
+-- kept
 pub begun_same : (page : Page) (link : KeptLink) (streams : List KeptStream) (pages : List Page) (held : List Stream) (later : List (List ℕ)) → (t : Taken page link streams pages held later) →
     link.begun ≡ false → ((serial : ℕ) → list_any (nat_eq serial) link.ends ≡ has_ended pages serial) → held ≡ map held_back link.streams →
     map (grows page later (is_last page)) (map (begun_as link.ends) streams) ≡ map (grows page t.taken.takes.packets (is_last page)) held
@@ -123,7 +124,7 @@ kept_same page link streams pages held later t none kept =
     ∙ sym (grows_own page p last (held_back k.stream) (eq-eqb k.stream.serial page.serial k.own))))
     ∙ ap (map held_back) (sym k.is)
 
--- and still wanted
+-- and each of them is still wanted
 more_wanted : (headers packets : List (List ℕ)) → AreWanted headers → AreWanted (headers ++ take (lacking headers) packets)
 more_wanted [] packets w = absurd (omega (arith, w.some))
 more_wanted (first ∷ headers) packets w =

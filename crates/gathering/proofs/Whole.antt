@@ -1,13 +1,12 @@
--- Where nothing waits and no packet is unfinished, the commands hold all links.
-use Rattle.std.proofs.Common.{◌≡◌, ◌≢◌, ℕ, ◌<◌, Bool, true, false, cond, List, [], ◌∷◌, ◌++◌, length, map, refl, sym, ◌∙◌, ap, subst, arith, append_assoc, append-nil, inl, inr}
+-- If nothing waits and no packet is unfinished, the commands hold all links.
+use Rattle.std.proofs.Common.{◌≡◌, ◌≢◌, ℕ, ◌<◌, Bool, true, false, cond, List, [], ◌∷◌, ◌++◌, length, map, refl, sym, ◌∙◌, ap, subst, arith, inl, inr}
 use Rattle.std.specs.Prelude.{not, ◌&&◌, ◌||◌, IsTrue}
 use Rattle.std.specs.List.{AllByRecursion, AllZip, list_any, filter}
 use Rattle.std.proofs.lemmas.Bool.{cases_Bool, cond-true, false≢true}
-use Rattle.std.proofs.lemmas.List.Folds.{list_any-append}
 use Rattle.ogg_page.specs.Page.{Page}
 use Rattle.ogg_page.specs.Lacing.{ends_open}
-use Rattle.ogg_page.specs.LogicalStream.{FitsBehind, EachBehind, joined_lacing, is_first, is_last}
-use Rattle.ogg_page.specs.StreamLaws.{finished}
+use Rattle.ogg_page.specs.LogicalStream.{joined_lacing, is_first}
+use Rattle.ogg_page.specs.StreamLaws.{finished, last_closes}
 use Rattle.link_chain.specs.declared.stream_state.StreamState.{StreamState}
 use Rattle.link_chain.specs.Links.{IsLink, AreLinks, pages_with, serials_of, has_ended}
 use Rattle.link_chain.specs.Recording.{Stream, Recording, HoldsStream, HoldsLink, HoldsLinks}
@@ -27,20 +26,6 @@ abbrev pub IsClosed : List Page → ℕ → Type 0
 IsClosed pages serial = ends_open (joined_lacing (pages_with serial pages)) ≡ false
 
 -- ---- a stream that has ended
-last_closes : (before pages : List Page) → EachBehind FitsBehind before pages → list_any is_last before ≡ false → list_any is_last (before ++ pages) ≡ true →
-    ends_open (joined_lacing (before ++ pages)) ≡ false
-last_closes before [] fit none ended = absurd (false≢true (sym none ∙ sym (ap (list_any is_last) (append-nil before)) ∙ ended))
-last_closes before (page ∷ []) fit none ended =
-    fit.0.last_packet (sym (sym ended ∙ list_any-append is_last before (page ∷ []) ∙ ap (λ b. b || (is_last page || false)) none ∙ or_nothing (is_last page)))
-  where
-    or_nothing : (b : Bool) → (b || false) ≡ b
-    or_nothing true = refl
-    or_nothing false = refl
-last_closes before (page ∷ next ∷ pages) fit none ended =
-    let all : (before ++ page ∷ []) ++ (next ∷ pages) ≡ before ++ page ∷ next ∷ pages = append_assoc before (page ∷ []) (next ∷ pages) in
-    subst (λ (l : List Page). ends_open (joined_lacing l) ≡ false) all
-    (last_closes (before ++ page ∷ []) (next ∷ pages) fit.1 fit.1.0.last (ap (list_any is_last) all ∙ ended))
-
 closed_ends : (pages : List Page) (numbers : List ℕ) → IsLink pages → list_any (λ serial. not (has_ended pages serial)) numbers ≡ false → AllByRecursion (IsClosed pages) numbers
 closed_ends pages [] link e = tt
 closed_ends pages (serial ∷ numbers) link e =

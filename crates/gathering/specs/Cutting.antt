@@ -5,15 +5,15 @@ use Rattle.ogg_page.specs.Page.{Page}
 use Rattle.ogg_page.specs.Lacing.{lace}
 use Rattle.ogg_page.specs.Sizes.{full_value}
 
--- Behind so many whole segments of a packet, with these bytes, come these lacing values and these bytes: then the
--- packets have ended, and whole segments are left of a packet that goes on.
+-- The first `segments` whole segments of a packet have the bytes `rest`. These lacing values and the bytes of the
+-- body follow them: the packets end there, and whole segments are left of a packet that goes on.
 pub record CutsInto (segments : ℕ) (rest values body : List ℕ) (packets : List (List ℕ)) (left : List ℕ) : Type 0 where
   pub later : ℕ
   pub lacing : replicate segments full_value ++ values ≡ flat_map lace packets ++ replicate later full_value
   pub bodies : rest ++ body ≡ concat packets ++ left
   pub left_size : length left ≡ full_value * later
 
--- behind these bytes of an unfinished packet these packets end in the page, and then these bytes are unfinished
+-- after these bytes of an unfinished packet, these packets end in the page, and then these bytes are unfinished
 abbrev pub EndIn : List ℕ → Page → List (List ℕ) → List ℕ → Type 0
 EndIn rest page packets left = (segments : ℕ) → length rest ≡ full_value * segments → CutsInto segments rest page.lacing page.body packets left
 

@@ -1,4 +1,4 @@
--- What the commands given so far have to do with the pages taken so far. Ours.
+-- How the commands given so far and the pages taken so far belong together. Ours.
 use Rattle.std.specs.Prelude.{◌≡◌, ℕ, ◌≤◌, ◌<◌, true, false, nat_eq, if◌then◌else◌, List, [], ◌∷◌, ◌++◌, length, map}
 use Rattle.std.specs.List.{AllByRecursion, AllZip, list_any}
 use Rattle.ogg_page.specs.Page.{Page}
@@ -16,7 +16,7 @@ pub record Gathered : Type 0 where
   pub chain : ChainState
   pub link : KeptLink
 
--- The pages of a link hold the whole packets of this stream so far, and of one that goes on the bytes that are kept.
+-- The pages of a link hold the whole packets of this stream so far. If a packet goes on, its bytes are kept.
 pub record KeepsUp (pages : List Page) (kept : KeptStream) (stream : Stream) : Type 0 where
   pub serial : stream.serial ≡ kept.serial
   pub segments : ℕ
@@ -46,8 +46,8 @@ before_last [] = []
 before_last (link ∷ []) = []
 before_last (link ∷ next ∷ links) = link ∷ before_last (next ∷ links)
 
--- The commands given so far hold `done`, which the links before the last one hold, and then `held`, the whole packets
--- of the last one so far, whose pages these are. A link that waits isn't among them: it is kept.
+-- The commands given so far hold `done`, which the links before the last one hold, and then `held`: the whole packets
+-- so far of the last link, whose pages these are. A link that waits isn't among them: it is kept.
 pub record HoldsSoFar (front : List (List Page)) (pages : List Page) (gathered : Gathered) (given : List Command) : Type 0 where
   pub done : Recording
   pub before : HoldsLinks front done
@@ -58,19 +58,18 @@ pub record HoldsSoFar (front : List (List Page)) (pages : List Page) (gathered :
   pub out : after [] given ≡ (if gathered.link.begun then done ++ held ∷ [] else done)
   pub waiting : gathered.link.begun ≡ false → Waits pages gathered.chain gathered.link held
 
--- so it is where these links were taken so far
+-- the same, if these links were taken so far
 pub record HasGathered (links : List (List Page)) (gathered : Gathered) (given : List Command) : Type 0 where
   pub bytes : List ℕ
   pub are : AreLinks bytes links
   pub chain : gathered.chain ≡ chain_state_of links
   pub so_far : HoldsSoFar (before_last links) (last_link links) gathered given
 
--- No link was begun by force, as `end` does: pages may be taken.
+-- `end` hasn't forced a link to begin, so pages may be taken.
 abbrev pub CanGoOn : Gathered → Type 0
 CanGoOn gathered = gathered.link.begun ≡ true → gathered.chain.has_data ≡ true
 
--- These commands come of the page: they are those that it completes, and with them the promise holds of the links with
--- the page.
+-- The page completes these commands, and with them the promise holds of the links with the page.
 pub record GathersPage (page : Page) (old new : Gathered) (more : List Command) : Type 0 where
   pub takes : TakesOn page (is_open old.chain) old.link new.link more
   pub goes_on : (links : List (List Page)) (given : List Command) → HasGathered links old given → CanGoOn old

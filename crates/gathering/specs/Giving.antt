@@ -8,7 +8,7 @@ use Rattle.ogg_command.specs.declared.command.NewStream.{NewStream}
 use Rattle.ogg_feed.specs.Commands.{entry_of, put_of, end_of}
 use Rattle.gathering.specs.Kept.{KeptStream, KeptLink, TakenBy, has_some, has_kept, is_ready, no_link, waits, entered, ends_by}
 
--- a new stream with the headers that are kept, of which nothing else is said
+-- a new stream with the headers that are kept; nothing else is said of it
 abbrev pub new_stream : KeptStream → NewStream
 new_stream stream =
     record {
@@ -26,7 +26,7 @@ new_stream stream =
 abbrev pub link_begin : KeptLink → List Command
 link_begin link = BeginOf (record { skeleton = None; streams = map new_stream link.streams }) ∷ map (λ serial. EndOf serial) link.ends
 
--- what stays of a stream and of a link behind it
+-- what stays of a stream, and of its link, after the `Begin`
 abbrev pub bare : KeptStream → KeptStream
 bare stream = record stream { headers = [] }
 
@@ -39,7 +39,7 @@ begun_if begins link = if begins then begun_link link else link
 abbrev pub begin_if : Bool → KeptLink → List Command
 begin_if begins link = if begins then link_begin link else []
 
--- ---- the end of a page's stream: it waits where the link waits
+-- ---- the end of a page's stream: it waits if the link waits
 abbrev pub marked : Page → KeptLink → KeptLink
 marked page link = if link.begun then link else record link { ends = link.ends ++ ends_by page }
 
@@ -47,11 +47,11 @@ abbrev pub page_end : Page → KeptLink → List Command
 page_end page link = if link.begun then end_of page else []
 
 -- ---- a page that isn't its stream's first
--- the link begins where there is a packet that isn't kept, or where it is ready
+-- the link begins if there is a packet that isn't kept, or if it is ready
 abbrev pub begins_now : KeptLink → List (List ℕ) → Bool
 begins_now link later = not link.begun && (has_some later || is_ready link.streams)
 
--- these packets aren't kept, and the link is taken on to this one by these commands
+-- these packets aren't kept, and with these commands the link becomes this one
 pub record PassesOn (page : Page) (link new : KeptLink) (later : List (List ℕ)) (given : List Command) : Type 0 where
   pub stays : new ≡ marked page (begun_if (begins_now link later) link)
   pub commands : given
@@ -68,7 +68,7 @@ pub record Follows (page : Page) (old new : KeptLink) (given : List Command) : T
 abbrev pub with_first : Page → KeptLink → KeptLink
 with_first page link = record link { streams = link.streams ++ entered page ∷ []; ends = link.ends ++ ends_by page }
 
--- any page, where the link is open or not
+-- any page, whether the link is open or not
 pub record TakesOn (page : Page) (is_open : Bool) (old new : KeptLink) (given : List Command) : Type 0 where
   pub opens : is_first page ≡ true → is_open ≡ false → (new ≡ with_first page no_link) × (given ≡ begin_if (waits old) old)
   pub joins : is_first page ≡ true → is_open ≡ true → (new ≡ with_first page old) × (given ≡ [])

@@ -8,14 +8,14 @@ use Rattle.gathering.specs.Limits.{most_headers}
 abbrev pub is_skeleton : List ℕ → Bool
 is_skeleton first = begins (codes "fishead" ++ 0 ∷ []) first
 
--- how many packets of a stream are kept as headers, told by the first
+-- how many packets of a stream are kept as headers, by the first
 unfoldable pub wanted_by : List ℕ → ℕ
 wanted_by first = if is_skeleton first then most_headers else min (header_count first) most_headers
 
--- a stream with these packets wants so many
+-- the number of headers that a stream with these packets wants
 abbrev pub wanted : List (List ℕ) → ℕ
 wanted headers = wanted_by (first_of headers)
 
--- and so many more
+-- the number of further headers that it wants
 abbrev pub lacking : List (List ℕ) → ℕ
 lacking headers = wanted headers - length headers

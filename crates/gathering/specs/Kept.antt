@@ -7,7 +7,7 @@ use Rattle.gathering.specs.Limits.{most_kept, longest_packet}
 use Rattle.gathering.specs.Headers.{wanted, lacking}
 use Rattle.gathering.specs.Cutting.{EndIn, first_size}
 
--- a stream: while its link waits its packets so far, the bytes of the unfinished one, and whether it has ended
+-- a stream: its packets so far while its link waits, the bytes of the unfinished one, and whether it has ended
 pub record KeptStream : Type 0 where
   pub serial : ℕ
   pub headers : List (List ℕ)
@@ -20,7 +20,7 @@ pub record KeptLink : Type 0 where
   pub begun : Bool
   pub ends : List ℕ
 
--- of no link
+-- what is kept if there is no link
 abbrev pub no_link : KeptLink
 no_link = record { streams = []; begun = false; ends = [] }
 
@@ -32,11 +32,11 @@ abbrev pub waits : KeptLink → Bool
 waits link = not link.begun && has_some link.streams
 
 -- ---- a page of a stream
--- how many packets more are kept as headers
+-- how many further packets are kept as headers
 abbrev pub room_of : Bool → KeptStream → ℕ
 room_of begun stream = if begun then 0 else lacking stream.headers
 
--- the stream behind a page: these packets that end in the page aren't kept
+-- the stream after a page: these packets that end in the page aren't kept
 pub record TakesPage (begun : Bool) (page : Page) (old new : KeptStream) (later : List (List ℕ)) : Type 0 where
   pub packets : List (List ℕ)
   pub cut : EndIn old.rest page packets new.rest
@@ -45,7 +45,7 @@ pub record TakesPage (begun : Bool) (page : Page) (old new : KeptStream) (later 
   pub headers : new.headers ≡ old.headers ++ take (room_of begun old) packets
   pub others : later ≡ drop (room_of begun old) packets
 
--- so it is of the page's stream among these, and the others stay as they are
+-- the same of the page's stream among these; the others stay as they are
 pub record TakenBy (begun : Bool) (page : Page) (old new : List KeptStream) (later : List (List ℕ)) : Type 0 where
   pub front : List KeptStream
   pub back : List KeptStream
@@ -59,7 +59,7 @@ pub record TakenBy (begun : Bool) (page : Page) (old new : List KeptStream) (lat
 abbrev pub has_kept : ℕ → List KeptStream → Bool
 has_kept serial streams = list_any (λ (stream : KeptStream). nat_eq stream.serial serial) streams
 
--- a stream behind its first page
+-- a stream after its first page
 abbrev pub entered : Page → KeptStream
 entered page = record { serial = page.serial; headers = page.body ∷ []; rest = []; ended = is_last page }
 
@@ -72,7 +72,7 @@ rest_of serial [] = []
 rest_of serial (stream ∷ streams) = if nat_eq stream.serial serial then stream.rest else rest_of serial streams
 
 -- ---- whether the link is ready to begin
--- a stream that hasn't ended wants headers more
+-- a stream that hasn't ended wants further headers
 abbrev pub is_waiting : KeptStream → Bool
 is_waiting stream = not stream.ended && nat_lt (length stream.headers) (wanted stream.headers)
 
@@ -82,7 +82,7 @@ kept_bytes streams = sum_by (λ (stream : KeptStream). sum_by length stream.head
 abbrev pub is_ready : List KeptStream → Bool
 is_ready streams = not (list_any is_waiting streams) || nat_lt most_kept (kept_bytes streams)
 
--- A first page has one packet, which lies whole in it. Another may continue a packet of its stream, up to the longest
--- that there may be.
+-- A first page has one packet, which lies whole in it. Another page may continue a packet of its stream, up to the
+-- longest that there may be.
 abbrev pub is_too_long : KeptLink → Page → Bool
 is_too_long link page = not (is_first page) && nat_lt longest_packet (length (rest_of page.serial link.streams) + first_size page.lacing)

@@ -2,6 +2,6 @@
 use Rattle.std.specs.Prelude.{ℕ}
 pub use Rattle.chain_rules.specs.Limits.{most_headers, longest_packet}
 
--- bytes of the headers of a link that waits, taken together
+-- the number of bytes that the headers of a waiting link may have, taken together
 abbrev pub most_kept : ℕ
 most_kept = 4194304

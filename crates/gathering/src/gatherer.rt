@@ -45,8 +45,8 @@ impl Gatherer {
     }
 
     /// Takes the next page, and appends the commands that it completes. `Chain` says that the page may not follow,
-    /// `PacketTooLong` that a packet is too long with it; after these nothing has changed. After `Memory` the commands
-    /// and the chain are as they were, but what is kept of the streams may be lost: take no page any more.
+    /// `PacketTooLong` that a packet is too long with it; after these nothing has changed. After `Memory` the
+    /// commands and the chain are as they were, but what is kept of the streams may be lost: take no further page.
     pub fn take_page(
         &mut self,
         page: &Page<'_>,
@@ -80,7 +80,8 @@ impl Gatherer {
         Ok(())
     }
 
-    /// Takes a page that may follow. After `Memory` some of its commands may stand there, and what is kept may be lost.
+    /// Takes a page that may follow. After `Memory` some of its commands may have been appended, and what is kept may
+    /// be lost.
     fn gather(&mut self, page: &Page<'_>, commands: &mut Vec<Command>) -> Result<(), Memory>
         requires fits { fault_of_page self.old.chain page.now ≡ None }
         requires long { self.old.chain.length_of + page_size page.now < 2 ^ 63 }
@@ -99,7 +100,7 @@ impl Gatherer {
         Ok(())
     }
 
-    /// Appends the commands that still wait: at the end of the input, or at its fault. Take no page any more. After
+    /// Appends the commands that still wait: at the end of the input, or at its fault. Take no further page. After
     /// `Memory`, its one fault, the commands are as they were, but what waited may be lost.
     pub fn end(&mut self, commands: &mut Vec<Command>) -> Result<(), GatherFault>
         ensures commands { OnOk result (commands.new.items ≡ commands.old.items ++ begin_if (waits self.old.link) self.old.link) }

@@ -10,7 +10,7 @@ use ogg_command::{Begin, Command, Entry, Listed, Memory, NewStream, Put};
 use ogg_page::Page;
 use std::alloc::Global;
 
-/// The streams of a `Begin`, with the headers that are kept, which are taken out.
+/// The streams of a `Begin`, with the headers that were kept. These are taken out.
 fn new_streams(alloc: Global, streams: &mut [Kept]) -> Result<Vec<NewStream>, Memory>
     ensures new { IfOk result (λ new. new.items ≡ map new_stream streams.old) }
     ensures bare { OnOk result (streams.new ≡ map bare streams.old) }
@@ -58,7 +58,7 @@ pub fn push_begin(
     Ok(())
 }
 
-/// Appends the ends of streams. After `Memory` some of them may stand there.
+/// Appends the ends of streams. After `Memory` some of them may have been appended.
 pub fn push_ends(ends: &[u32], commands: &mut Vec<Command>) -> Result<(), Memory>
     ensures ok { OnOk result (commands.new.items ≡ commands.old.items ++ map (λ serial. CommandOf.End serial) ends.now) }
     ensures more { (given : List CommandOf) × (commands.new.items ≡ commands.old.items ++ given) }

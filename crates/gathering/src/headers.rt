@@ -8,7 +8,7 @@ use ogg_command::{Listed, Memory};
 use ogg_feed::header_count;
 use std::alloc::Global;
 
-/// How many packets of a stream are kept as headers, told by the first.
+/// How many packets of a stream are kept as headers, by the first.
 #[tactic(auto, unfolding(crate::specs::Headers::wanted_by))]
 fn wanted_by(first: &[u8]) -> usize
     ensures { result ≡ wanted_by first.now }
@@ -20,7 +20,7 @@ fn wanted_by(first: &[u8]) -> usize
     }
 }
 
-/// How many packets a stream with these wants to have as headers.
+/// How many headers a stream with these packets wants.
 pub fn wanted(headers: &[Listed<u8>]) -> usize
     ensures { result ≡ wanted headers.now }
 {
@@ -30,7 +30,7 @@ pub fn wanted(headers: &[Listed<u8>]) -> usize
     }
 }
 
-/// Appends packets to the headers, as many as are lacking, and gives back the others. After `Memory` some of the
+/// Appends as many packets to the headers as are lacking, and gives back the others. After `Memory` some of the
 /// packets are lost.
 pub fn keep_headers(
     alloc: Global,
@@ -66,7 +66,7 @@ fn share(
     Ok(later)
 }
 
-/// What is left of a number of bytes behind the headers, where they aren't longer.
+/// What is left of a number of bytes after the headers; none if the headers have more bytes together.
 pub fn left_behind(left: usize, headers: &[Listed<u8>]) -> Option<usize>
     ensures { SomeIff result (sum_by length headers.now ≤ left) (left - sum_by length headers.now) }
 {

@@ -16,9 +16,9 @@ use std::mem;
 #[derive(Debug, Drop)]
 pub struct Kept {
     serial: u32,
-    // while the link waits
+    // the headers, while the link waits
     headers: Vec<Listed<u8>>,
-    // of the unfinished packet
+    // the bytes of the unfinished packet
     rest: Vec<u8>,
     ended: bool,
 }
@@ -32,7 +32,7 @@ impl Model for Kept {
 }
 
 impl Kept {
-    /// A stream behind its first page, which holds one whole packet.
+    /// A stream after its first page, which holds one whole packet.
     pub fn enter(alloc: Global, page: &Page<'_>) -> Result<Kept, Memory>
         ensures { IfOk result (λ kept. kept ≡ entered page.now) }
     {
@@ -53,7 +53,7 @@ impl Kept {
         self.serial
     }
 
-    /// How many bytes of a packet are unfinished.
+    /// How many bytes of the unfinished packet are kept.
     pub fn rest_len(&self) -> usize
         ensures { result ≡ length self.now.rest }
     {
@@ -78,14 +78,14 @@ impl Kept {
         Ok(later)
     }
 
-    /// Whether the stream, which hasn't ended, wants headers more.
+    /// Whether the stream, which hasn't ended, wants further headers.
     pub fn is_waiting(&self) -> bool
         ensures { result ≡ is_waiting self.now }
     {
         !self.ended && self.headers.len() < wanted(self.headers.as_slice())
     }
 
-    /// What is left of a number of bytes behind the stream's headers, where they aren't longer.
+    /// What is left of a number of bytes after the stream's headers; none if the headers have more bytes together.
     pub fn left_behind(&self, left: usize) -> Option<usize>
         ensures { SomeIff result (sum_by length self.now.headers ≤ left) (left - sum_by length self.now.headers) }
     {

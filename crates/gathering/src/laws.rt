@@ -21,8 +21,8 @@ pub fn gathered_commands_hold_the_recording()
         after [] given ≡ recording }
 {}
 
-/// With a page that isn't too long no packet is longer than the longest that there may be: neither one that ends in the
-/// page, nor the one that goes on after it.
+/// With a page that isn't too long no packet is longer than the longest that there may be. This holds of each packet
+/// that ends in the page, and of the one that goes on after it.
 pub fn packets_are_short()
     ensures { (rest : List ℕ) (segments : ℕ) (page : Page) (packets : List (List ℕ)) (left : List ℕ)
         → IsPage page → length rest ≡ full_value * segments → EndIn rest page packets left
@@ -30,8 +30,8 @@ pub fn packets_are_short()
         AllByRecursion (λ packet. length packet ≤ longest_packet) (packets ++ left ∷ []) }
 {}
 
-/// The links are begun without a Skeleton, whether by a page or at the end: one that the pages hold is a stream of its
-/// link as others are.
+/// The links are begun without a Skeleton, whether by a page or at the end. A Skeleton that the pages hold is a
+/// stream of its link as the others are.
 pub fn links_are_begun_without_a_skeleton()
     ensures page { (links : List (List Page)) (gathered : Gathered) (given : List Command) (page : Page) (new : KeptLink) (more : List Command)
         → fault_of_page gathered.chain page ≡ None → HasGathered links gathered given → TakesOn page (is_open gathered.chain) gathered.link new more →

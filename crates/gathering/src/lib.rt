@@ -1,10 +1,11 @@
 //! Pages of an Ogg bitstream as commands, each as soon as its page is there (RFC 3533, sections 4 to 6).
 //!
-//! A `Gatherer` takes pages one by one. A link's `Begin` waits until its streams' headers are complete; from then on
-//! each page gives a `Put` of the packets that end in it, and the last page of a stream an `End`. Of each stream it
+//! A `Gatherer` takes pages one by one. A link's `Begin` waits until its streams' headers are complete. From then on
+//! each page becomes a `Put` of the packets that end in it, and the last page of a stream an `End`. Of each stream it
 //! keeps the bytes of one unfinished packet, and of a link that waits the headers.
 //!
-//! Start at `specs/Gathered.antt`, which says what the commands given so far have to do with the pages taken so far.
+//! Start at `specs/Gathered.antt`, which says how the commands given so far and the pages taken so far belong
+//! together.
 #![tactic(auto)]
 
 mod cutting;

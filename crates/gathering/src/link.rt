@@ -18,7 +18,7 @@ pub struct LastLink {
     alloc: Global,
     streams: Vec<Kept>,
     begun: bool,
-    // the ended streams of a link that waits
+    // the streams of a waiting link that have ended
     ends: Vec<u32>,
 }
 
@@ -99,7 +99,7 @@ impl LastLink {
     }
 
     /// Takes a page, and appends the commands that it completes; `is_open` says whether the last link is open. After
-    /// `Memory` what is kept may be lost, and some of the commands may stand there.
+    /// `Memory` what is kept may be lost, and some of the commands may have been appended.
     pub fn take_page(
         &mut self,
         page: &Page<'_>,
@@ -122,7 +122,7 @@ impl LastLink {
     }
 
     /// Takes a page that isn't its stream's first, and appends the commands that it completes. After `Memory` what is
-    /// kept may be lost, and some of the commands may stand there.
+    /// kept may be lost, and some of the commands may have been appended.
     fn follow(&mut self, page: &Page<'_>, commands: &mut Vec<Command>) -> Result<(), Memory>
         ensures ok { OnOk result ((given : List CommandOf) × (commands.new.items ≡ commands.old.items ++ given)
             × (has_kept page.now.serial self.old.streams ≡ true → Follows page.now self.old self.new given)) }
@@ -133,7 +133,7 @@ impl LastLink {
         Ok(())
     }
 
-    /// Gives out the packets that aren't kept, and before them the link's `Begin`, if it is time.
+    /// Gives out the packets that aren't kept, and before them the link's `Begin`, if it begins now.
     fn pass_on(
         &mut self,
         page: &Page<'_>,

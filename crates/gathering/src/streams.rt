@@ -1,4 +1,4 @@
-//! What is kept of the last link's streams, looked through.
+//! What is kept of the last link's streams, searched.
 ghost use Rattle.std.specs.Prelude.{◌≡◌, true, nat_eq, nat_lt, IfOk, length};
 ghost use Rattle.std.specs.List.{list_any, position};
 ghost use Rattle.gathering.specs.Kept.{KeptStream, TakenBy, has_kept, is_ready, is_waiting, kept_bytes, rest_of};
@@ -10,7 +10,7 @@ use ogg_command::{Listed, Memory};
 use ogg_page::Page;
 use std::alloc::Global;
 
-/// How many bytes are unfinished of the stream with this serial.
+/// How many bytes of an unfinished packet are kept for the stream with this serial.
 pub fn rest_len(streams: &[Kept], serial: u32) -> usize
     ensures { result ≡ length (rest_of serial streams.now) }
 {
@@ -56,7 +56,7 @@ pub fn is_ready(streams: &[Kept]) -> bool
     !is_waiting(streams) || keeps_much(streams)
 }
 
-/// Whether one of the streams hasn't ended and wants headers more.
+/// Whether one of the streams hasn't ended and wants further headers.
 fn is_waiting(streams: &[Kept]) -> bool
     ensures { result ≡ list_any is_waiting streams.now }
 {

@@ -25,12 +25,12 @@ pub part-self : {A : Type 0} (xs : List A) → IsPartOf xs xs
 part-self [] = tt
 part-self (x ∷ xs) = inl (refl, part-self xs)
 
--- an opening more that finds nothing
+-- another opening, which doesn't find the group
 pub made-without : {C : Type 0} (sessions : List (Session C)) (all group : List C) → IsMadeOf sessions all → IsMadeOf (sessions ++ session group [] ∷ []) all
 made-without [] all group p = ([], refl, inl p)
 made-without (first ∷ sessions) all group p = (p.0, made-without sessions p.0 group p.1, p.2)
 
--- an opening more that finds the group
+-- another opening, which finds the group
 pub made-with : {C : Type 0} (sessions : List (Session C)) (all group : List C) → IsMadeOf sessions all → IsMadeOf (sessions ++ session group [] ∷ []) (all ++ group)
 made-with [] all group p = ([], refl, inr (ap (λ (l : List _). l ++ group) p ∙ sym (append-nil group)))
 made-with {C} (first ∷ sessions) all group p = (
@@ -40,7 +40,7 @@ made-with {C} (first ∷ sessions) all group p = (
       (λ found. inr (ap (λ (l : List C). l ++ group) found ∙ append_assoc first.in_doubt (first.acknowledged ++ p.0) group ∙ ap (λ (l : List C). first.in_doubt ++ l) (append_assoc first.acknowledged p.0 group))) p.2,
 )
 
--- what the states hold grows with them
+-- what the states hold grows with the commands
 pub holds-fold : {S R C : Type 0} (accepts : S → C → Type 0) (next : S → C → S) (holds : S → R → Type 0) (add : R → C → R)
     → ((s : S) (r : R) (c : C) → accepts s c → holds s r → holds (next s c) (add r c))
     → (s : S) (r : R) (cs : List C) → holds s r → AreAccepted accepts next s cs → holds (fold next s cs) (fold add r cs)

@@ -1,4 +1,4 @@
--- In every history the disk stands where the world says.
+-- In every history the disk shows what the world says.
 use Rattle.std.specs.Prelude.{◌≡◌, ◌⊎◌, ℕ, ◌≤◌, Bool, true, false, if◌then◌else◌, List, [], ◌∷◌, ◌++◌, length, take, refl}
 use Rattle.std.specs.List.{fold}
 use Rattle.std.proofs.Common.{inl, inr, ⊎_elim, sym, ◌∙◌, ap, subst, arith}
@@ -145,7 +145,7 @@ module _ {D S C : Type 0} (is_honest : D → Type 0) (state : D → DiskState) (
   part_in_front : (xs ys zs : List C) → IsPartOf xs ys → IsPartOf xs (ys ++ zs)
   part_in_front xs ys zs p = subst (λ (l : List C). IsPartOf l (ys ++ zs)) (append-nil xs) (part-append xs ys [] zs p tt)
 
-  -- what ShowsFirst says of these commands
+  -- what `ShowsFirst` says of these commands
   abbrev IsFirst : List (Step C × D) → World C → List ℕ → List C → Type 0
   IsFirst steps w image some = shows image (fold next first some) × AreAccepted accepts next first some × IsPartOf (acknowledged start steps) some × IsMadeOf (sessions_of steps w) some
 
@@ -154,7 +154,7 @@ module _ {D S C : Type 0} (is_honest : D → Type 0) (state : D → DiskState) (
       let taken : IsFirst steps w image (take k (commands w)) = subst (IsFirst steps w image) (sym is) p in
       record { k = k; shown = taken.0; accepted = taken.1; has = taken.2; made = taken.3 }
 
-  -- with the steps that follow, in a world that goes on from theirs
+  -- what an image shows in a world that has acknowledged the same as these steps
   shown_first : (disk : D) (steps : List (Step C × D)) (w : World C) (image : List ℕ) → AreSteps is_honest state moment images_since shows accepts next first start disk steps
       → w.acknowledged ≡ (run start steps).acknowledged → Accepted w → Shown w image → ShowsFirst shows accepts next first steps w image
   shown_first disk steps w image are same accepted shown =

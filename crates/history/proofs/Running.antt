@@ -37,7 +37,7 @@ module _ {D S C : Type 0} (is_honest : D → Type 0) (state : D → DiskState) (
     shown = subst (shows image) (sym (fold-append next first kept (held ++ more))) shown;
   }
 
-  -- one call more
+  -- one more call
   call_more : (old mid new : D) (all : List C) (w : World C) (call : Call C) → IsCommand call → all ≡ w.acknowledged ++ w.held → LeavesOnly moment images_since old mid (Some all)
       → Leaves state moment images_since shows next first w call mid new → LeavesOnly moment images_since old new (Some (all ++ accepted_by call))
   call_more old mid new all w Opening may is so_far leaves = absurd may
@@ -56,7 +56,7 @@ module _ {D S C : Type 0} (is_honest : D → Type 0) (state : D → DiskState) (
   as_all : (old new : D) (xs ys : List C) → xs ≡ ys → LeavesOnly moment images_since old new (Some xs) → LeavesOnly moment images_since old new (Some ys)
   as_all old new xs ys is leaves = subst (λ (l : List C). LeavesOnly moment images_since old new (Some l)) is leaves
 
-  -- where it isn't open, each command is refused
+  -- if it isn't open, each command is refused
   shut : (old mid : D) (w : World C) (steps : List (Step C × D)) (all : List C) → w.is_open ≡ false → LeavesOnly moment images_since old mid (Some all)
       → AreSteps is_honest state moment images_since shows accepts next first w mid steps → AreCommands steps → LeavesOnly moment images_since old (disk_after mid steps) (Some (all ++ accepted steps))
   shut old mid w [] all is so_far are commands = as_all old mid all (all ++ []) (sym (append-nil all)) so_far

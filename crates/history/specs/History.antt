@@ -13,12 +13,12 @@ module _ {S C : Type 0} (shows : List ℕ → S → Type 0) (next : S → C → 
   abbrev pub ShowsWorld : World C → List ℕ → Type 0
   ShowsWorld w image = ShowsEither shows (now_in next first w) (fold next (now_in next first w) w.in_doubt) image
 
-  -- each image of the disk does
+  -- each image of the disk shows it
   abbrev pub StandsIn : World C → DiskState → Type 0
   StandsIn w disk = (image : List ℕ) → IsImage disk image → ShowsWorld w image
 
 module _ {S C : Type 0} (accepts : S → C → Type 0) (next : S → C → S) (first : S) where
-  -- it is accepted in the state that the waiting ones left
+  -- the command is accepted in the state that the waiting ones left
   abbrev pub Accepts : World C → C → Type 0
   Accepts w c = accepts (fold next (now_in next first w) w.held) c
 
@@ -46,7 +46,7 @@ module _ {D S C : Type 0} (state : D → DiskState) (moment : D → ℕ) (images
   abbrev pub LeavesSame : World C → D → D → Type 0
   LeavesSame w old new = LeavesOnly moment images_since old new (λ image. shows image (now_in next first w))
 
-  -- or that with the group
+  -- or what is acknowledged, with the group
   abbrev pub LeavesEither : World C → List C → D → D → Type 0
   LeavesEither w group old new = LeavesOnly moment images_since old new (ShowsEither shows (now_in next first w) (fold next (now_in next first w) group))
 
@@ -54,7 +54,7 @@ module _ {D S C : Type 0} (state : D → DiskState) (moment : D → ℕ) (images
   abbrev pub LeavesAsBefore : D → D → Type 0
   LeavesAsBefore old new = LeavesOnly moment images_since old new (IsAsBefore shows (state old))
 
-  -- Each moment of a call, whatever it answers.
+  -- What a call leaves at each moment, whatever it answers.
   abbrev pub Leaves : World C → Call C → D → D → Type 0
   Leaves w Opening old new = LeavesAsBefore old new
   Leaves w (Staging c) old new = LeavesSame w old new
@@ -67,7 +67,7 @@ module _ {D S C : Type 0} (is_honest : D → Type 0) (state : D → DiskState) (
   abbrev LeavesIt : World C → Call C → D → D → Type 0
   LeavesIt w call old new = Leaves state moment images_since shows next first w call old new
 
-  -- the clauses of a call that was answered, and what a stop leaves
+  -- what the contract of a call says if it was answered, and what a stop leaves
   abbrev pub Meets : World C → Step C → D → D → Type 0
   Meets w (Opened found) old new = LeavesIt w Opening old new × Finds shows (state old) (state new) (fold next (now_in next first w) (if found then w.in_doubt else []))
   Meets w (Held c) old new = LeavesIt w (Staging c) old new
@@ -78,9 +78,9 @@ module _ {D S C : Type 0} (is_honest : D → Type 0) (state : D → DiskState) (
   Meets w Sealed old new = LeavesIt w Sealing old new
   Meets w GivenBack old new = new ≡ old
   Meets w (Faulted call) old new = LeavesIt w call old new
-  -- an image of the disk is then the contents, and the only image
+  -- the disk then has one of its images as the contents, and no other image
   Meets w Stopped old new = (image : List ℕ) × IsImage (state old) image × StartsFrom image (state new)
-  -- an image of those since the call began, if it had ended so
+  -- the same with an image that there was since the call began, if the call could have ended with the disk `ended`
   Meets w (StoppedIn call) old new =
       (ended : D) × is_honest ended × LeavesIt w call old ended
       × (image : List ℕ) × images_since ended (moment old) image × StartsFrom image (state new)
@@ -94,7 +94,7 @@ module _ {D S C : Type 0} (is_honest : D → Type 0) (state : D → DiskState) (
   AreSteps w old [] = ⊤
   AreSteps w old ((step, new) ∷ steps) = IsStep w step old new × AreSteps (happens w step) new steps
 
-  -- At first every image of the disk shows `first`; the steps lead into this world, and to the disk of now.
+  -- At first every image of the disk shows `first`. The steps lead into this world, and to the disk `now`.
   pub record IsHistory (disk : D) (steps : List (Step C × D)) (w : World C) (now : D) : Type 0 where
     pub begins : ShowsOnly shows (state disk) first
     pub are : AreSteps start disk steps
@@ -117,7 +117,7 @@ module _ {D S C : Type 0} (is_honest : D → Type 0) (state : D → DiskState) (
   steps-append w old [] ys p q = q
   steps-append w old ((step, new) ∷ xs) ys p q = (p.0, steps-append (happens w step) new xs ys p.1 q)
 
-  -- one step more
+  -- one more step
   pub step_more : (w : World C) (old mid new : D) (xs : List (Step C × D)) (step : Step C) → AreSteps is_honest state moment images_since shows accepts next first w old xs → disk_after old xs ≡ mid
       → IsStep is_honest state moment images_since shows accepts next first (run w xs) step mid new
       → AreSteps is_honest state moment images_since shows accepts next first w old (xs ++ (step, new) ∷ [])

@@ -1,4 +1,5 @@
--- From bytes to what images show. Ours. `commits_to image bytes`: the image's committed bytes. `holds bytes state`: what they hold.
+-- From bytes to what images show. Ours. `commits_to image bytes` says what an image's committed bytes are, and
+-- `holds bytes state` what they hold.
 use Rattle.std.specs.Prelude.{◌≡◌, ◌⊎◌, ℕ, List, ◌++◌}
 use Rattle.std.proofs.Common.{inl, inr, ⊎_elim, subst}
 use Rattle.disk_model.specs.Image.{DiskState, IsImage}

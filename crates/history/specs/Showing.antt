@@ -1,4 +1,5 @@
--- What images show, in the words of a call's contract. Ours. `shows image state`: an opening that reads the image finds the state.
+-- What images show, in the words of a call's contract. Ours. `shows image state`: an opening that reads the image
+-- finds the state.
 use Rattle.std.specs.Prelude.{◌≡◌, ◌⊎◌, ℕ, List}
 use Rattle.disk_model.specs.Image.{DiskState, IsImage, IsSettled}
 

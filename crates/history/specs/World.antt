@@ -1,4 +1,4 @@
--- What befalls a recording: calls with their answers, and stops. Nothing is said of the disk here. Ours.
+-- What happens to a recording: calls with their answers, and stops. Nothing is said of the disk here. Ours.
 use Rattle.std.specs.Prelude.{ℕ, ◌+◌, ◌<◌, Bool, true, false, if◌then◌else◌, List, [], ◌∷◌, ◌++◌, length, ⊤}
 use Rattle.std.specs.List.{fold}
 
@@ -15,32 +15,32 @@ pub record World (C : Type 0) : Type 0 where
 -- a call that uses the disk
 pub data Call (C : Type 0) : Type 0 where
   Opening : Call C
-  -- a command that is to wait
+  -- a command that is to wait for the commit of its group
   Staging : (c : C) → Call C
-  -- a command that ends its group
+  -- a command that ends its group, and commits it
   Committing : (c : C) → Call C
-  -- the commands that wait are a group
+  -- a call that commits the commands that wait, as a group
   Flushing : Call C
   Sealing : Call C
   Reading : Call C
 
 -- a call and its answer, or a stop
 pub data Step (C : Type 0) : Type 0 where
-  -- with the group in doubt, or without it
+  -- an opening that found the group in doubt, or didn't find it
   Opened : (found : Bool) → Step C
   Held : (c : C) → Step C
   -- this command and those that waited are acknowledged
   Kept : (c : C) → Step C
   Flushed : Step C
-  -- with no device call
+  -- a command that was refused without a call of the disk
   Refused : (c : C) → Step C
   -- a reading, whatever it answers
   Looked : Step C
   Sealed : Step C
   GivenBack : Step C
-  -- a disk fault, after which the file has to be opened again; of an opening any refusal
+  -- a disk fault, after which the file has to be opened again; for an opening, any refusal
   Faulted : (call : Call C) → Step C
-  -- between two calls
+  -- a stop between two calls
   Stopped : Step C
   StoppedIn : (call : Call C) → Step C
 
@@ -117,19 +117,19 @@ pub record Session (C : Type 0) : Type 0 where
 abbrev pub session : {C : Type 0} → List C → List C → Session C
 session group acknowledged = record { in_doubt = group; acknowledged = acknowledged }
 
--- up to the next opening
+-- what the answers say is kept, up to the next opening
 abbrev pub acknowledged_since : {C D : Type 0} → World C → List (Step C × D) → List C
 acknowledged_since w [] = []
 acknowledged_since w ((Opened found, disk) ∷ steps) = []
 acknowledged_since w ((step, disk) ∷ steps) = acknowledged_by w step ++ acknowledged_since (happens w step) steps
 
--- one for each opening that succeeded
+-- one session for each opening that succeeded
 abbrev pub sessions : {C D : Type 0} → World C → List (Step C × D) → List (Session C)
 sessions w [] = []
 sessions w ((Opened found, disk) ∷ steps) = session w.in_doubt (acknowledged_since (happens w (Opened found)) steps) ∷ sessions (happens w (Opened found)) steps
 sessions w ((step, disk) ∷ steps) = sessions (happens w step) steps
 
--- with the opening that is still to come
+-- the same, and a session for the opening that is still to come
 abbrev pub sessions_of : {C D : Type 0} → List (Step C × D) → World C → List (Session C)
 sessions_of steps w = sessions start steps ++ session w.in_doubt [] ∷ []
 

@@ -13,7 +13,8 @@ use crate::Recordings;
 use disk_model::Disk;
 
 /// After any openings, commands, flushes, sealings and stops, at any moment, every image shows what some first
-/// commands have recorded: in order, every acknowledged one among them, and each group whole or not at all.
+/// commands have recorded. These commands are in order, every acknowledged command is among them, and each group is
+/// there as a whole or not at all.
 pub fn stops_keep_what_was_acknowledged<D: Disk, B: Recordings>()
     // Between two calls.
     ensures at_end { (first : B.State) (disk now : D) (w : World B.Command)
@@ -78,8 +79,8 @@ pub fn acknowledged_commands_stay<D: Disk, B: Recordings>()
         × ((run w steps).acknowledged ≡ w.acknowledged ++ more) }
 {}
 
-/// If at most `most` commands share a commit, an opening finds at most `most` that weren't acknowledged: one, if each
-/// command has a commit of its own.
+/// If at most `most` commands share a commit, an opening finds at most `most` that weren't acknowledged. If each
+/// command has a commit of its own, it finds at most one.
 pub fn groups_in_doubt_are_short<D: Disk, B: Recordings>()
     ensures { (most : ℕ) (steps : List (Step B.Command × D)) → 0 < most → GroupsUpTo most start steps
         → AllByRecursion (λ (session : Session B.Command). length session.in_doubt ≤ most)

@@ -5,8 +5,8 @@
 //! some first commands have recorded, and every acknowledged command is among them. Commands may share a commit: those
 //! that wait for it are in no image, and after a fault or a stop in it an opening finds all of them or none.
 //!
-//! Nothing here knows of pages, and nothing runs: `Recordings` says what an image shows and what a command changes, and
-//! `Committed` how images show it by committed bytes.
+//! Nothing here knows of pages, and nothing runs: `Recordings` says what an image shows and what a command changes,
+//! and `Committed` how images show it by committed bytes.
 //!
 //! Start at `specs/World.antt`, which says what a step makes of the commands, and go on to `specs/History.antt`, which
 //! says the same of the disk; `stops_keep_what_was_acknowledged` joins them.

@@ -6,10 +6,10 @@ ghost use Rattle.history.specs.Showing.{ShowsOne};
 pub trait Recordings {
     ghost Command: { Type 0 };
 
-    /// As much as says which commands are accepted.
+    /// A state, which says which commands are accepted.
     ghost State: { Type 0 };
 
-    /// What users see of it.
+    /// What users see of a state.
     ghost Recording: { Type 0 };
 
     /// An opening that reads the image finds the state.

@@ -1,12 +1,12 @@
 -- Nothing of joined links is left, unless memory is refused.
-use Rattle.std.proofs.Common.{◌≡◌, ◌≢◌, ℕ, List, [], ◌∷◌, ◌++◌, refl, sym, ◌∙◌, ap, subst, Some, None, Option, Err, Ok, Result, append_assoc}
+use Rattle.std.proofs.Common.{◌≡◌, ℕ, List, [], ◌∷◌, ◌++◌, refl, sym, ◌∙◌, ap, subst, Some, None, Option, Err, Ok, append_assoc}
 use Rattle.std.specs.List.{AllByRecursion}
 use Rattle.ogg_page.specs.Page.{Page, IsPage, page_bytes, bytes_of_pages}
 use Rattle.ogg_page.specs.PageLaws.{one_page, page_begins}
 use Rattle.ogg_page.specs.Reading.{page_at}
 use Rattle.ogg_page.specs.ReadingLaws.{page_is_read}
 use Rattle.ogg_page.specs.declared.fault.PageFault.{PageFault}
-use Rattle.link_chain.specs.ChainState.{ChainState, chain_state_of}
+use Rattle.link_chain.specs.ChainState.{chain_state_of}
 use Rattle.link_chain.specs.Links.{AreLinks, flattened}
 use Rattle.link_chain.specs.LinkLaws.{only, pages_flattened}
 use Rattle.link_chain.specs.Taking.{AreTaken, links_with, fault_of_page}

@@ -1,15 +1,14 @@
--- The index of links with one page more.
-use Rattle.std.proofs.Common.{◌≡◌, ◌≢◌, ℕ, ◌+◌, Bool, true, false, cond, List, [], ◌∷◌, ◌++◌, length, map, refl, sym, ◌∙◌, ap, subst, arith, inl, inr, eq-eqb, length-append, append_assoc, None}
+-- The index of links with one more page.
+use Rattle.std.proofs.Common.{◌≡◌, ◌≢◌, ℕ, ◌+◌, Bool, true, false, List, [], ◌∷◌, ◌++◌, length, map, refl, sym, ◌∙◌, ap, subst, arith, inl, inr, eq-eqb, length-append, None}
 use Rattle.std.specs.Prelude.{nat_eq, ◌||◌, sum_by}
-use Rattle.std.specs.List.{flat_map, list_any, AllByRecursion}
+use Rattle.std.specs.List.{flat_map, list_any}
 use Rattle.std.proofs.lemmas.Bool.{cond-true, cond-false, ne_eqb, cases_eq, eqb-false, or_parts}
 use Rattle.std.proofs.lemmas.List.{append-nil}
-use Rattle.std.proofs.lemmas.List.Concat.{flat_map-append}
-use Rattle.std.proofs.lemmas.List.Sums.{sum_by-append, sum_by-cons}
+use Rattle.std.proofs.lemmas.List.Sums.{sum_by-cons}
 use Rattle.ogg_page.specs.Page.{Page, page_bytes, bytes_of_pages, page_size}
 use Rattle.ogg_page.specs.PageLaws.{bytes_both, length-page_bytes}
 use Rattle.ogg_page.specs.LogicalStream.{is_first, is_last}
-use Rattle.link_chain.specs.Links.{pages_with, serials_of, has_stream, has_ended, with_pages, flattened}
+use Rattle.link_chain.specs.Links.{pages_with, serials_of, has_ended, with_pages, flattened}
 use Rattle.link_chain.specs.ChainState.{chain_state_of, is_open, last_link}
 use Rattle.link_chain.specs.Taking.{fault_of_page, links_with, joining_rules, later_rules}
 use Rattle.link_chain.specs.Laws.Rules.{NoneBroken}
@@ -18,7 +17,6 @@ use Rattle.link_chain.specs.Laws.Grow.{with_own, with_other, serials_same, ended
 use Rattle.link_chain.specs.Laws.LastLink.{open_some}
 use Rattle.link_chain.specs.Laws.StateBehind.{last_is}
 use Rattle.link_chain.specs.Laws.PageState.{begins_here, goes_on_open, goes_on_later, not_zero, serials_both, absent, no_pages, one_serial}
-use Rattle.link_index.specs.declared.info.LinkInfo.{LinkInfo}
 use Rattle.link_index.specs.declared.info.StreamInfo.{StreamInfo}
 use Rattle.link_index.specs.Index.{LinkEntry, stream_info, link_entry, index_from, index_of}
 use Rattle.link_index.specs.Growth.{first_info, counted, opened_entry, joined_entry, continued_entry, change_last}
@@ -74,7 +72,7 @@ sizes_are [] = refl
 sizes_are (link ∷ links) =
     omega (arith, sum_by-cons (λ (l : List Page). sum_by page_size l) link links, sizes_are links, size_is link, length-append (bytes_of_pages link) (flat_map bytes_of_pages links))
 
--- ---- a stream with a page more
+-- ---- a stream with another page
 abbrev info : ℕ → ℕ → ℕ → Bool → StreamInfo
 info serial bytes pages ended = record { serial = serial; bytes = bytes; pages = pages; ended = ended }
 
@@ -107,7 +105,7 @@ each_counted link page serial =
           ∙ sym (cond-false (nat_eq serial page.serial) (info serial (length (bytes_of_pages (pages_with serial link)) + length (page_bytes page)) (length (pages_with serial link) + 1) (has_ended link serial || is_last page)) (stream_info link serial) (ne_eqb serial page.serial other))
     ]
 
--- ---- a link with a page more
+-- ---- a link with another page
 abbrev entry : ℕ → ℕ → ℕ → List StreamInfo → LinkEntry
 entry start size count streams = record { info = record { start = start; length = size; streams = count }; streams = streams }
 
@@ -128,7 +126,7 @@ others_same link page (s ∷ serials) e =
     ap (λ x. x ∷ map (stream_info (link ++ page ∷ [])) serials) (other_same link page s (eqb-false page.serial s parts.0))
     ∙ ap (λ l. stream_info link s ∷ l) (others_same link page serials parts.1)
 
--- a stream of which there was no page
+-- a stream that had no page
 begun : (link : List Page) (page : Page) → pages_with page.serial link ≡ [] → stream_info (link ++ page ∷ []) page.serial ≡ first_info page
 begun link page none =
     let serial : ℕ = page.serial in
@@ -155,7 +153,7 @@ opened start page first =
     ∙ ap (λ s. entry start (length (page_bytes page)) (length s) (map (stream_info (page ∷ [])) s)) (one_serial page first)
     ∙ ap (λ s. entry start (length (page_bytes page)) 1 (s ∷ [])) (begun [] page refl)
 
--- ---- the index with a page more
+-- ---- the index with another page
 index_at : (start : ℕ) (done : List (List Page)) (link : List Page)
     → index_from start (done ++ link ∷ []) ≡ index_from start done ++ link_entry (start + length (flat_map bytes_of_pages done)) link ∷ []
 index_at start [] link = ap (λ n. link_entry n link ∷ []) (omega arith)

@@ -14,11 +14,11 @@ use Rattle.link_index.specs.declared.info.StreamInfo.{StreamInfo}
 use Rattle.link_index.specs.declared.rows.Row.{Row}
 use Rattle.link_index.specs.Rows.{ArePacked, AreWithin, IsKept, last_count}
 
--- all items were lent, so what they are now is given back
+-- all items were lent, so exactly what they are now is given back
 pub given_back : {X : Type 0} (now was : List X) (n : ℕ) → length now ≡ n → take n (now ++ drop (length now) was) ≡ now
 given_back now was n e = ap (λ k. take k (now ++ drop (length now) was)) (sym e) ∙ take-append_seam now (drop (length now) was)
 
--- what a chain that takes the page comes to
+-- what a chain is after it took the page
 abbrev pub Moves : ChainState → Page → ChainState → Type 0
 Moves chain page next = (links : List (List Page)) → chain ≡ chain_state_of links → next ≡ chain_state_of (links_with links page)
 

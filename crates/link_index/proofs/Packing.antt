@@ -16,7 +16,7 @@ use Rattle.link_index.specs.Rows.{ArePacked, AreWithin, entry_of, entries_of, la
 use Rattle.link_index.specs.Growth.{first_info, counted, opened_entry, joined_entry, continued_entry, change_last}
 use Rattle.link_index.proofs.Growing.{map_both, change_last_at}
 
--- ---- where rows end
+-- ---- the ends of rows
 pub packed_at : (rows : List Row) (row : Row) (at end : ℕ) → ArePacked at (rows ++ row ∷ []) end → ArePacked at rows row.first × (row.first + row.count ≡ end)
 packed_at [] row at end p = (sym p.0, ap (λ n. n + row.count) p.0 ∙ p.1)
 packed_at (first ∷ rows) row at end p =
@@ -47,7 +47,7 @@ all_at P (y ∷ xs) x a =
     let rest : AllByRecursion P xs × P x = all_at P xs x a.1 in
     ((a.0, rest.0), rest.1)
 
--- ---- what they tell
+-- ---- what rows say of their links
 abbrev told : ℕ → ℕ → ℕ → List StreamInfo → LinkEntry
 told start size count streams = record { info = record { start = start; length = size; streams = count }; streams = streams }
 
@@ -66,7 +66,7 @@ entries_front front own other (row ∷ rows) inside =
     ap (λ (s : List StreamInfo). told row.start row.length row.count s ∷ entries_of (front ++ own) rows) (cut_front row.count front own row.first inside.0 ∙ sym (cut_front row.count front other row.first inside.0))
     ∙ ap (λ l. entry_of (front ++ other) row ∷ l) (entries_front front own other rows inside.1)
 
--- ---- one row more, or a page more in the last one
+-- ---- another row, or another page in the last one
 abbrev pub grown : Row → ℕ → ℕ → Row
 grown row size streams = record { start = row.start; length = row.length + size; first = row.first; count = row.count + streams }
 

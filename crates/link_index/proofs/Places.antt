@@ -1,16 +1,14 @@
--- Where links lie.
-use Rattle.std.proofs.Common.{◌≡◌, ◌≢◌, ℕ, zero, suc, ◌+◌, List, [], ◌∷◌, ◌++◌, length, take, drop, refl, sym, ◌∙◌, ap, subst, arith, Some, Option, Err, length-append, append_assoc, Result, Ok}
-use Rattle.std.specs.Prelude.{slice_get, ◌↔◌, ⊤}
+-- The places of links.
+use Rattle.std.proofs.Common.{◌≡◌, ℕ, zero, suc, ◌+◌, List, [], ◌∷◌, ◌++◌, length, take, drop, refl, sym, ◌∙◌, ap, subst, arith, Some, length-append, Ok}
+use Rattle.std.specs.Prelude.{slice_get}
 use Rattle.std.specs.List.{flat_map, concat, AllByRecursion}
 use Rattle.std.proofs.lemmas.List.{append-nil}
 use Rattle.std.proofs.Math.Seq.{take-append_seam}
-use Rattle.ogg_page.specs.Page.{Page, IsPage, page_bytes, bytes_of_pages}
-use Rattle.ogg_page.specs.PageLaws.{pages_both, bytes_both, one_page}
-use Rattle.ogg_page.specs.Reading.{page_at}
-use Rattle.link_chain.specs.Links.{AreLinks, flattened}
-use Rattle.link_chain.specs.ChainState.{chain_state_of}
-use Rattle.link_chain.specs.Taking.{AreTaken, links_with, fault_of_page}
-use Rattle.link_chain.specs.LinkLaws.{in_turn, only, one_chain, pages_flattened}
+use Rattle.ogg_page.specs.Page.{Page, IsPage, bytes_of_pages}
+use Rattle.ogg_page.specs.PageLaws.{pages_both, bytes_both}
+use Rattle.link_chain.specs.Links.{AreLinks}
+use Rattle.link_chain.specs.Taking.{AreTaken, links_with}
+use Rattle.link_chain.specs.LinkLaws.{in_turn, one_chain}
 use Rattle.link_index.specs.Adding.{IndexState, IsIndexOf, AddsPages}
 use Rattle.link_index.specs.Index.{LinkEntry, link_entry, index_from, index_of}
 use Rattle.link_index.specs.Pieces.{AreAdded}

@@ -8,7 +8,8 @@ use Rattle.std.proofs.lemmas.List.{append-nil}
 use Rattle.ogg_page.specs.Page.{Page, IsPage, page_bytes, bytes_of_pages}
 use Rattle.ogg_page.specs.PageLaws.{pages_both, bytes_both}
 use Rattle.ogg_page.specs.LogicalStream.{is_first}
-use Rattle.link_chain.specs.ChainState.{ChainState, chain_state_of, is_open}
+use Rattle.link_chain.specs.ChainState.{ChainState, is_open}
+use Rattle.link_chain.specs.Laws.Walked.{taken_more}
 use Rattle.link_chain.specs.Rules.{Rule, first_broken}
 use Rattle.link_chain.specs.Taking.{AreTaken, links_with, fault_of_page, rules_for_page, opening_rules, joining_rules, later_rules}
 use Rattle.link_chain.specs.declared.chain_fault.ChainFault.TheVariants.{Sequence, Continued, BosPlace, BosShape, SerialTwice, NoStream, AfterEos, BosWhileOpen, TooMany, EosUnfinished, Memory as NoMemory}
@@ -24,12 +25,6 @@ pub record AddsSome (links : List (List Page)) (bytes : List ℕ) (index : Index
   pub spelled : bytes ≡ bytes_of_pages pages ++ rest
   pub taken : AreTaken links pages after
   pub is_index : IsIndexOf after index
-
-taken_more : (start : List (List Page)) (pages : List Page) (page : Page) (after : List (List Page)) → AreTaken start pages after
-    → fault_of_page (chain_state_of after) page ≡ None → AreTaken start (pages ++ page ∷ []) (links_with after page)
-taken_more start [] page after t none =
-    (ap (λ (l : List (List Page)). fault_of_page (chain_state_of l) page) (sym t) ∙ none, ap (λ (l : List (List Page)). links_with l page) t)
-taken_more start (p ∷ pages) page after t none = (t.0, taken_more (links_with start p) pages page after t.1 none)
 
 pub adds_more : (links : List (List Page)) (bytes rest more : List ℕ) (index next : IndexState) (page : Page) → AddsSome links bytes index rest
     → IsPage page → rest ≡ page_bytes page ++ more → fault_of_page index.chain.chain page ≡ None
@@ -59,7 +54,7 @@ stops links bytes rest index result so_far left = record {
   left = subst (λ (c : ChainState). IsLeft c rest result) so_far.is_index.chain_is left;
 }
 
--- the index is as it was, but for its room
+-- the index is as it was, except for its room
 pub same_index : (links : List (List Page)) (bytes rest : List ℕ) (index next : IndexState) → (next.chain.chain ≡ index.chain.chain) × (next.entries ≡ index.entries)
     → AddsSome links bytes index rest → AddsSome links bytes next rest
 same_index links bytes rest index next same so_far = record {

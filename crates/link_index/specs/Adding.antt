@@ -1,5 +1,5 @@
--- What an index is of, and what comes of adding bytes to it. Ours.
-use Rattle.std.specs.Prelude.{◌≡◌, ◌≢◌, ⊤, ℕ, Result, Ok, Err, Some, None, List, [], ◌∷◌, ◌++◌}
+-- Which links an index is of, and what adding bytes to it leaves. Ours.
+use Rattle.std.specs.Prelude.{◌≡◌, ◌≢◌, ⊤, ℕ, Result, Ok, Err, Some, None, List, [], ◌++◌}
 use Rattle.std.specs.List.{AllByRecursion}
 use Rattle.ogg_page.specs.Page.{Page, IsPage, page_bytes, bytes_of_pages}
 use Rattle.ogg_page.specs.Reading.{page_at}
@@ -16,7 +16,7 @@ pub record IndexState : Type 0 where
   -- what decides which page may follow
   pub chain : ChainWithRoom
   pub entries : List LinkEntry
-  -- for how many links and streams more there is room
+  -- for how many further links and streams there is room
   pub link_room : ℕ
   pub stream_room : ℕ
 
@@ -25,12 +25,12 @@ pub record IsIndexOf (links : List (List Page)) (index : IndexState) : Type 0 wh
   pub chain_is : index.chain.chain ≡ chain_state_of links
   pub entries_are : index.entries ≡ index_of links
 
--- the fault where the page at this offset isn't taken
+-- the fault if the page at this offset isn't taken
 abbrev pub fault_at : ℕ → ChainFault → IndexFault
 fault_at offset NoMemory = Memory
 fault_at offset fault = ChainOf offset fault
 
--- Why nothing more is added of what is left: a page may meet want of memory in place of being added.
+-- Why nothing more is added of what is left: memory may be refused for a page that would be added otherwise.
 abbrev pub IsLeft : ChainState → List ℕ → Result ⊤ IndexFault → Type 0
 IsLeft chain rest (Ok done) = rest ≡ []
 IsLeft chain rest (Err (PageOf offset fault)) = (offset ≡ chain.length_of) × (rest ≢ []) × (page_at rest ≡ Err fault)

@@ -1,12 +1,11 @@
--- What one page more makes of an index. Ours.
+-- What one more page makes of an index. Ours.
 use Rattle.std.specs.Prelude.{ℕ, ◌+◌, nat_eq, ◌||◌, if◌then◌else◌, List, [], ◌∷◌, ◌++◌, length, map}
 use Rattle.ogg_page.specs.Page.{Page, page_bytes}
 use Rattle.ogg_page.specs.LogicalStream.{is_last}
-use Rattle.link_index.specs.declared.info.LinkInfo.{LinkInfo}
 use Rattle.link_index.specs.declared.info.StreamInfo.{StreamInfo}
 use Rattle.link_index.specs.Index.{LinkEntry}
 
--- a stream that has this page alone
+-- a stream that has only this page
 abbrev pub first_info : Page → StreamInfo
 first_info page = record { serial = page.serial; bytes = length (page_bytes page); pages = 1; ended = is_last page }
 
@@ -17,11 +16,11 @@ counted page info =
     then record { serial = info.serial; bytes = info.bytes + length (page_bytes page); pages = info.pages + 1; ended = info.ended || is_last page }
     else info
 
--- a link that has this page alone
+-- a link that has only this page
 abbrev pub opened_entry : ℕ → Page → LinkEntry
 opened_entry start page = record { info = record { start = start; length = length (page_bytes page); streams = 1 }; streams = first_info page ∷ [] }
 
--- a link with one stream more, which begins with the page
+-- a link with another stream, which begins with the page
 abbrev pub joined_entry : Page → LinkEntry → LinkEntry
 joined_entry page entry =
     record {
@@ -37,7 +36,7 @@ continued_entry page entry =
       streams = map (counted page) entry.streams;
     }
 
--- a change of the last one
+-- a change of the last element
 abbrev pub change_last : {A : Type 0} → (A → A) → List A → List A
 change_last f [] = []
 change_last f (x ∷ []) = f x ∷ []

@@ -1,12 +1,12 @@
--- The index of a chain of links: where each link lies, and what each of its streams has of it. Ours, over the links of
--- RFC 3533, section 4.
+-- The index of a chain of links: the place of each link, and what each of its streams has of it. Ours, over the links
+-- of RFC 3533, section 4.
 use Rattle.std.specs.Prelude.{ℕ, ◌+◌, List, [], ◌∷◌, length, map}
 use Rattle.ogg_page.specs.Page.{Page, bytes_of_pages}
 use Rattle.link_chain.specs.Links.{pages_with, serials_of, has_ended}
 use Rattle.link_index.specs.declared.info.LinkInfo.{LinkInfo}
 use Rattle.link_index.specs.declared.info.StreamInfo.{StreamInfo}
 
--- what an index tells of one link
+-- what an index says of one link
 pub record LinkEntry : Type 0 where
   pub info : LinkInfo
   -- in the order of their first pages

@@ -14,7 +14,7 @@ line_end = 10 ∷ []
 abbrev pub committed_line : ℕ → List ℕ
 committed_line end = codes "committed " ++ (decimal end ++ line_end)
 
--- a link's number, counted from 0, where it begins, its length, how many streams it has
+-- a link's number, counted from 0, the offset at which it begins, its length, how many streams it has
 abbrev pub link_line : ℕ → LinkInfo → List ℕ
 link_line number info =
     codes "link "

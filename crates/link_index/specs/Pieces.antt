@@ -1,5 +1,5 @@
 -- Pieces of a file that are added one after the other. Ours.
-use Rattle.std.specs.Prelude.{◌≡◌, ℕ, List, [], ◌∷◌, ◌++◌}
+use Rattle.std.specs.Prelude.{◌≡◌, ℕ, List, [], ◌∷◌}
 use Rattle.std.specs.List.{AllByRecursion}
 use Rattle.ogg_page.specs.Page.{Page, IsPage, bytes_of_pages}
 use Rattle.link_chain.specs.Taking.{AreTaken}

@@ -14,7 +14,7 @@ use ogg_page::{Page, split_page};
 use std::alloc::Global;
 use std::marker::Model;
 
-/// Where the links and streams of a file lie, as far as its bytes were added.
+/// The places of the links and streams of a file, as far as its bytes were added.
 #[derive(Debug, Drop)]
 pub struct Index {
     chain: Chain,
@@ -71,8 +71,8 @@ impl Index {
         }
     }
 
-    /// Adds the pages of a chunk, which begins at the offset `end` of the file. It is cut from the file between pages. The
-    /// pages before a fault are added, and `end` says how far they go.
+    /// Adds the pages of a chunk, which begins at the offset `end` of the file. The chunk is cut from the file
+    /// between pages. The pages before a fault are added, and `end` says how far they go.
     pub fn add(&mut self, chunk: &[u8]) -> Result<(), IndexFault>
         requires { self.old.chain.chain.length_of + length chunk.now < 2 ^ 63 }
         ensures { (links : List (List PageValue)) → IsIndexOf links self.old → AddsPages links chunk.now self.new result }
@@ -92,8 +92,8 @@ impl Index {
     }
 
     /// Adds a page that was read, which stands at the offset `end` of the file. The faults are those of
-    /// `Chain::take_page`, in their order, `Memory` last, for want of which only a stream's first page is refused. After a
-    /// fault the index is as it was.
+    /// `Chain::take_page`, in their order. `Memory` is the last of them: for want of it only a stream's first page is
+    /// refused. After a fault the index is as it was.
     pub fn add_page(&mut self, page: &Page<'_>) -> Result<(), ChainFault>
         requires { self.old.chain.chain.length_of + page_size page.now < 2 ^ 63 }
         ensures fault { (fault : ChainFaultOf) → fault_of_page self.old.chain.chain page.now ≡ Some fault → result ≡ Err fault }

@@ -1,4 +1,4 @@
-//! What an index tells of a link and of a stream.
+//! What an index says of a link and of a stream.
 
 /// A link of the file: a group of logical streams (RFC 3533, section 4).
 #[derive(Clone, Copy, Debug, PartialEq, Eq)]
@@ -11,12 +11,12 @@ pub struct LinkInfo {
     pub streams: u32,
 }
 
-/// A logical stream, as far as its link goes.
+/// A logical stream, within its link.
 #[derive(Clone, Copy, Debug, PartialEq, Eq)]
 pub struct StreamInfo {
     /// The serial number that its pages have.
     pub serial: u32,
-    /// How many bytes its pages have, their heads among them.
+    /// How many bytes its pages have, with their heads.
     pub bytes: u64,
     /// How many pages it has.
     pub pages: u64,

@@ -1,12 +1,13 @@
-//! Where the links and the streams of an Ogg bitstream lie (RFC 3533, section 4).
+//! The places of the links and the streams of an Ogg bitstream (RFC 3533, section 4).
 //!
-//! An index tells of each link where it begins, how long it is and which streams it has, and of each stream how many
-//! bytes and pages it has and whether it has ended. It grows with the bytes: they are added in pieces that are cut
-//! between pages, or page by page, and every way of cutting them gives the same index. A page costs a look at the
-//! streams of its link, and the index keeps some 40 bytes a stream, whatever the length of the file.
+//! An index says of each link at which offset it begins, how long it is and which streams it has. For each stream
+//! it says how many bytes and pages the stream has and whether it has ended. The index grows with the bytes: they
+//! are added in pieces that are cut between pages, or page by page, and every way of cutting them makes the same
+//! index. To add a page takes one pass over the streams of its link. The index keeps some 40 bytes a stream,
+//! whatever the length of the file.
 //!
-//! Start at `specs/Index.antt`, which says what the index of links is, and go on to `specs/Adding.antt`, which says what
-//! comes of adding bytes.
+//! Start at `specs/Index.antt`, which says what the index of links is, and go on to `specs/Adding.antt`, which says
+//! what adding bytes leaves.
 #![tactic(auto)]
 
 mod fault;

@@ -117,7 +117,7 @@ fn committed_line(end: u64) -> Line
     line
 }
 
-/// A link's number, counted from 0, where it begins, its length, and how many streams it has.
+/// A link's number, counted from 0, the offset at which it begins, its length, and how many streams it has.
 fn link_line(number: u64, link: LinkInfo) -> Line
     ensures { result.text ≡ link_line number link }
 {

@@ -8,7 +8,7 @@ ghost use Rattle.link_chain.specs.Limits.{most_streams};
 use crate::info::{LinkInfo, StreamInfo};
 use ogg_page::Page;
 
-/// A link, and where its streams are.
+/// A link, and the place of its streams.
 #[derive(Clone, Copy, Debug)]
 pub struct Row {
     /// The offset of the link's first byte.
@@ -22,7 +22,7 @@ pub struct Row {
 }
 
 impl Row {
-    /// What it tells of the link.
+    /// What it says of the link.
     pub fn info(&self) -> LinkInfo
         ensures { result ≡ (entry_of [] self.now).info }
     {
@@ -115,7 +115,7 @@ fn count_page(streams: &mut [StreamInfo], page: &Page<'_>)
     }
 }
 
-/// A stream, with the page where it is one of its own.
+/// A stream, with the page counted if it is one of its own.
 fn counted(stream: StreamInfo, page: &Page<'_>) -> StreamInfo
     requires bytes { stream.bytes + length (page_bytes page.now) < 2 ^ 64 }
     requires pages { stream.pages + 1 < 2 ^ 64 }

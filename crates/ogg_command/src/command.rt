@@ -35,8 +35,8 @@ pub struct SkeletonHead {
     pub utc: [u8; 20],
 }
 
-/// A logical stream of a new link. `media` and what comes after it are looked at and written only
-/// where the link has a Skeleton.
+/// A logical stream of a new link. `media` and what comes after it are checked and written only if
+/// the link has a Skeleton.
 #[derive(Debug, Drop)]
 pub struct NewStream {
     /// The stream's serial, which no other stream of the file has.

@@ -3,8 +3,8 @@ ghost use Rattle.std.specs.Prelude.{◌≡◌, ◌==◌, List, length};
 
 use std::marker::Model;
 
-/// The items of a vector, in order: a packet's bytes, a stream's headers, a put's entries. Contracts
-/// see the list alone, and not where it lies or how much room it has.
+/// The items of a vector, in order: a packet's bytes, a stream's headers, a put's entries.
+/// Contracts see only the list, and not where it lies or how much room it has.
 #[derive(Debug, Drop)]
 pub struct Listed<T> {
     items: Vec<T>,

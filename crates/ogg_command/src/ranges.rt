@@ -1,5 +1,5 @@
-//! That a command's numbers are in their fields' ranges, as its types have it. A call looks at each part
-//! of the command, and at none of its bytes.
+//! That a command's numbers are in their fields' ranges, as its types have it. A call goes over each part of the
+//! command, and over none of its bytes.
 ghost use Rattle.std.specs.Prelude.{◌<◌, ◌^◌, FitsSigned};
 ghost use Rattle.std.specs.List.{AllByRecursion};
 ghost use Rattle.std.specs.Int.{w64};

@@ -5,7 +5,7 @@ ghost use Rattle.ogg_command.specs.Refusal.{code_of, name_of, IsMemory};
 use std::alloc::AllocError;
 use thiserror::Error;
 
-/// Why a command is refused: the first reason in this order, `SerialTaken` to `PositionBack` being
+/// Why a command is refused: the first reason in this order. `SerialTaken` to `PositionBack` are
 /// looked for item by item. A refusal up to `Memory` changes nothing.
 #[derive(Clone, Copy, Debug, PartialEq, Eq, Error)]
 pub enum Refusal {

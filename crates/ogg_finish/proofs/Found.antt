@@ -1,4 +1,4 @@
--- How the place of the mark is found, and what the pages after it tell.
+-- How the place of the mark is found, and what the pages after it say.
 use Rattle.std.proofs.Common.{◌≡◌, ℕ, ◌^◌, Bool, true, false, not, cond, List, [], ◌∷◌, ◌++◌, refl, sym, ◌∙◌, ap, subst, eq-eqb, inl, inr, ◌⊎◌, Option, None, Some, fold}
 use Rattle.std.specs.Prelude.{nat_eq, nat_lt, ◌||◌, ◌&&◌, if◌then◌else◌}
 use Rattle.std.specs.List.{AllByRecursion, list_any}
@@ -19,7 +19,7 @@ full_next found page full = cond-true (is_full page) (Some (mark_on page)) (kept
 other_next : (found : Option Mark) (page : Page) → is_full page ≡ false → mark_after found page ≡ kept_at page found
 other_next found page none = cond-false (is_full page) (Some (mark_on page)) (kept_at page found) none
 
--- ---- where the mark is found
+-- ---- the mark is found
 
 pub record Split (own : List Page) (mark : Mark) : Type 0 where
   pub front : List Page
@@ -31,7 +31,7 @@ pub record Split (own : List Page) (mark : Mark) : Type 0 where
   pub none : NoneFull behind
   pub same : AllByRecursion (λ later. repeats mark later ≡ true) behind
 
--- it stood there before, and these pages only repeat its position
+-- the mark stood there before, and these pages only repeat its position
 record Stayed (found : Option Mark) (own : List Page) (mark : Mark) : Type 0 where
   is : found ≡ Some mark
   none : NoneFull own
@@ -52,7 +52,7 @@ further page own mark s = record {
 inside : {A : Type 0} (x y : A) → Some x ≡ Some y → x ≡ y
 inside x y e = cc
 
--- what was kept at a page was there, and the page repeats it
+-- a mark that was kept at a page was there before, and the page repeats it
 kept_before : (found : Option Mark) (page : Page) (mark : Mark) → kept_at page found ≡ Some mark → (found ≡ Some mark) × (repeats mark page ≡ true)
 kept_before None page mark e = cc
 kept_before (Some m) page mark e = by_case (repeats m page) refl e
@@ -98,7 +98,7 @@ split_at own mark e =
     no : None ≡ Some mark → ⊥
     no f = cc
 
--- ---- where none is found
+-- ---- no mark is found
 tells_further : (page : Page) (own : List Page) → TellsMore own → TellsMore (page ∷ own)
 tells_further page own t = record {
   front = page ∷ t.front;
@@ -110,7 +110,7 @@ tells_further page own t = record {
   other = t.other;
 }
 
--- with a place for the mark, these pages lost it by another position; without one there is none among them
+-- None of these pages can carry the mark. If there was a place for it before, a page among them has another position.
 abbrev LostIn : Option Mark → List Page → Type 0
 LostIn None own = NoneFull own
 LostIn (Some mark) own = NoneFull own × (list_any (λ later. not (repeats mark later)) own ≡ true)

@@ -7,7 +7,7 @@ use Rattle.std.proofs.KnownBytes.{Appends-trans}
 use Rattle.ogg_page.specs.Output.{WritesPrefix}
 use Rattle.ogg_page.specs.Page.{Page, bytes_of_pages}
 use Rattle.ogg_finish.specs.Finishing.{finished_link, finished_links}
-use Rattle.ogg_finish.proofs.Passed.{prefix_on}
+use Rattle.ogg_page.specs.OutputLaws.{prefix_on}
 
 abbrev file_text : List (List Page) → List ℕ
 file_text links = flat_map bytes_of_pages (finished_links links)

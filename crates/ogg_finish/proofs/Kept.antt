@@ -14,7 +14,7 @@ keeps_on bytes honest size only on old mid now a b = record {
   only = on old mid now a.only b.only;
 }
 
--- a fault that is none of these isn't there
+-- each fault is one of these four
 pub none_of : {T : Type 0} (result : Result T SplitFault) (fault : SplitFault) → result ≡ Err fault → result ≢ Err NoLink → result ≢ Err NoStream → result ≢ Err Source
     → result ≢ Err Write → ⊥
 none_of result NoLink is a b c d = a is

@@ -1,10 +1,10 @@
--- Links, finished: they are links, and hold the same.
-use Rattle.std.proofs.Common.{◌≡◌, ◌≢◌, ℕ, suc, ◌≤◌, Bool, true, false, not, cond, List, [], ◌∷◌, ◌++◌, length, refl, sym, ◌∙◌, ap, subst, append_assoc, eq-eqb, inl, inr, Option, None, Some}
-use Rattle.std.specs.Prelude.{nat_eq, nat_lt, ◌||◌, ◌&&◌}
+-- Finished links are links, and hold the same.
+use Rattle.std.proofs.Common.{◌≡◌, ◌≢◌, ℕ, suc, ◌≤◌, Bool, true, false, cond, List, [], ◌∷◌, ◌++◌, length, refl, sym, ◌∙◌, ap, subst, append_assoc, eq-eqb, inl, inr, Option, None, Some}
+use Rattle.std.specs.Prelude.{nat_eq, nat_lt, ◌&&◌}
 use Rattle.std.specs.List.{AllByRecursion, AllZip, IsDistinct, flat_map, list_any, list_all}
 use Rattle.std.proofs.lemmas.List.Concat.{flat_map-append}
 use Rattle.std.proofs.lemmas.List.Elements.{filter-append}
-use Rattle.std.proofs.lemmas.Bool.{eqb-true, ne_eqb, cases_Bool, cases_eq, cond-true, cond-false, cond_both, or_left, or_right, and_from}
+use Rattle.std.proofs.lemmas.Bool.{ne_eqb, cases_eq, cond-true, cond-false, cond_both, and_from}
 use Rattle.ogg_page.specs.Page.{Page, IsPage, bytes_of_pages}
 use Rattle.ogg_page.specs.LogicalStream.{FitsBehind, FlagsFit, is_first}
 use Rattle.ogg_page.specs.StreamLaws.{behind_both}
@@ -12,7 +12,7 @@ use Rattle.link_chain.specs.ChainState.{last_position}
 use Rattle.link_chain.specs.Links.{IsLink, AreLinks, AllButLast, pages_with, serials_of, has_stream, has_ended, all_ended}
 use Rattle.link_chain.specs.Recording.{Stream, Recording, HoldsStream, HoldsLink, HoldsLinks}
 use Rattle.link_chain.specs.Laws.Grow.{all_both, all_weaker, all_filter, Own, Unmarked, OpenBehind, own_with, other_with, serials_same, stream_same}
-use Rattle.link_chain.specs.Laws.LastLink.{some_open}
+use Rattle.link_chain.specs.Laws.LastLink.{some_open, some_not}
 use Rattle.link_chain.specs.Laws.Fronts.{behind_at}
 use Rattle.ogg_finish.specs.Ended.{EndsFull}
 use Rattle.ogg_finish.specs.Finishing.{end_mark, marked_last, up_to, finished_page, finished_stream, finished_link, finished_links}
@@ -118,17 +118,6 @@ stream_alike : (link : List Page) (serial : ℕ) → IsLink link → has_stream 
 stream_alike link serial l = ap (list_any (nat_eq serial)) (serials_alike link l)
 
 -- ---- the link goes on while a page of it comes
-some_not : (ended : ℕ → Bool) (serial : ℕ) (serials : List ℕ) → list_any (nat_eq serial) serials ≡ true → ended serial ≡ false →
-    list_any (λ s. not (ended s)) serials ≡ true
-some_not ended serial [] e f = cc
-some_not ended serial (s ∷ serials) e f =
-    elim (cases_Bool (nat_eq serial s)) [
-      | inl same ↦ or_left (not (ended s)) (list_any (λ s. not (ended s)) serials) (ap (λ n. not (ended n)) (sym (eqb-true serial s same)) ∙ ap not f)
-      | inr other ↦
-          or_right (not (ended s)) (list_any (λ s. not (ended s)) serials)
-          (some_not ended serial serials (sym (ap (λ b. b || list_any (nat_eq serial) serials) other) ∙ e) f)
-    ]
-
 goes_on : (before pages : List Page) → Unmarked pages → AllByRecursion (λ page. has_stream before page.serial ≡ true) pages →
     ((serial : ℕ) → FlagsFit (pages_with serial (before ++ pages))) → OpenBehind before pages
 goes_on before [] later known fits = tt

@@ -1,4 +1,4 @@
--- One stream's pages, finished: they fit one another, and hold the same.
+-- The finished pages of one stream fit one another, and hold the same.
 use Rattle.std.proofs.Common.{◌≡◌, ◌≢◌, ℕ, suc, ◌+◌, ◌/◌, ◌%◌, ◌<◌, ◌≤◌, Bool, true, false, not, cond, List, [], ◌∷◌, ◌++◌, length, sum, refl, sym, ◌∙◌, ap, subst, arith, append_assoc, append-nil, eq-eqb, inl, inr, ◌⊎◌, Option, None, Some, fold}
 use Rattle.std.specs.Prelude.{nat_eq, nat_lt, ◌||◌, ◌&&◌}
 use Rattle.std.specs.List.{AllByRecursion, flat_map, list_any}
@@ -8,7 +8,7 @@ use Rattle.std.proofs.lemmas.Bool.{ne_eqb, eqb-true, eqb-false, lt-ltb, ltb-true
 use Rattle.ogg_page.specs.Page.{Page, IsPage}
 use Rattle.ogg_page.specs.Lacing.{ends_open}
 use Rattle.ogg_page.specs.LogicalStream.{FitsBehind, EachBehind, FlagsFit, joined_lacing, joined_bodies, number_behind, is_first, is_last, is_continued}
-use Rattle.ogg_page.specs.StreamLaws.{behind_both}
+use Rattle.ogg_page.specs.StreamLaws.{behind_both, last_closes}
 use Rattle.link_chain.specs.ChainState.{last_position}
 use Rattle.link_chain.specs.Laws.LastLink.{all_split}
 use Rattle.link_chain.specs.Laws.Fronts.{behind_at, push_not_nil}
@@ -122,7 +122,7 @@ goes mark before (x ∷ behind) h some more =
     differ : {a : ℕ} → a ≡ mark.sequence → mark.sequence < a → ⊥
     differ e lt = omega (arith, e, lt)
 
--- pages that can't carry the mark, behind a stream's first, hold nothing
+-- pages that can't carry the mark and come after a stream's first hold nothing
 empty_list : (xs : List ℕ) → nat_lt 0 (length xs) ≡ false → xs ≡ []
 empty_list [] e = refl
 empty_list (x ∷ xs) e = absurd (omega (arith, ltb-false 0 (suc (length xs)) e))
@@ -148,21 +148,6 @@ hold_nothing before (x ∷ behind) h some none all =
     let values : x.lacing ≡ [] = no_values x none.0 (not_first before x h.0 some) in
     let body : x.body ≡ [] = nothing_left x.body (sym all.0.whole ∙ ap sum values) in
     (ap (λ l. l ++ joined_lacing behind) values ∙ rest.0, ap (λ l. l ++ joined_bodies behind) body ∙ rest.1)
-
--- ---- a stream that has ended leaves no packet unfinished
-last_closes : (before pages : List Page) → EachBehind FitsBehind before pages → list_any is_last before ≡ false → list_any is_last (before ++ pages) ≡ true →
-    ends_open (joined_lacing (before ++ pages)) ≡ false
-last_closes before [] fit none ended = absurd (false≢true (sym none ∙ sym (ap (list_any is_last) (append-nil before)) ∙ ended))
-last_closes before (page ∷ []) fit none ended =
-    fit.0.last_packet (sym (sym ended ∙ list_any-append is_last before (page ∷ []) ∙ ap (λ b. b || (is_last page || false)) none ∙ or_nothing (is_last page)))
-  where
-    or_nothing : (b : Bool) → (b || false) ≡ b
-    or_nothing true = refl
-    or_nothing false = refl
-last_closes before (page ∷ next ∷ pages) fit none ended =
-    let all : (before ++ page ∷ []) ++ (next ∷ pages) ≡ before ++ page ∷ next ∷ pages = append_assoc before (page ∷ []) (next ∷ pages) in
-    subst (λ (l : List Page). ends_open (joined_lacing l) ≡ false) all
-    (last_closes (before ++ page ∷ []) (next ∷ pages) fit.1 fit.1.0.last (ap (list_any is_last) all ∙ ended))
 
 -- ---- the finished stream
 pub record SameStream (old new : List Page) : Type 0 where

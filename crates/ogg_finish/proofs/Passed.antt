@@ -1,14 +1,15 @@
 -- The pages of a window are passed one after the other, and something is written of each.
-use Rattle.std.proofs.Common.{◌≡◌, ◌≢◌, ◌≤◌, ℕ, suc, ◌+◌, Option, None, Some, Err, Result, List, ◌⊎◌, inl, inr, ◌<◌, [], ◌∷◌, ◌++◌, length, take, refl, sym, ◌∙◌, ap, subst, arith, append_assoc, append-nil, length-append}
+use Rattle.std.proofs.Common.{◌≡◌, ◌≢◌, ◌≤◌, ℕ, ◌+◌, Option, None, Some, Err, Result, List, ◌⊎◌, inl, inr, ◌<◌, [], ◌∷◌, ◌++◌, length, refl, sym, ◌∙◌, ap, subst, arith, append_assoc, append-nil, length-append}
 use Rattle.std.specs.Prelude.{if◌then◌else◌, nat_eq, nat_lt}
 use Rattle.std.specs.List.{AllByRecursion}
 use Rattle.std.specs.Io.KnownBytes.{Appends}
 use Rattle.std.proofs.KnownBytes.{Appends-nil, Appends-trans}
 use Rattle.std.proofs.lemmas.Bool.{cond_both}
-use Rattle.std.proofs.lemmas.List.{take-append-le}
 use Rattle.ogg_page.specs.Output.{WritesPrefix}
+use Rattle.ogg_page.specs.OutputLaws.{prefix_on}
 use Rattle.ogg_page.specs.Page.{Page, IsPage, page_bytes, page_size, bytes_of_pages}
-use Rattle.ogg_page.specs.PageLaws.{one_page, page_begins, bytes_both, length-page_bytes}
+use Rattle.ogg_page.specs.PageLaws.{bytes_both, length-page_bytes}
+use Rattle.ogg_page.specs.PagesLaws.{Follows, follows, no_pages}
 use Rattle.ogg_page.specs.LogicalStream.{is_first}
 use Rattle.ogg_page.specs.Reading.{page_at}
 use Rattle.ogg_page.specs.ReadingLaws.{fault_is_no_page}
@@ -22,37 +23,13 @@ use Rattle.ogg_finish.specs.declared.stream_end.StreamEnd.{StreamEnd}
 use Rattle.ogg_finish.specs.Ends.{ends_after, mark_for, finished_by}
 use Rattle.ogg_finish.specs.Finishing.{finished_page, marked_last, up_to}
 
--- ---- the first of pages
-no_page : (page : Page) (rest : List ℕ) → [] ≢ page_bytes page ++ rest
-no_page page rest e =
-    let b = page_begins page in
-    let same : [] ≡ (0x4F ∷ b.0 ∷ b.1) ++ rest = e ∙ ap (λ (l : List ℕ). l ++ rest) b.2 in
-    cc
-
-record Follows (page : Page) (rest : List ℕ) (pages : List Page) : Type 0 where
-  pub more : List Page
-  pub is : pages ≡ page ∷ more
-  pub rest_is : rest ≡ bytes_of_pages more
-  pub are : AllByRecursion IsPage more
-
-follows : (pages : List Page) (page : Page) (rest : List ℕ) → AllByRecursion IsPage pages → IsPage page → bytes_of_pages pages ≡ page_bytes page ++ rest
-    → Follows page rest pages
-follows [] page rest are is e = absurd (no_page page rest e)
-follows (p ∷ ps) page rest are is e =
-    let same : (p ≡ page) × (bytes_of_pages ps ≡ rest) = one_page p page (bytes_of_pages ps) rest are.0 is e in
-    record { more = ps; is = ap (λ (q : Page). q ∷ ps) same.0; rest_is = sym same.1; are = are.1 }
-
-none_left : (pages : List Page) → bytes_of_pages pages ≡ [] → pages ≡ []
-none_left [] e = refl
-none_left (p ∷ ps) e = absurd (no_page p (bytes_of_pages ps) (sym e))
-
 -- of joined pages some page stands in front
 no_fault : (more : List Page) (left : List ℕ) (fault : PageFault) → AllByRecursion IsPage more → left ≡ bytes_of_pages more → left ≢ []
     → page_at left ≡ Err fault → ⊥
 no_fault [] left fault are is some read = some is
 no_fault (p ∷ ps) left fault are is some read = fault_is_no_page left fault read p (bytes_of_pages ps) are.0 is
 
--- so a window's fault over them is the source's
+-- so a window's fault over joined pages is the source's
 only_source : (result : Result (Option LentAt) WindowFault) (fault : WindowFault) (more : List Page) (left right : PagesLeft) (C : Type 0)
     → result ≡ Err fault → AllByRecursion IsPage more → left.bytes ≡ bytes_of_pages more → NextLent left (Err fault) right → (result ≡ Err Source → C) → C
 only_source result Source more left right C is are bytes next cause = cause is
@@ -62,8 +39,8 @@ pub later_cause : (first before now top : ℕ) → first ≤ before → (before 
 later_cause first before now top le (inl rose) = inl (omega arith)
 later_cause first before now top le (inr at) = inr at
 
--- ---- pages that are looked at
--- some of these pages were looked at, and the rest are left
+-- ---- pages that are read
+-- some of these pages were read, and the others are left
 pub record Looked (pages : List Page) (left : List ℕ) (old now : List StreamEnd) : Type 0 where
   pub more : List Page
   pub are_pages : AllByRecursion IsPage more
@@ -82,7 +59,7 @@ looked pages left rest old mid now page w is split next =
     }
 
 pub look_ended : (pages : List Page) (left : List ℕ) (old now : List StreamEnd) → Looked pages left old now → left ≡ [] → now ≡ ends_after pages old
-look_ended pages left old now w none = sym (w.whole ∙ ap (λ (l : List Page). ends_after l now) (none_left w.more (sym w.left_is ∙ none)))
+look_ended pages left old now w none = sym (w.whole ∙ ap (λ (l : List Page). ends_after l now) (no_pages w.more (sym w.left_is ∙ none)))
 
 pub look_cause : (result : Result (Option LentAt) WindowFault) (fault : WindowFault) (pages : List Page) (left right : PagesLeft) (old now : List StreamEnd) (C : Type 0)
     → result ≡ Err fault → Looked pages left.bytes old now → NextLent left (Err fault) right → (result ≡ Err Source → C) → C
@@ -99,7 +76,7 @@ text_of ends pages = bytes_of_pages (finished_by ends pages)
 text_first : (ends : List StreamEnd) (page : Page) (pages : List Page) → text_of ends (page ∷ pages) ≡ part_of ends page ++ text_of ends pages
 text_first ends page pages = bytes_both (finished_page (mark_for ends page.serial) page) (finished_by ends pages)
 
--- it is no longer than the page
+-- what is written of a page is no longer than the page
 one_size : (page : Page) → length (bytes_of_pages (page ∷ [])) ≤ page_size page
 one_size page = omega (arith, ap length (append-nil (page_bytes page)), length-page_bytes page)
 
@@ -116,7 +93,7 @@ part_fits ends page =
         (λ _. cond_both (nat_eq page.sequence m.sequence) (marked_last page ∷ []) [] (λ l. length (bytes_of_pages l) ≤ page_size page)
         (λ _. one_size (marked_last page)) (λ _. omega arith))
 
--- Of these pages, what belongs to those so far was written; the rest are left.
+-- For the pages so far, what the finished link has of them was written; the other pages are left.
 pub record InWork (ends : List StreamEnd) (pages : List Page) (left : List ℕ) (old now : Option (List ℕ)) (count : ℕ) : Type 0 where
   pub written : List ℕ
   pub more : List Page
@@ -131,24 +108,7 @@ pub begun : (ends : List StreamEnd) (pages : List Page) (left : List ℕ) (old :
 begun ends pages left old are is =
     record { written = []; more = pages; are_pages = are; left_is = is; whole = refl; appended = Appends-nil old; counted = refl }
 
--- prefixes
-front_of : (written more : List ℕ) (n : ℕ) → take (length written + n) (written ++ more) ≡ written ++ take n more
-front_of [] more n = ap (λ k. take k more) (let none : 0 + n ≡ n = omega arith in none)
-front_of (byte ∷ written) more n =
-    let one : length (byte ∷ written) + n ≡ suc (length written + n) = omega arith in
-    ap (λ k. take k (byte ∷ written ++ more)) one ∙ ap (λ l. byte ∷ l) (front_of written more n)
-
-pub prefix_on : (old mid now : Option (List ℕ)) (text written part rest : List ℕ) → text ≡ written ++ (part ++ rest) → Appends old mid written → WritesPrefix mid now part
-    → WritesPrefix old now text
-prefix_on old mid now text written part rest e before (n, le, more) =
-    let front : take (length written + n) text ≡ written ++ take n part =
-    ap (take (length written + n)) e ∙ front_of written (part ++ rest) n ∙ ap (λ l. written ++ l) (take-append-le n part rest le) in (
-      length written + n,
-      omega (arith, le, ap length e, length-append written (part ++ rest), length-append part rest),
-      subst (Appends old now) (sym front) (Appends-trans old mid now written (take n part) before more),
-    )
-
--- the page in front was passed, and what belongs to it was written
+-- the page in front was passed, and what the finished link has of it was written
 pub passed : (ends : List StreamEnd) (pages : List Page) (left rest : List ℕ) (old mid now : Option (List ℕ)) (count size : ℕ) (page : Page)
     → InWork ends pages left old mid count → IsPage page → left ≡ page_bytes page ++ rest → Appends mid now (part_of ends page) → size ≡ length (part_of ends page)
     → InWork ends pages rest old now (count + size)
@@ -186,7 +146,7 @@ pub finished : (ends : List StreamEnd) (pages : List Page) (left : List ℕ) (ol
     → (count ≡ length (text_of ends pages)) × Appends old now (text_of ends pages)
 finished ends pages left old now count w none =
     let all : text_of ends pages ≡ w.written =
-    w.whole ∙ ap (λ (l : List Page). w.written ++ text_of ends l) (none_left w.more (sym w.left_is ∙ none)) ∙ append-nil w.written in
+    w.whole ∙ ap (λ (l : List Page). w.written ++ text_of ends l) (no_pages w.more (sym w.left_is ∙ none)) ∙ append-nil w.written in
     (w.counted ∙ ap length (sym all), subst (Appends old now) (sym all) w.appended)
 
 pub write_cause : (result : Result (Option LentAt) WindowFault) (fault : WindowFault) (ends : List StreamEnd) (pages : List Page) (left right : PagesLeft)

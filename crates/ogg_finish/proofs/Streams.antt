@@ -1,4 +1,4 @@
--- What is kept of a link's streams after all of its pages is what the finished link is made by.
+-- The finished link is made from what is kept of a link's streams after all of its pages.
 use Rattle.std.proofs.Common.{◌≡◌, ◌≤◌, ◌<◌, ℕ, zero, suc, ◌+◌, Bool, true, false, Option, None, Some, List, [], ◌∷◌, ◌++◌, length, map, refl, sym, ◌∙◌, ap, subst, arith, append_assoc, append-nil, eq-eqb, inl, inr}
 use Rattle.std.specs.Prelude.{nat_eq, ◌||◌, slice_get}
 use Rattle.std.specs.List.{AllByRecursion, flat_map, filter, list_any}
@@ -20,7 +20,7 @@ use Rattle.ogg_finish.specs.Finishing.{end_mark, mark_in, mark_after, finished_p
 abbrev pub end_in : List Page → ℕ → StreamEnd
 end_in pages serial = record { serial = serial; ended = list_any is_last (pages_with serial pages); mark = mark_in (pages_with serial pages) }
 
--- after one page more
+-- what is kept after one page more
 one_more : (before : List Page) (page : Page) (serial : ℕ) → after_page page (end_in before serial) ≡ end_in (before ++ page ∷ []) serial
 one_more before page serial =
     let own : List Page = pages_with serial before in
@@ -136,7 +136,7 @@ link_in [] number pages each e = cc
 link_in (link ∷ links) zero pages each e = subst IsLink (inside link pages e) each.0
 link_in (link ∷ links) (suc number) pages each e = link_in links number pages each.1 e
 
--- ---- and they are few
+-- ---- a link's streams are few
 few_filtered : (test : Page → Bool) (pages : List Page) → length (map (λ (p : Page). p.serial) (filter test pages)) ≤ length pages
 few_filtered test [] = omega arith
 few_filtered test (page ∷ pages) =

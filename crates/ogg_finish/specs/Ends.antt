@@ -1,4 +1,4 @@
--- What is kept of a link's streams while its pages are looked at, in turn. Ours.
+-- What is kept of a link's streams while its pages are read, in turn. Ours.
 use Rattle.std.specs.Prelude.{ℕ, ◌||◌, false, nat_eq, if◌then◌else◌, Option, None, List, [], ◌∷◌, map}
 use Rattle.std.specs.List.{flat_map, fold}
 use Rattle.ogg_page.specs.Page.{Page}
@@ -8,11 +8,11 @@ use Rattle.ogg_finish.specs.declared.stream_end.Mark.{Mark}
 use Rattle.ogg_finish.specs.declared.stream_end.StreamEnd.{StreamEnd}
 use Rattle.ogg_finish.specs.Finishing.{mark_after, finished_page}
 
--- of a stream before its first page
+-- what is kept of a stream before its first page
 abbrev pub without_pages : StreamInfo → StreamEnd
 without_pages info = record { serial = info.serial; ended = false; mark = None }
 
--- after one page more, if it is one of the stream's own
+-- what is kept after one page more, if it is one of the stream's own
 abbrev pub after_page : Page → StreamEnd → StreamEnd
 after_page page end =
     if nat_eq page.serial end.serial

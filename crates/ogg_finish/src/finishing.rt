@@ -20,12 +20,12 @@ use ogg_page::{PageBuffer, PageSource, Window};
 use ogg_split::{SplitFault, seek_link};
 use std::io::Write;
 
-/// Writes the link with this number, counted from 0, finished, and gives how many bytes it has then. The source's
-/// bytes begin with those that the index is of. The link is read twice, a page at a time; a page whose mark changes
-/// is made anew in the buffer, and each other is written as it stands. The range of the window is left where the
+/// Writes the link with this number, counted from 0, finished, and returns how many bytes it has then. The source's
+/// bytes begin with those that the index is of. The link is read twice, a page at a time. A page whose mark changes is
+/// made anew in the buffer, and every other page is written as it stands. The range of the window is left where the
 /// writing ended. No memory is taken.
 ///
-/// The faults are `NoLink`, after which nothing is written; `Source`, if a read failed or gave no good page; and
+/// The faults are `NoLink`, after which nothing is written; `Source`, if a read failed or returned no good page; and
 /// `Write`. After `Source` and `Write` a prefix of the finished pages was written.
 pub fn finish_link<S: PageSource, W: Write>(
     window: &mut Window<S>,
@@ -46,7 +46,7 @@ pub fn finish_link<S: PageSource, W: Write>(
         → AreIndexed links index.now (S.bytes window.old.source) → result ≡ Err SplitFault.Source
         → (S.failures window.old.source < S.failures window.new.source) ⊎ (S.failures window.new.source ≡ 2 ^ 64 - 1) }
 
-    // What it leaves of the source.
+    // What the call leaves of the source.
     ensures later { S.failures window.old.source ≤ S.failures window.new.source }
     ensures source { KeepsSource S.bytes S.is_honest S.size S.only_reads window.old.source window.new.source }
 {
@@ -59,8 +59,8 @@ pub fn finish_link<S: PageSource, W: Write>(
     }
 }
 
-/// Writes all links of a file, finished, as [`finish_link`] does, in turn. The source's bytes begin with those that the
-/// index is of. No memory is taken.
+/// Writes all links of a file, finished, as [`finish_link`] does, in turn. The source's bytes begin with those that
+/// the index is of. No memory is taken.
 ///
 /// The faults are `Source` and `Write`, after which a prefix of the finished pages was written.
 pub fn finish_file<S: PageSource, W: Write>(
@@ -82,7 +82,7 @@ pub fn finish_file<S: PageSource, W: Write>(
         → AreIndexed links index.now (S.bytes window.old.source) → result ≡ Err SplitFault.Source
         → (S.failures window.old.source < S.failures window.new.source) ⊎ (S.failures window.new.source ≡ 2 ^ 64 - 1) }
 
-    // What it leaves of the source.
+    // What the call leaves of the source.
     ensures later { S.failures window.old.source ≤ S.failures window.new.source }
     ensures source { KeepsSource S.bytes S.is_honest S.size S.only_reads window.old.source window.new.source }
 {
@@ -95,7 +95,7 @@ pub fn finish_file<S: PageSource, W: Write>(
     Ok(())
 }
 
-/// Looks at all of the link's pages. The streams are the link's.
+/// Reads all of the link's pages, and notes the ends of the streams, which are the link's.
 fn find_link_ends<S: PageSource>(
     window: &mut Window<S>,
     index: &Index,
@@ -153,7 +153,7 @@ fn write_link<S: PageSource, W: Write>(
     }
 }
 
-/// The streams before their first pages.
+/// What is known of the streams before their first pages.
 fn ends_of(streams: &[StreamInfo]) -> ArrayVec<StreamEnd, MOST_STREAMS>
     requires { length streams.now ≤ most_streams }
     ensures { result.items ≡ map without_pages streams.now }

@@ -18,7 +18,7 @@ pub fn finished_links_hold_the_same()
         HoldsLinks (finished_links links) recording }
     // Each stream is finished for itself, in the order that the link has.
     ensures streams { (link : List Page) (serial : ℕ) → pages_with serial (finished_link link) ≡ finished_stream (pages_with serial link) }
-    // It reaches the same position.
+    // Each stream reaches the same position.
     ensures positions { (link : List Page) (serial : ℕ) → IsLink link → AllByRecursion IsPage link →
         last_position (pages_with serial (finished_link link)) ≡ last_position (pages_with serial link) }
     // A stream that has ended ends on a marked page with lacing values, or is as it was for a reason.

@@ -2,11 +2,11 @@
 //!
 //! `End` marks a stream's last page by one page more, without packets. Many players then play a few samples too many,
 //! or too few. A finished link is the same but for these pages: they are left out, and the page before, with the
-//! stream's last packet, is marked. It holds the same streams and packets. Only a page whose mark changes is made
-//! anew, with its checksum; all others are copied as they stand.
+//! stream's last packet, is marked. A finished link holds the same streams and packets. Only a page whose mark changes
+//! is made anew, with its checksum; all others are copied as they stand.
 //!
-//! `finish_link` reads a link twice through one window. It keeps a few numbers for each stream, none for each page, and
-//! takes no memory.
+//! `finish_link` reads a link twice through one window. A few numbers are kept for each stream, none for each page,
+//! and no memory is taken.
 //!
 //! Start at `specs/Finishing.antt`, which says what a finished link is.
 #![tactic(auto)]

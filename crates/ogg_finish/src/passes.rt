@@ -1,4 +1,4 @@
-//! A window's pages, looked at and written.
+//! The two passes over a window's pages: one notes the ends of streams, the other writes.
 ghost use Rattle.std.specs.Prelude.{◌≡◌, ◌≢◌, ◌⊎◌, ◌≤◌, ◌<◌, ◌^◌, ◌-◌, List, None, Err, IfErr, OnOk, OnErr};
 ghost use Rattle.std.specs.List.{AllByRecursion};
 ghost use Rattle.ogg_page.specs.Page.{Page as PageValue, IsPage, bytes_of_pages};
@@ -12,7 +12,7 @@ use ogg_page::{PageBuffer, PageSource, Window};
 use ogg_split::SplitFault;
 use std::io::Write;
 
-/// Looks at all of the window's pages.
+/// Reads all of the window's pages, and notes the ends of streams.
 pub fn find_ends<S: PageSource>(
     window: &mut Window<S>,
     ends: &mut [StreamEnd],

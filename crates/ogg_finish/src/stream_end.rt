@@ -1,4 +1,4 @@
-//! What is known of a stream's end while its pages are looked at.
+//! What is known of a stream's end while its pages are read.
 ghost use Rattle.std.specs.Prelude.{◌≡◌, map};
 ghost use Rattle.ogg_finish.specs.Ends.{after_page, mark_for};
 ghost use Rattle.ogg_finish.specs.Finishing.{is_full, mark_after, mark_on, repeats};
@@ -25,7 +25,7 @@ pub struct StreamEnd {
     pub mark: Option<Mark>,
 }
 
-/// Looks at one page more.
+/// Notes one page more.
 pub fn note_page(ends: &mut [StreamEnd], page: &Page<'_>)
     ensures { ends.new ≡ map (after_page page.now) ends.old }
 {
@@ -83,7 +83,7 @@ fn mark_on(page: &Page<'_>) -> Mark
     }
 }
 
-/// Whether the page tells no other position than the marked one.
+/// Whether the page has no other position than the marked one.
 fn repeats(mark: Mark, page: &Page<'_>) -> bool
     ensures { result ≡ repeats mark page.now }
 {

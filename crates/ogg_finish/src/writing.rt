@@ -10,8 +10,8 @@ use ogg_page::{LAST, Page, PageBuffer, PageHead, write_whole};
 use ogg_split::SplitFault;
 use std::io::Write;
 
-/// Writes the page as it is in the finished link, where the mark of its stream is to stand there, and gives how many
-/// bytes were written.
+/// Writes the page as it is in the finished link, with `mark` as the place for the mark of its stream, and returns how
+/// many bytes were written.
 pub fn write_page<W: Write>(
     page: &Page<'_>,
     mark: Option<Mark>,
@@ -52,12 +52,12 @@ fn write_marked<W: Write>(
     write_bytes(buffer.bytes(), out)
 }
 
-/// Makes the page in the buffer, with the mark, which it lacks.
+/// Makes the page in the buffer, with the mark, which the page lacks.
 fn mark_last(page: &Page<'_>, buffer: &mut PageBuffer)
     requires { is_last page.now ≡ false }
     ensures { buffer.new.finished ≡ Some (marked_last page.now) }
 {
-    // That it is a page bounds its lacing values, its body and its flags.
+    // Since it is a page, its lacing values, its body and its flags are bounded.
     let _whole = page.whole();
     buffer.start(page.lacing());
     buffer.put(page.body());

@@ -1,4 +1,4 @@
--- From the answers of `httparse` to the request that they give.
+-- From the answers of `httparse` to the request that they make.
 use Rattle.std.proofs.Common.{◌≡◌, ℕ, ◌<◌, ◌≤◌, List, [], ◌++◌, length, take, drop, min, map, ◌⊎◌, inl, inr, ◌==◌, codes, option_copied, Ok, ◌≢◌, arith, refl, ap, sym, ◌∙◌, subst, append-nil}
 use Rattle.std.proofs.lemmas.List.{take_min, take_all, length-take, length-map}
 use Rattle.httparse.specs.Grammar.{Field, RequestHead, ReadsRequest, HasNoRequest}
@@ -14,7 +14,7 @@ use Rattle.ogg_http.specs.declared.head.Request.{Request}
 use Rattle.ogg_http.specs.Fields.{count_of, range_in}
 use Rattle.ogg_http.specs.Head.{HoldsRequest, head_bytes, most_bytes, most_fields, verb_of}
 
--- the bytes that are looked at
+-- the bytes in which a head is looked for
 pub front_is : (n : ℕ) (bytes : List ℕ) → n ≡ min (length bytes) 8192 → take n bytes ≡ head_bytes bytes
 front_is n bytes e = ap (λ k. take k bytes) (omega (arith, e)) ∙ take_min 8192 bytes
 
@@ -22,12 +22,12 @@ front_is n bytes e = ap (λ k. take k bytes) (omega (arith, e)) ∙ take_min 819
 pub front_is_all : (n : ℕ) (bytes : List ℕ) → n ≡ min (length bytes) 8192 → length bytes < most_bytes → take n bytes ≡ bytes
 front_is_all n bytes e short = front_is n bytes e ∙ take_all 8192 bytes (omega (arith, short))
 
--- where no head is in the front, none is found
+-- if no head is in the front, none is found
 pub none_found : (n : ℕ) (bytes : List ℕ) → n ≡ min (length bytes) 8192 → HasNoRequest (take n bytes) → (head : RequestHead) (rest : List ℕ) → ReadsRequest (head_bytes bytes) head rest → ⊥
 none_found n bytes e none head rest reads =
     none head rest (subst (λ b. ReadsRequest b head rest) (sym (front_is n bytes e)) reads)
 
--- where each head has too many fields, none is found that has few
+-- if each head has too many fields, no head with few fields is found
 pub none_fits : (n : ℕ) (bytes : List ℕ) → n ≡ min (length bytes) 8192 → RequestOverflows most_fields (take n bytes) → (head : RequestHead) (rest : List ℕ) → ReadsRequest (head_bytes bytes) head rest → length head.fields ≤ most_fields → ⊥
 none_fits n bytes e over head rest reads few =
     let same : head_bytes bytes ≡ take n bytes ++ [] = sym (front_is n bytes e) ∙ sym (append-nil (take n bytes)) in

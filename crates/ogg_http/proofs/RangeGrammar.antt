@@ -30,7 +30,7 @@ ends_from : (a : List ℕ) (first : ℕ) → number_of a ≡ Some first → spec
 ends_from [] first na = absurd (cc na)
 ends_from (x ∷ a) first na = ap (option_map (λ f. From f)) na
 
--- the sides are those round the first dash
+-- the sides are those before and after the first dash
 set_at : (a b : List ℕ) (spec : RangeSpec) → list_all is_ascii_digit a ≡ true → spec_of_ends a b ≡ Some spec → spec_of_set (a ++ 45 ∷ b) ≡ Some spec
 set_at a b spec digits round =
     let text : List ℕ = a ++ 45 ∷ b in
@@ -87,7 +87,7 @@ spec_each spec text (unit, set, is_unit, is_spec, e) =
     let front = unit_each unit set is_unit in
     ap spec_of e ∙ cond-true (has_unit whole) (spec_of_set (drop 6 whole)) None front.0 ∙ ap spec_of_set front.1 ∙ set_each spec set is_spec
 
--- and what is read the grammar has
+-- and what is read is in the grammar
 pub spec_read : (spec : RangeSpec) (text : List ℕ) → spec_of text ≡ Some spec → Spells spec text
 spec_read spec text e =
     let (unit_there, found) = cond_some (has_unit text) (spec_of_set (drop 6 text)) spec e in

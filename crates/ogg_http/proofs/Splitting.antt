@@ -1,4 +1,4 @@
--- Splitting a text behind its digits.
+-- Splitting a text after its digits.
 use Rattle.std.proofs.Common.{◌≡◌, ℕ, ◌+◌, ◌<◌, suc, List, ◌∷◌, ◌++◌, length, take, drop, get_or, Bool, true, false, cond, nat_lt, ◌==◌, Option, Some, None, option_map, unwrap_or, arith, rules, refl, ap, sym, ◌∙◌}
 use Rattle.std.proofs.lemmas.List.{length-append, take-append-drop}
 use Rattle.std.proofs.Math.Seq.{drop-cons, get_or-append_seam}
@@ -20,7 +20,7 @@ digits_model = numerals_by_value _ (search rules)
 misses : (c : ℕ) (a : List ℕ) → list_all is_ascii_digit a ≡ true → ¬ (IsInRange 48 57 c) → (k : ℕ) → k < length a → (get_or a k 0 == c) ≡ false
 misses c a digits other k lt = ne_eqb _ _ (not_in_digits digits_model a c digits other k lt)
 
--- so it is first found behind the digits
+-- so it is first found after the digits
 pub first_behind : (c : ℕ) (a b : List ℕ) → list_all is_ascii_digit a ≡ true → ¬ (IsInRange 48 57 c) → position (λ x. x == c) (a ++ c ∷ b) ≡ Some (length a)
 first_behind c a b digits other =
     let p : ℕ → Bool = λ x. x == c in
@@ -33,7 +33,7 @@ first_behind c a b digits other =
     ap (λ n. cond (nat_lt n (length (a ++ c ∷ b))) (Some n) None) at
     ∙ cond-true _ (Some (length a)) None (lt-ltb _ _ inside)
 
--- and where there are only digits, nowhere
+-- and if there are only digits, it is found nowhere
 pub nowhere : (c : ℕ) (a : List ℕ) → list_all is_ascii_digit a ≡ true → ¬ (IsInRange 48 57 c) → position (λ x. x == c) a ≡ None
 nowhere c a digits other =
     let p : ℕ → Bool = λ x. x == c in
@@ -42,7 +42,7 @@ nowhere c a digits other =
     ap (λ n. cond (nat_lt n (length a)) (Some n) None) at
     ∙ cond-false _ (Some (length a)) None (le-ltb _ _ (omega arith))
 
--- a text is what stands before the byte that was found, that byte, and what stands behind it
+-- a text is what stands before the byte that was found, that byte, and what stands after it
 pub split_at : (c : ℕ) (xs : List ℕ) (i : ℕ) → position (λ x. x == c) xs ≡ Some i → xs ≡ take i xs ++ c ∷ drop (i + 1) xs
 split_at c xs i found =
     let (inside, hit, before) = position-Some (λ x. x == c) xs i 0 found in
@@ -51,12 +51,12 @@ split_at c xs i found =
     drop-cons xs i 0 inside ∙ ap (λ x. x ∷ drop (suc i) xs) (eqb-true _ _ hit) ∙ ap (λ n. c ∷ drop n xs) next in
     sym (take-append-drop i xs) ∙ ap (λ t. take i xs ++ t) from
 
--- what a choice that gives a value says of its test
+-- what a choice that has a value says of its test
 pub cond_some : {X : Type 0} (b : Bool) (o : Option X) (x : X) → cond b o None ≡ Some x → (b ≡ true) × (o ≡ Some x)
 cond_some true o x e = (refl, e)
 cond_some false o x e = absurd (cc e)
 
--- equal values are equal where there are values
+-- equal values are equal, if there are values
 pub some_injective : {X : Type 0} (x y : X) → Some x ≡ Some y → x ≡ y
 some_injective x y e = ap (λ o. unwrap_or o x) e
 

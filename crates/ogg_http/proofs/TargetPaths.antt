@@ -31,7 +31,7 @@ no_leading_zero n small =
           let above = first_decimal n (omega (arith, some)) (omega (arith, small)) in omega (arith, e, above))))
     ]
 
--- the name of a number is what is printed of it
+-- the name of a number is its decimal spelling
 name_each : (n : ℕ) → n < 2 ^ 32 → name_of (decimal n) ≡ Some n
 name_each n small =
     let (numeral, value) = decimal_is_IsNumeral n (omega (arith, small)) in
@@ -106,7 +106,7 @@ named_read path resource =
     (λ test e. (starts_is Decides-eqb path (codes "/link/") _ refl).0 test ∙ numbers_read (drop 6 path) _ resource refl e)
     (λ _ e. absurd (cc e))))
 
--- so it is with what was found, if anything
+-- the same of what was found, if anything
 pub found_has_path : (path : List ℕ) (found : Option Resource) → found ≡ named_by path → IfSome found (λ resource. path ≡ path_to resource)
 found_has_path path None e = tt
 found_has_path path (Some resource) e = named_read path resource (sym e)

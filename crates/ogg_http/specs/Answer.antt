@@ -21,13 +21,13 @@ line text = text ++ codes "\r\n"
 abbrev pub content_length : ℕ → List ℕ
 content_length len = line (codes "Content-Length: " ++ decimal len)
 
--- which bytes of how many follow (RFC 9110, section 14.4)
+-- which bytes follow, and the length of the whole (RFC 9110, section 14.4)
 abbrev pub content_range : ℕ → ℕ → ℕ → List ℕ
 content_range first last len =
     line (codes "Content-Range: bytes " ++ decimal first ++ codes "-" ++ decimal last ++ codes "/" ++ decimal len)
 
--- the whole head of an answer: 200, 206, 416, 400, 404 and 405 (RFC 9110, sections 15.3.1, 15.3.7, 15.5.17, 15.5.1,
--- 15.5.5 and 15.5.6) with the fields that they need; application/ogg is from RFC 5334
+-- The whole head of an answer: 200, 206, 416, 400, 404 and 405 (RFC 9110, sections 15.3.1, 15.3.7, 15.5.17, 15.5.1,
+-- 15.5.5 and 15.5.6) with the fields that they need. The type `application/ogg` is from RFC 5334.
 -- Ours: no answer keeps its connection open (RFC 9112, section 9.6), and a listing has no ranges.
 abbrev pub answer_head : Answer → List ℕ
 answer_head (Full len) =

@@ -12,6 +12,6 @@ is_number text = nat_lt 0 (length text) && list_all is_ascii_digit text
 abbrev pub value_of : List ℕ → ℕ
 value_of digits = min (digits_value 10 digits) (2 ^ 64 - 1)
 
--- the value of a number, and nothing of any other text
+-- the value of a number; any other text has none
 abbrev pub number_of : List ℕ → Option ℕ
 number_of text = if is_number text then Some (value_of text) else None

@@ -20,8 +20,8 @@ abbrev pub first_of_name : List ℕ → Fields → Option (List ℕ)
 first_of_name wanted fields = option_map (λ field. field.1) (find (λ field. is_named wanted field.0) fields)
 
 -- the value of the Range field (section 14.2)
--- Ours: there is none where the field comes twice, or where If-Range asks for a validator, since none is ever sent
--- (section 13.1.5).
+-- Ours: there is none if the field comes twice, or if If-Range asks for a validator, since none is ever sent (section
+-- 13.1.5).
 abbrev pub range_in : Fields → Option (List ℕ)
 range_in fields =
     if count_of (codes "range") fields == 1 then

@@ -10,11 +10,11 @@ use Rattle.ogg_http.specs.declared.head.Request.{Request}
 use Rattle.ogg_http.specs.declared.head.HeadRead.{HeadRead}
 use Rattle.ogg_http.specs.declared.head.HeadRead.TheVariants.{Whole}
 
--- ours: a head has at most so many bytes, the empty lines before it counted
+-- ours: the greatest number of bytes of a head; the empty lines before it count
 abbrev pub most_bytes : ℕ
 most_bytes = 8192
 
--- ours: and at most so many fields
+-- ours: the greatest number of its fields
 abbrev pub most_fields : ℕ
 most_fields = 64
 
@@ -53,7 +53,7 @@ pub record IsHopeless (bytes : List ℕ) : Type 0 where
   -- whatever follows, a head at the front has too many fields
   pub never_read : RequestOverflows most_fields bytes
 
--- P of the request, where there is one
+-- P holds of the request, if there is one
 abbrev pub IfWhole : HeadRead → (Request → Type 0) → Type 0
 IfWhole (Whole request) P = P request
 IfWhole _ P = ⊤

@@ -4,6 +4,6 @@ pub mod Head
 pub mod Target
 pub mod Range
 pub mod Answer
--- the grammar of heads, which the clauses of `read_head` cite
+-- the grammar of heads, which the contracts of `read_head` cite
 pub use Rattle.httparse.specs.Grammar
 pub use Rattle.httparse.specs.Spans

@@ -57,7 +57,7 @@ LiesIn len _ = ⊤
 abbrev pub has_unit : List ℕ → Bool
 has_unit text = bytes_eq (map to_ascii_lowercase (take 6 text)) (codes "bytes=")
 
--- the range that has these before and behind its dash
+-- the range that has these texts before and after its dash
 abbrev pub spec_of_ends : List ℕ → List ℕ → Option RangeSpec
 spec_of_ends [] last = option_map (λ count. Suffix count) (number_of last)
 spec_of_ends (b ∷ bs) [] = option_map (λ first. From first) (number_of (b ∷ bs))

@@ -26,7 +26,7 @@ IsResource (Link link) = link < 2 ^ 32
 IsResource (Stream link serial) = (link < 2 ^ 32) × (serial < 2 ^ 32)
 IsResource _ = ⊤
 
--- where the first slash stands
+-- the place of the first slash
 abbrev pub first_slash : List ℕ → Option ℕ
 first_slash text = position (λ b. b == slash) text
 
@@ -52,7 +52,7 @@ name_of text =
     if is_number text && (length text == 1 || not (slice_index text 0 == 48)) && nat_lt (digits_value 10 text) (2 ^ 32)
     then Some (digits_value 10 text) else None
 
--- a link alone, or a link and a serial round the first slash
+-- a link alone, or a link and a serial before and after the first slash
 abbrev pub named_by_numbers : Option ℕ → List ℕ → Option Resource
 named_by_numbers None text = option_map (λ link. Link link) (name_of text)
 named_by_numbers (Some at) text =

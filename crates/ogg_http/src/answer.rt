@@ -8,7 +8,7 @@ use arrayvec::ArrayVec;
 use itoa::Buffer;
 pub use std::alloc::AllocError as Memory;
 
-/// An answer, as far as its head tells it. Each length is in bytes.
+/// An answer, as far as its head says it. Each length is in bytes.
 #[derive(Clone, Copy, Debug, PartialEq, Eq)]
 pub enum Answer {
     /// All of a resource of this length.
@@ -24,7 +24,7 @@ pub enum Answer {
     NotAllowed,
 }
 
-/// Bytes of the room for a head. The longest head, of a part with numbers of 20 digits, has 227.
+/// The room for a head, in bytes. The longest head, of a part with numbers of 20 digits, has 227.
 const HEAD_ROOM: usize = 256;
 
 type Text = ArrayVec<u8, HEAD_ROOM>;
@@ -201,6 +201,7 @@ pub fn response_head(answer: &Answer, out: &mut Vec<u8>) -> Result<(), Memory>
     ensures full { OnErr result
         (vec_capacity out.old < vec_len out.old + length (answer_head answer.now)) }
 {
-    // The head is made on the stack, so that the one growth takes all of it or nothing.
+    // The head is made on the stack, so that the one growth of the vector appends all of it or
+    // nothing.
     out.extend_from_slice(answer_head(*answer).as_slice())
 }

@@ -17,7 +17,7 @@ pub fn is_number(text: &[u8]) -> bool
     0 < text.len() && are_digits(text)
 }
 
-/// The value of the digits, or the largest of 64 bits where it is past that.
+/// The value of the digits, or the largest of 64 bits if it is past that.
 pub fn value_of(digits: &[u8]) -> u64
     requires { is_number digits.now ≡ true }
     ensures { result ≡ value_of digits.now }

@@ -47,7 +47,7 @@ fn first_of_name<'b>(
     None
 }
 
-/// The value of the one `Range` field, where there is no `If-Range`.
+/// The value of the one `Range` field, if there is no `If-Range`.
 pub fn range_in<'b>(bytes: &'b [u8], len: usize, fields: &[HeaderSpan]) -> Option<&'b [u8]>
     requires room { length fields.now ≤ most_fields }
     requires inside { len ≤ length bytes.now }

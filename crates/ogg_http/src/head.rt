@@ -7,10 +7,10 @@ use crate::fields::{count_of, range_in};
 use httparse::Status;
 use httparse::spans::{EMPTY_HEADER_SPAN, parse_request};
 
-/// A head has at most so many bytes, the empty lines before it counted.
+/// The greatest number of bytes of a head; the empty lines before it count.
 const MOST_BYTES: usize = 8192;
 
-/// And at most so many fields.
+/// The greatest number of its fields.
 const MOST_FIELDS: usize = 64;
 
 /// What a request wants done.
@@ -22,7 +22,7 @@ pub enum Verb {
     Other,
 }
 
-/// The head of a request, whose target and range lie in the bytes that it was read from.
+/// The head of a request. Its target and its range lie in the bytes from which it was read.
 #[derive(Clone, Copy, Debug, PartialEq, Eq)]
 pub struct Request<'a> {
     pub verb: Verb,
@@ -31,9 +31,9 @@ pub struct Request<'a> {
     pub http11: bool,
     /// How many `Host` fields there are.
     pub hosts: u32,
-    /// The value of the one `Range` field, where there is no `If-Range`.
+    /// The value of the one `Range` field, if there is no `If-Range`.
     pub range: Option<&'a [u8]>,
-    /// The length of the head in bytes, the empty lines before it counted.
+    /// The length of the head in bytes; the empty lines before it count.
     pub used: usize,
 }
 
@@ -59,16 +59,17 @@ fn verb_of(method: &[u8]) -> Verb
     }
 }
 
-/// Reads the head at the front of `bytes`, and looks at no more than its first 8,192.
+/// Reads the head at the front of `bytes`, and reads no more than its first 8,192 bytes.
 pub fn read_head<'a>(bytes: &'a [u8]) -> HeadRead<'a>
-    // It gives exactly the heads of the grammar that have at most 64 fields, with their parts.
+    // It returns exactly the heads of the grammar that have at most 64 fields, with their parts.
     ensures whole { IfWhole result
         (λ request. (head : RequestHead) × HoldsRequest (head_bytes bytes.now) head request) }
     ensures found { (head : RequestHead) (rest : List ℕ)
         → ReadsRequest (head_bytes bytes.now) head rest → length head.fields ≤ most_fields
         → IsWholeAnd result (HoldsRequest (head_bytes bytes.now) head) }
 
-    // It waits only while a head may still come; a hopeless one may be found bad at any byte.
+    // It waits only while a head may still come; at which byte a hopeless one is found bad isn't
+    // fixed.
     ensures partial { result ≡ HeadRead.Partial → IsAwaited bytes.now }
     ensures bad { result ≡ HeadRead.Bad → length bytes.now < most_bytes → IsHopeless bytes.now }
 {

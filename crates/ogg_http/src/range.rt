@@ -12,7 +12,7 @@ enum RangeSpec {
     Between(u64, u64),
     /// `FIRST-`: from this byte on.
     From(u64),
-    /// `-COUNT`: so many bytes at the end.
+    /// `-COUNT`: this number of bytes at the end.
     Suffix(u64),
 }
 
@@ -83,7 +83,7 @@ fn selected(spec: RangeSpec, len: u64) -> Ranged
 
 /// Which bytes of a representation of `len` bytes a `Range` field of this value asks for.
 pub fn range_of(text: &[u8], len: u64) -> Ranged
-    // The texts that spell a range are answered by it, and any other by the whole.
+    // A text that spells a range selects what the range asks for; any other text selects the whole.
     ensures spelled { (spec : RangeSpec)
         → Spells spec text.now → 0 < len → result ≡ selected spec len }
     ensures other { ((spec : RangeSpec) → ¬ (Spells spec text.now)) → result ≡ Ranged.Whole }

@@ -47,7 +47,7 @@ fn name_of(text: &[u8]) -> Option<u32>
     ensures { result ≡ name_of text.now }
 {
     if is_number(text) && (text.len() == 1 || text[0] != b'0') {
-        // A value past 64 bits was cut, and is still past 32.
+        // A value past 64 bits was cut to the largest of 64 bits, and that is past 32 bits too.
         u32::try_from(value_of(text)).ok()
     } else {
         None

@@ -26,7 +26,7 @@ use Rattle.ogg_recorder.specs.Running.{Progress, progress, Answers, Replies, Wri
 use Rattle.ogg_recorder.proofs.Lasting.{never}
 use Rattle.ogg_recorder.proofs.Stepping.{is_open}
 
--- what holds of a recorder holds wherever that recorder is
+-- what holds of a recorder holds however that recorder was reached
 pub at_reached : {D : Type 0} (before : Progress D) (recorder : RecorderState D) (Q : Progress D → Type 0) → before.now ≡ recorder → Q (progress before.first before.world recorder) → Q before
 at_reached before recorder Q same q = subst (λ (r : RecorderState _). Q (progress before.first before.world r)) (sym same) q
 
@@ -198,7 +198,7 @@ module _ {D : Type 0} (is_honest : D → Type 0) (state : D → DiskState) (mome
       (subst (λ (failed : Bool). FlushedBy failed old (reply_of_flush r) new) (sym good) replies) writes
       (λ is_in h. next is_in (is_open is_honest state moment images_since first w old is_in good) h) honest later cause
 
--- the disk's fault is told
+-- the disk's fault is reported
 pub command_fault : (r : Result Outcome Refusal) → reply_of r ≡ RefusedReply Disk → r ≡ Err Disk
 command_fault (Ok (WasHeld count)) e = absurd (cc e)
 command_fault (Ok (WasKept kept)) e = absurd (cc e)

@@ -48,11 +48,11 @@ module _ {D : Type 0} (moment : D → ℕ) (images_since : D → ℕ → List �
   opened_earlier mid before b source is was found ready =
       and_then moment images_since old mid new _ _ _ found ready (as_before before) (λ image commits. commits_as_before before b source image is was commits)
 
-  -- what each image since a moment has, each image now has
+  -- what each image since a moment has, each image has now
   pub images_have : (state : D → DiskState) (P : List ℕ → Type 0) → HasImages (state new) (moment new) (images_since new) → LeavesOnly moment images_since old new P → EachImage (state new) P
   images_have state P has leaves = λ image is. leaves.each image (has.counts_now (moment old) image leaves.later is)
 
--- ---- a recorder of which nothing waits
+-- ---- a recorder with no command that waits
 pub nothing_in : {D : Type 0} (state : D → DiskState) (file : GateState D) → file.staged ≡ 0 → G.staged_bytes state file ≡ []
 nothing_in state file none = ap (λ (n : ℕ). G.staged_bytes state (record file { staged = n })) none
 

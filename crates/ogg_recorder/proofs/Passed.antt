@@ -1,4 +1,4 @@
--- What an opening tells of the pages that have passed.
+-- What an opening says of the pages that have passed.
 use Rattle.std.proofs.Common.{◌≡◌, ◌≢◌, ◌⊎◌, inl, inr, ⊎_elim, ℕ, ◌<◌, ◌^◌, None, Some, List, [], length, take, refl, sym, ◌∙◌, ap, subst, arith}
 use Rattle.std.proofs.lemmas.Grind.{common_steps}
 use Rattle.ogg_page.specs.Page.{Page, bytes_of_pages}

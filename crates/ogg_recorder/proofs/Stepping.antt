@@ -36,7 +36,7 @@ add_last : (recording : Recording) (commands : List Command) (command : Command)
 add_last recording commands command = fold-append add recording commands (command ∷ [])
 
 module _ {D : Type 0} (is_honest : D → Type 0) (state : D → DiskState) (moment : D → ℕ) (images_since : D → ℕ → List ℕ → Type 0) (first : Recording) (w : World Command) (old : RecorderState D) where
-  -- the recorder is open, and each of its commands can be accepted where it stands
+  -- if the recorder hasn't failed, its world is open, and each of its commands can be accepted
   pub is_open : IsIn is_honest state first w old → old.file.failed ≡ false → w.is_open ≡ true
   is_open is_in good = opened_if w.is_open (sym good ∙ is_in.failed)
 
@@ -59,7 +59,7 @@ module _ {D : Type 0} (is_honest : D → Type 0) (state : D → DiskState) (mome
       (subst (λ (r : Recording). Holds ((committed state old ++ staged state old) ++ command_bytes old.chain command) r) (sym (add_last (now_in add first w) w.held command))
       (holds_grow law (committed state old ++ staged state old) old.chain (fold add (now_in add first w) w.held) command size chain (is_in.all (is_open is_in good) honest) is kept))
 
-  -- it isn't open, with this group in doubt
+  -- the recorder has failed, and its world is closed with this group in doubt
   pub is_in_closed : (group : List Command) (file : GateState D) (chain : ChainState) (kept held most : ℕ) → IsIn is_honest state first w old → is_honest old.file.disk → file.failed ≡ true
       → G.committed state file ≡ committed state old → Stands (recorder_state file chain old.tail kept held most) (closed w group)
   is_in_closed group file chain kept held most is_in honest bad same = record {
@@ -73,7 +73,7 @@ module _ {D : Type 0} (is_honest : D → Type 0) (state : D → DiskState) (mome
       shut : false ≡ true → ⊥
       shut e = cc
 
-  -- refused by the rules, it changes nothing
+  -- a command that the rules refuse changes nothing
   pub step_refused : (refusal : Refusal) (call : Call Command) (command : Command) → code_of refusal ≤ 19 → IsIn is_honest state first w old → is_honest old.file.disk
       → Steps (refused_step refusal call command) old.file.disk × Stands old (happens w (refused_step refusal call command))
   step_refused refusal call command few is_in honest =

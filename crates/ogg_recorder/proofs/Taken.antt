@@ -1,4 +1,4 @@
--- One page more is taken.
+-- One more page is taken.
 use Rattle.std.proofs.Common.{◌≡◌, None, Some, Option, Result, Ok, Err, ◌+◌, List, [], ◌∷◌, ◌++◌, refl, sym, ◌∙◌, ap, subst}
 use Rattle.ogg_page.specs.Page.{Page, IsPage, page_size}
 use Rattle.ogg_page.specs.PageLaws.{pages_both}

@@ -16,14 +16,14 @@ pub seen_pages : (old new : TakerState) (offset : ℕ) (pages : List Page) → A
 seen_pages old new offset [] seen = tt
 seen_pages old new offset (page ∷ pages) (mid, one, more) = (one.is_page, seen_pages mid new (offset + page_size page) pages more)
 
--- after a page that wasn't taken nothing is
+-- after a page that wasn't taken no page is taken
 stays_broken : (old new : TakerState) (offset : ℕ) (pages : List Page) → IsSome old.broken → AreSeen Sees old offset pages new → new ≡ old
 stays_broken old new offset [] some seen = seen
 stays_broken old new offset (page ∷ pages) some (mid, one, more) =
     let same : mid ≡ old = one.stays some in
     stays_broken mid new (offset + page_size page) pages (subst (λ (t : TakerState). IsSome t.broken) (sym same) some) more ∙ same
 
--- all pages are taken, or a first one isn't
+-- all pages are taken, or there is a first one that isn't
 pub record HasWalked (all : List Page) (new : TakerState) : Type 0 where
   pub taken : new.broken ≡ None → (links : Links) × AreTaken [] all links × (new.chain.chain ≡ chain_state_of links)
   pub broken : (offset : ℕ) (fault : ChainFault) → new.broken ≡ Some (offset, fault) → IsBrokenAt (bytes_of_pages all) offset fault ⊎ (fault ≡ Memory)

@@ -13,7 +13,7 @@ use Rattle.ogg_recorder.specs.Recorder.{RecorderState, recorder_state}
 abbrev pub kept_by : {D : Type 0} → RecorderState D → KeptOf
 kept_by recorder = record { count = recorder.kept; end = recorder.file.end }
 
--- it waits where others may still join its group, else the group is kept
+-- the command waits if others may still join its group, else the group is kept
 abbrev pub Tells : {D : Type 0} → RecorderState D → Outcome → RecorderState D → Type 0
 Tells old (WasHeld count) new =
     (old.held + 1 < old.most) × (count ≡ old.kept + (old.held + 1)) × (new.file.end ≡ old.file.end)

@@ -13,8 +13,9 @@ use Rattle.ogg_command.specs.declared.command.Command.{Command}
 use Rattle.history.specs.World.{World, now_in}
 use Rattle.ogg_recorder.specs.Taking.{HoldsChain, IsWholeChain}
 
--- Its file, the chain of all links, those of the commands that wait included, how many bytes followed the committed
--- ones when the file was opened, how many commands were kept since then, how many wait, and how many share a commit.
+-- Its file, and the chain of all links, with those of the commands that wait. Then how many bytes followed the
+-- committed ones when the file was opened, how many commands were kept since then, how many wait, and how many
+-- share a commit.
 pub record RecorderState (D : Type 0) : Type 0 where
   pub file : GateState D
   pub chain : ChainState
@@ -43,7 +44,7 @@ staged state recorder = G.staged_bytes state recorder.file
 -- What always holds.
 pub record IsRecorder {D : Type 0} (is_honest : D → Type 0) (state : D → DiskState) (recorder : RecorderState D) : Type 0 where
   pub few : recorder.held < recorder.most
-  -- each command has a byte at least
+  -- each command has at least one byte
   pub count : recorder.kept + recorder.held ≤ recorder.chain.length_of
   pub fits : recorder.kept + recorder.held < 2 ^ 63
   pub chain : IsWholeChain recorder.chain
@@ -54,8 +55,9 @@ pub record IsRecorder {D : Type 0} (is_honest : D → Type 0) (state : D → Dis
   pub all : recorder.file.failed ≡ false → is_honest recorder.file.disk → HoldsChain (committed state recorder ++ staged state recorder) recorder.chain
   pub images : recorder.file.failed ≡ false → is_honest recorder.file.disk → EachImage (state recorder.file.disk) (CommitsTo (committed state recorder))
 
--- It stands there, in a history that began where every image showed `first`: the committed bytes hold the
--- acknowledged commands, the staged ones add those that wait, and while it hasn't failed nothing is in doubt.
+-- In a history that began when every image showed `first`, the recorder stands in this world. The committed bytes
+-- hold the acknowledged commands, and the staged ones add those that wait. While the recorder hasn't failed nothing
+-- is in doubt.
 pub record IsIn {D : Type 0} (is_honest : D → Type 0) (state : D → DiskState) (first : Recording) (w : World Command) (recorder : RecorderState D) : Type 0 where
   pub failed : recorder.file.failed ≡ not w.is_open
   pub none : w.is_open ≡ true → w.in_doubt ≡ []

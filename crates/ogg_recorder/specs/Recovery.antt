@@ -21,7 +21,7 @@ Commits image bytes = CommitsTo bytes image
 abbrev pub Shows : List ℕ → Recording → Type 0
 Shows = Recovers Commits Holds
 
--- there are links that hold the recording, after which no rule refuses the command
+-- there are links that hold the recording, and after them no rule refuses the command
 abbrev pub Accepts : Recording → Command → Type 0
 Accepts recording command =
     (bytes : List ℕ) × (held : Holds bytes recording) × IsCommand command × IsOk (decision (chain_state_of held.0) command)

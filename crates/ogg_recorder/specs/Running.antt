@@ -36,12 +36,12 @@ progress first world now = record { first = first; world = world; now = now }
 abbrev pub waiting_in : {D : Type 0} → Progress D → ℕ
 waiting_in before = before.now.held
 
--- how long is what was kept
+-- the length of what was kept
 abbrev pub end_in : {D : Type 0} → Progress D → ℕ
 end_in before = before.now.file.end
 
 -- ---- replies
--- the reply that tells what became of a command
+-- the reply that says what became of a command
 abbrev pub reply_of : Result Outcome Refusal → Reply
 reply_of (Ok (WasHeld count)) = HeldReply count
 reply_of (Ok (WasKept kept)) = KeptReply kept
@@ -122,8 +122,8 @@ steps_of most world Flush reply disk = (Flushed, disk) ∷ []
 
 module _ {D : Type 0} (is_honest : D → Type 0) (state : D → DiskState) (moment : D → ℕ)
     (images_since : D → ℕ → List ℕ → Type 0) (failures : D → ℕ) where
-  -- The record is answered so. No bytes are its pages: they go to the disk. In each history in which the recorder
-  -- stands, if its disk is honest, the record is what comes next.
+  -- This reply answers the record. The record has no pages of its own in the output: its pages go to the disk. In
+  -- each history in which the recorder stands, if its disk is honest, the record is what comes next.
   pub record Answers (before : Progress D) (given : Record) (reply : Reply) (own : List ℕ) (after : Progress D) : Type 0 where
     pub replies : Replies before.now given reply after.now
     pub none : own ≡ []

@@ -14,7 +14,7 @@ use Rattle.link_chain.specs.declared.chain_fault.ChainFault.{ChainFault}
 use Rattle.link_chain.specs.declared.chain_fault.ChainFault.TheVariants.{Memory}
 use Rattle.ogg_recorder.specs.Recovery.{Links}
 
--- the chain of the pages that were taken, and where the first stands that wasn't, and why
+-- the chain of the pages that were taken, and the offset and the fault of the first that wasn't
 pub record TakerState : Type 0 where
   pub chain : ChainWithRoom
   pub broken : Option (ℕ × ChainFault)
@@ -27,7 +27,7 @@ pub record HasTaken (chain : ChainState) : Type 0 where
   pub taken : AreTaken [] pages links
   pub chain_is : chain ≡ chain_state_of links
 
--- the bytes are links which hold a recording, and the chain is theirs
+-- the bytes are links that hold a recording, and the chain is theirs
 pub record HoldsChain (bytes : List ℕ) (chain : ChainState) : Type 0 where
   pub links : Links
   pub recording : Recording
@@ -35,7 +35,7 @@ pub record HoldsChain (bytes : List ℕ) (chain : ChainState) : Type 0 where
   pub are_links : AreLinks bytes links
   pub holds : HoldsLinks links recording
 
--- the chain is that of links which hold a recording
+-- the chain is that of links that hold a recording
 abbrev pub IsWholeChain : ChainState → Type 0
 IsWholeChain chain = (bytes : List ℕ) × HoldsChain bytes chain
 
@@ -51,7 +51,8 @@ IsTaken old (offset, page) new =
     ((new.broken ≡ None) × TakesPage old page new.chain.chain)
     ⊎ ((fault : ChainFault) × (new.broken ≡ Some (offset, fault)) × ((fault_of_page old page ≡ Some fault) ⊎ (fault ≡ Memory)))
 
--- A look at a page, while a file's length isn't passed. After a page that wasn't taken none is looked at.
+-- The taker is shown a page, while the pages aren't longer than a file can be. After a page that wasn't taken no page
+-- is taken.
 pub record Sees (old : TakerState) (lent : LentAt) (new : TakerState) : Type 0 where
   pub is_page : IsPage lent.1
   pub stays : IsSome old.broken → new ≡ old
@@ -75,7 +76,7 @@ pub record IsUnfinished (bytes : List ℕ) (serial : ℕ) : Type 0 where
   pub are_links : AreLinks bytes links
   pub told : unfinished_stream (chain_state_of links) ≡ Some serial
 
--- how an opening tells that a page wasn't taken
+-- how an opening reports that a page wasn't taken
 abbrev pub open_fault : ℕ × ChainFault → OpenFault
 open_fault (offset, Memory) = NoMemory
 open_fault (offset, fault) = Chain offset fault

@@ -32,7 +32,7 @@ use ogg_command::command_is_in_range;
 pub enum Outcome {
     /// It waits for the commit of its group. The number counts the commands accepted since the file was opened.
     Held(u64),
-    /// It is kept, and with it all that waited.
+    /// It is kept, and so is all that waited.
     Kept(Kept),
 }
 
@@ -51,10 +51,11 @@ impl<D: Disk> Recorder<D> {
         self.most = most;
     }
 
-    /// Records a command. It is answered by the rules, then for want of memory, then by the disk. Each of its pages is
-    /// staged by one call of the disk, and the command that makes a group whole commits it by three more. A refusal up
-    /// to `Memory` makes no call of the disk and changes nothing: what waits still waits. After `Disk` the recorder has
-    /// failed, what waited is lost, and opening finds what was kept, without this group or with all of it.
+    /// Records a command. First the rules may refuse it, then want of memory, then the disk. Each of its pages is
+    /// staged by one call of the disk, and the command that makes a group whole commits it by three more. A refusal
+    /// up to `Memory` makes no call of the disk and changes nothing: what waits still waits. After `Disk` the
+    /// recorder has failed, what waited is lost, and opening finds what was kept, without this group or with all of
+    /// it.
     pub fn command(&mut self, command: &Command) -> Result<Outcome, Refusal>
         ensures by_failed { self.old.file.failed ≡ true → result ≡ Err Refusal.Failed }
         ensures by_rules { self.old.file.failed ≡ false → (refusal : RefusalOf)
@@ -71,7 +72,7 @@ impl<D: Disk> Recorder<D> {
         ensures links { OnOk result ((links : Links) → self.old.chain ≡ chain_state_of links
             → self.new.chain ≡ chain_state_of (links_after links command.now)) }
 
-        // What is committed, and what waits, grows by the command's pages.
+        // What is committed and what waits, together, grow by the command's pages.
         ensures grows { OnOk result (D.is_honest self.old.file.disk → committed D.state self.new ++ staged D.state self.new
             ≡ (committed D.state self.old ++ staged D.state self.old) ++ command_bytes self.old.chain command.now) }
         ensures front { D.is_honest self.old.file.disk → IfErr result (λ _. committed D.state self.new ≡ committed D.state self.old) }

@@ -1,4 +1,4 @@
-//! What is recovered of a file, whatever befalls it.
+//! What is recovered of a file, whatever happens to it.
 ghost use Rattle.std.specs.Prelude.{◌≡◌, ◌⊎◌, [], true, ℕ, List};
 ghost use Rattle.disk_model.specs.Image.{IsImage};
 ghost use Rattle.link_chain.specs.Recording.{Recording};
@@ -52,10 +52,10 @@ pub fn images_show_one_recording()
 {}
 
 /// After any list of openings, commands, flushes, sealings and stops, at any moment, every image of the disk shows
-/// the first recording with the first k commands added, in order and whole: every acknowledged one among them, and
-/// for each opening at most one group that wasn't acknowledged, whole or not at all. It asks that at first every
-/// image shows one and the same recording, that the disk is honest, that nobody else writes, and that after a fault
-/// or a stop the file is opened again: this is what `IsHistory` says.
+/// the first recording with the first k commands added, in order and whole. Every acknowledged command is among them,
+/// and for each opening at most one group that wasn't acknowledged, whole or not at all. The premises are what
+/// `IsHistory` says: at first every image shows one and the same recording, the disk is honest, nobody else writes,
+/// and after a fault or a stop the file is opened again.
 pub fn acknowledged_commands_survive<D: Disk>()
     // Between two calls.
     ensures at_end { (first : Recording) (disk now : D) (w : World CommandOf) (steps : List (Step CommandOf × D))

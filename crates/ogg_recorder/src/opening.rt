@@ -1,4 +1,4 @@
-//! A file is opened: one pass finds where its committed bytes end and takes their pages into a chain.
+//! A file is opened: one pass finds the end of its committed bytes and takes their pages into a chain.
 ghost use Rattle.std.specs.Prelude.{◌≡◌, ◌≢◌, ◌↔◌, ◌⊎◌, ◌+◌, ◌-◌, ◌^◌, ◌<◌, ◌≤◌, ℕ, length, take, IfOk, IfErr};
 ghost use Rattle.disk_model.specs.Image.{IsImage};
 ghost use Rattle.disk_model.specs.Clock.{LeavesOnly};

@@ -29,7 +29,7 @@ use std::alloc::Global;
 use std::marker::Model;
 
 /// A recorder of commands into a file of links. It owns the file's disk. Once the disk has failed the recorder has
-/// failed: what is committed can still be read, and the disk be given back and opened again.
+/// failed: what is committed can still be read, and the disk can be given back and opened again.
 #[derive(Drop)]
 pub struct Recorder<D: Disk> {
     pub(crate) file: GateFile<D>,
@@ -56,10 +56,10 @@ impl<D: Disk> Model for Recorder<D> {
 impl<D: Disk> Recorder<D> {
     ghost use Rattle.ogg_recorder.specs.Recorder.{RecorderState, recorder_state, committed};
 
-    /// Opens a file that a stop may have left: syncs, finds its committed bytes, takes their pages into a chain, all
-    /// in one pass and in the memory of one page and of the chain, and puts a closed byte after them if there is
-    /// none. Each command is then a group of its own. The faults are `Page`, `Chain`, `Unfinished`, in this order,
-    /// and `Memory` and `Disk`; by each but `Disk` the contents are as they were.
+    /// Opens a file that a stop may have left. It syncs, finds the committed bytes and takes their pages into a
+    /// chain, all in one pass and in the memory of one page and of the chain. If no closed byte follows the committed
+    /// bytes, it writes one. Each command is then a group of its own. The faults are `Page`, `Chain`, `Unfinished`,
+    /// in this order, and `Memory` and `Disk`; after each but `Disk` the contents are as they were.
     pub fn open(alloc: Global, disk: D) -> Result<Recorder<D>, (OpenFault, D)>
         ensures fresh { IfOk result (λ r. (r.file.failed ≡ false) × (r.file.staged ≡ 0)
             × (r ≡ recorder_state r.file r.chain r.tail 0 0 1)) }

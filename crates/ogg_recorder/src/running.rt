@@ -10,7 +10,7 @@ use feed_run::Runner;
 use ogg_page::WriteFault;
 use std::io::Write;
 
-/// The reply that tells what became of a command.
+/// The reply that says what became of a command.
 pub fn reply_to(answer: Result<Outcome, Refusal>) -> Reply
     ensures { result ≡ reply_of answer }
 {
@@ -21,7 +21,7 @@ pub fn reply_to(answer: Result<Outcome, Refusal>) -> Reply
     }
 }
 
-/// The reply that tells what became of a flush.
+/// The reply that says what became of a flush.
 pub fn reply_to_flush(answer: Result<Kept, Refusal>) -> Reply
     ensures { result ≡ reply_of_flush answer }
 {
@@ -31,7 +31,7 @@ pub fn reply_to_flush(answer: Result<Kept, Refusal>) -> Reply
     }
 }
 
-/// Pages go to the disk alone, and each reply tells what became of the command or the flush.
+/// Pages go only to the disk, and each reply says what became of the command or the flush.
 impl<D: Disk> Runner for Recorder<D> {
     ghost use Rattle.std.specs.Prelude.{◌≡◌};
     ghost use Rattle.ogg_recorder.specs.Running.{Progress, Answers, waiting_in, end_in};

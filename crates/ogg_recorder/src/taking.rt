@@ -47,7 +47,8 @@ impl PageTaker {
         }
     }
 
-    /// The chain of all pages, or why one wasn't taken, or which stream's last packet is unfinished.
+    /// The chain of all pages; or why a page wasn't taken; or which stream's last packet is
+    /// unfinished.
     pub(crate) fn into_shape(self) -> Result<Shape, OpenFault>
         ensures whole { IfOk result (λ shape. (self.broken ≡ None) × (shape ≡ self.chain) × IsWholeChain shape.chain) }
         ensures each { IfOk result (λ shape. (bytes : List ℕ) (links : Links) → AreLinks bytes links
@@ -67,7 +68,7 @@ impl PageTaker {
     }
 }
 
-/// How an opening tells that a page wasn't taken.
+/// How an opening reports that a page wasn't taken.
 fn fault_at(place: (u64, ChainFault)) -> OpenFault
     ensures { result ≡ open_fault place }
 {

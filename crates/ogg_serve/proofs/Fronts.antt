@@ -9,10 +9,10 @@ use Rattle.ogg_page.specs.Window.{LentAt, NextLent}
 use Rattle.ogg_page.specs.declared.fault.PageFault.{PageFault}
 use Rattle.ogg_page.specs.declared.fault.WindowFault.{WindowFault}
 use Rattle.ogg_page.specs.declared.fault.WindowFault.TheVariants.{Source as SourceOf, Page as PageAt}
-use Rattle.link_chain.specs.Laws.Walked.{no_fault_there}
-use Rattle.link_chain.specs.ChainState.{ChainState, chain_state_of}
+use Rattle.link_chain.specs.Laws.Walked.{no_fault_there, taken_more}
+use Rattle.link_chain.specs.ChainState.{ChainState}
 use Rattle.link_chain.specs.Links.{AreLinks}
-use Rattle.link_chain.specs.Taking.{AreTaken, links_with, fault_of_page}
+use Rattle.link_chain.specs.Taking.{links_with, fault_of_page}
 use Rattle.link_chain.specs.declared.chain_fault.ChainFault.{ChainFault}
 use Rattle.link_chain.specs.declared.chain_fault.ChainFault.TheVariants.{Memory as NoMemory}
 use Rattle.link_index.specs.Adding.{AddsPages, IndexState, IsIndexOf, IsLeft}
@@ -21,12 +21,6 @@ use Rattle.link_index.specs.declared.fault.IndexFault.TheVariants.{Page as PageO
 use Rattle.ogg_serve.specs.Indexing.{IsOfFront, fault_of_page as hub_fault}
 use Rattle.sessions.specs.declared.fault.HubFault.{HubFault}
 use Rattle.sessions.specs.declared.fault.HubFault.TheVariants.{Source, Memory}
-
-taken_more : (start : List (List Page)) (pages : List Page) (page : Page) (after : List (List Page)) → AreTaken start pages after
-    → fault_of_page (chain_state_of after) page ≡ None → AreTaken start (pages ++ page ∷ []) (links_with after page)
-taken_more start [] page after t none =
-    (ap (λ (l : List (List Page)). fault_of_page (chain_state_of l) page) (sym t) ∙ none, ap (λ (l : List (List Page)). links_with l page) t)
-taken_more start (p ∷ pages) page after t none = (t.0, taken_more (links_with start p) pages page after t.1 none)
 
 -- what was added to the index is its pages
 pages_are : (front : List ℕ) (index : IndexState) (a : AddsPages [] front index (Ok tt)) → front ≡ bytes_of_pages a.pages
@@ -70,7 +64,7 @@ not_both e = cc
 err_same : (a b : ChainFault) → ◌≡◌ {A = Result (Unit {0}) ChainFault} (Err a) (Err b) → a ≡ b
 err_same a b e = cc
 
--- the fault was of the page
+-- the fault was that of the page
 pub of_page : (fault : ChainFault) → ◌≡◌ {A = Result (Unit {0}) HubFault} (Err (hub_fault fault)) (Err Source) → fault ≢ NoMemory
 of_page fault e is = absurd (not_both (ap (λ (f : ChainFault). Err (hub_fault f)) (sym is) ∙ e))
 
@@ -79,7 +73,7 @@ module _
     → (links : List (List Page)) × AreLinks bytes links × IsIndexOf links index × (index.chain.chain.length_of ≡ length bytes))
     (bytes : List ℕ) (index : IndexState) (f : IsOfFront bytes index)
   where
-    -- the index ends where the front does
+    -- the index ends at the end of the front
     pub ends : index.chain.chain.length_of ≡ length f.front
     ends = (law f.front index f.added).3
 
@@ -110,7 +104,7 @@ module _
         (each : (bytes : List ℕ) (links : List (List Page)) (index : IndexState) (fault : IndexFault) → AreLinks bytes links → AddsPages [] bytes index (Err fault) → fault ≡ MemoryOf)
         (links : List (List Page)) (are : AreLinks bytes links)
       where
-        -- of links a page is refused only for want of memory
+        -- a page of links is refused only for want of memory
         only_memory : (fault : IndexFault) → IsLeft index.chain.chain f.rest (Err fault) → fault ≡ MemoryOf
         only_memory fault left =
             let a = f.added in

@@ -19,14 +19,14 @@ use Rattle.ogg_serve.specs.declared.session.Stage.TheVariants.{Head, Response}
 abbrev pub is_other : ℕ → SessionParts → Bool
 is_other id parts = not (nat_eq parts.id id)
 
--- there are as many
+-- there are as many sessions as in the machine
 pub as_many : (committed : List ℕ) (parts : List SessionParts) (machine : List Session) → AreSessions committed parts machine → length parts ≡ length machine
 as_many committed [] [] are = refl
 as_many committed [] (m ∷ machine) are = absurd are
 as_many committed (s ∷ parts) [] are = absurd are
 as_many committed (s ∷ parts) (m ∷ machine) are = ap (λ n. suc n) (as_many committed parts machine are.1)
 
--- one more
+-- one more session
 pub one_more : (committed : List ℕ) (parts : List SessionParts) (machine : List Session) (s : SessionParts) (m : Session) → AreSessions committed parts machine → IsSession committed s m
     → AreSessions committed (parts ++ s ∷ []) (machine ++ m ∷ [])
 one_more committed [] [] s m are is = (is, tt)
@@ -34,7 +34,7 @@ one_more committed [] (n ∷ machine) s m are is = absurd are
 one_more committed (t ∷ parts) [] s m are is = absurd are
 one_more committed (t ∷ parts) (n ∷ machine) s m are is = (are.0, one_more committed parts machine s m are.1 is)
 
--- all but those with one number
+-- all sessions except those with one number
 pub others : (committed : List ℕ) (id : ℕ) (parts : List SessionParts) (machine : List Session) → AreSessions committed parts machine
     → AreSessions committed (filter (is_other id) parts) (without_in id machine)
 others committed id [] [] are = tt
@@ -74,7 +74,7 @@ pub record Found (committed : List ℕ) (id place : ℕ) (parts : List SessionPa
   pub inside : place < length parts
   pub phase : Phase
   pub phase_is : phase_in id machine ≡ Some phase
-  -- whichever session stands for all places behind the last
+  -- it doesn't matter which session is returned for places after the last
   pub is : (d : SessionParts) → IsPhase committed (get_or parts place d).stage phase
   pub set_to : (d new : SessionParts) (after : Phase) → new.id ≡ (get_or parts place d).id → IsPhase committed new.stage after
       → AreSessions committed (set parts place new) (with_phase_in id after machine)
@@ -139,7 +139,7 @@ map_none : (o : Option ℕ) → ◌≡◌ {A = Option ℕ} (option_map (λ (plac
 map_none None e = refl
 map_none (Some j) e = absurd (let f : ◌≡◌ {A = Option ℕ} (Some (j + 1)) None = e in cc)
 
--- or there is none
+-- or there is no such session
 pub not_found : (committed : List ℕ) (id : ℕ) (parts : List SessionParts) (machine : List Session) → AreSessions committed parts machine → place_in id parts ≡ None → phase_in id machine ≡ None
 not_found committed id [] [] are e = refl
 not_found committed id [] (m ∷ machine) are e = absurd are

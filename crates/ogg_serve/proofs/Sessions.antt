@@ -86,7 +86,7 @@ module _ {D : Type 0} (is_honest : D → Type 0) (state : D → DiskState) where
     closes_none id at =
         (m, s, subst (λ (o : Option Phase). close_step o m id (Err NoSession) m) (sym (not_found m.committed id sessions m.sessions s.sessions_are at)) (refl, refl))
 
-    -- a session more
+    -- another session
     pub connects : (id : ℕ) (now : List SessionParts) (next_now : Option ℕ) → next ≡ Some id → id < 2 ^ 64 → next_of next_now ≡ id + 1 → length sessions < 64
         → ((committed : List ℕ) (machine : List Session) → AreSessions committed sessions machine → AreSessions committed now (machine ++ record { id = id; phase = Reading [] } ∷ []))
         → (after : HubState) × Shows is_honest state (hub_parts file lost index now next_now most) after × connect_step m (Ok id) after

@@ -1,4 +1,5 @@
--- What each image of a hub's disk shows at each moment of a call, and which step of its file's history that is. Ours.
+-- What each image of a hub's disk shows at each moment of a call, and which step of its file's history the call is.
+-- Ours.
 use Rattle.std.specs.Prelude.{◌≡◌, ◌⊎◌, ◌↔◌, ℕ, ◌-◌, ◌^◌, ◌<◌, ◌≤◌, Bool, true, false, IfOk, Option, None, Some, Result, Err, List, ◌++◌, ⊤}
 use Rattle.disk_model.specs.Image.{DiskState}
 use Rattle.disk_model.specs.Clock.{LeavesOnly}
@@ -30,16 +31,16 @@ disk_in (Some recorder) lost = Some recorder.file.disk
 disk_in None (Some lost) = Some lost.disk
 disk_in None None = None
 
--- P of the recorder before and after a call, if there is a file; else there is none after it
+-- P holds of the recorder before and after a call, if there is a file; else there is none after it
 abbrev pub IfFile : {R : Type 0} → (R → R → Type 0) → Option R → Option R → Type 0
 IfFile P None new = new ≡ None
 IfFile P (Some old) None = ⊥
 IfFile P (Some old) (Some new) = P old new
 
 module _ {D : Type 0} (is_honest : D → Type 0) (state : D → DiskState) (moment : D → ℕ) (images_since : D → ℕ → List ℕ → Type 0) (failures : D → ℕ) where
-  -- What a command leaves of the file, with its answer: each image since the call began commits to what was committed,
-  -- without the group or with all of it, and without it while the command waits. It is a step of each history in which
-  -- the recorder stands.
+  -- What a command leaves of the file, with its answer: each image since the call began commits to what was
+  -- committed, without the group or with all of it, and without it while the command waits. The command is a step
+  -- of each history in which the recorder stands.
   pub record Records (command : Command) (result : Result Outcome Refusal) (old new : RecorderState D) : Type 0 where
     pub any_moment : is_honest old.file.disk → old.file.failed ≡ false
         → LeavesOnly moment images_since old.file.disk new.file.disk
@@ -65,7 +66,7 @@ module _ {D : Type 0} (is_honest : D → Type 0) (state : D → DiskState) (mome
     pub later : failures old.file.disk ≤ failures new.file.disk
     pub cause : result ≡ Err Disk → (failures old.file.disk < failures new.file.disk) ⊎ (failures new.file.disk ≡ 2 ^ 64 - 1)
 
-  -- What a call of a session leaves of the file: it is only read, so that each image shows the same.
+  -- What a call of a session leaves of the file: it is only read, so each image shows the same.
   pub record Reads (old new : RecorderState D) : Type 0 where
     pub only : OnlyReads is_honest state moment images_since old.file.disk new.file.disk
     pub same : new ≡ over_disk new.file.disk old

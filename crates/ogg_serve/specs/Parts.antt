@@ -6,7 +6,7 @@ use Rattle.ogg_recorder.specs.Recorder.{RecorderState}
 use Rattle.ogg_serve.specs.declared.opening.Lost.{Lost}
 use Rattle.ogg_serve.specs.declared.session.Session.{Session}
 
--- where the first session with this number stands
+-- the place of the first session with this number
 abbrev pub place_in : ℕ → List Session → Option ℕ
 place_in id [] = None
 place_in id (session ∷ sessions) = if nat_eq session.id id then Some 0 else option_map (λ (place : ℕ). place + 1) (place_in id sessions)
@@ -20,7 +20,7 @@ abbrev pub lost_file : {D : Type 0} → D → ℕ → Lost D
 lost_file disk end = record { disk = disk; end = end }
 
 -- A hub's recorder, if there is a file; else the disk that was given back. The index of the file as far as it was
--- brought up, the sessions, the next number, if one is left, and how many commands will share a commit after a
+-- brought up; the sessions; the next number, if one is left; and how many commands will share a commit after a
 -- reopening.
 pub record HubParts (D : Type 0) : Type 0 where
   pub file : Option (RecorderState D)

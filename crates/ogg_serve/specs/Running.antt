@@ -40,7 +40,7 @@ module _ {D : Type 0} (is_honest : D → Type 0) (state : D → DiskState) (mome
     pub step : command_step before.machine command answer after.machine
     pub disk : IfFile (Records is_honest state moment images_since failures command answer) before.now.file after.now.file
 
-  -- and so was a flush
+  -- the same of a flush
   pub record FlushAnswered (before after : Progress D) (reply : Reply) : Type 0 where
     pub answer : Result Kept Refusal
     pub told : reply ≡ reply_of_flush answer
@@ -51,6 +51,6 @@ module _ {D : Type 0} (is_honest : D → Type 0) (state : D → DiskState) (mome
   RecordAnswered before (CommandOf command) reply after = CommandAnswered before after command reply
   RecordAnswered before Flush reply after = FlushAnswered before after reply
 
-  -- The record gets this reply. No bytes are its pages: they go to the disk.
+  -- The record gets this reply. The record has no pages of its own in the output: its pages go to the disk.
   abbrev pub Answers : Progress D → Record → Reply → List ℕ → Progress D → Type 0
   Answers before given reply own after = (own ≡ []) × RecordAnswered before given reply after

@@ -1,4 +1,4 @@
--- What a call of a session makes of it. Ours.
+-- What a call of a session changes in the session. Ours.
 use Rattle.std.specs.Prelude.{◌≡◌, ◌≢◌, ◌<◌, ◌≤◌, ◌^◌, ℕ, false, Option, Some, None, Result, Ok, Err, List, [], ◌++◌, take, drop}
 use Rattle.ogg_http.specs.Head.{IsAwaited}
 use Rattle.ogg_page.specs.Page.{Page}
@@ -15,8 +15,8 @@ use Rattle.sessions.specs.declared.fault.HubFault.TheVariants.{NoSession, Sessio
 use Rattle.ogg_serve.specs.Indexing.{IsOfFront}
 
 -- ---- what is received
--- What has come to a head when bytes were added: it isn't complete, or this is the response to it. After a fault
--- it is as it was.
+-- The head of a request after bytes were added: it isn't complete, or this is the response to it. After a fault it is
+-- as it was.
 abbrev pub HeadGets : List ℕ → List ℕ → List ℕ → Result (Option SendingState) HubFault → List ℕ → Type 0
 HeadGets committed old bytes (Ok None) new = IsAwaited (old ++ bytes) × (new ≡ old ++ bytes)
 HeadGets committed old bytes (Ok (Some sending)) new =
@@ -58,7 +58,8 @@ fault_in (Ok value) = None
 fault_in (Err fault) = Some fault
 
 module _ {S : Type 0} (bytes : S → List ℕ) (is_honest : S → Type 0) (size failures : S → ℕ) (only_reads : S → S → Type 0) where
-  -- What a call that may bring the index up leaves of the source and of the index. Of links nothing but a read fails.
+  -- What a call that may bring the index up leaves of the source and of the index. In a file of links the fault
+  -- `Source` comes only from a read that failed.
   pub record Indexes (fault : Option HubFault) (old new : S) (before after : IndexState) : Type 0 where
     pub front : is_honest old → IsOfFront (bytes old) before → IsOfFront (bytes old) after
     pub cause : fault ≡ Some Source → is_honest old → size old < 2 ^ 63 → IsOfFront (bytes old) before

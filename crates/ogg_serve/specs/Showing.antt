@@ -1,4 +1,4 @@
--- Which machine a hub is. Ours.
+-- Which machine a hub is seen as. Ours.
 use Rattle.std.specs.Prelude.{◌≡◌, ℕ, ◌+◌, true, false, if◌then◌else◌, is_some, Option, None, Some, List, [], length, take}
 use Rattle.std.specs.List.{AllZip}
 use Rattle.disk_model.specs.Image.{DiskState}
@@ -59,7 +59,7 @@ module _ {D : Type 0} (is_honest : D → Type 0) (state : D → DiskState) where
     pub count_is : machine.count ≡ 0
     pub images : EachImage (state lost.disk) (Commits machine)
 
-  -- each image of the disk has the committed bytes of the machine, of which there are so many
+  -- each image of the disk has the committed bytes of the machine, and there are `end` of them
   pub record IsOver (disk : D) (end : ℕ) (machine : HubState) : Type 0 where
     pub honest : is_honest disk
     pub long : length machine.committed ≡ end
@@ -72,7 +72,8 @@ module _ {D : Type 0} (is_honest : D → Type 0) (state : D → DiskState) where
 
   -- ---- the hub
   -- The hub is this machine: its disk is honest, and the machine has what the fields of the hub have. The group in
-  -- doubt is in none of them: only the images of the disk show it. So a hub may be several machines after a fault.
+  -- doubt is in none of these fields: only the images of the disk show it. So a hub may be several machines after a
+  -- fault.
   pub record Shows (hub : HubParts D) (machine : HubState) : Type 0 where
     pub place : ShowsPlace hub.file hub.lost machine
     pub indexed : IsOfFront machine.committed hub.index

@@ -1,4 +1,4 @@
-//! A recorder, and the sessions of those who fetch its file.
+//! A recorder, and the sessions of the clients that fetch its file.
 ghost use Rattle.std.specs.Prelude.{◌≡◌, ◌≢◌, ◌≤◌, ◌<◌, ◌+◌, ◌^◌, [], ℕ, false, List, vec_capacity, None, Some, Err, IsSome, length, IfOk, IfErr};
 ghost use Rattle.ogg_page.specs.Page.{Page};
 ghost use Rattle.link_chain.specs.Links.{AreLinks};
@@ -23,10 +23,10 @@ use sessions::{HubFault, Progress, Pulled, SeenAsHub};
 use std::alloc::{AllocError as Memory, Global};
 use std::marker::Model;
 
-/// How many sessions there are at most.
+/// The greatest number of sessions.
 const MOST_SESSIONS: usize = 64;
 
-/// A recorder, and the sessions of those who fetch its file.
+/// A recorder, and the sessions of the clients that fetch its file.
 #[derive(Drop)]
 pub struct Hub<D: Disk> {
     // none after a reopening that failed
@@ -64,7 +64,7 @@ impl<D: Disk> SeenAsHub for Hub<D> {
     ghost shows = { Shows D.is_honest D.state };
 }
 
-/// Room for all sessions that there may be, and for a page.
+/// The room for all sessions that there may be, and for a page.
 fn rooms(alloc: Global) -> Result<(Vec<Session>, PageBuffer), Memory>
     ensures none { IfOk result (λ made. made.0.items ≡ []) }
     ensures all { IfOk result (λ made. most_sessions ≤ vec_capacity made.0) }
@@ -86,8 +86,8 @@ impl<D: Disk> Hub<D> {
     ghost use Rattle.link_index.specs.Adding.{IsIndexOf};
     ghost use Rattle.ogg_serve.specs.Showing.{Shows};
 
-    /// A hub over this recorder, without sessions. It makes the room for all sessions that there may be, and for a page.
-    /// After `Memory` the recorder is given back.
+    /// A hub over this recorder, without sessions. It makes the room for all sessions that there may be, and for a
+    /// page. After `Memory` the recorder is given back.
     pub fn new(alloc: Global, recorder: Recorder<D>) -> Result<Hub<D>, (Memory, Recorder<D>)>
         ensures owns { IfOk result (λ hub. (hub.file ≡ Some recorder) × (hub.lost ≡ None) × (hub.sessions ≡ [])
             × (hub.next ≡ Some 0) × (hub.most ≡ 1) × IsIndexOf [] hub.index) }
@@ -112,9 +112,10 @@ impl<D: Disk> Hub<D> {
         }
     }
 
-    /// Begins a session. Its number is the next one, from 0 on. No memory is taken.
+    /// Begins a session, whose number is the next one, from 0 on. No memory is taken.
     ///
-    /// `SessionsFull` says that there are 64 sessions, or that all numbers of 64 bits are given. Nothing is changed then.
+    /// `SessionsFull` says that there are 64 sessions, or that all numbers of 64 bits are given. Nothing is changed
+    /// then.
     pub fn connect(&mut self) -> Result<u64, HubFault>
         ensures step { Steps (Shows D.is_honest D.state) self.old self.new (λ after. Connect result) }
         ensures room { result ≢ Err HubFault.Memory }
@@ -162,8 +163,8 @@ impl<D: Disk> Hub<D> {
         flush_file(&mut self.file)
     }
 
-    /// From now on `most` commands share a commit, 1 to 1,024, and so they do after a reopening. There is a file, and
-    /// nothing waits.
+    /// From now on `most` commands share a commit, 1 to 1,024, also after a reopening. There must be a file, and
+    /// nothing may wait.
     pub fn group(&mut self, most: u32)
         requires some { 1 ≤ most }
         requires few { most ≤ 1024 }
@@ -183,7 +184,7 @@ impl<D: Disk> Hub<D> {
         held_in(&self.file)
     }
 
-    /// The length of the committed bytes, the last known one without a file.
+    /// The length of the committed bytes. Without a file it is the last length that is known.
     pub fn end(&self) -> u64
         ensures { (machine : HubState) → Shows D.is_honest D.state self.now machine → result ≡ length machine.committed }
     {
@@ -195,11 +196,12 @@ impl<D: Disk + Drop> Hub<D> {
     ghost use Rattle.ogg_serve.specs.Parts.{lost_file};
     ghost use Rattle.ogg_serve.specs.Showing.{Shows};
 
-    /// Bytes of the session's request have come. The call that completes its head, or shows that none can come, fixes the
-    /// response, over the bytes that are committed then: `Ready`, or `More` before. What comes later is ignored.
+    /// Takes further bytes of the session's request. The call that completes its head, or shows that none can come,
+    /// fixes the response, over the bytes that are committed then: it answers `Ready`, and each call before it
+    /// `More`. What comes later is ignored.
     ///
-    /// `NoSession` says that there is no session with this number, and `NoFile` that there is no file; nothing is changed
-    /// then, nor by `Memory`. By `Source` the session ends.
+    /// `NoSession` says that there is no session with this number, and `NoFile` that there is no file; nothing is
+    /// changed then, nor after `Memory`. After `Source` the session has ended.
     pub fn receive(&mut self, id: u64, bytes: &[u8]) -> Result<Progress, HubFault>
         ensures step { Steps (Shows D.is_honest D.state) self.old self.new (λ after. Receive id bytes.now result) }
 
@@ -220,10 +222,11 @@ impl<D: Disk + Drop> Hub<D> {
         )
     }
 
-    /// Fills the buffer with the session's next bytes, as many as it holds, or all that are left: `count` is how many these
-    /// are, and `done` says that none is left then. There is none before its head is complete. No memory is taken.
+    /// Fills the buffer with the session's next bytes, as many as it holds, or all that are left: `count` is how many
+    /// these are, and `done` says that none is left then. Before the session's head is complete there are no such
+    /// bytes. No memory is taken.
     ///
-    /// `NoSession` and `NoFile` are as `receive` has them. By `Source` the session ends.
+    /// `NoSession` and `NoFile` mean the same as in `receive`. After `Source` the session has ended.
     pub fn pull(&mut self, id: u64, buffer: &mut [u8]) -> Result<Pulled, HubFault>
         ensures step { Steps (Shows D.is_honest D.state) self.old self.new
             (λ after. Pull id (length buffer.old) (given_in buffer.new result)) }
@@ -244,8 +247,8 @@ impl<D: Disk + Drop> Hub<D> {
         )
     }
 
-    /// Gives the disk back, and opens it again, as [`Recorder::open`] does, with its faults. The sessions stay, and what
-    /// waited is lost. After a fault there is no file, and the disk is kept for another reopening.
+    /// Gives the disk back, and opens it again, as [`Recorder::open`] does, with its faults. The sessions stay, and
+    /// what waited is lost. After a fault there is no file, and the disk is kept for another reopening.
     pub fn reopen(&mut self) -> Result<(), OpenFault>
         ensures step { Steps (Shows D.is_honest D.state) self.old self.new (λ after. Reopen (found_by result after)) }
         ensures disk { (old new : D) → disk_in self.old.file self.old.lost ≡ Some old → disk_in self.new.file self.new.lost ≡ Some new
@@ -265,8 +268,8 @@ impl<D: Disk + Drop> Hub<D> {
         }
     }
 
-    /// The recorder, or the disk if there is no file. The sessions are ended. No call of the disk is made, and no memory
-    /// is taken.
+    /// Returns the recorder, or the disk if there is no file. The sessions are ended. No call of the disk is made,
+    /// and no memory is taken.
     pub fn into_recorder(self) -> Result<Recorder<D>, D>
         ensures recorder { IfOk result (λ recorder. self.file ≡ Some recorder) }
         ensures committed { IfOk result (λ recorder. (machine : HubState) → Shows D.is_honest D.state self machine

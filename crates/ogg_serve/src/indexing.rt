@@ -25,8 +25,8 @@ fn fault_of_page(fault: ChainFault) -> HubFault
     }
 }
 
-/// Adds the source's pages that the index doesn't have yet. No page is read that it has, and after a fault it has those
-/// before it.
+/// Adds the source's pages that the index doesn't have yet, and reads only these. After a fault the index has the
+/// pages before it.
 pub(crate) fn bring_up<S: PageSource>(
     window: &mut Window<S>,
     index: &mut Index,
@@ -36,7 +36,7 @@ pub(crate) fn bring_up<S: PageSource>(
         → OnOk result ((links : List (List PageValue)) × AreLinks (S.bytes window.old.source) links × IsIndexOf links index.new) }
     ensures faults { IfErr result (λ fault. (fault ≡ HubFault.Source) ⊎ (fault ≡ HubFault.Memory)) }
 
-    // Of links nothing but a read fails.
+    // In a file of links `Source` comes only from a read that failed.
     ensures cause { result ≡ Err HubFault.Source → S.is_honest window.old.source → S.size window.old.source < 2 ^ 63
         → IsOfFront (S.bytes window.old.source) index.old → (links : List (List PageValue)) → AreLinks (S.bytes window.old.source) links
         → HasFailed (S.failures window.old.source) (S.failures window.new.source) }

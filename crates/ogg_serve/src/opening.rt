@@ -18,7 +18,7 @@ pub(crate) struct Lost<D: Disk> {
     pub(crate) end: u64,
 }
 
-/// Opens a disk of which so many bytes are committed. Then so many commands share a commit.
+/// Opens a disk whose first `end` bytes are committed. Then `most` commands share a commit.
 pub(crate) fn open_again<D: Disk>(
     alloc: Global,
     disk: D,

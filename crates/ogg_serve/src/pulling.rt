@@ -11,7 +11,7 @@ use crate::session::{Session, Stage, end_after, place_of};
 use ogg_page::{PageSource, Window};
 use sessions::{HubFault, Pulled};
 
-/// Fills the buffer with the first bytes of a session's rest. There is none before its head is complete.
+/// Fills the buffer with the first bytes of a session's rest. There is no rest before the session's head is complete.
 pub(crate) fn pull_stage<S: PageSource>(
     window: &mut Window<S>,
     stage: &mut Stage,
@@ -39,7 +39,7 @@ pub(crate) fn pull_stage<S: PageSource>(
     }
 }
 
-/// Pulls for the session with this number. It ends if the file can't be read.
+/// Pulls for the session with this number. The session ends if the file can't be read.
 pub(crate) fn pull_in<S: PageSource>(
     window: &mut Window<S>,
     sessions: &mut Vec<Session>,

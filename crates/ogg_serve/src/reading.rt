@@ -1,4 +1,5 @@
-//! The file of a hub is read by a window. It has the recorder, and the room for a page, while the call goes on.
+//! The file of a hub is read through a window. The window has the recorder, and the room for a page, while the call
+//! goes on.
 ghost use Rattle.std.specs.Prelude.{◌≡◌, ◌≢◌, ◌≤◌, ℕ, List, None, Option, Some, Err, IsSome, IfOk, IfSome, length, vec_capacity};
 ghost use Rattle.ogg_page.specs.Page.{Page};
 ghost use Rattle.link_chain.specs.Links.{AreLinks};
@@ -55,7 +56,7 @@ fn close_window<D: Disk + Drop>(
     *room = Some(buffer);
 }
 
-/// Why nothing is done for a session without a file.
+/// Why nothing is done for a session if there is no file.
 fn fault_without_file(sessions: &[Session], id: u64) -> HubFault
     ensures fault { (machine : HubState) (bytes : List ℕ) → AreSessions bytes sessions.now machine.sessions
         → result ≡ fault_without_file (phase_of machine id) }

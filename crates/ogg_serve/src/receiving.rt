@@ -39,8 +39,8 @@ fn respond<S: PageSource>(
     }
 }
 
-/// Adds bytes to a head. If it is complete then, or hopeless, this gives the response. After a fault the head is as it
-/// was.
+/// Adds bytes to a head. If it is complete then, or hopeless, this returns the response. After a fault the head is as
+/// it was.
 fn receive_head<S: PageSource>(
     window: &mut Window<S>,
     index: &mut Index,
@@ -97,7 +97,7 @@ pub(crate) fn receive_stage<S: PageSource>(
     }
 }
 
-/// Bytes have come to the session with this number. It ends if the file can't be read.
+/// Bytes have come to the session with this number. The session ends if the file can't be read.
 pub(crate) fn receive_in<S: PageSource>(
     window: &mut Window<S>,
     index: &mut Index,

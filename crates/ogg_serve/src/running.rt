@@ -9,7 +9,7 @@ use ogg_page::WriteFault;
 use ogg_recorder::{reply_to, reply_to_flush};
 use std::io::Write;
 
-/// Pages go to the disk alone, and each reply tells what became of the command or the flush.
+/// Pages go only to the disk, and each reply says what became of the command or the flush.
 impl<D: Disk> Runner for Hub<D> {
     ghost use Rattle.ogg_serve.specs.Running.{Progress, IsIn, Answers, waiting_in, end_in};
 

@@ -12,7 +12,7 @@ use sending::{Sending, rests_of_responses_stay};
 use sessions::{HubFault, committed_bytes_grow};
 use std::alloc::Global;
 
-/// What a session has come to.
+/// How far a session has come.
 #[derive(Debug, Drop)]
 pub(crate) enum Stage {
     /// The head of its request isn't complete: what was received so far.
@@ -28,7 +28,7 @@ pub(crate) struct Session {
     pub(crate) stage: Stage,
 }
 
-/// Where the first session with this number stands.
+/// The place of the first session with this number.
 pub(crate) fn place_of(sessions: &[Session], id: u64) -> Option<usize>
     ensures { result ≡ place_in id sessions.now }
 {

@@ -1,13 +1,13 @@
 -- Pages are copied one after the other.
-use Rattle.std.proofs.Common.{◌≡◌, ◌≢◌, ◌≤◌, ℕ, suc, ◌+◌, Bool, true, false, nat_eq, Option, Err, Result, List, ◌⊎◌, inl, inr, ◌<◌, [], ◌∷◌, ◌++◌, length, take, refl, sym, ◌∙◌, ap, subst, arith, append_assoc, append-nil, length-append}
+use Rattle.std.proofs.Common.{◌≡◌, ◌≢◌, ◌≤◌, ℕ, ◌+◌, Bool, true, false, nat_eq, Option, Err, Result, List, ◌⊎◌, inl, inr, ◌<◌, [], ◌∷◌, ◌++◌, length, refl, sym, ◌∙◌, ap, subst, arith, append_assoc, append-nil, length-append}
 use Rattle.std.specs.Prelude.{if◌then◌else◌}
 use Rattle.std.specs.List.{AllByRecursion}
 use Rattle.std.specs.Io.KnownBytes.{Appends}
 use Rattle.std.proofs.KnownBytes.{Appends-nil, Appends-trans}
-use Rattle.std.proofs.lemmas.List.{take-append-le}
 use Rattle.ogg_page.specs.Output.{WritesPrefix}
+use Rattle.ogg_page.specs.OutputLaws.{prefix_on}
 use Rattle.ogg_page.specs.Page.{Page, IsPage, page_bytes, bytes_of_pages}
-use Rattle.ogg_page.specs.PageLaws.{one_page, page_begins}
+use Rattle.ogg_page.specs.PagesLaws.{Follows, follows, no_pages}
 use Rattle.ogg_page.specs.Reading.{page_at}
 use Rattle.ogg_page.specs.ReadingLaws.{fault_is_no_page}
 use Rattle.ogg_page.specs.declared.fault.PageFault.{PageFault}
@@ -18,7 +18,7 @@ use Rattle.ogg_page.specs.Window.{LentAt, NextLent}
 use Rattle.link_chain.specs.Links.{pages_with}
 use Rattle.ogg_split.specs.Copying.{stream_bytes}
 
--- Of these pages, what is asked for of those so far was written; the rest are left.
+-- Of the pages so far, those that are asked for were written; the other pages are left.
 pub record InWork (serial : ℕ) (pages : List Page) (left : List ℕ) (old now : Option (List ℕ)) (count : ℕ) : Type 0 where
   pub written : List ℕ
   pub more : List Page
@@ -33,30 +33,6 @@ pub begun : (serial : ℕ) (pages : List Page) (left : List ℕ) (old : Option (
 begun serial pages left old are is =
     record { written = []; more = pages; are_pages = are; left_is = is; whole = refl; appended = Appends-nil old; counted = refl }
 
--- ---- the first of pages
-no_page : (page : Page) (rest : List ℕ) → [] ≢ page_bytes page ++ rest
-no_page page rest e =
-    let b = page_begins page in
-    let same : [] ≡ (0x4F ∷ b.0 ∷ b.1) ++ rest = e ∙ ap (λ (l : List ℕ). l ++ rest) b.2 in
-    cc
-
-record Follows (page : Page) (rest : List ℕ) (pages : List Page) : Type 0 where
-  pub more : List Page
-  pub is : pages ≡ page ∷ more
-  pub rest_is : rest ≡ bytes_of_pages more
-  pub are : AllByRecursion IsPage more
-
-follows : (pages : List Page) (page : Page) (rest : List ℕ) → AllByRecursion IsPage pages → IsPage page → bytes_of_pages pages ≡ page_bytes page ++ rest
-    → Follows page rest pages
-follows [] page rest are is e = absurd (no_page page rest e)
-follows (p ∷ ps) page rest are is e =
-    let same : (p ≡ page) × (bytes_of_pages ps ≡ rest) = one_page p page (bytes_of_pages ps) rest are.0 is e in
-    record { more = ps; is = ap (λ (q : Page). q ∷ ps) same.0; rest_is = sym same.1; are = are.1 }
-
-none_left : (pages : List Page) → bytes_of_pages pages ≡ [] → pages ≡ []
-none_left [] e = refl
-none_left (p ∷ ps) e = absurd (no_page p (bytes_of_pages ps) (sym e))
-
 first_of : (b : Bool) (page : Page) (rest : List Page) →
     bytes_of_pages (if b then page ∷ rest else rest) ≡ (if b then page_bytes page else []) ++ bytes_of_pages rest
 first_of true page rest = refl
@@ -65,23 +41,6 @@ first_of false page rest = refl
 stream_first : (serial : ℕ) (page : Page) (pages : List Page) →
     bytes_of_pages (pages_with serial (page ∷ pages)) ≡ stream_bytes serial page ++ bytes_of_pages (pages_with serial pages)
 stream_first serial page pages = first_of (nat_eq page.serial serial) page (pages_with serial pages)
-
--- ---- prefixes
-front_of : (written more : List ℕ) (n : ℕ) → take (length written + n) (written ++ more) ≡ written ++ take n more
-front_of [] more n = ap (λ k. take k more) (let none : 0 + n ≡ n = omega arith in none)
-front_of (byte ∷ written) more n =
-    let one : length (byte ∷ written) + n ≡ suc (length written + n) = omega arith in
-    ap (λ k. take k (byte ∷ written ++ more)) one ∙ ap (λ l. byte ∷ l) (front_of written more n)
-
-pub prefix_on : (old mid now : Option (List ℕ)) (text written part rest : List ℕ) → text ≡ written ++ (part ++ rest) → Appends old mid written → WritesPrefix mid now part
-    → WritesPrefix old now text
-prefix_on old mid now text written part rest e before (n, le, more) =
-    let front : take (length written + n) text ≡ written ++ take n part =
-    ap (take (length written + n)) e ∙ front_of written (part ++ rest) n ∙ ap (λ l. written ++ l) (take-append-le n part rest le) in (
-      length written + n,
-      omega (arith, le, ap length e, length-append written (part ++ rest), length-append part rest),
-      subst (Appends old now) (sym front) (Appends-trans old mid now written (take n part) before more),
-    )
 
 -- ---- steps
 -- the page in front was passed, and was written if it is asked for
@@ -123,7 +82,7 @@ pub finished : (serial : ℕ) (pages : List Page) (left : List ℕ) (old now : O
     → (count ≡ length (bytes_of_pages (pages_with serial pages))) × Appends old now (bytes_of_pages (pages_with serial pages))
 finished serial pages left old now count w none =
     let all : bytes_of_pages (pages_with serial pages) ≡ w.written =
-    w.whole ∙ ap (λ (l : List Page). w.written ++ bytes_of_pages (pages_with serial l)) (none_left w.more (sym w.left_is ∙ none)) ∙ append-nil w.written in
+    w.whole ∙ ap (λ (l : List Page). w.written ++ bytes_of_pages (pages_with serial l)) (no_pages w.more (sym w.left_is ∙ none)) ∙ append-nil w.written in
     (w.counted ∙ ap length (sym all), subst (Appends old now) (sym all) w.appended)
 
 -- of joined pages some page stands in front
@@ -136,7 +95,7 @@ no_fault serial pages left old now count fault w some read = stuck w.more w.are_
     stuck (p ∷ ps) are is = fault_is_no_page left fault read p (bytes_of_pages ps) are.0 is
 
 -- ---- a window's fault
--- over joined pages it is the source's
+-- over joined pages a window's fault is that of the source
 pub source_only : (result : Result (Option LentAt) WindowFault) (fault : WindowFault) (serial : ℕ) (pages : List Page) (left right : PagesLeft)
     (old now : Option (List ℕ)) (count : ℕ) (C : Type 0) → result ≡ Err fault → InWork serial pages left.bytes old now count → NextLent left (Err fault) right
     → (result ≡ Err Source → C) → C

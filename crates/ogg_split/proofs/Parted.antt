@@ -94,7 +94,8 @@ parts_of_link bytes source link pages serial stands =
     ap (λ (l : List ℕ). parts_from serial at_start false (found_in link.start l))
     (ap (λ n. take n (drop link.start (bytes source))) whole ∙ own_bytes (bytes source) link pages stands)
 
--- Joined they are its packets, since those of the same bytes at offset 0 are; and so the same fault follows.
+-- Joined, the parts are the stream's packets, since those of the same bytes at offset 0 are. So the same fault
+-- follows.
 pub record GivesLink (serial : ℕ) (pages : List Page) (left : PartsLeft) : Type 0 where
   pub packets : AreTheirParts (packets_of serial (bytes_of_pages pages)) left
   pub unfinished : IsUnfinishedAtMost left.fault

@@ -3,7 +3,7 @@ use Rattle.std.proofs.Common.{◌≡◌, ◌≤◌, ℕ, ◌+◌, ◌-◌, Optio
 use Rattle.std.specs.Io.KnownBytes.{Appends}
 use Rattle.std.proofs.KnownBytes.{Appends-trans}
 use Rattle.ogg_page.specs.Output.{WritesPrefix}
-use Rattle.ogg_split.proofs.Copied.{prefix_on}
+use Rattle.ogg_page.specs.OutputLaws.{prefix_on}
 
 -- the first bytes from a place on, and a piece more
 further : (bytes : List ℕ) (from done size : ℕ) → take (done + size) (drop from bytes) ≡ take done (drop from bytes) ++ take size (drop (from + done) bytes)

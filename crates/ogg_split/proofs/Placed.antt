@@ -77,7 +77,7 @@ some_link links index bytes number entry are there =
     let (pages, e) = link_of links number 0 entry (ap (λ (l : List LinkEntry). slice_get l number) (sym are.is_index.entries_are) ∙ there) in
     (pages, stands_in links index bytes number pages entry are e there)
 
--- and it is a link
+-- each of the links is a link
 pub link_at : (links : List (List Page)) (number : ℕ) (pages : List Page) → AllByRecursion IsLink links → slice_get links number ≡ Some pages → IsLink pages
 link_at [] number pages each e = cc
 link_at (first ∷ links) zero pages each e = subst IsLink (inside first pages e) each.0
@@ -95,7 +95,7 @@ pub link_is_there : {T : Type 0} (result : Result T SplitFault) (entries : List 
 link_is_there result entries number entry is there =
     (λ e. absurd (is.link e), λ le. absurd (omega (arith, le, slice_get_within entries number entry there)))
 
--- a fault of reading isn't that
+-- a fault of reading doesn't say that something is missing
 pub read_in_vain : {T : Type 0} (result : Result T SplitFault) (fault : SplitFault) → result ≡ Err fault → fault ≡ Source → IsThere result
 read_in_vain result fault is why = record { link = λ e. cc; stream = λ e. cc }
 
@@ -111,7 +111,7 @@ pub stream_is_there : {T : Type 0} (result : Result T SplitFault) (entries : Lis
 stream_is_there result entries number serial entry is there has =
     (λ e. absurd (is.stream e), λ lacks. absurd (one_has entries number entry lacks.0 serial there lacks.1 has lacks.2))
 
--- a link without the stream is a link
+-- a link that lacks the stream is one of the entries
 lacks_inside : (entries : List LinkEntry) (number serial : ℕ) → LacksStream entries number serial → length entries ≤ number → ⊥
 lacks_inside entries number serial lacks le = omega (arith, le, slice_get_within entries number lacks.0 lacks.1)
 

@@ -69,7 +69,7 @@ later_order : (from to : ℕ) (ranges : List GoodPage) → from ≤ to → AreIn
 later_order from to [] le order = tt
 later_order from to (range ∷ ranges) le order = (omega (arith, order.0), order.1)
 
--- they are the same from an earlier place on, if no page begins in between
+-- the good pages are the same from an earlier place on, if no page begins in between
 pub passed_over : (bytes : List ℕ) (from to : ℕ) (ranges : List GoodPage) → from ≤ to → NoneFrom bytes from to → AreGoodFrom to bytes ranges → AreGoodFrom from bytes ranges
 passed_over bytes from to ranges le none good = record {
   in_order = later_order from to ranges le good.in_order;
@@ -122,7 +122,7 @@ before_first : (bytes : List ℕ) (from : ℕ) (x : GoodPage) (xs ranges : List 
     → (before : AllByRecursion (IsOutside x.offset) ranges) → ⊥
 before_first bytes from x xs ranges a b before = b.no_other x.offset a.each.0.0 a.in_order.0 before a.each.0.1
 
--- what follows the first of them
+-- what follows the first of the good pages
 tail_good : (bytes : List ℕ) (from : ℕ) (x : GoodPage) (xs : List GoodPage) → AreGoodFrom from bytes (x ∷ xs) → AreGoodFrom (x.offset + x.length) bytes xs
 tail_good bytes from x xs a = record {
   in_order = a.in_order.1;

@@ -26,14 +26,14 @@ has_serial streams serial = list_any (λ (info : StreamInfo). nat_eq serial info
 abbrev pub LacksStream : List LinkEntry → ℕ → ℕ → Type 0
 LacksStream entries link serial = (entry : LinkEntry) × (slice_get entries link ≡ Some entry) × (has_serial entry.streams serial ≡ false)
 
--- why it isn't there: there is no such link, or the link has no such stream
+-- why what is asked for isn't there: there is no such link, or the link has no such stream
 abbrev pub IsMissing : List LinkEntry → ℕ → ℕ → SplitFault → Type 0
 IsMissing entries link serial NoLink = length entries ≤ link
 IsMissing entries link serial NoStream = LacksStream entries link serial
 IsMissing entries link serial Source = ⊥
 IsMissing entries link serial Write = ⊥
 
--- Of these bytes the link is these pages.
+-- In these bytes the link has these pages.
 pub record StandsIn (bytes : List ℕ) (link : LinkInfo) (pages : List Page) : Type 0 where
   pub before : List ℕ
   pub behind : List ℕ

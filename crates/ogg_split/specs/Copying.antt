@@ -1,4 +1,4 @@
--- What comes of copying. Ours.
+-- The results of copying. Ours.
 use Rattle.std.specs.Prelude.{◌≡◌, ◌≢◌, ℕ, nat_eq, if◌then◌else◌, Option, Result, Ok, Err, List, [], length}
 use Rattle.std.specs.Io.KnownBytes.{Appends}
 use Rattle.ogg_page.specs.Output.{WritesPrefix}

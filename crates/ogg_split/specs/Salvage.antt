@@ -1,5 +1,5 @@
--- The good pages of any bytes, damaged ones too. What a page is stands in RFC 3533, section 6; which of them are listed
--- is ours.
+-- The good pages of any bytes, damaged ones too. What a page is stands in RFC 3533, section 6; which of them are
+-- listed is ours.
 use Rattle.std.specs.Prelude.{◌≡◌, ◌⊎◌, ℕ, ◌+◌, ◌<◌, ◌≤◌, List, [], ◌∷◌, ◌++◌, drop, ⊤}
 use Rattle.std.specs.List.{AllByRecursion}
 use Rattle.ogg_page.specs.Page.{Page, IsPage, page_bytes, page_size}
@@ -15,7 +15,7 @@ pub record StandsAt (bytes : List ℕ) (place : ℕ) (page : Page) : Type 0 wher
 abbrev pub IsRange : List ℕ → GoodPage → Type 0
 IsRange bytes range = (page : Page) × StandsAt bytes range.offset page × (range.length ≡ page_size page)
 
--- each range begins at this place or after it, and none before the end of the range before it
+-- each range begins at this place or after it, and none begins before the end of the range before it
 abbrev pub AreInOrder : ℕ → List GoodPage → Type 0
 AreInOrder from [] = ⊤
 AreInOrder from (range ∷ ranges) = (from ≤ range.offset) × AreInOrder (range.offset + range.length) ranges

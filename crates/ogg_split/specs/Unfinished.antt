@@ -3,7 +3,7 @@ use Rattle.std.specs.Prelude.{Option, Some, None, ⊤}
 use Rattle.packet_view.specs.declared.fault.ViewFault.{ViewFault}
 use Rattle.packet_view.specs.declared.fault.ViewFault.TheVariants.{Unfinished}
 
--- nothing, or that the last packet is unfinished
+-- nothing is wrong, or only that the last packet is unfinished
 abbrev pub IsUnfinishedAtMost : Option ViewFault → Type 0
 IsUnfinishedAtMost None = ⊤
 IsUnfinishedAtMost (Some Unfinished) = ⊤

@@ -16,11 +16,11 @@ use ogg_page::write_whole;
 use packet_view::{Packets, packets_are_held};
 use std::io::Write;
 
-/// Writes the pages of the link with this number, counted from 0, as they stand in the file's bytes, and gives how
+/// Writes the pages of the link with this number, counted from 0, as they stand in the file's bytes, and returns how
 /// many bytes they have. The bytes begin with those that the index is of. No memory is taken.
 ///
 /// The faults are `NoLink`, after which nothing is written, and `Write`, after which a prefix of the pages was
-/// written. `Source` comes only of bytes that don't go as far as the index does, and nothing is written then.
+/// written. `Source` comes only if the bytes don't go as far as the index does, and nothing is written then.
 pub fn copy_link<W: Write>(
     bytes: &[u8],
     index: &Index,
@@ -47,11 +47,11 @@ pub fn copy_link<W: Write>(
 }
 
 /// Writes the pages of the stream with this serial in the link with this number, as they stand in the file's bytes,
-/// each by itself, and gives how many bytes they have. The bytes begin with those that the index is of. No memory is
+/// each by itself, and returns how many bytes they have. The bytes begin with those that the index is of. No memory is
 /// taken.
 ///
 /// The faults are `NoLink` and `NoStream`, after which nothing is written, and `Write`, after which a prefix of the
-/// pages was written. `Source` comes only of bytes that aren't those of the index; a prefix may be written then.
+/// pages was written. `Source` comes only if the bytes aren't those of the index; a prefix may be written then.
 pub fn copy_stream<W: Write>(
     bytes: &[u8],
     index: &Index,
@@ -79,11 +79,11 @@ pub fn copy_stream<W: Write>(
     }
 }
 
-/// The packets of the stream with this serial in the link with this number. They are lent out of the file's bytes,
-/// which begin with those that the index is of. A fault follows them only if the last packet is unfinished. No memory
-/// is taken.
+/// The packets of the stream with this serial in the link with this number, lent out of the file's bytes. The bytes
+/// begin with those that the index is of. A fault follows the packets only if the last one is unfinished. No memory is
+/// taken.
 ///
-/// The faults are `NoLink` and `NoStream`; `Source` comes only of bytes that don't go as far as the index does.
+/// The faults are `NoLink` and `NoStream`; `Source` comes only if the bytes don't go as far as the index does.
 pub fn packets_of<'a>(
     bytes: &'a [u8],
     index: &Index,

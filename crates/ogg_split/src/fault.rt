@@ -13,7 +13,7 @@ pub enum SplitFault {
     /// The link has no stream with this serial.
     #[error("the link has no such stream")]
     NoStream,
-    /// A read failed, or gave no good page where the index has one.
+    /// A read failed, or returned no good page at a place where the index has one.
     #[error("the pages can't be read")]
     Source,
     /// The writer failed, or took no byte of some.

@@ -14,7 +14,7 @@ pub fn index_has_the_streams()
         → has_serial entry.streams serial ≡ has_stream pages serial }
 {}
 
-/// Bytes have one list of good pages.
+/// Bytes have exactly one list of good pages.
 pub fn good_pages_are_one_list()
     ensures { (bytes : List ℕ) (ranges others : List GoodPageOf) → AreGoodPages bytes ranges → AreGoodPages bytes others → ranges ≡ others }
 {}

@@ -16,8 +16,8 @@ pub struct GoodPage {
     pub length: u64,
 }
 
-/// The good pages of any bytes, in rising order (RFC 3533, section 6): at the first place where a page begins it is
-/// listed, and the search goes on after it. What isn't a page is passed over, and so is a page inside another.
+/// The good pages of any bytes, in rising order (RFC 3533, section 6). At the first place where a page begins, that
+/// page is listed, and the search goes on after it. What isn't a page is passed over, and so is a page inside another.
 /// `Memory` is the answer if there is no room for the list.
 pub fn salvage(alloc: Global, bytes: &[u8]) -> Result<Vec<GoodPage>, Memory>
     ensures { IfOk result (λ pages. AreGoodPages bytes.now pages.items) }

@@ -25,9 +25,9 @@ use ogg_page::{PageSource, Window};
 use packet_view::{Stream, packets_are_held, parts_are_of_the_packets};
 use std::io::Write;
 
-/// Writes the pages of the link with this number, counted from 0, as they stand in the window's source, and gives how
-/// many bytes they have. The source's bytes begin with those that the index is of, so no page of them is checked again.
-/// The range of the window is left empty. No memory is taken.
+/// Writes the pages of the link with this number, counted from 0, as they stand in the window's source, and returns
+/// how many bytes they have. The source's bytes begin with those that the index is of, so no page of them is checked
+/// again. The range of the window is left empty. No memory is taken.
 ///
 /// The faults are `NoLink`, after which nothing is written; `Source`, if a read failed or the source doesn't go as far
 /// as the index does; and `Write`. After `Source` and `Write` a prefix of the pages was written.
@@ -49,7 +49,7 @@ pub fn copy_link_from<S: PageSource, W: Write>(
         → AreIndexed links index.now (S.bytes window.old.source) → result ≡ Err SplitFault.Source
         → (S.failures window.old.source < S.failures window.new.source) ⊎ (S.failures window.new.source ≡ 2 ^ 64 - 1) }
 
-    // What it leaves of the source.
+    // What the call leaves of the source.
     ensures later { S.failures window.old.source ≤ S.failures window.new.source }
     ensures source { KeepsSource S.bytes S.is_honest S.size S.only_reads window.old.source window.new.source }
 {
@@ -81,7 +81,7 @@ pub fn copy_stream_from<S: PageSource, W: Write>(
         → AreIndexed links index.now (S.bytes window.old.source) → result ≡ Err SplitFault.Source
         → (S.failures window.old.source < S.failures window.new.source) ⊎ (S.failures window.new.source ≡ 2 ^ 64 - 1) }
 
-    // What it leaves of the source.
+    // What the call leaves of the source.
     ensures later { S.failures window.old.source ≤ S.failures window.new.source }
     ensures source { KeepsSource S.bytes S.is_honest S.size S.only_reads window.old.source window.new.source }
 {
@@ -98,8 +98,8 @@ pub fn copy_stream_from<S: PageSource, W: Write>(
 /// The parts, joined from a first one to the next last one, are the packets of [`packets_of`](crate::packets_of). A
 /// fault follows them only if the last packet is unfinished, or if a read fails.
 ///
-/// The faults are `NoLink` and `NoStream`; `Source` comes only of a source that doesn't go as far as the index does.
-/// With a fault the window is given back, over the same source; its range may be another.
+/// The faults are `NoLink` and `NoStream`; `Source` comes only if the source doesn't go as far as the index does. With
+/// a fault the window is given back, over the same source; its range may be another.
 pub fn parts_of<S: PageSource>(
     window: Window<S>,
     index: &Index,
@@ -109,7 +109,7 @@ pub fn parts_of<S: PageSource>(
     ensures made { IfOk result (λ made. (entry : LinkEntry) × (slice_get index.now.entries link ≡ Some entry)
         × (made ≡ stream (window_of_link window.source entry.info) serial)) }
 
-    // What the stream has to give: the parts of the link's pages.
+    // The stream's parts are those of the link's pages.
     ensures parts { (links : List (List PageValue)) (pages : List PageValue) (entry : LinkEntry)
         → AreIndexed links index.now (S.bytes window.source) → slice_get links link ≡ Some pages
         → slice_get index.now.entries link ≡ Some entry
@@ -146,7 +146,7 @@ pub fn parts_of<S: PageSource>(
 /// Sets the window's range to the link with this number, so that the window lends the link's pages from the first one
 /// on. The source's bytes begin with those that the index is of. Nothing is read, and no memory is taken.
 ///
-/// The faults are `NoLink`, and `Source`, which comes only of a source that doesn't go as far as the index does. After
+/// The faults are `NoLink`, and `Source`, which comes only if the source doesn't go as far as the index does. After
 /// `NoLink` the window is as it was.
 pub fn seek_link<S: PageSource>(
     window: &mut Window<S>,

@@ -1,4 +1,4 @@
-//! Pages taken into a chain of links, one by one, and what came of it.
+//! Pages taken into a chain of links, one by one, and the result.
 use link_chain::{Chain, WalkFault, take_pages};
 use std::alloc::Global;
 use std::io::{self, Write};

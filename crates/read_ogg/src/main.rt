@@ -1,13 +1,13 @@
-//! Reads Ogg bytes on standard input, for tests and measures beside other programs.
+//! Reads Ogg bytes on standard input, for tests and measures together with other programs.
 //!
-//! Without a word it counts the pages: `pages COUNT END`, and then `fault OFFSET CODE NAME` where bytes
-//! are left that begin with none. With `chain` it takes the pages into a chain of links, one by one:
-//! `chain END`, and then `fault OFFSET CODE NAME` of the first page that may not follow, and
-//! `unfinished SERIAL` where a packet goes on at the end. With a serial it lists the packets of that
-//! stream, `MD5 LENGTH`, and then `end`, or `fault CODE NAME`. With `window FILE` it counts the pages of
-//! a file through a window, without reading it whole: what is printed is the same.
+//! Without a word it counts the pages: `pages COUNT END`, and then `fault OFFSET CODE NAME` if bytes are left that
+//! begin with no page. With `chain` it takes the pages into a chain of links, one by one, and prints `chain END`.
+//! Then comes `fault OFFSET CODE NAME` of the first page that may not follow, or `unfinished SERIAL` if a packet
+//! goes on at the end. With a serial it lists the packets of that stream, `MD5 LENGTH`, and then `end`, or
+//! `fault CODE NAME`. With `window FILE` it counts the pages of a file through a window, without reading it as a
+//! whole: the output is the same.
 //!
-//! The status is 0 where there was no fault, 1 after one, and 2 where standard input or the file can't be
+//! The status is 0 if there was no fault, and 1 after one. The status is 2 if standard input or the file can't be
 //! read, standard output can't be written, or the word is none of these.
 #![tactic(auto)]
 

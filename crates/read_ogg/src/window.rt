@@ -6,7 +6,7 @@ use std::fs::File;
 use std::io::{self, Write};
 use std::os::unix::fs::FileExt;
 
-/// A file, as long as it was when it was opened. Nothing is known of what its reads give.
+/// A file, as long as it was when it was opened. Nothing is known of what its reads return.
 #[derive(Drop)]
 pub struct FileSource {
     file: File,

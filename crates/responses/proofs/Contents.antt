@@ -43,7 +43,7 @@ stream_content committed links number serial content are found = by (slice_get l
           | inr lacks ↦ let none : None ≡ Some content = sym (cond-false (has_stream link serial) (Some pages) None lacks) ∙ is in cc
         ]
 
--- where a link lies, by the index
+-- the place of a link, by the index
 abbrev LiesAt : List ℕ → List (List Page) → ℕ → List ℕ → Type 0
 LiesAt committed links number bytes =
     (entry : LinkEntry) × (slice_get (index_of links) number ≡ Some entry) × (take entry.info.length (drop entry.info.start committed) ≡ bytes)

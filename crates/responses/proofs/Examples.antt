@@ -47,7 +47,7 @@ without_host = refl
 no_request : response [] None ≡ codes "HTTP/1.1 400 Bad Request\r\nContent-Length: 0\r\nConnection: close\r\n\r\n"
 no_request = refl
 
--- ---- of five bytes
+-- ---- parts of five bytes
 -- both ends of a part belong to it
 part_of_five : (ranged (10 ∷ 11 ∷ 12 ∷ 13 ∷ 14 ∷ []) (Part 1 3)).content ≡ 11 ∷ 12 ∷ 13 ∷ []
 part_of_five = refl

@@ -1,4 +1,4 @@
--- A response is as long as its head tells.
+-- A response is as long as its head says.
 use Rattle.std.proofs.Common.{ℕ, ◌+◌, ◌-◌, Option, Some, None, List, [], length, drop, refl, arith, length-drop, length-take-le, option_and_then}
 use Rattle.std.proofs.lemmas.Bool.{cond_both}
 use Rattle.ogg_page.specs.Page.{Page}

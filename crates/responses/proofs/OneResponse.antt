@@ -1,4 +1,5 @@
--- There is one response at most. That a head is read in one way is said by httparse (the kit), whose page on calling it names this lemma.
+-- There is at most one response. httparse (the kit) says that a head is read in one way; its page on calling it names
+-- this lemma.
 use Rattle.std.proofs.Common.{◌≡◌, ℕ, Option, Some, None, List, refl, sym, ◌∙◌, ap}
 use Rattle.httparse.proofs.GrammarLemmas.{request_unique}
 use Rattle.ogg_page.specs.Page.{Page}

@@ -12,7 +12,7 @@ pub fn find_head<'a>(received: &'a [u8]) -> HeadRead<'a>
     ensures whole { IfWhole result (λ request. Asks received.now (Some (asked_by request))) }
     ensures bad { result ≡ HeadRead.Bad → Asks received.now None }
     ensures partial { result ≡ HeadRead.Partial → IsAwaited received.now }
-    // So it finds one of the three.
+    // So the result is one of the three.
     ensures read { AsksOrWaits received.now }
 {
     read_head(received)

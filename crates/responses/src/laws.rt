@@ -20,8 +20,8 @@ pub fn responses_are_unambiguous()
     bytes_are_one_chain();
 }
 
-/// What a resource has is of the committed bytes: the file is all of them, a link lies where their index says, a
-/// stream is its pages in its link, and the listing tells their length and their index.
+/// What a resource has lies in the committed bytes. The file is all of them, a link lies at the place that their
+/// index says, and a stream is its pages in its link. The listing shows their length and their index.
 pub fn contents_lie_in_the_file()
     ensures all { (committed : List ℕ) (links : List (List Page)) → AreLinks committed links
         → content_of links AllOf ≡ Some (Pages committed) }

@@ -1,8 +1,8 @@
-//! What a request is answered, over the committed bytes of a file (RFC 9110, RFC 9112).
+//! The answer to a request, over the committed bytes of a file (RFC 9110, RFC 9112).
 //!
-//! The response is a function of the file's links and of what is asked: the listing, the file, a link or a stream, all
-//! of it or a part. So the same committed bytes and the same request have one response, and its content is as long as
-//! its head says. Nothing here runs but `find_head`, which reads a request; a server sends what these definitions say.
+//! The response is a function of the file's links and of what is asked: the listing, the file, a link or a stream,
+//! all of it or a part. So the same committed bytes and the same request have one response, and its content is as
+//! long as its head says. Only `find_head` runs here: it reads a request. A server sends what these definitions say.
 //!
 //! Start at `specs/Response.antt`.
 #![tactic(auto)]

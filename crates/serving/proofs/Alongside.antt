@@ -1,6 +1,6 @@
 -- No session sees a step of the feed.
 use Rattle.std.proofs.Common.{◌≡◌, ℕ, Bool, true, false, Option, Some, None, Result, Ok, Err, List, [], ◌∷◌, refl, sym, ◌∙◌, subst, inl, inr}
-use Rattle.std.specs.Prelude.{⊤, IfSome}
+use Rattle.std.specs.Prelude.{⊤}
 use Rattle.std.specs.List.{AllByRecursion}
 use Rattle.disk_model.specs.Image.{DiskState}
 use Rattle.feed_codec.specs.declared.fault.RunFault.{RunFault}
@@ -85,11 +85,3 @@ module _ (others : OthersStay) (numbers : NumbersStay) (grow : BytesGrow) where
     stepped old new was now before after (Ok (Lost fault)) h = has_answered old new was now before after (Lost fault) h
     stepped old new was now before after (Ok End) h = same_machine before after h.same
     stepped old new was now before after (Err fault) h = stops fault old new was.version was.records before after h
-
--- a feed that has ended changes nothing
-pub whether_ended : {E O H : Type 0} (ended : Option E) (outcome : Option O) (A S : E → Type 0) (B C : O → Type 0) (old new : H) (P : Type 0)
-    → IfSome ended (λ e. A e × S e × (new ≡ old)) → (ended ≡ None → IfSome outcome (λ o. B o × C o × (new ≡ old)))
-    → (ended ≡ None → outcome ≡ None → P) → (new ≡ old → P) → P
-whether_ended (Some e) outcome A S B C old new P stays closed stepped same = same stays.2
-whether_ended None (Some o) A S B C old new P stays closed stepped same = same (closed refl).2
-whether_ended None None A S B C old new P stays closed stepped same = stepped refl refl

@@ -1,4 +1,4 @@
--- Which faults a session that is there may get.
+-- Which faults a session of the hub may get.
 use Rattle.std.proofs.Common.{◌≡◌, ℕ, Bool, true, false, Option, Some, None, Result, Ok, Err, List}
 use Rattle.sessions.specs.declared.answers.Progress.{Progress}
 use Rattle.sessions.specs.declared.answers.Progress.TheVariants.{Ready}

@@ -12,7 +12,7 @@ use Rattle.serving.specs.Keeping.{OnlyServes}
 use Rattle.serving.specs.Serving.{HasNoHead}
 use Rattle.serving.proofs.Moves.{none, both, committed_is}
 
--- so much was received, and more of the head has to come
+-- these bytes were received, and more of the head has to come
 pub record IsReading (id : ℕ) (coming left : Option (List ℕ)) (before now : HubState) : Type 0 where
   pub received : List ℕ
   pub only : OnlyServes id before now
@@ -24,7 +24,7 @@ pub at_first : (id : ℕ) (coming : Option (List ℕ)) (before : HubState) → p
 at_first id coming before phase =
     record { received = []; only = none id before; read = Consumes-nil coming; phase = phase; no_head = inl refl }
 
--- a piece more
+-- another piece
 pub more : (id : ℕ) (coming left next : Option (List ℕ)) (before now after : HubState) (piece : List ℕ) → (r : IsReading id coming left before now)
     → Consumes left next piece → OnlyServes id now after → HasReceived now id (r.received ++ piece) More after → IsReading id coming next before after
 more id coming left next before now after piece r read only has =
@@ -62,7 +62,7 @@ pub some_read : (id : ℕ) (coming left next : Option (List ℕ)) (before now : 
     → Consumes left next piece → HasReadSome coming next
 some_read id coming left next before now piece r read = (r.received ++ piece, Consumes-trans coming left next r.received piece r.read read)
 
--- the same answer, as it was told
+-- the same step, with an answer that is equal
 pub taken : (old new : HubState) (id : ℕ) (bytes : List ℕ) (some other : Progress) → some ≡ other
     → hub_step old (Receive id bytes (Ok some)) new → hub_step old (Receive id bytes (Ok other)) new
 taken old new id bytes some other e step = subst (λ (progress : Progress). hub_step old (Receive id bytes (Ok progress)) new) e step

@@ -14,7 +14,7 @@ use Rattle.serving.specs.Pieces.{HasHead, HasRead, HasSent, piece}
 use Rattle.serving.specs.Serving.{Gets, GetsWhole, GetsFront}
 use Rattle.serving.specs.Steps.{AreIn, GetsIn}
 
--- so much was written, and the rest is left
+-- these bytes were written, and the rest is left
 pub record IsSending (id : ℕ) (coming left : Option (List ℕ)) (old new : Option (List ℕ)) (before now : HubState) : Type 0 where
   pub received : List ℕ
   pub written : List ℕ
@@ -72,7 +72,7 @@ pub stopped : (id : ℕ) (coming left : Option (List ℕ)) (old mid : Option (Li
     → GetsFront coming left old mid before.committed
 stopped id coming left old mid before now s = front id coming left old mid mid before now s (0, omega arith, Appends-nil mid)
 
--- nothing of it changes while the session stays in its phase
+-- nothing of the response changes while the session stays in its phase
 pub later : (id : ℕ) (coming left : Option (List ℕ)) (old new : Option (List ℕ)) (before now after : HubState) → (s : IsSending id coming left old new before now)
     → phase_of after id ≡ phase_of now id → IsSending id coming left old new before after
 later id coming left old new before now after s same = record {
@@ -120,7 +120,7 @@ are_in n written rest long (inl none) short = (omega (arith, long, short, length
 are_in n written rest long (inr some) short =
     (omega (arith, long, short, length-append written rest), inr (omega (arith, long, some, length-append written rest)))
 
--- so much was written in this many full pieces
+-- this number of full pieces was written, and the rest is left
 pub record IsSendingIn (n : ℕ) (id : ℕ) (coming left : Option (List ℕ)) (old new : Option (List ℕ)) (before now : HubState) : Type 0 where
   pub sending : IsSending id coming left old new before now
   pub long : length sending.written ≡ n * piece
@@ -164,7 +164,7 @@ unfolding later
 later_in n id coming left old new before now after s same =
     record { sending = later id coming left old new before now after s.sending same; long = s.long; some = s.some }
 
--- an answer as it was told
+-- the same, with an answer that is equal
 pub read_as : (coming left : Option (List ℕ)) (id : ℕ) (committed : List ℕ) (after : HubState) (some other : Option Served) → some ≡ other
     → HasRead coming left id committed after (Ok some) → HasRead coming left id committed after (Ok other)
 read_as coming left id committed after some other e has = subst (λ (o : Option Served). HasRead coming left id committed after (Ok o)) e has

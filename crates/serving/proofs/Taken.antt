@@ -18,7 +18,7 @@ file_both a b c first second = second ∙ ap (λ (hub : HubState). record hub { 
 
 module _ {D : Type 0} (is_honest : D → Type 0) (state : D → DiskState) (moment : D → ℕ) (images_since : D → ℕ → List ℕ → Type 0)
     (failures : D → ℕ) {R W : Type 0} (remaining : R → Option (List ℕ)) (contents : W → Option (List ℕ)) where
-  -- what a step does, by what its clauses say
+  -- what a step does, by what its contract says
   pub taken : (shows : HubParts D → HubState
       → Type 0) (ended : Option (Result Step RunFault)) (outcome : Option Outcome) (result : Result Step RunFault)
       (old new : FeedState R W) (hub hub_after : HubParts D) (before : HubState) → shows hub before
@@ -40,14 +40,14 @@ module _ {D : Type 0} (is_honest : D → Type 0) (state : D → DiskState) (mome
       )
   taken shows None None result old new hub hub_after before shown stays closed stepped = stepped refl refl
 
-  -- nothing is recorded before them either
+  -- nothing is recorded before the steps either
   pub led : (n : ℕ) (old new : FeedState R W) (a b c : HubState) → KeepsFile a b
       → TakesSteps is_honest state moment images_since failures remaining contents n old new b c
       → TakesSteps is_honest state moment images_since failures remaining contents n old new a c
   led zero old new a b c first steps = (steps.0, file_both a b c first steps.1)
   led (suc n) old new a b c first (feed, one, two, steps, step, file) = (feed, one, two, led n old feed a b one first steps, step, file)
 
-  -- nor after them
+  -- nothing is recorded after the steps either
   pub followed : (n : ℕ) (old new : FeedState R W) (a b c : HubState)
       → TakesSteps is_honest state moment images_since failures remaining contents n old new a b → KeepsFile b c
       → TakesSteps is_honest state moment images_since failures remaining contents n old new a c

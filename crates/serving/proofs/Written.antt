@@ -1,4 +1,4 @@
--- What a pull gives, and a writer takes of it.
+-- What a pull returns, and what a writer takes of it.
 use Rattle.std.proofs.Common.{◌≡◌, ℕ, ◌+◌, ◌<◌, ◌≤◌, ◌-◌, true, false, Option, List, [], ◌∷◌, ◌++◌, length, take, drop, refl, sym, ◌∙◌, ap, subst, arith, length-append, append-nil}
 use Rattle.std.specs.Io.KnownBytes.{Appends}
 use Rattle.std.proofs.lemmas.List.{take-append-drop, take-append-le, length-drop}
@@ -33,7 +33,7 @@ more_left id rest size given after pulled going =
     let some : 0 < length (drop size rest) = some_left (drop size rest) (sym pulled.done ∙ going) in
     omega (arith, some, length-drop size rest)
 
--- a prefix of the front is one of the whole
+-- a prefix of the front is a prefix of the whole
 pub prefix_of_all : (old new : Option (List ℕ)) (size : ℕ) (bytes rest : List ℕ) → bytes ≡ take size rest
     → WritesPrefix old new bytes → WritesPrefix old new rest
 prefix_of_all old new size bytes rest e (n, low, wrote) =

@@ -1,4 +1,4 @@
--- What a step of a feed does beside a server. Ours.
+-- What a step of a feed does while its file is served. Ours.
 use Rattle.std.specs.Prelude.{◌≡◌, ℕ, ⊤, Bool, true, false, Option, Some, None, Result, Ok, Err, List}
 use Rattle.disk_model.specs.Image.{DiskState}
 use Rattle.feed_codec.specs.declared.fault.RunFault.{RunFault}
@@ -14,8 +14,8 @@ use Rattle.sessions.specs.Calls.{found_by}
 use Rattle.serving.specs.declared.feeding.Step.{Step}
 use Rattle.serving.specs.declared.feeding.Step.TheVariants.{Done, End, Lost}
 
--- A feed: what it is read from, where its replies go, the run over it, and what every further step answers, if it has
--- ended.
+-- A feed: the reader that it comes from, the writer of its replies, the run over it, and, if it has ended, what every
+-- further step answers.
 pub record FeedState (R W : Type 0) : Type 0 where
   pub reader : R
   pub replies : W
@@ -25,7 +25,7 @@ pub record FeedState (R W : Type 0) : Type 0 where
 abbrev pub feed_state : {R W : Type 0} → R → W → RunState → Option (Result Step RunFault) → FeedState R W
 feed_state reader replies run ended = record { reader = reader; replies = replies; run = run; ended = ended }
 
--- what a step answers from then on, if the run has ended so
+-- what a step answers from then on, if the run has ended with this outcome
 abbrev pub step_at : Outcome → Result Step RunFault
 step_at (Ok _) = Ok End
 step_at (Err fault) = Err fault
@@ -42,7 +42,7 @@ module _ {D : Type 0} (is_honest : D → Type 0) (state : D → DiskState) (mome
     pub disk : (old new : D) → disk_in before.now.file before.now.lost ≡ Some old → disk_in after.now.file after.now.lost ≡ Some new
         → Reopens is_honest state moment images_since failures result after.now.file old new
 
-  -- After the reply that the disk has failed the file is opened again, and after another one nothing is done.
+  -- After the reply that the disk has failed the file is opened again. After any other reply nothing is done.
   abbrev pub FollowsFailure : Step → Progress D → Progress D → Type 0
   FollowsFailure (Done reply) before after = (says_failed reply ≡ true) × Reopened (Ok tt) before after
   FollowsFailure (Lost fault) before after = Reopened (Err fault) before after
@@ -62,7 +62,7 @@ module _ {D : Type 0} (is_honest : D → Type 0) (state : D → DiskState) (mome
     pub ran : Steps (Answers is_honest state moment images_since failures) waiting_in old new was now before mid reply
     pub follows : Follows reply step mid after
 
-  -- what a step has done that answers so, if the run had not ended before
+  -- what a step with this answer has done, if the run had not ended before
   abbrev pub HasStepped : Streams → Streams → RunState → RunState → Progress D → Progress D → Result Step RunFault → Type 0
   HasStepped old new was now before after (Ok (Done reply)) = HasAnswered old new was now before after (Done reply)
   HasStepped old new was now before after (Ok (Lost fault)) = HasAnswered old new was now before after (Lost fault)

@@ -1,4 +1,4 @@
--- What a connection, and what goes on beside it, leaves of a hub. Ours.
+-- What a connection, and a feed that is recorded meanwhile, leave of a hub. Ours.
 use Rattle.std.specs.Prelude.{◌≡◌, ◌≢◌, ℕ}
 use Rattle.sessions.specs.Hub.{HubState, phase_of}
 use Rattle.sessions.specs.Own.{AreNumbered, KeepsFile}
@@ -17,7 +17,7 @@ pub record KeepsAll (old new : HubState) : Type 0 where
   pub numbers : AreNumbered old → AreNumbered new
   pub extends : Extends old.committed new.committed
 
--- Nothing is recorded either.
+-- The same, and nothing is recorded.
 pub record OnlyServes (id : ℕ) (old new : HubState) : Type 0 where
   pub file : KeepsFile old new
   pub others : KeepsOthers id old new

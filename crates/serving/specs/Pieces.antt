@@ -9,11 +9,11 @@ use Rattle.serving.specs.Serving.{HasNoHead, MayMeet}
 use Rattle.serving.specs.declared.pieces.Served.{Served}
 use Rattle.serving.specs.declared.pieces.Served.TheVariants.{Whole, NoHead, Cut}
 
--- how many bytes a piece has at most
+-- the greatest number of bytes of a piece
 abbrev pub piece : ℕ
 piece = 4096
 
--- `coming` and `left` are the bytes that the reader tells before and after.
+-- `coming` and `left` are the bytes that the reader shows before and after.
 module _ (coming left : Option (List ℕ)) where
   -- A head was read, and its response over the committed bytes is fixed.
   pub record HasHead (id : ℕ) (committed : List ℕ) (after : HubState) : Type 0 where
@@ -41,8 +41,8 @@ module _ (coming left : Option (List ℕ)) where
   HasRead id committed after (Ok (Some Cut)) = HasReadSome
   HasRead id committed after (Err fault) = MayMeet fault × HasReadSome
 
--- `old` and `new` are the bytes that the writer tells before and after. Of what was left of the response a full piece was
--- written, and more is left; or all of it, or a front of it.
+-- `old` and `new` are the bytes that the writer shows before and after. Of what was left of the response a full piece
+-- was written, and more is left; or all of it was written; or a front of it.
 abbrev pub HasSent : (old new : Option (List ℕ)) → ℕ → List ℕ → HubState → Result (Option Served) HubFault → Type 0
 HasSent old new id rest after (Ok None) = Appends old new (take piece rest) × (phase_of after id ≡ Some (Sending (drop piece rest)))
     × (piece < length rest)

@@ -10,7 +10,7 @@ use Rattle.serving.specs.declared.pieces.Served.{Served}
 use Rattle.serving.specs.declared.pieces.Served.TheVariants.{Whole, NoHead, Cut}
 
 -- ---- what is read and written
--- a fault that a session that is there may get
+-- a fault that a session of the hub may get
 abbrev pub MayMeet : HubFault → Type 0
 MayMeet NoSession = ⊥
 MayMeet SessionsFull = ⊥
@@ -20,7 +20,7 @@ MayMeet fault = ⊤
 abbrev pub HasNoHead : List ℕ → Type 0
 HasNoHead received = (received ≡ []) ⊎ IsAwaited received
 
--- `coming` and `left` are the bytes that the reader tells before and after, `old` and `new` those of the writer.
+-- `coming` and `left` are the bytes that the reader shows before and after, `old` and `new` those of the writer.
 module _ (coming left : Option (List ℕ)) (old new : Option (List ℕ)) where
   -- A request was read, and its response over these committed bytes was written.
   pub record GetsWhole (committed : List ℕ) : Type 0 where
@@ -44,7 +44,7 @@ module _ (coming left : Option (List ℕ)) (old new : Option (List ℕ)) where
     pub read : Consumes coming left received
     pub written : (new ≡ old) ⊎ ((response : List ℕ) × IsResponse committed received response × WritesPrefix old new response)
 
-  -- what a connection gets that ends so
+  -- what a connection gets if it ends with this result
   abbrev pub Gets : List ℕ → Result Served HubFault → Type 0
   Gets committed (Ok Whole) = GetsWhole committed
   Gets committed (Ok NoHead) = GetsNothing

@@ -1,4 +1,4 @@
--- The steps of a feed that are taken beside a connection. Ours.
+-- The steps of a feed that are taken while a connection is served. Ours.
 use Rattle.std.specs.Prelude.{◌≡◌, ◌⊎◌, ◌+◌, ◌*◌, ◌<◌, ◌≤◌, ℕ, zero, suc, Option, Some, None, Result, Ok, Err, List, length}
 use Rattle.disk_model.specs.Image.{DiskState}
 use Rattle.feed_codec.specs.declared.fault.RunFault.{RunFault}
@@ -26,7 +26,7 @@ module _ {D : Type 0} (is_honest : D → Type 0) (state : D → DiskState) (mome
         old.run new.run (record { now = was; machine = before }) (record { now = now; machine = after }) answer
     pub ended : new.ended ≡ lasting answer
 
-  -- what a step does to a feed, if it has ended so, and to the hub
+  -- what a step does to a feed, which may have ended with this answer, and to the hub
   abbrev pub StepsIf : Option (Result Step RunFault) → Option Outcome → (old new : FeedState R W) (before after : HubState) → Type 0
   StepsIf (Some answer) outcome old new before after = (new ≡ old) × (after ≡ before)
   StepsIf None (Some outcome) old new before after =
@@ -42,11 +42,13 @@ module _ {D : Type 0} (is_honest : D → Type 0) (state : D → DiskState) (mome
   TakesSteps (suc n) old new before after = (feed : FeedState R W) × (one : HubState) × (two : HubState)
       × TakesSteps n old feed before one × TakesStep feed new one two × KeepsFile two after
 
--- Bytes of this number go out in this many pieces: each but the last is full, and only a piece that is alone may be empty.
+-- Bytes of this number go out in this many pieces. Each but the last is full, and a piece may be empty only if it is
+-- the one piece.
 abbrev pub AreIn : ℕ → ℕ → Type 0
 AreIn n size = (size ≤ n * piece) × ((n ≡ 1) ⊎ (n * piece < size + piece))
 
--- What a connection gets that ends so after this many steps. There was one before each piece of a whole response.
+-- What a connection gets if it ends with this result after this many steps. There was one step before each piece of
+-- a whole response.
 abbrev pub GetsIn : (coming left old new : Option (List ℕ)) → ℕ → List ℕ → Result Served HubFault → Type 0
 GetsIn coming left old new n committed (Ok Whole) = (got : GetsWhole coming left old new committed) × AreIn n (length got.response)
 GetsIn coming left old new n committed (Ok NoHead) = GetsNothing coming left old new × (n ≡ 0)

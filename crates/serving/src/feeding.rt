@@ -60,12 +60,12 @@ impl<R: Read + Drop, W: Write + Drop> LiveFeed<R, W> {
         }
     }
 
-    /// Reads the next record, has the hub run it, and writes the line of its reply. At the feed's end, at a fault of the
-    /// feed, and if a record follows 4,294,967,295 others, what waits is flushed first, as a step with its own reply. The
-    /// end and each fault stay.
+    /// Reads the next record, has the hub run it, and writes the line of its reply. At the feed's end, at a fault
+    /// of the feed, and if a record follows 4,294,967,295 others, what waits is flushed first, as a step with its
+    /// own reply. The end and each fault stay.
     ///
-    /// If the reply is that the disk has failed, the file is opened again, once. If that fails the answer is `Lost` from
-    /// then on; else the feed goes on over what was found, with counts from 1.
+    /// If the reply says that the disk has failed, the file is opened again, once. If that fails, the answer is
+    /// `Lost` from then on. Otherwise the feed goes on over what was found, with counts from 1.
     pub fn step<D: Disk + Drop>(&mut self, hub: &mut Hub<D>) -> Result<Step, RunFault>
         ensures stepped { (before : Progress D) → IsIn D.is_honest D.state before hub.old → self.old.ended ≡ None → self.old.run.outcome ≡ None
             → (after : Progress D) × IsIn D.is_honest D.state after hub.new

@@ -4,9 +4,9 @@
 //! same, and takes one step of a feed before each piece of the response. A connection is a reader and a writer, as two
 //! handles of one socket are.
 //!
-//! Start at `specs/Serving.antt`, which says what a connection gets, and go on to `specs/Feeding.antt`, which says what
-//! a step of the feed does, to `specs/Steps.antt`, which says which steps are taken beside a connection, and to
-//! `specs/Keeping.antt`, which says what both leave of the hub.
+//! Start at `specs/Serving.antt`, which says what a connection gets, and go on to `specs/Feeding.antt`, which says
+//! what a step of the feed does. `specs/Steps.antt` says which steps are taken while a connection is served, and
+//! `specs/Keeping.antt` what both leave of the hub.
 #![tactic(auto)]
 
 mod feeding;

@@ -16,8 +16,8 @@ use sessions::{
 };
 use std::io::{Read, Write};
 
-/// Serves one connection, as [`serve_one`](crate::serve_one) does, with its faults, and takes a step of the feed before each
-/// piece of the response. The end of the feed and its faults don't end the connection.
+/// Serves one connection, as [`serve_one`](crate::serve_one) does, with its faults, and takes a step of the feed
+/// before each piece of the response. The end of the feed and its faults don't end the connection.
 pub fn live_one<D: Disk + Drop, R: Read, W: Write, F: Read + Drop, L: Write + Drop>(
     hub: &mut Hub<D>,
     reader: &mut R,
@@ -80,7 +80,7 @@ fn exchange<D: Disk + Drop, R: Read, W: Write, F: Read + Drop, L: Write + Drop>(
     Ok(Served::Cut)
 }
 
-/// Takes a step of the feed. If it was the last, what it came to stays in the feed. No session sees any of it.
+/// Takes a step of the feed. If it was the last, its answer stays in the feed. No session sees any of it.
 fn go_on<D: Disk + Drop, F: Read + Drop, L: Write + Drop>(
     hub: &mut Hub<D>,
     feed: &mut LiveFeed<F, L>,

@@ -11,7 +11,7 @@ use ogg_serve::{Hub, HubFault};
 use sessions::{Progress, calls_move_their_session, other_sessions_stay, sessions_are_numbered};
 use std::io::{Read, Write};
 
-/// How many bytes are read or written at once, at most.
+/// The greatest number of bytes that are read or written at once.
 pub const PIECE: usize = 4096;
 
 /// A head is complete, or is none, within this many bytes.
@@ -28,7 +28,8 @@ pub enum Served {
     Cut,
 }
 
-/// Reads the head of a session's request. It is complete if nothing is given; else the connection has ended so.
+/// Reads the head of a session's request. If it returns `None`, the head is complete; else the connection has ended
+/// so.
 pub fn read_head<D: Disk + Drop, R: Read>(
     hub: &mut Hub<D>,
     id: u64,
@@ -57,7 +58,7 @@ pub fn read_head<D: Disk + Drop, R: Read>(
     Ok(Some(Served::Cut))
 }
 
-/// Writes the next piece of a session's response. If the connection has ended then, this is how.
+/// Writes the next piece of a session's response. If the connection has ended then, it returns how.
 pub fn send_piece<D: Disk + Drop, W: Write>(
     hub: &mut Hub<D>,
     id: u64,

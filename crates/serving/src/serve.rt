@@ -12,14 +12,14 @@ use ogg_serve::{Hub, HubFault};
 use sessions::{calls_move_their_session, other_sessions_stay, sessions_are_numbered};
 use std::io::{Read, Write};
 
-/// More pieces than any response has.
+/// A number of pieces that no response reaches.
 pub const MOST_PIECES: u64 = 1 << 52;
 
-/// Serves one connection: a session is begun, its request is read, the response is written, and the session is closed, in
-/// pieces of at most 4,096 bytes.
+/// Serves one connection, in pieces of at most 4,096 bytes: a session is begun, its request is read, the response is
+/// written, and the session is closed.
 ///
-/// `SessionsFull` says that no session could be begun, and nothing is read then. After any other fault what was written is
-/// a front of the response, or nothing; the session is closed then too.
+/// `SessionsFull` says that no session could be begun, and nothing is read then. After any other fault a front of the
+/// response was written, or nothing; the session is closed then too.
 pub fn serve_one<D: Disk + Drop, R: Read, W: Write>(
     hub: &mut Hub<D>,
     reader: &mut R,

@@ -1,4 +1,4 @@
--- There is an answer to each call, with no want of memory and no fault of a disk.
+-- Each call has an answer that is neither want of memory nor a fault of a disk.
 use Rattle.std.proofs.Common.{◌≡◌, ◌≢◌, ℕ, ◌+◌, ◌≤◌, Bool, true, false, Option, Some, None, IsOk, Result, Ok, Err, List, [], ◌++◌, take, drop, refl, sym, subst, inl, inr, arith}
 use Rattle.std.specs.Prelude.{⊤}
 use Rattle.std.proofs.lemmas.Bool.{cases_Bool, cases_lt}
@@ -68,7 +68,7 @@ pub closes : (hub : HubState) (id : ℕ) (phase : Option Phase) → (answer : Re
 closes hub id None = (Err NoSession, hub, (refl, refl))
 closes hub id (Some phase) = (Ok tt, without_session id hub, (refl, refl))
 
--- the codes of the reasons of which a rule speaks
+-- the codes of the reasons that a rule has
 abbrev IsOfTable : Refusal → Type 0
 IsOfTable refusal = (2 ≤ code_of refusal) × (code_of refusal ≤ 19)
 

@@ -6,10 +6,10 @@ use Rattle.sessions.specs.declared.fault.HubFault.{HubFault}
 use Rattle.sessions.specs.declared.fault.HubFault.TheVariants.{NoSession, SessionsFull, Source, Memory, NoFile}
 use Rattle.sessions.specs.declared.answers.Progress.{Progress}
 use Rattle.sessions.specs.declared.answers.Progress.TheVariants.{More, Ready}
-use Rattle.sessions.specs.Hub.{HubState, Phase, Reading, Sending, Session, Given, Event, Connect, Receive, Pull, Close, Record, Flush, Group, Reopen, hub_step, phase_of, with_phase_in, without_in, most_sessions, connect_step, head_step, receive_step, send_step, pull_step, close_step}
+use Rattle.sessions.specs.Hub.{HubState, Phase, Reading, Sending, Given, Event, Connect, Receive, Pull, Close, Record, Flush, Group, Reopen, hub_step, phase_of, with_phase_in, without_in, most_sessions, connect_step, head_step, receive_step, send_step, pull_step, close_step}
 use Rattle.sessions.proofs.Seen.{command_sessions, flush_sessions, group_sessions, reopen_sessions}
 
--- it stays, a session is in another phase, those with a number have ended, or one more was connected
+-- it stays, a session is in another phase, the sessions with a number have ended, or one more was connected
 pub data Changes (old new : HubState) : Type 0 where
   Stays : (same : new.sessions ≡ old.sessions) → Changes old new
   Moves : (id : ℕ) (phase : Phase) (moved : new.sessions ≡ with_phase_in id phase old.sessions) → Changes old new

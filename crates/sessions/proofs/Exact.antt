@@ -44,7 +44,7 @@ abbrev RefusedExactly : {T : Type 0} → Option Phase → Bool → Result T HubF
 RefusedExactly phase has_file answer =
     ((answer ≡ Err NoSession) ↔ (phase ≡ None)) × ((answer ≡ Err NoFile) ↔ (IsSome phase × (has_file ≡ false)))
 
--- neither
+-- the call is refused neither for want of a session nor for want of a file
 abbrev NeitherRefused : {T : Type 0} → Result T HubFault → Type 0
 NeitherRefused answer = (answer ≢ Err NoSession) × (answer ≢ Err NoFile)
 

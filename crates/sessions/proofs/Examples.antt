@@ -1,4 +1,4 @@
--- What one session sees of steps, by evaluation. The hubs between the steps are left out but for what is committed.
+-- What one session sees of steps, by evaluation. Of the hubs between the steps only what is committed is written out.
 use Rattle.std.specs.Prelude.{◌≡◌, ℕ, true, false, Bool, Some, None, Ok, Err, List, [], ◌∷◌, refl}
 use Rattle.sessions.specs.declared.fault.HubFault.TheVariants.{Memory}
 use Rattle.sessions.specs.declared.answers.Progress.TheVariants.{More, Ready}
@@ -26,8 +26,8 @@ step event committed = record { event = event; after = hub committed }
 abbrev given : List ℕ → Bool → Given
 given bytes done = record { bytes = bytes; done = done }
 
--- two sessions take turns: bytes 5 and 6 are committed between their heads; a call of the first is refused, and it
--- pulls three bytes in two pulls, the second of which says that nothing is left
+-- Two sessions take turns. Bytes 5 and 6 are committed between their heads. A call of the first is refused. This
+-- session pulls three bytes in two pulls; the second pull says that nothing is left.
 abbrev steps : List Step
 steps =
     step (Connect (Ok 0)) []
@@ -47,7 +47,7 @@ steps =
 numbers : all_connected steps ≡ 0 ∷ 1 ∷ []
 numbers = refl
 
--- the refused call isn't among the first session's calls, and nothing of the second session is
+-- neither the refused call nor any call of the second session is among the first session's calls
 first_calls : own_calls 0 steps
     ≡ Received (71 ∷ []) More ∷ Received (69 ∷ 84 ∷ []) Ready ∷ Pulled 2 ∷ Received (13 ∷ []) Ready ∷ Pulled 4 ∷ []
 first_calls = refl

@@ -1,4 +1,4 @@
--- Where the index says that a link begins, each of its streams begins.
+-- Each stream of a link begins where the index says that the link begins.
 use Rattle.std.proofs.Common.{◌≡◌, ℕ, zero, suc, ◌+◌, ◌≤◌, Option, Some, None, List, [], ◌∷◌, ◌++◌, length, refl, sym, ◌∙◌, ap, subst, arith, append_assoc, length-append, slice_get}
 use Rattle.std.specs.List.{flat_map, AllByRecursion}
 use Rattle.ogg_page.specs.Page.{Page, IsPage, bytes_of_pages}

@@ -11,7 +11,7 @@ use Rattle.sessions.specs.Hub.{HubState, Phase, Reading, Sending, Session, Given
 use Rattle.sessions.specs.Run.{Step, AreSteps, connected, all_connected}
 use Rattle.sessions.proofs.Seen.{command_sessions, flush_sessions, group_sessions, reopen_sessions}
 
--- all but the sessions stays
+-- everything but the sessions stays
 abbrev pub KeepsTheRest : HubState → HubState → Type 0
 KeepsTheRest old new = (sessions : List Session) × (new ≡ record old { sessions = sessions })
 
@@ -51,7 +51,7 @@ close_keeps old new id None answer step = (old.sessions, step.1)
 close_keeps old new id (Some phase) answer step = (without_in id old.sessions, step.1)
 
 -- ---- numbers
--- a step gives the next number, or none
+-- a step assigns the next number, or none
 abbrev GivesNumber : HubState → Event → HubState → Type 0
 GivesNumber old event new =
     ((connected event ≡ []) × (new.next_id ≡ old.next_id))

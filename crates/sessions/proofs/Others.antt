@@ -1,4 +1,4 @@
--- A step changes one session at most.
+-- A step changes at most one session.
 use Rattle.std.proofs.Common.{◌≡◌, ◌≢◌, ℕ, false, Some, Result, Ok, Err, [], sym, ◌∙◌, ap}
 use Rattle.std.specs.Prelude.{nat_eq}
 use Rattle.std.proofs.lemmas.Bool.{ne_eqb}

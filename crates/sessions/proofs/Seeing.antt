@@ -1,4 +1,4 @@
--- Calls that are steps are steps in turn.
+-- If each call is a step, the calls are steps in turn.
 use Rattle.std.proofs.Common.{List, [], ◌∷◌, refl}
 use Rattle.std.specs.List.{AllZip}
 use Rattle.sessions.specs.Hub.{HubState}

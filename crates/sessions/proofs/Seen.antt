@@ -17,7 +17,7 @@ use Rattle.sessions.specs.Hub.{HubState, Phase, Reading, Sending, Session, Given
 use Rattle.sessions.specs.Run.{Received, Pulled, own_call, given_by, says_done, completes}
 use Rattle.sessions.proofs.Sessions.{same_number, changed, others_unchanged, removed, others_not_removed, added, others_as_before}
 
--- nothing of it is the session's
+-- the step is none of the session's own
 pub record IsSilent (id : ℕ) (event : Event) : Type 0 where
   pub own : own_call id event ≡ []
   pub given : given_by id event ≡ []
@@ -48,7 +48,7 @@ phase_after : (id : ℕ) (new other : HubState) → new ≡ other → phase_of n
 phase_after id new other e = ap (λ (h : HubState). phase_of h id) e
 
 -- ---- receive
--- of another session
+-- a call of another session
 silent_receive : (id other : ℕ) (bytes : List ℕ) (answer : Result Progress HubFault) → nat_eq other id ≡ false → IsSilent id (Receive other bytes answer)
 silent_receive id other bytes (Ok More) apart =
     record { own = cond-false (nat_eq other id) (Received bytes More ∷ []) [] apart; given = refl; not_done = refl; not_complete = refl }
@@ -76,7 +76,7 @@ other_receive id other (Some phase) false old new bytes answer apart step = phas
 other_receive id other (Some (Reading received)) true old new bytes answer apart step = other_head id other old new (received ++ bytes) answer apart step
 other_receive id other (Some (Sending rest)) true old new bytes answer apart step = phase_after id new old step.1
 
--- of the session itself
+-- a call of the session itself
 refused_receive : (id : ℕ) (bytes : List ℕ) (fault : HubFault) → IsSilent id (Receive id bytes (Err fault))
 refused_receive id bytes fault = record { own = refl; given = refl; not_done = refl; not_complete = refl }
 

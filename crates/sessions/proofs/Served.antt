@@ -9,7 +9,7 @@ use Rattle.sessions.proofs.Seen.{IsSilent, Seen, Passes, Begins, Ends, Reads, Fi
 use Rattle.sessions.proofs.Numbers.{numbers_rise}
 use Rattle.sessions.proofs.Match.{not_both, match_map}
 
--- ---- one step more in front
+-- ---- one more step in front
 own_after : (id : ℕ) (step : Step) (steps : List Step) (calls : List OwnCall) → own_call id step.event ≡ calls → own_calls id (step ∷ steps) ≡ calls ++ own_calls id steps
 own_after id step steps calls e = ap (λ l. l ++ own_calls id steps) e
 

@@ -32,7 +32,7 @@ changed id old phase (s ∷ sessions) found =
           ∙ changed id old phase sessions (sym (after_first id s sessions e) ∙ found)
     ]
 
--- the others stay
+-- the other sessions stay
 pub others_unchanged : (other id : ℕ) (phase : Phase) (sessions : List Session) → nat_eq other id ≡ false → phase_in id (with_phase_in other phase sessions) ≡ phase_in id sessions
 others_unchanged other id phase [] apart = refl
 others_unchanged other id phase (s ∷ sessions) apart =
@@ -71,7 +71,7 @@ others_not_removed other id (s ∷ sessions) apart =
           ∙ ap (λ (o : Option Phase). cond (nat_eq s.id id) (Some s.phase) o) (others_not_removed other id sessions apart)
     ]
 
--- one session more
+-- one more session
 pub added : (id : ℕ) (phase : Phase) (sessions : List Session) → phase_in id sessions ≡ None → phase_in id (sessions ++ record { id = id; phase = phase } ∷ []) ≡ Some phase
 added id phase [] none = at_first id (record { id = id; phase = phase }) [] (same_number id)
 added id phase (s ∷ sessions) none =

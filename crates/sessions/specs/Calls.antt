@@ -5,12 +5,12 @@ use Rattle.sessions.specs.declared.fault.HubFault.{HubFault}
 use Rattle.sessions.specs.Hub.{HubState, Given, Event, hub_step}
 use Rattle.sessions.specs.Run.{Step}
 
--- what a pull gave, of what it left in its buffer
+-- what a pull returned: the first bytes of its buffer
 abbrev pub given_in : List ℕ → Result Pulled HubFault → Result Given HubFault
 given_in buffer (Ok pulled) = Ok (record { bytes = take pulled.count buffer; done = pulled.done })
 given_in buffer (Err fault) = Err fault
 
--- what a reopening found, that left the machine so
+-- what a reopening found, if it left the machine in this state
 abbrev pub found_by : {T E : Type 0} → Result T E → HubState → Option (List ℕ)
 found_by (Ok done) after = Some after.committed
 found_by (Err fault) after = None

@@ -40,7 +40,7 @@ pub record HubState : Type 0 where
   pub waiting : ℕ
   -- how many commands share a commit
   pub most : ℕ
-  -- how many will share a commit after a reopening: as many as were last asked for, or 1
+  -- how many will share a commit after a reopening: the number that was last asked for, or 1
   pub most_after_reopening : ℕ
   -- how many commands were accepted since the last opening: those that were kept, and those that wait
   pub count : ℕ
@@ -58,7 +58,7 @@ pub record IsNew (hub : HubState) : Type 0 where
   pub file : hub.has_file ≡ true
   pub sessions : hub.sessions ≡ []
   pub numbers : hub.next_id ≡ 0
-  -- its recorder may have been given groups before, and then a reopening makes none of it
+  -- its recorder may have been given groups before; after a reopening each command is a group of its own
   pub group : hub.most_after_reopening ≡ 1
 
 -- ---- sessions
@@ -112,9 +112,9 @@ connect_step old (Err NoSession) new = ⊥
 connect_step old (Err Source) new = ⊥
 connect_step old (Err NoFile) new = ⊥
 
--- Bytes have come to the session's head, and this is what was received so far. The call that completes the head fixes
--- the response, over the bytes that are committed then. By `Source`, a fault of the disk, the session ends; it is
--- possible only once the head is complete, since nothing is read before.
+-- Bytes have come to the session's head, and this is what was received so far. The call that completes the head
+-- fixes the response, over the bytes that are committed then. After `Source`, a fault of the disk, the session has
+-- ended. This fault is possible only once the head is complete, since nothing is read before.
 abbrev pub head_step : HubState → ℕ → List ℕ → Result Progress HubFault → HubState → Type 0
 head_step old id received (Ok More) new = IsAwaited received × (new ≡ with_phase id (Reading received) old)
 head_step old id received (Ok Ready) new =
@@ -132,7 +132,7 @@ receive_step (Some phase) false old id bytes answer new = (answer ≡ Err NoFile
 receive_step (Some (Reading received)) true old id bytes answer new = head_step old id (received ++ bytes) answer new
 receive_step (Some (Sending rest)) true old id bytes answer new = (answer ≡ Ok Ready) × (new ≡ old)
 
--- the bytes that a pull gave, and whether nothing is left
+-- the bytes that a pull returned, and whether nothing is left
 pub record Given : Type 0 where
   pub bytes : List ℕ
   pub done : Bool
@@ -141,8 +141,8 @@ abbrev pub is_nothing : List ℕ → Bool
 is_nothing [] = true
 is_nothing (byte ∷ bytes) = false
 
--- What is left of the response fills the buffer, as far as either goes. By `Source` the session ends; it is possible
--- only if a byte was to be given.
+-- What is left of the response fills the buffer, as far as either goes. After `Source` the session has ended; this
+-- fault is possible only if a byte was to be given.
 abbrev pub send_step : HubState → ℕ → List ℕ → ℕ → Result Given HubFault → HubState → Type 0
 send_step old id rest size (Ok given) new =
     (given ≡ record { bytes = take size rest; done = is_nothing (drop size rest) })
@@ -153,7 +153,7 @@ send_step old id rest size (Err SessionsFull) new = ⊥
 send_step old id rest size (Err Memory) new = ⊥
 send_step old id rest size (Err NoFile) new = ⊥
 
--- before the head is complete a pull gives nothing
+-- before the head is complete a pull returns no byte
 abbrev pub pull_step : Option Phase → Bool → HubState → ℕ → ℕ → Result Given HubFault → HubState → Type 0
 pull_step None has_file old id size answer new = (answer ≡ Err NoSession) × (new ≡ old)
 pull_step (Some phase) false old id size answer new = (answer ≡ Err NoFile) × (new ≡ old)

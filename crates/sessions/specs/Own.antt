@@ -7,19 +7,19 @@ use Rattle.sessions.specs.declared.answers.Progress.{Progress}
 use Rattle.sessions.specs.declared.answers.Progress.TheVariants.{More, Ready}
 use Rattle.sessions.specs.Hub.{HubState, Session, Reading, Sending, Given, phase_of, is_nothing}
 
--- Of a session that has received so much: more of its head has to come, or its response was fixed.
+-- The session has received these bytes: more of its head has to come, or its response was fixed.
 abbrev pub HasReceived : HubState → ℕ → List ℕ → Progress → HubState → Type 0
 HasReceived old id received More new = IsAwaited received × (phase_of new id ≡ Some (Reading received))
 HasReceived old id received Ready new =
     (response : List ℕ) × IsResponse old.committed received response × (phase_of new id ≡ Some (Sending response))
 
--- Of a session of whose response so much was left: its front was given, and the rest is left.
+-- The rest of the session's response was this: its front was given, and what follows it is left.
 pub record HasPulled (id : ℕ) (rest : List ℕ) (size : ℕ) (given : Given) (new : HubState) : Type 0 where
   pub bytes : given.bytes ≡ take size rest
   pub done : given.done ≡ is_nothing (drop size rest)
   pub left : phase_of new id ≡ Some (Sending (drop size rest))
 
--- nothing was changed but the sessions, and which number is the next
+-- nothing was changed except the sessions, and which number is the next
 abbrev pub KeepsFile : HubState → HubState → Type 0
 KeepsFile old new = new ≡ record old { sessions = new.sessions; next_id = new.next_id }
 

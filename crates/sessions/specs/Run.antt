@@ -76,7 +76,7 @@ room_in [] = 0
 room_in (Received bytes progress ∷ calls) = room_in calls
 room_in (Pulled size ∷ calls) = size + room_in calls
 
--- how many the buffers hold of the calls after the one that completed the head
+-- how many bytes the buffers hold of the calls after the one that completed the head
 abbrev pub room_after_head : List OwnCall → ℕ
 room_after_head [] = 0
 room_after_head (Received bytes More ∷ calls) = room_after_head calls

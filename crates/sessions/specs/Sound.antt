@@ -8,7 +8,7 @@ use Rattle.sessions.specs.Hub.{HubState, Event, Connect, Receive, Pull, Close, R
 abbrev pub IsRecorded : List ℕ → Type 0
 IsRecorded bytes = (recording : Recording) × Holds bytes recording
 
--- The committed bytes hold a recording, and so they do with what waits, and with the group in doubt.
+-- The committed bytes hold a recording. So do the committed bytes with what waits, and with the group in doubt.
 pub record IsSound (hub : HubState) : Type 0 where
   pub committed : IsRecorded hub.committed
   pub held : IsRecorded (hub.committed ++ hub.held)

@@ -11,8 +11,8 @@ pub trait SeenAsHub {
     ghost shows: { Self → HubState → Type 0 };
 }
 
-/// Calls of which each is a step are steps in turn, of whichever machine the hub is seen as at first. So what holds of
-/// all steps holds of the calls.
+/// If each of some calls is a step, they are steps in turn, whichever machine the hub is seen as at first. So what
+/// holds of all steps holds of the calls.
 pub fn calls_are_steps<H: SeenAsHub>()
     ensures { (hub : H) (start : HubState) (calls : List (Call H)) → H.shows hub start → AreCalls H.shows hub calls
         → (steps : List Step) × AreSteps start steps × AllZip (IsSeenAs H.shows) calls steps }

@@ -13,7 +13,7 @@ pub enum HubFault {
     /// There are 64 sessions, or all numbers of 64 bits are given.
     #[error("there are too many sessions")]
     SessionsFull,
-    /// A read of the file failed, or gave no good page. The session has ended.
+    /// A read of the file failed, or found no good page. The session has ended.
     #[error("the file can't be read")]
     Source,
     /// Memory was refused. The session is as it was before the call.

@@ -19,7 +19,7 @@ use chain_rules::{command_adds_its_packets, refusals_are_of_the_table};
 use link_chain::bytes_are_one_chain;
 use responses::responses_are_unambiguous;
 
-/// Whichever calls come, in any order: what a session pulls is the front of one response, that to its request over
+/// Whichever calls come, in any order, what a session pulls is the front of one response: that to its request, over
 /// the bytes that were committed when its head was complete. The front is as long as the session's buffers allow, and
 /// all of the response if a pull said so.
 pub fn sessions_get_their_responses()
@@ -39,15 +39,15 @@ pub fn sessions_get_their_responses()
     responses_are_unambiguous();
 }
 
-/// A call changes no session but its own.
+/// A call changes only its own session.
 pub fn other_sessions_stay()
     ensures { (old new : HubState) (event : Event) (id : ℕ) → hub_step old event new → session_of event ≢ Some id
         → phase_of new id ≡ phase_of old id }
 {}
 
-/// What a call does to its own session. A session that was connected has received nothing; what it receives is added
-/// to its head, until its response is fixed; a pull gives the front of what is left; and it ends when it is closed.
-/// None of these calls changes the file, or what waits for it.
+/// What a call does to its own session. A session that was connected has received nothing. What a session receives
+/// is added to its head, until its response is fixed. A pull gives the session the front of what is left. The
+/// session ends when it is closed. None of these calls changes the file, or what waits for it.
 pub fn calls_move_their_session()
     ensures connect { (old new : HubState) (id : ℕ) → hub_step old (Connect (Ok id)) new → phase_of old id ≡ None
         → phase_of new id ≡ Some (Reading []) }
@@ -81,8 +81,8 @@ pub fn sessions_are_few()
         → AllByRecursion (λ (step : Step). length step.after.sessions ≤ most_sessions) steps }
 {}
 
-/// A call of a session is refused for what the hub is exactly if the hub is so: `SessionsFull`, `NoSession` and
-/// `NoFile`.
+/// `SessionsFull`, `NoSession` and `NoFile` are answered exactly if the hub is so: it is full, has no such session,
+/// or has no file.
 pub fn refusals_are_exact()
     ensures connect { (old new : HubState) (answer : Result ℕ HubFaultOf) → hub_step old (Connect answer) new
         → (answer ≡ Err SessionsFull) ↔ ((64 ≤ length old.sessions) ⊎ (2 ^ 64 ≤ old.next_id)) }
@@ -98,8 +98,8 @@ pub fn refusals_are_exact()
         → (answer ≡ Err NoSession) ↔ (phase_of old id ≡ None) }
 {}
 
-/// Committed bytes stay in front, whichever calls come. If they hold a recording at first, with what waits and with the
-/// group in doubt, they do after each step, and then whatever is asked has a response.
+/// Committed bytes stay in front, whichever calls come. If they hold a recording at first, with what waits and with
+/// the group in doubt, they do after each step, and then whatever is asked has a response.
 pub fn committed_bytes_grow()
     ensures grows { (start : HubState) (steps : List Step) → AreSteps start steps
         → AllByRecursion (λ (step : Step). Extends start.committed step.after.committed) steps }
@@ -113,8 +113,8 @@ pub fn committed_bytes_grow()
     command_adds_its_packets();
 }
 
-/// Each call has an answer other than want of memory and a fault of the disk, so that the steps ask nothing
-/// impossible of a hub.
+/// Each call has an answer other than want of memory and a fault of the disk, so the steps ask nothing impossible of
+/// a hub.
 pub fn calls_can_be_answered()
     ensures connect { (hub : HubState) → (answer : Result ℕ HubFaultOf) × (new : HubState)
         × (answer ≢ Err Memory) × hub_step hub (Connect answer) new }

@@ -8,7 +8,8 @@ use ogg_page::{
     longest_prefix_of_pages_is_unique, page_bytes_are_prefix_free, pages_are_found_in_turn,
 };
 
-/// A part of the committed bytes stays as it is while they grow; its front is a part, and so is what follows its front.
+/// A part of the committed bytes stays as it is while they grow; its front is a part, and so is what follows its
+/// front.
 pub fn parts_are_places()
     ensures stays { (place count : ℕ) (committed more : List ℕ) → LiesIn place count committed
         → part_at place count (committed ++ more) ≡ part_at place count committed }
@@ -18,8 +19,8 @@ pub fn parts_are_places()
         → drop n (part_at place (n + left) committed) ≡ part_at (place + n) left committed }
 {}
 
-/// The rest of a stream stays as it is while the committed bytes grow, and its place moves on page by page: a page of
-/// another stream is passed over, and so is one of the stream's own that lies before the rest; of any other page the
+/// The rest of a stream stays as it is while the committed bytes grow, and its place moves on page by page. A page of
+/// another stream is passed over, and so is one of the stream's own that lies before the rest. Of any other page the
 /// next bytes are given.
 pub fn stream_rests_are_places()
     ensures stays { (committed more : List ℕ) (serial place skip count : ℕ) (rest : List ℕ)

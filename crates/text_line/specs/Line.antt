@@ -3,5 +3,5 @@ use Rattle.std.specs.Prelude.{ℕ, List}
 
 pub record LineState : Type 0 where
   pub text : List ℕ
-  -- for how many bytes more there is room in front
+  -- the number of further bytes for which there is room in front
   pub room : ℕ

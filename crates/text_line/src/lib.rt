@@ -1,7 +1,7 @@
-//! A line of text, put together from its end, without memory.
+//! A line of text, put together from its end. It takes no memory.
 //!
-//! A line begins as its line feed. Words and numbers are put in front of it, the last one first, so that a number needs
-//! no second place for its digits. There is room for 128 bytes in all.
+//! A line begins as its line feed. Words and numbers are put in front of it, the last one first, so a number needs no
+//! second place for its digits. There is room for 128 bytes in all.
 //!
 //! Start at `specs/Line.antt`, which says what a contract sees of a line.
 #![tactic(auto)]

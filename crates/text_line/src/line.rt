@@ -4,7 +4,7 @@ ghost use Rattle.std.specs.Prelude.{◌≡◌, ◌≤◌, ◌+◌, ◌++◌, ◌
 use itoa::write_digits;
 use std::marker::Model;
 
-/// How long a line is at most, in bytes: a word, four numbers of 20 digits, and what stands between them.
+/// The greatest length of a line, in bytes: a word, four numbers of 20 digits, and what stands between them.
 const LONGEST: usize = 128;
 
 /// A line of text, put together from its end. It takes no memory.
@@ -26,7 +26,7 @@ impl Model for Line {
 }
 
 impl Line {
-    /// A line feed alone.
+    /// Only a line feed.
     pub fn new() -> Line
         ensures text { result.text ≡ 10 ∷ [] }
         ensures room { result.room ≡ 127 }

@@ -3,7 +3,7 @@ use Rattle.std.specs.List.{AllByRecursion}
 use Rattle.feed_changes.specs.Naming.{AreNamed, AreNames, AreOnlyOf, IsKept, serials_of}
 use Rattle.feed_changes.proofs.naming.rename_all.Given as goal
 
--- the streams so far are named, and the others kept if they may be
+-- the streams so far are named, and the others are kept if they may be
 abbrev pub invariant-loop-stream : goal.invariant-loop-stream
 invariant-loop-stream l = record {
   names : AreNames l.given.listed l.names.items;

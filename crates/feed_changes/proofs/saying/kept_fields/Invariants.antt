@@ -4,7 +4,7 @@ use Rattle.skeleton3.specs.Fields.{is_field}
 use Rattle.feed_changes.specs.Said.{further}
 use Rattle.feed_changes.proofs.saying.kept_fields.Given as goal
 
--- those so far are kept
+-- the fields so far are kept
 abbrev pub invariant-loop-name : goal.invariant-loop-name
 invariant-loop-name l = record {
   can : (goal.iterator-loop-name).can_next l.name-iterator;

@@ -3,7 +3,7 @@ use Rattle.std.specs.List.{filter}
 use Rattle.feed_changes.specs.Skeletons.{headers_in, is_other, is_skeleton}
 use Rattle.feed_changes.proofs.skeletons.parted.Given as goal
 
--- so it is of the streams so far
+-- the streams so far are parted
 abbrev pub invariant-loop-stream : goal.invariant-loop-stream
 invariant-loop-stream l = record {
   others : l.others.items ≡ filter is_other l.yielded;

@@ -1,6 +1,7 @@
 use Rattle.std.proofs.Common.{◌≡◌, refl, sym, ◌∙◌, subst, arith, Some, Ok}
 use Rattle.ogg_page.specs.Window.{answer, HasMoved}
-use Rattle.gate_file.proofs.Passing.{passed_nothing, passed_more, keeps_both}
+use Rattle.ogg_page.specs.SourceLaws.{keeps_both}
+use Rattle.gate_file.proofs.Passing.{passed_nothing, passed_more}
 use Rattle.gate_file.proofs.visiting.walk.Goals as goal
 
 pub pages-init : goal.pages-init

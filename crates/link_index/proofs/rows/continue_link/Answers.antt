@@ -6,7 +6,7 @@ use Rattle.link_index.specs.declared.info.StreamInfo.{StreamInfo}
 use Rattle.link_index.specs.declared.rows.Row.{Row}
 use Rattle.link_index.specs.Growth.{continued_entry, change_last, counted}
 use Rattle.link_index.specs.Rows.{ArePacked, AreWithin, entries_of, last_count}
-use Rattle.link_index.proofs.Packing.{grown, last_at, all_behind, packed_at, packed_with, rows_continued, continued_within, all_at}
+use Rattle.link_index.proofs.Packing.{grown, last_at, all_behind, packed_at, packed_with, rows_continued, continued_within}
 use Rattle.link_index.proofs.rows.continue_link.Goals as goal
 
 pub split_at_mut-own-requires : goal.split_at_mut-own-requires

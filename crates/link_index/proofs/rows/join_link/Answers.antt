@@ -4,7 +4,7 @@ use Rattle.link_index.specs.declared.info.StreamInfo.{StreamInfo}
 use Rattle.link_index.specs.declared.rows.Row.{Row}
 use Rattle.link_index.specs.Growth.{joined_entry, change_last, first_info}
 use Rattle.link_index.specs.Rows.{ArePacked, AreWithin, entries_of, last_count}
-use Rattle.link_index.proofs.Packing.{grown, last_at, packed_at, packed_with, rows_joined, joined_within, all_at}
+use Rattle.link_index.proofs.Packing.{grown, last_at, packed_at, packed_with, rows_joined, joined_within}
 use Rattle.link_index.proofs.rows.join_link.Goals as goal
 
 pub overflow_add-last-2 : goal.overflow_add-last-2

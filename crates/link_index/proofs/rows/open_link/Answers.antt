@@ -1,8 +1,8 @@
-use Rattle.std.proofs.Common.{◌≡◌, ◌+◌, ◌++◌, ℕ, List, [], ◌∷◌, length, refl, sym, ◌∙◌, ap, subst, arith, length-append}
+use Rattle.std.proofs.Common.{◌≡◌, ◌+◌, ◌++◌, ℕ, List, [], ◌∷◌, length, sym, ◌∙◌, ap, subst, arith, length-append}
 use Rattle.ogg_page.specs.Page.{page_bytes}
 use Rattle.link_index.specs.declared.info.StreamInfo.{StreamInfo}
 use Rattle.link_index.specs.declared.rows.Row.{Row}
-use Rattle.link_index.specs.Growth.{opened_entry, first_info}
+use Rattle.link_index.specs.Growth.{first_info}
 use Rattle.link_index.specs.Rows.{ArePacked, AreWithin, entries_of, last_count}
 use Rattle.link_index.proofs.Packing.{last_at, packed_with, rows_opened, opened_within}
 use Rattle.link_index.proofs.rows.open_link.Goals as goal

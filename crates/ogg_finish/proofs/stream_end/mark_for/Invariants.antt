@@ -2,7 +2,7 @@ use Rattle.std.proofs.Common.{◌≡◌, length}
 use Rattle.ogg_finish.specs.Ends.{mark_for}
 use Rattle.ogg_finish.proofs.stream_end.mark_for.Given as goal
 
--- the rest decides
+-- the streams that are left decide
 abbrev pub invariant-loop-end : goal.invariant-loop-end
 invariant-loop-end l = mark_for l.fn.ends l.serial ≡ mark_for l.rest l.serial
 

@@ -7,7 +7,7 @@ use Rattle.std.proofs.lemmas.Str.{digit_value_digit}
 use Rattle.ogg_http.specs.Digits.{is_number}
 use Rattle.ogg_http.proofs.digits.value_of.Goals as goal
 
--- one more digit, where the value is cut at a largest one
+-- one more digit, if the value is cut at a largest one
 cut_more : (v w m d : ℕ) → w ≡ min v m → min (min (w * 10) m + d) m ≡ min (v * 10 + d) m
 cut_more v w m d e = omega (arith, e)
 

@@ -14,7 +14,7 @@ find_more p f xs i d inside none missed =
     ∙ ap (λ o. option_or o (find p (f (get_or xs i d) ∷ []))) none
     ∙ ap (λ b. cond b (Some (f (get_or xs i d))) None) missed
 
--- the choice of a value is none only where it is not taken
+-- the choice of a value is none only if it is not taken
 cond_none : {A : Type 0} (b : Bool) (v : A) (u : Option A) → cond b (Some v) u ≡ None → (b ≡ false) × (u ≡ None)
 cond_none true v u e = absurd (cc e)
 cond_none false v u e = (refl, e)

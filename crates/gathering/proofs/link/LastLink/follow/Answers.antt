@@ -6,7 +6,7 @@ use Rattle.gathering.specs.Kept.{KeptStream, KeptLink, TakenBy, has_kept}
 use Rattle.gathering.specs.Giving.{Follows, PassesOn}
 use Rattle.gathering.proofs.link.LastLink.follow.Goals as goal
 
--- all items were lent, so just what they are now is given back
+-- all items were lent, so exactly what they are now is given back
 given_back : {X : Type 0} (now was : List X) (n : ℕ) → length now ≡ n → take n (now ++ drop (length now) was) ≡ now
 given_back now was n e = ap (λ k. take k (now ++ drop (length now) was)) (sym e) ∙ take-append_seam now (drop (length now) was)
 

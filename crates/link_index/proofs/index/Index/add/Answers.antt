@@ -1,6 +1,4 @@
-use Rattle.std.proofs.Common.{◌≡◌, ◌+◌, ◌++◌, ℕ, List, length, sym, ◌∙◌, ap, subst, arith, None, length-append}
-use Rattle.ogg_page.specs.Page.{page_size}
-use Rattle.ogg_page.specs.PageLaws.{length-page_bytes}
+use Rattle.std.proofs.Common.{◌≡◌, sym, ◌∙◌, ap, subst, arith, None}
 use Rattle.link_chain.specs.ChainState.{ChainState}
 use Rattle.link_chain.specs.Taking.{fault_of_page}
 use Rattle.link_chain.specs.Laws.Walked.{no_fault_there}

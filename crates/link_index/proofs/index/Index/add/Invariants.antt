@@ -1,4 +1,4 @@
-use Rattle.std.proofs.Common.{◌≡◌, ◌≤◌, ◌<◌, ◌+◌, ◌^◌, List, length}
+use Rattle.std.proofs.Common.{◌≡◌, ◌+◌, List, length}
 use Rattle.ogg_page.specs.Page.{Page}
 use Rattle.link_index.specs.Adding.{IsIndexOf}
 use Rattle.link_index.proofs.Walking.{AddsSome}

@@ -1,18 +1,18 @@
-use Rattle.std.proofs.Common.{◌≡◌, ◌+◌, ◌++◌, ℕ, Bool, true, false, List, [], ◌∷◌, length, refl, sym, ◌∙◌, ap, subst, arith, None}
+use Rattle.std.proofs.Common.{◌≡◌, ◌+◌, ◌++◌, Bool, true, false, List, [], ◌∷◌, sym, ◌∙◌, ap, subst, arith, None}
 use Rattle.std.specs.Prelude.{not}
 use Rattle.std.specs.List.{list_any}
-use Rattle.ogg_page.specs.Page.{Page, page_bytes}
+use Rattle.ogg_page.specs.Page.{Page}
 use Rattle.ogg_page.specs.PageLaws.{length-page_bytes}
 use Rattle.link_chain.specs.declared.stream_state.StreamState.{StreamState}
 use Rattle.link_chain.specs.ChainState.{ChainState, chain_state_of, is_open}
-use Rattle.link_chain.specs.Taking.{fault_of_page, links_with}
+use Rattle.link_chain.specs.Taking.{fault_of_page}
 use Rattle.link_chain.specs.Laws.PageState.{joins_few}
 use Rattle.link_index.specs.declared.info.StreamInfo.{StreamInfo}
 use Rattle.link_index.specs.declared.rows.Row.{Row}
 use Rattle.link_index.specs.Adding.{IndexState}
 use Rattle.link_index.specs.Index.{LinkEntry, index_of}
 use Rattle.link_index.specs.Growth.{joined_entry, opened_entry, change_last}
-use Rattle.link_index.specs.Rows.{AreWithin, IsKept, ArePacked, entries_of, last_count}
+use Rattle.link_index.specs.Rows.{AreWithin, IsKept, entries_of, last_count}
 use Rattle.link_index.proofs.Growing.{index_joined, index_opened}
 use Rattle.link_index.proofs.Keeping.{kept_opened, kept_joined}
 use Rattle.link_index.proofs.index.Index.add_first.Goals as goal

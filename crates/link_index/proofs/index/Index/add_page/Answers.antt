@@ -1,16 +1,15 @@
-use Rattle.std.proofs.Common.{◌≡◌, ◌+◌, ◌++◌, ℕ, Bool, true, false, List, length, take, drop, sym, ◌∙◌, ap, subst, arith, None, vec_len}
+use Rattle.std.proofs.Common.{◌≡◌, false, List, length, sym, ◌∙◌, ap, subst, arith, None, vec_len}
 use Rattle.std.specs.Prelude.{Result, Ok, Err, ⊤}
-use Rattle.ogg_page.specs.Page.{Page, page_bytes}
+use Rattle.ogg_page.specs.Page.{Page}
 use Rattle.ogg_page.specs.PageLaws.{length-page_bytes}
 use Rattle.ogg_page.specs.LogicalStream.{is_first}
 use Rattle.link_chain.specs.ChainState.{ChainState, chain_state_of}
-use Rattle.link_chain.specs.Taking.{fault_of_page, links_with}
+use Rattle.link_chain.specs.Taking.{fault_of_page}
 use Rattle.link_chain.specs.Laws.Walked.{no_fault_there}
 use Rattle.link_chain.specs.declared.chain_fault.ChainFault.{ChainFault}
 use Rattle.link_index.specs.declared.info.StreamInfo.{StreamInfo}
-use Rattle.link_index.specs.declared.rows.Row.{Row}
 use Rattle.link_index.specs.Adding.{IndexState}
-use Rattle.link_index.specs.Index.{LinkEntry, index_of}
+use Rattle.link_index.specs.Index.{index_of}
 use Rattle.link_index.specs.Growth.{continued_entry, change_last}
 use Rattle.link_index.specs.Rows.{AreWithin, IsKept, entries_of}
 use Rattle.link_index.proofs.Growing.{index_later}

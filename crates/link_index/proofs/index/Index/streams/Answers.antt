@@ -1,15 +1,13 @@
-use Rattle.std.proofs.Common.{◌≡◌, ◌<◌, ◌≤◌, ◌+◌, ℕ, List, length, sym, ◌∙◌, ap, subst, arith, true, Some}
+use Rattle.std.proofs.Common.{◌≡◌, ◌≤◌, ◌+◌, ℕ, List, length, sym, ◌∙◌, ap, subst, arith, true, Some}
 use Rattle.std.proofs.Common.{refl, slice_index_or}
 use Rattle.std.specs.Prelude.{nat_lt, slice_get}
 use Rattle.std.specs.Option.{option_map}
-use Rattle.std.specs.List.{AllByRecursion}
 use Rattle.std.proofs.lemmas.Bool.{ltb-true}
 use Rattle.std.proofs.lemmas.Option.{slice_get-map, slice_get_read}
 use Rattle.link_index.specs.declared.info.StreamInfo.{StreamInfo}
 use Rattle.link_index.specs.declared.rows.Row.{Row}
 use Rattle.link_index.specs.Adding.{IndexState}
-use Rattle.link_index.specs.Index.{LinkEntry}
-use Rattle.link_index.specs.Rows.{entry_of, entries_of}
+use Rattle.link_index.specs.Rows.{entry_of}
 use Rattle.link_index.proofs.Packing.{packed_inside, at_place}
 use Rattle.link_index.proofs.index.Index.streams.Goals as goal
 
