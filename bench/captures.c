@@ -1,4 +1,5 @@
-// Counts the capture patterns in standard input by memchr, byte `O` by byte: a floor for `salvage` on random bytes.
+// Counts the capture patterns in standard input by memchr, from one byte `O` to the next. This is the least time that
+// `salvage` could take on random bytes.
 //
 //     cc -O2 -D_GNU_SOURCE -o captures captures.c && ./captures < FILE
 #include <stdio.h>

@@ -1,13 +1,14 @@
 #!/usr/bin/env bash
-# What the gate (rt ci) costs, crate by crate, in processor seconds (user and system), not by the clock: the proof from
-# nothing, the proof with the tests, each must-fail edit, and the check of the crate itself that follows its edits. It does
-# each step as rt ci does, one after the other, with one job, in a copy, and changes nothing here. A crate that a crate
-# named here uses is proved first, and its proof isn't counted. Not part of the tests.
+# Measures what the gate (rt ci) costs, crate by crate, in processor seconds (user and system), not by the clock: the
+# proof from nothing, the proof with the tests, each must-fail edit, and the check of the crate itself that follows its
+# edits. It does each step as rt ci does, one after the other, with one job, in a copy, and changes nothing here. A
+# crate that is used by a crate named here is proved first, and its proof isn't counted. Not part of the tests.
 #
 #     bench/gate.sh [--kept] [--only proof|tests|edits] [CRATE ..]      none: every crate, about four hours of one processor
 #
-# The first edit of a crate checks it whole; each further one checks what it changes. With --kept the libraries and the work
-# that rt lib left in out/ are taken over, so that edits are measured in minutes; the first then costs what the others do.
+# The first edit of a crate checks it whole; each further one checks what it changes. With --kept the libraries and the
+# work that rt lib left in out/ are taken over, so that the edits are measured in minutes; then the first edit costs
+# what the others do.
 set -u
 top=$(cd "$(dirname "$(readlink -f "$0")")/.." && pwd) || exit 2
 rt=$(readlink -f "$(command -v rt)") || { echo "rt isn't here" >&2; exit 2; }

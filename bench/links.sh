@@ -1,7 +1,8 @@
 #!/usr/bin/env bash
-# Whether a command costs what it adds and not what the file has: commands per CPU second over files of 1,024 and of 65,536
-# links, begun and ended, each the best of three runs. Then whether it costs the same whoever has chosen the serials: files of
-# 65,536 links of four streams, 262,144 serials, with the ratio to random ones. Not part of the tests.
+# Measures whether a command costs what it adds and not what the file has: commands per CPU second over files of 1,024
+# and of 65,536 links, begun and ended, each the best of three runs. Then it measures whether a command costs the same
+# whoever has chosen the serials: files of 65,536 links of four streams have 262,144 serials, and the ratio to random
+# ones is given. Not part of the tests.
 #
 #     bench/links.sh [STREAMS]      streams of each link; none: 1
 set -u

@@ -1,6 +1,7 @@
 #!/usr/bin/env bash
-# The same feed through `mux` and through a small program over libogg: the pages and the replies compared byte for byte,
-# and the CPU seconds (user and system) of both, each the best of three runs that take turns. Not part of the tests.
+# Sends the same feed through `mux` and through a small program over libogg. It compares the pages and the replies byte
+# for byte, and prints the CPU seconds (user and system) of both, each the best of three runs that take turns. Not part
+# of the tests.
 #
 #     apt-get install libogg-dev && bench/mux.sh [SHAPE ..]      tiny, audio, streams, frames, large; none: all
 set -u

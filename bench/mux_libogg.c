@@ -1,7 +1,11 @@
-// Writes the pages of a feed on standard input to standard output, by libogg, and a reply for each command to standard
-// error: what `kudzuturret mux` does, without its rules. It trusts its input, so each command is kept.
+// Runs the feed on standard input by libogg: what `kudzuturret mux` and `kudzuturret record` do, without their rules. It
+// trusts its input, so each command is kept. Without words it writes the pages to standard output, and a reply for each
+// command to standard error. With words it records into FILE, MOST commands to a commit, by the calls of the system that
+// `record` makes, and writes the replies to standard output.
 //
 //     cc -O2 -o mux_libogg mux_libogg.c -logg && ./mux_libogg < FEED > PAGES
+//     ./mux_libogg FILE MOST < FEED > REPLIES
+#include <fcntl.h>
 #include <inttypes.h>
 #include <ogg/ogg.h>
 #include <stdint.h>
@@ -17,6 +21,10 @@ static int count;
 static unsigned char *pages;
 static size_t length, room;
 
+// The file that is recorded, if one is: how much of it is committed, and how much is written.
+static int file = -1;
+static off_t committed, written;
+
 static void fail(const char *why) {
     fprintf(stderr, "mux_libogg: %s\n", why);
     exit(1);
@@ -29,16 +37,31 @@ static uint64_t number(const unsigned char **at, int bytes) {
     return value;
 }
 
+// Writes the page that is in `pages`, with a byte 0 after it. The first byte of what isn't committed is 0 until it is.
+static void write_page(size_t size) {
+    if (written == committed) pages[0] = 0;
+    pages[size] = 0;
+    if (pwrite(file, pages, size + 1, written) != (ssize_t)size + 1) fail("writing failed");
+    written += size;
+}
+
+// Syncs what is written, sets its first byte, and syncs once more.
+static void commit(void) {
+    if (fsync(file) || pwrite(file, "O", 1, committed) != 1 || fsync(file)) fail("committing failed");
+    committed = written;
+}
+
 static void append(const ogg_page *page) {
     size_t more = page->header_len + page->body_len;
-    if (length + more > room) {
-        room = 2 * (length + more);
+    if (length + more + 1 > room) {
+        room = 2 * (length + more + 1);
         pages = realloc(pages, room);
         if (!pages) fail("no memory");
     }
     memcpy(pages + length, page->header, page->header_len);
     memcpy(pages + length + page->header_len, page->body, page->body_len);
-    length += more;
+    if (file >= 0) write_page(more);
+    else length += more;
 }
 
 // All that the stream holds, as pages that are cut only at 255 lacing values.
@@ -122,12 +145,22 @@ static void end(const unsigned char *at) {
     append(&page);
 }
 
-int main(void) {
+static void reply(int to, const char *line, int size) {
+    if (write(to, line, size) != size) fail("replying failed");
+}
+
+int main(int words, char **word) {
     unsigned char head[5], *payload = malloc(MOST_PAYLOAD);
     static char buffer[65536];
-    uint64_t kept = 0, end_of_file = 0;
+    uint64_t kept = 0, held = 0, end_of_file = 0, most = 1;
+    char line[64];
     setvbuf(stdin, buffer, _IOFBF, sizeof buffer);
     if (!payload) fail("no memory");
+    if (words == 3) {
+        most = strtoull(word[2], NULL, 10);
+        file = open(word[1], O_CREAT | O_RDWR, 0666);
+        if (file < 0) fail("the file can't be opened");
+    }
     while (fread(head, 1, 5, stdin) == 5) {
         const unsigned char *at = head + 1;
         uint32_t size = number(&at, 4);
@@ -139,6 +172,18 @@ int main(void) {
         case 3: end(payload); break;
         default: fail("a bad kind");
         }
+        held++;
+        if (file >= 0 && held < most) {
+            reply(1, line, snprintf(line, sizeof line, "held %" PRIu64 "\n", kept + held));
+            continue;
+        }
+        kept += held;
+        held = 0;
+        if (file >= 0) {
+            commit();
+            reply(1, line, snprintf(line, sizeof line, "kept %" PRIu64 " %" PRIu64 "\n", kept, (uint64_t)committed));
+            continue;
+        }
         // One write for a command, as ours.
         for (size_t done = 0; done < length;) {
             ssize_t took = write(1, pages + done, length - done);
@@ -146,9 +191,12 @@ int main(void) {
             done += took;
         }
         end_of_file += length;
-        char line[64];
-        int size_of_line = snprintf(line, sizeof line, "kept %" PRIu64 " %" PRIu64 "\n", ++kept, end_of_file);
-        if (write(2, line, size_of_line) != size_of_line) return 1;
+        reply(2, line, snprintf(line, sizeof line, "kept %" PRIu64 " %" PRIu64 "\n", kept, end_of_file));
+    }
+    if (held) {
+        commit();
+        kept += held;
+        reply(1, line, snprintf(line, sizeof line, "kept %" PRIu64 " %" PRIu64 "\n", kept, (uint64_t)committed));
     }
     return 0;
 }

@@ -1,6 +1,7 @@
 #!/usr/bin/env bash
-# Reading and checking the pages of large files: `read_ogg` and a small program over libogg's sync layer, which must count the
-# same, and the CPU seconds (user and system) of both, each the best of three runs that take turns. Not part of the tests.
+# Reads and checks the pages of large files by `read_ogg` and by a small program over libogg's sync layer, which must
+# count the same. It prints the CPU seconds (user and system) of both, each the best of three runs that take turns. Not
+# part of the tests.
 #
 #     apt-get install libogg-dev && bench/pages.sh [SHAPE ..]      tiny, audio, streams, frames, large; none: all
 set -u
@@ -15,7 +16,7 @@ for program in "$mux" "$reader"; do
 done
 cc -O2 -o "$work/pages_libogg" "$here/pages_libogg.c" -logg || exit 1
 
-# cpu FILE COMMAND ..: runs the command on the pages, what it prints to FILE, and prints its CPU seconds.
+# cpu FILE COMMAND ..: runs the command on the pages, with its output in FILE, and prints its CPU seconds.
 cpu() {
     local file=$1
     shift

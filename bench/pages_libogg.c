@@ -1,5 +1,5 @@
-// Counts the pages of an Ogg file on standard input, with their checksums looked at, by libogg's sync layer: what
-// `read_ogg` does. Prints `pages COUNT END`.
+// Counts the pages of an Ogg file on standard input, and checks their checksums, by libogg's sync layer, as `read_ogg`
+// does. Prints `pages COUNT END`.
 //
 //     cc -O2 -o pages_libogg pages_libogg.c -logg && ./pages_libogg < FILE.ogg
 #include <inttypes.h>

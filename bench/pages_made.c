@@ -1,5 +1,5 @@
-// Writes an Ogg file of about so many bytes on standard output: one stream, or several that take turns, with serials from 1,
-// each packet with a page of its own.
+// Writes an Ogg file of about BYTES bytes on standard output: one stream, or several whose pages alternate, with
+// serials from 1 on. Each packet has PACKET bytes, on a page to itself.
 //
 //     cc -O2 -o pages_made pages_made.c -logg && ./pages_made BYTES PACKET [STREAMS] > FILE.ogg
 #include <ogg/ogg.h>

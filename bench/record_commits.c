@@ -1,8 +1,8 @@
-/* Commits packets: record_commits plain|sqlite FILE COUNT BYTES GROUP. Measured beside `record` by record.sh.
+/* Commits packets: record_commits plain|sqlite FILE COUNT BYTES GROUP. record.sh measures it beside `record`.
  *
- * plain: the calls of the system that `record` makes: a write for each page, a sync, one byte written, a sync. The bytes
- * are as many as those of its pages, and there is no checksum.
- * sqlite: a row for each packet, GROUP rows in a transaction. */
+ * plain: makes the calls of the system that `record` makes: a write for each page, a sync, one byte written, a sync. It
+ * writes as many bytes as the pages of `record` have, without a checksum.
+ * sqlite: writes a row for each packet, with GROUP rows in a transaction. */
 #include <fcntl.h>
 #include <sqlite3.h>
 #include <stdio.h>

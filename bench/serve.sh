@@ -1,11 +1,15 @@
 #!/usr/bin/env bash
-# What serving costs, over files of 1 GB in pages of 65,024 bytes and smaller ones: ranges of 1 MB out of `serve`, out of a small
-# C program that sends pieces of 4,096 bytes as `serve` does, and out of nginx (one worker, no logs, a connection for each
-# request); ranges of 100 bytes out of the same three; one of two streams that take turns against all of a file; the memory
-# over files of 1 MB and of 1 GB; and a request of one byte while `live` records, over files of 1 MB and of 300 MB.
+# Measures what serving costs, over files of 1 GB in pages of 65,024 bytes and smaller ones:
+# - ranges of 1 MB out of `serve`, out of a small C program that sends pieces of 4,096 bytes as `serve` does, and out of
+#   nginx (one worker, no logs, a connection for each request);
+# - ranges of 100 bytes out of the same three;
+# - one of two streams whose pages alternate, against all of a file;
+# - the memory over files of 1 MB and of 1 GB;
+# - a request of one byte while `live` records, over files of 1 MB and of 300 MB.
 #
-# One client asks, and has one connection at a time, on 127.0.0.1. `clock` is the seconds of its requests, `cpu` the server's CPU
-# seconds (user and system) meanwhile, of the run with the least clock of three that take turns. Not part of the tests.
+# One client asks, and has one connection at a time, on 127.0.0.1. `clock` is the seconds of its requests, and `cpu`
+# the server's CPU seconds (user and system) meanwhile, from the run with the least clock of three that take turns. Not
+# part of the tests.
 #
 #     apt-get install libogg-dev nginx-light && bench/serve.sh [BYTES]      none: 1000000000
 set -u
@@ -13,7 +17,7 @@ here=$(cd "$(dirname "$0")" && pwd)
 program=${PROGRAM:-$here/../crates/ogg_main/out/ogg_main}
 work=$(mktemp -d "${TMPDIR:-/tmp}/serve-bench.XXXXXX")
 server=
-# The servers that run are those that this script has started, each in turn.
+# Each server that runs was started by this script; they run one after the other.
 stop() { [ -z "$server" ] || { kill "$server"; wait "$server"; } 2>/dev/null; server=; }
 trap 'stop; rm -rf "$work"' EXIT
 bytes=${1:-1000000000}
@@ -127,8 +131,8 @@ for size in 1000000 "$bytes"; do
     awk -v size="$whole" '{ printf "%-22s %10d\n", sprintf("a file of %.0f MB", size / 1e6), $4 }' "$work/one"
 done
 
-# Each request has a step of the feed before its one piece, so each finds a file that has grown by a page. Its clock is the
-# disk's for the most part, since each step is a commit.
+# Each request has a step of the feed before its one piece, so each finds a file that has grown by a page. Its clock is
+# the disk's for the most part, since each step is a commit.
 echo
 printf '%-22s %8s %10s %12s\n' 'live' requests 'clock, s' 'cpu, ms each'
 records() { PYTHONPATH=$here/../tests/program python3 -c 'import sys; from records import begin, put; '"$1"; }

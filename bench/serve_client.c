@@ -1,11 +1,11 @@
-// Asks a server on 127.0.0.1 for ranges of a resource, one connection after the other, and checks the status and the length of
-// each answer. The places are random and the same in each run. Prints the seconds by the clock, the server's CPU seconds in
-// user and system mode in that time, and the most kB of memory that the server has had. A first request, of one byte, is
-// answered before the clock starts, so that the server's own start doesn't count.
+// Asks a server on 127.0.0.1 for ranges of a resource, one connection after the other, and checks the status and the
+// length of each answer. The places are random and the same in each run. Prints the seconds by the clock, the server's
+// CPU seconds in user and system mode in that time, and the most kB of memory that the server has had. A first
+// request, of one byte, is answered before the clock starts, so that the server's own start doesn't count.
 //
 //     cc -O2 -D_GNU_SOURCE -o serve_client serve_client.c && ./serve_client PID PORT TARGET SIZE LENGTH REQUESTS
 //
-// SIZE is how long the resource is; with a LENGTH of 0 all of it is asked for, without a range.
+// SIZE is the length of the resource; if LENGTH is 0 all of it is asked for, without a range.
 #include <arpa/inet.h>
 #include <errno.h>
 #include <netinet/in.h>
@@ -53,7 +53,8 @@ static long most_memory(void) {
     return most;
 }
 
-// One request: a range, or the whole if `length` is 0. While no server listens it is tried again, for `patience` seconds.
+// One request: for a range, or for the whole if `length` is 0. While no server listens it is tried again, for
+// `patience` seconds.
 static void ask(int port, const char *target, long long size, long long first, long long length, int patience) {
     struct sockaddr_in address = {.sin_family = AF_INET, .sin_port = htons(port), .sin_addr.s_addr = htonl(INADDR_LOOPBACK)};
     double until = clock_seconds() + patience;
@@ -70,7 +71,7 @@ static void ask(int port, const char *target, long long size, long long first, l
     if (length) count += snprintf(head + count, sizeof head - count, "Range: bytes=%lld-%lld\r\n", first, first + length - 1);
     count += snprintf(head + count, sizeof head - count, "\r\n");
     if (write(to, head, count) != count) fail("the request wasn't sent");
-    // The head of the answer ends within its first 4,096 bytes, which are looked at together.
+    // The head of the answer ends within its first 4,096 bytes, which are read together.
     static char front[4097];
     size_t fronted = 0;
     long long total = 0;

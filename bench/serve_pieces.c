@@ -1,5 +1,5 @@
-// Serves ranges of a file over HTTP in the plainest way: accepts a connection, reads the head of its request, and sends the
-// range that it asks for, or the whole file, in pieces of 4,096 bytes. It runs until it is killed.
+// Serves ranges of a file over HTTP in the plainest way: accepts a connection, reads the head of its request, and
+// sends the range that it asks for, or the whole file, in pieces of 4,096 bytes. It runs until it is killed.
 //
 //     cc -O2 -D_GNU_SOURCE -o serve_pieces serve_pieces.c && ./serve_pieces FILE PORT
 #include <arpa/inet.h>
@@ -14,7 +14,7 @@
 
 static char piece[4096], head[8192];
 
-// Reads until the empty line after a head; whether there was one.
+// Reads until the empty line after a head, and returns whether there was one.
 static int read_head(int to) {
     size_t have = 0;
     while (have < sizeof head - 1) {

@@ -1,8 +1,8 @@
 #!/usr/bin/env bash
-# `links` and `split` over a file of 1 GB, in large and in small pages, and a program over libogg's sync layer that does the
-# same; the same link out of a file of many links; `salvage` over sound and over random bytes, beside a plain search for the
-# capture pattern. CPU seconds (user and system), each the best of three runs that take turns, and the most memory that each
-# had. Not part of the tests.
+# Measures `links` and `split` over a file of 1 GB, in large and in small pages, and a program over libogg's sync layer
+# that does the same. Then it measures the same link out of a file of many links, and `salvage` over sound and over
+# random bytes, beside a plain search for the capture pattern. CPU seconds (user and system) are the best of three runs
+# that take turns, and the most memory that each had is printed. Not part of the tests.
 #
 #     apt-get install libogg-dev && bench/split.sh [BYTES]      none: 1000000000
 set -u
@@ -19,7 +19,7 @@ for name in pages_made split_libogg; do
 done
 cc -O2 -D_GNU_SOURCE -o "$work/captures" "$here/captures.c" || exit 1
 
-# least FILE: the run that took the fewest seconds: its seconds, and its memory.
+# least FILE: the seconds and the memory of the run that took the fewest seconds.
 least() { sort -n "$1" | head -n 1; }
 
 # both NAME FILE OUR_WORDS .. -- THEIR_WORDS ..: runs both in turn, and prints what they took.
@@ -55,7 +55,7 @@ for packet in 100 65024; do
     both "salvage_$packet" "$work/file" salvage "$work/file" -- "$work/split_libogg" salvage
     same
 done
-# As many pages in one link, and in 65,536 links: links cost what their pages cost.
+# The same number of pages in one link, and in 65,536 links: links cost what their pages cost.
 for serials in 1 65536; do
     PYTHONPATH=$here/../tests/program python3 - "$serials" >"$work/feed" <<'END'
 import sys

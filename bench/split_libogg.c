@@ -1,6 +1,6 @@
-// What `links`, `split` and `salvage` do, over libogg's sync layer, for a file of one stream on standard input: counts its
-// pages and prints the listing; or checks every page and then writes them, as `split` first finds where the pages end; or
-// prints where each page stands.
+// Does what `links`, `split` and `salvage` do, over libogg's sync layer, for a file of one stream on standard input.
+// It counts the file's pages and prints the listing; or it checks every page and then writes them, as `split` first
+// finds where the pages end; or it prints where each page stands.
 //
 //     cc -O2 -o split_libogg split_libogg.c -logg && ./split_libogg links|split|salvage < FILE.ogg
 #include <inttypes.h>
@@ -12,7 +12,7 @@
 
 enum { PIECE = 65536 };
 
-// Goes through the pages, and writes each, or prints where it stands. Gives how many there are.
+// Goes through the pages, and writes each, or prints where it stands. Returns their number.
 static uint64_t walk(int copies, int lists, uint64_t *end, int *serial, int *ended) {
     ogg_sync_state sync;
     ogg_page page;

@@ -1,7 +1,7 @@
 #!/usr/bin/env bash
-# A window over a file of 1 GB, in small and in large pages: `read_ogg window FILE` and a small program over libogg's sync layer,
-# which must count the same. CPU seconds (user and system) of both, each the best of three runs that take turns, and the most
-# memory that each had. Not part of the tests.
+# Measures a window over a file of 1 GB, in small and in large pages: `read_ogg window FILE` and a small program over
+# libogg's sync layer, which must count the same. It prints the CPU seconds (user and system) of both, each the best of
+# three runs that take turns, and the most memory that each had. Not part of the tests.
 #
 #     apt-get install libogg-dev && bench/window.sh [BYTES]      none: 1000000000
 set -u

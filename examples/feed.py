@@ -38,13 +38,13 @@ def text(word):
 
 
 def fields_of(version, words):
-    """A stream's message fields, behind their number. In version 1 there is none, nor a number."""
+    """A stream's message fields, after their number. In version 1 there are none, nor a number."""
     return struct.pack("<H", len(words) // 2) + b"".join(map(text, words)) if version == 2 else b""
 
 
 def stream(version, serial, *headers):
     packets = b"".join(listed(packet(header)) for header in headers)
-    # No media type, rate 0/0, base position 0, preroll 0, shift 0: without a Skeleton nobody looks at these.
+    # No media type, rate 0/0, base position 0, preroll 0, shift 0: without a Skeleton nobody reads these.
     numbers = struct.pack("<HqqqIB", 0, 0, 0, 0, 0, 0)
     return struct.pack("<IH", int(serial), len(headers)) + packets + numbers + fields_of(version, [])
 
@@ -97,7 +97,7 @@ def record_of(version, words):
     raise ValueError("a line begins with version, begin, skeleton, put, end or flush")
 
 
-# What is wanted where a line has too few words, or too many.
+# The text for a line that has too few words, or too many.
 FORMS = {
     "begin": "begin SERIAL HEADER [HEADER] .. [; ..]",
     "skeleton": "skeleton SERIAL ; SERIAL MEDIA RATE HEADER [HEADER] .. [; ..]",

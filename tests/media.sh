@@ -1,6 +1,6 @@
 #!/usr/bin/env bash
-# Real media through `feed` and `mux`, looked at with independent tools: an encoder's packets are taken out of its file, muxed
-# again, and must come back the same. Not part of the tests that ./check runs, since it installs packages.
+# Checks real media with independent tools after `feed` and `mux`: an encoder's packets are taken out of its file,
+# muxed again, and must come back the same. Not part of the tests that ./check runs, since it installs packages.
 #
 #     tests/media.sh            the last line is 'N passed, M failed'
 . "$(dirname "$0")/program/common.bash"
@@ -24,24 +24,25 @@ encode "${tone[@]}" -c:a libvorbis "$work/vorbis.ogg"
 encode "${tone[@]}" -c:a libopus "$work/opus.ogg"
 encode "${tone[@]}" -c:a flac "$work/flac.ogg"
 encode "${bars[@]}" "${tone[@]}" -c:v libtheora -c:a libvorbis -serial_offset 100 "$work/theora.ogg"
-# Links one after the other: serials are unique over a whole file.
+# Links one after the other: serials must be unique over a whole file.
 encode "${tone[@]}" -c:a libvorbis -serial_offset 7 "$work/second.ogg"
 encode "${tone[@]}" -c:a libvorbis -q:a 1 -serial_offset 8 "$work/third.ogg"
 cat "$work/vorbis.ogg" "$work/second.ogg" "$work/third.ogg" >"$work/chain.ogg"
 
-# The packets of each stream in order, as another program reads them: a hash of each one's bytes. Marks on packets that
-# a player cuts short are left out: those follow from the position of the page with the end of the stream.
+# Prints the packets of each stream in order, as another program reads them: a hash of each one's bytes. Marks on
+# packets that a player cuts short are left out, since they follow from the position of the page with the end of the
+# stream.
 packets() {
     ffprobe -loglevel error -show_entries packet=stream_index,data_hash -show_data_hash md5 -of flat "$1" |
         sed -n 's/.*stream_index=//p; s/.*data_hash=//p' | paste - - | sort -s -k 1,1
 }
 
-# Without serials and numbers of streams, which a Skeleton moves.
+# Leaves out serials and numbers of streams, which a Skeleton moves.
 warnings() { ogginfo "$1" | grep -i 'warning\|error' | sed 's/serial: [0-9a-f]*//; s/stream ([0-9]*)/stream/'; }
 same_warnings() { [ "$(warnings "$1")" = "$(warnings "$2")" ]; }
 replies_keep() { [ -s "$1" ] && ! grep -v '^kept ' "$1"; }
 
-# again NAME: the packets of NAME.ogg, muxed again, are the same.
+# again NAME: checks that the packets of NAME.ogg, muxed again, are the same.
 again() {
     local name=$1
     "$program" feed <"$work/$name.ogg" >"$work/$name.feed"
@@ -53,7 +54,7 @@ again() {
     packets "$work/$name.again.ogg" >"$work/$name.found"
     check "$name: packets were read" [ -s "$work/$name.want" ]
     check "$name: the packets are the same" cmp "$work/$name.want" "$work/$name.found"
-    # While a recording is open it has no page with an end of a stream, of which oggz wants a packet to end in it.
+    # While a recording is open it has no page with an end of a stream; oggz wants a packet to end in such a page.
     if [ "$name" != chain ]; then
         python3 "$top/tests/open_feed.py" <"$work/$name.feed" >"$work/$name.open.feed"
         "$program" mux <"$work/$name.open.feed" >"$work/$name.open.ogg" 2>"$work/$name.replies"
@@ -74,8 +75,8 @@ while at < len(data):
 print(*seen)' "$1"
 }
 
-# read_whole NAME FILE: the pages are a chain, and what another program reads of its packets is among those that are read here,
-# which have the headers too.
+# read_whole NAME FILE: checks that the pages are a chain, and that what another program reads of its packets is among
+# those that are read here, which have the headers too.
 read_whole() {
     local name=$1 file=$2 serial
     check "$name: its pages are a chain" "$reader" chain <"$file" >"$work/chain"
@@ -96,8 +97,8 @@ for name in vorbis opus flac theora chain; do
     read_whole "$name" "$work/$name.again.ogg"
 done
 
-# finished NAME: what is muxed again and then finished is played as the encoder's file is, to the last sample, and ends as oggz
-# wants it. Frames of a film are compared too.
+# finished NAME: checks that what is muxed again and then finished plays as the encoder's file does, to the last
+# sample, and ends as oggz requires. Frames of a film are compared too.
 sounds() {
     ffmpeg -nostdin -loglevel error -i "$1" -map 0:a -f md5 -
     ffmpeg -nostdin -loglevel error -i "$1" -map '0:v?' -map 0:a -f framemd5 - | cut -d , -f 1,6
@@ -132,8 +133,8 @@ for name in vorbis opus flac theora chain; do
     finished "$name"
 done
 
-# Each stream of each link of an encoder's chain, cut out: oggz and ffprobe read its packets as they do of the file that the
-# encoder made.
+# Each stream of each link of an encoder's chain is cut out: oggz and ffprobe read its packets as they do in the file
+# that the encoder made.
 cut_out() {
     local name=$1 file=$2 number=0 serial part
     shift 2
@@ -162,8 +163,8 @@ check "a recording: status" [ $? -eq 0 ]
 "$program" record "$work/recorded.ogg" --seal </dev/null
 check "a recording: its pages" cmp "$work/want" "$work/recorded.ogg"
 
-# With a Skeleton the packets are the same, and other programs know what it is. (ffprobe doesn't read on where a chain's next
-# link begins with a Skeleton, so the chain isn't asked for its packets.)
+# With a Skeleton the packets are the same, and other programs recognise the Skeleton. (ffprobe doesn't read on at a
+# chain's next link that begins with a Skeleton, so it isn't run over the chain's packets.)
 for name in vorbis opus flac theora chain; do
     "$program" feed --skeleton 5000 <"$work/$name.ogg" >"$work/$name.feed"
     "$program" mux <"$work/$name.feed" >"$work/$name.described.ogg" 2>"$work/$name.replies"
@@ -180,8 +181,8 @@ for name in vorbis opus flac theora chain; do
     check "$name with a Skeleton: the packets are the same" cmp "$work/$name.sorted" "$work/$name.found"
 done
 
-# Other encoders. What is recorded of them and finished is what they wrote, byte for byte; of `flac`, whose headers have a page
-# each, the packets and the sound are the same.
+# Other encoders. What is recorded of them and finished is what they wrote, byte for byte. From `flac`, which gives
+# each header a page to itself, the packets and the sound are the same.
 encode "${tone[@]}" -c:a pcm_s16le -bitexact "$work/tone.wav"
 oggenc -Q -o "$work/oggenc.ogg" "$work/tone.wav"
 opusenc --quiet "$work/tone.wav" "$work/opusenc.ogg"
@@ -225,7 +226,7 @@ check "live: $seen commands were kept while the encoder worked" [ "$seen" -gt 3 
 "$program" finish "$work/live.ogg" >"$work/live.finished.ogg"
 check "live: all of it is there" [ "$(sounds "$work/live.finished.ogg" | head -n 1)" = "$(sounds "$work/vorbis.ogg" | head -n 1)" ]
 
-# An encoder that is killed: what was whole is there.
+# After an encoder is killed, what was whole is there.
 encode "${tone[@]}" -c:a libvorbis -page_duration 200000 "$work/paged.ogg"
 head -c 6000 "$work/paged.ogg" | "$program" feed 2>"$work/err" | "$program" record "$work/killed.ogg" >"$work/replies"
 check "killed: the torn page is told" grep -q '^fault make 1 Page [0-9]* 1 Short$' "$work/err"

@@ -1,5 +1,5 @@
 #!/usr/bin/env python3
-"""Cuts a feed before the first end of a stream in its last link: what a recording is while it goes on."""
+"""Cuts a feed before the first end of a stream in its last link. The result is the feed of a recording that goes on."""
 import struct
 import sys
 

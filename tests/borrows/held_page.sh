@@ -1,6 +1,6 @@
 #!/usr/bin/env bash
-# A page that a window lends can't be held while the next is lent: the borrow check refuses it, by this error and no other. The
-# same lines in another order are taken. The crate is copied, with what its own check kept. The last line is
+# A page that a window lends can't be held while the next one is lent: the borrow check refuses this with exactly this
+# error. The same lines in another order are taken. The crate is copied, with what its own check kept. The last line is
 # 'N passed, M failed'.
 set -u
 top=$(cd "$(dirname "${BASH_SOURCE[0]}")/../.." && pwd)
@@ -14,7 +14,7 @@ cp -r "$top/crates/ogg_page" "$work/crates/"
 grep -E '^ogg_page:' "$top/crates.txt" >"$work/crates.txt"
 echo 'scratch: ogg_page' >>"$work/crates.txt"
 
-# told NAME FIRST SECOND: what the check says of a function that runs these two lines while a page is lent.
+# told NAME FIRST SECOND: prints what the check says of a function that runs these two lines while a page is lent.
 told() {
     cat >"$work/crates/scratch/src/lib.rt" <<CODE
 //! A page that is lent, and its window.

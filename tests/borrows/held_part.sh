@@ -1,7 +1,7 @@
 #!/usr/bin/env bash
-# A part that a stream lends can't be held while the next is lent: the borrow check refuses it, by this error and no
-# other. The same lines in another order are taken. The two crates are copied, with what their own checks kept. The last
-# line is 'N passed, M failed'.
+# A part that a stream lends can't be held while the next one is lent: the borrow check refuses this with exactly this
+# error. The same lines in another order are taken. The two crates are copied, with what their own checks kept. The
+# last line is 'N passed, M failed'.
 set -u
 top=$(cd "$(dirname "${BASH_SOURCE[0]}")/../.." && pwd)
 work=$(mktemp -d)
@@ -14,7 +14,7 @@ cp -r "$top/crates/ogg_page" "$top/crates/packet_view" "$work/crates/"
 grep -E '^(ogg_page|packet_view):' "$top/crates.txt" >"$work/crates.txt"
 echo 'scratch: ogg_page packet_view' >>"$work/crates.txt"
 
-# told NAME FIRST SECOND: what the check says of a function that runs these two lines while a part is lent.
+# told NAME FIRST SECOND: prints what the check says of a function that runs these two lines while a part is lent.
 told() {
     cat >"$work/crates/scratch/src/lib.rt" <<CODE
 //! A part that is lent, and its stream.

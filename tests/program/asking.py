@@ -1,8 +1,9 @@
 #!/usr/bin/env python3
 """A client for the tests, on 127.0.0.1: asking.py port | wait PORT | ask PORT [WORD ..] [--shut] [--most COUNT]
 
-`port` prints a port that is free, `wait` ends once it is listened to, and `ask` sends each word, in which \\r, \\n and NAME*COUNT are
-spelled out, and writes what comes back until the server closes, or COUNT bytes of it. With --shut it sends no more then.
+`port` prints a port that is free, and `wait` ends once somebody listens to PORT. `ask` sends each word, with \\r, \\n and
+NAME*COUNT spelled out, and writes what comes back until the server closes, or COUNT bytes of it. With --shut it sends
+no more then.
 """
 import sys
 import time

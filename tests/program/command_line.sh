@@ -1,8 +1,9 @@
 #!/usr/bin/env bash
-# Help, the version and command lines that can't be read: a text on standard error, nothing on standard output, status 2.
+# Help, the version and command lines that can't be read give a text on standard error, nothing on standard output, and
+# status 2.
 . "$(dirname "$0")/common.bash"
 
-# shows NAME TEXT: the last run ended with status 2 and has the text on standard error.
+# shows NAME TEXT: checks that the last run ended with status 2 and has the text on standard error.
 shows() {
     check "$1: status $status, not 2" [ "$status" -eq 2 ]
     check "$1: standard output" is_text "$work/out" ""

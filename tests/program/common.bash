@@ -1,4 +1,4 @@
-# What the tests of the program share. Each ends with `finish`, which prints 'N passed, M failed'.
+# Has what the tests of the program share. Each test ends with `finish`, which prints 'N passed, M failed'.
 set -u
 here=$(cd "$(dirname "${BASH_SOURCE[0]}")" && pwd)
 top=$(cd "$here/../.." && pwd)
@@ -14,7 +14,7 @@ if [ ! -x "$program" ]; then
     exit 1
 fi
 
-# check NAME COMMAND ..: passes where the command does.
+# check NAME COMMAND ..: passes if the command does.
 check() {
     local name=$1
     shift
@@ -26,13 +26,14 @@ check() {
     fi
 }
 
-# Runs the program on standard input as it is, for a bounded time. Leaves its status, and what it wrote in out and err.
+# Runs the program on standard input as it is, for a bounded time. Leaves its status in `status`, and what it wrote in
+# out and err.
 run() {
     timeout 20 "$program" "$@" >"$work/out" 2>"$work/err"
     status=$?
 }
 
-# is_text FILE TEXT: the file holds the text, in which \n is a line feed, and no more.
+# is_text FILE TEXT: whether the file holds exactly the text, in which \n is a line feed.
 is_text() {
     local want
     want=$(printf '%b.' "$2")
@@ -43,7 +44,7 @@ is_text() {
     }
 }
 
-# came NAME STATUS OUT ERR: the last run had this status, and wrote this text to its standard streams.
+# came NAME STATUS OUT ERR: checks that the last run had this status, and wrote these texts to its standard streams.
 came() {
     check "$1: status $status, not $2" [ "$status" -eq "$2" ]
     check "$1: standard output" is_text "$work/out" "$3"

@@ -1,10 +1,12 @@
-// A library that fails device calls of the program that it is loaded into: writes, syncs and cuts of files are counted from 1.
+// Makes device calls fail in the program that this library is loaded into: writes, syncs and cuts of files, counted
+// from 1.
 //
 //     cc -O2 -shared -fPIC -D_GNU_SOURCE -o failing.so failing.c
 //     FAILING_CALL=N FAILING_HOW=io|full|interrupted|short|torn|stop [FAILING_ON=1] FAILING_MET=FILE LD_PRELOAD=./failing.so PROGRAM ..
 //
-// The Nth call, or with FAILING_ON each from the Nth on, fails with EIO, ENOSPC or EINTR and does nothing; moves half of the bytes; writes
-// half of them and fails; or doesn't come about, since the program ends before it. FILE is made once a call has been met.
+// The Nth call, or with FAILING_ON each from the Nth on, fails with EIO, ENOSPC or EINTR and does nothing; or moves
+// half of the bytes; or writes half of them and fails; or isn't made, since the program ends before it. FILE is made
+// once a call has been met.
 #include <dlfcn.h>
 #include <errno.h>
 #include <fcntl.h>
@@ -14,7 +16,7 @@
 
 static long calls;
 
-// What is to be done with the next call: null if it is an ordinary one.
+// What to do with the next call: null if it is an ordinary one.
 static const char *met(void) {
     const char *at = getenv("FAILING_CALL"), *how = getenv("FAILING_HOW"), *on = getenv("FAILING_ON");
     if (!at || !how) return NULL;

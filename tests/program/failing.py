@@ -1,10 +1,10 @@
 #!/usr/bin/env python3
 """Records with each device call failing in turn: failing.py PROGRAM LIBRARY WORK
 
-A feed is recorded, alone and in groups, with its first device call failing, then with the second, up to a run that meets
-none: by an error, by a short or a torn write, by a stop before the call, once and from then on. Each file is opened again,
-and must hold the pages of the first commands, all that were said to be kept among them, and at most one group more. Prints
-a line for each run that does not; the status is 1 if there was one.
+A feed is recorded, alone and in groups, with its first device call failing, then with the second, up to a run in which
+no call fails. A call fails by an error, by a short or a torn write, or by a stop before the call, once or from then on.
+Each file is opened again. It must hold the pages of the first commands, all that were said to be kept among them, and
+at most one more group. Prints a line for each run that does not; the status is 1 if there was one.
 """
 import os
 import subprocess
@@ -17,7 +17,7 @@ FEED = (begin([1]) + put([(1, 5, b"hello")]) + put([(1, 6, bytes(range(256)) * 2
 
 
 def kept_in(text):
-    """How many commands were said to be kept, and how many bytes their pages have."""
+    """How many commands the replies said were kept, and how many bytes their pages have."""
     lines = [line.split() for line in text.decode().splitlines() if line.startswith("kept")]
     return (int(lines[-1][1]), int(lines[-1][2])) if lines else (0, 0)
 

@@ -1,5 +1,5 @@
 #!/usr/bin/env bash
-# Each fault's line on standard error and its status 1. What stands before it is written and answered.
+# Each fault has its line on standard error and status 1. What stands before the fault is written and answered.
 . "$(dirname "$0")/common.bash"
 
 # the example without its end
@@ -7,7 +7,8 @@ hello=$work/hello.feed
 head -c 80 "$top/examples/hello.feed" >"$hello"
 pages "02 0 1 0 3 abc" "00 5 1 1 5 hello" >"$work/hello.pages"
 
-# faults NAME LINE: the feed in $work/feed, put behind the two commands of the example, ends the run with this line.
+# faults NAME LINE: checks that the feed in $work/feed, put after the two commands of the example, ends the run with
+# this line.
 faults() {
     cat "$hello" "$work/feed" >"$work/whole"
     run mux <"$work/whole"
@@ -47,7 +48,7 @@ faults "a begin with 2 for the Skeleton" "fault feed 4 Form"
 bytes 02 02000000 ffff >"$work/feed"
 faults "a put of 65,535 entries and none there" "fault feed 4 Form"
 
-# A version is announced in front of all records, or it is a fault; there is 2 and no other.
+# A version is announced before all records, or it is a fault; the only such version is 2.
 { cat "$hello"; bytes 00 01000000 02; } >"$work/whole"
 run mux <"$work/whole"
 check "a version behind a record: pages" cmp "$work/out" "$work/hello.pages"
@@ -102,7 +103,7 @@ check "a closed standard output --check: line" is_text "$work/err" 'fault write\
 check "a pipe that nobody reads: status $(cat "$work/status")" [ "$(cat "$work/status")" -eq 1 ]
 check "a pipe that nobody reads: line" is_text "$work/err" 'fault write\n'
 
-# The replies can't be written: nor can the line, but the pages before the reply are there.
+# If the replies can't be written, the fault's line can't be either, but the pages before the reply are there.
 timeout 20 "$program" mux <"$hello" >"$work/out" 2>/dev/full
 check "full standard error: status" [ $? -eq 1 ]
 pages "02 0 1 0 3 abc" >"$work/pages"
@@ -111,7 +112,7 @@ timeout 20 "$program" mux <"$hello" >"$work/out" 2>&-
 check "closed standard error: status" [ $? -eq 1 ]
 check "closed standard error: pages" cmp "$work/out" "$work/pages"
 
-# A writer that takes a part: pages go up to a file's largest size, 1,024 bytes, and then comes the fault.
+# If a writer takes a part, pages go up to a file's largest size, 1,024 bytes, and then comes the fault.
 { cat "$hello"; echo 'put 1 6 x*2000' | feed; } >"$work/whole"
 (
     trap '' XFSZ

@@ -1,10 +1,10 @@
 #!/usr/bin/env bash
-# Ogg files made into feeds: what `feed` writes holds what it read, whatever comes in which pieces.
+# Ogg files are made into feeds: what `feed` writes holds what it read, in whichever pieces the input comes.
 . "$(dirname "$0")/common.bash"
 
 feeding() { timeout 200 python3 "$here/feeding.py" "$@"; }
 
-# again NAME PAGE ..: a file of these pages, through `feed` and `mux`.
+# again NAME PAGE ..: sends a file of these pages through `feed` and `mux`.
 again() {
     local name=$1
     shift
@@ -41,7 +41,7 @@ run mux --check --strict <"$work/feed"
 check "three headers: a Begin, two Puts and an End with each stream: status $status" [ "$(grep -c kept "$work/out")" -eq 6 ]
 check "three headers: begun with them" grep -q '^kept 1 ' "$work/out"
 
-# A serial that an earlier link has: the stream gets another one, and its packets and its end follow.
+# If an earlier link has a stream's serial, the stream gets another one, and its packets and its end follow.
 twice() {
     local name=$1
     shift
@@ -122,7 +122,7 @@ run mux <"$work/feed"
 cp "$work/out" "$work/in.ogg"
 with_skeletons "63 streams get one, 64 don't" 1000
 
-# Faults of the input are told with their offsets, after what comes before them.
+# Faults of the input are reported with their offsets, after what comes before them.
 pages "02 0 1 0 3 abc" "00 5 1 1 5 hello" "00 6 1 2 1 x" >"$work/in.ogg"
 faulty() {
     local name=$1 line=$2

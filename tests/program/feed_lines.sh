@@ -1,8 +1,8 @@
 #!/usr/bin/env bash
-# What examples/feed.py says of lines that are no record: their number, and how they should be.
+# Checks what examples/feed.py says of lines that are no record: their number, and what they should be.
 . "$(dirname "$0")/common.bash"
 
-# says NAME LINES TEXT: the lines are refused by this text, and nothing is written.
+# says NAME LINES TEXT: checks that the lines are refused by this text, and that nothing is written.
 says() {
     printf '%b' "$2" | python3 "$top/examples/feed.py" >"$work/out" 2>"$work/err"
     status=$?

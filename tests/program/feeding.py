@@ -1,14 +1,15 @@
 #!/usr/bin/env python3
-"""What `feed` makes of Ogg files, by what is in them before and after.
+"""Compares what is in Ogg files before and after `feed`.
 
     feeding.py same FILE OTHER        whether both hold the same streams, packets, positions and ends
-    feeding.py renumbered FILE OTHER  the same, but that a stream whose serial an earlier link has another one in OTHER
+    feeding.py renumbered FILE OTHER  the same, but a stream whose serial an earlier link has gets another one in OTHER
     feeding.py skeletons FILE OTHER [SERIAL]
                                       the same without its Skeletons, or with one made anew for each link, from SERIAL on
     feeding.py compare PROGRAM        random files through `feed` and `mux`, whole, in pieces, cut, and with a byte changed
     feeding.py live PROGRAM           a page at a time through a pipe: its record is out before the next page comes
 
-A position is compared where a page of the first file ends by the end of a packet: the packet has it in the other file too.
+If a page of the first file ends with the end of a packet, its position is compared: the packet has it in the other file
+too.
 """
 import os
 import random
@@ -38,7 +39,7 @@ def pages_of(data):
 
 
 def streams_of(pages):
-    """For each link its streams in order: serial, whole packets, whether it has ended, and the positions that its pages tell."""
+    """For each link its streams in order: serial, whole packets, whether it has ended, and the positions that its pages state."""
     told = []
     for link in links_of(pages):
         streams = {}
@@ -71,7 +72,7 @@ def differ(name, data, other):
             if again["ended"] != stream["ended"]:
                 return "%s: link %d, stream %d: another end" % (name, number, serial)
             for count, position in stream["positions"].items():
-                # The headers of a link have no position of their own.
+                # The headers of a link have no position.
                 if again["positions"].get(count, position if count <= HEADERS else None) not in (position, 0 if count <= HEADERS else position):
                     return "%s: link %d, stream %d: packet %d at %r and not at %d" % (name, number, serial, count, again["positions"].get(count), position)
     return None
@@ -81,7 +82,7 @@ HEADERS = 3
 
 
 def renumbered(data, other):
-    """How the second bytes are more than the first ones under serials that no two links share, as a line, or nothing."""
+    """How the second bytes differ from the first ones under serials that no two links share, as a line, or nothing."""
     one, two = streams_of(pages_of(data)[0]), streams_of(pages_of(other)[0])
     if len(one) != len(two):
         return "%d links and not %d" % (len(two), len(one))
@@ -181,7 +182,7 @@ def in_pieces(program, data, source):
     def keep(number, stream):
         written[number] = stream.read()
 
-    # What it writes is read meanwhile: a full pipe would stop it, and then us.
+    # Its output is read meanwhile: a full pipe would stop it, and then us.
     readers = [threading.Thread(target=keep, args=it) for it in enumerate((process.stdout, process.stderr))]
     for reader in readers:
         reader.start()

@@ -1,8 +1,8 @@
 #!/usr/bin/env bash
-# Files written as players like them: an ended stream ends on a page with a packet.
+# Files are written as players like them: an ended stream ends on a page with a packet.
 . "$(dirname "$0")/common.bash"
 
-# becomes NAME WANT WORD ..: what finish writes is this file.
+# becomes NAME WANT WORD ..: checks that what finish writes is this file.
 becomes() {
     local name=$1 want=$2
     shift 2
@@ -12,7 +12,7 @@ becomes() {
     check "$name: standard error" [ ! -s "$work/err" ]
 }
 
-# becomes_pages NAME: standard input has the pages of a file, a blank line, and those that it becomes.
+# becomes_pages NAME: takes the pages of a file from standard input, a blank line, and the pages that the file becomes.
 becomes_pages() {
     local name=$1 line
     local -a before=() after=()
@@ -170,7 +170,7 @@ printf H | dd of="$work/damaged.ogg" bs=1 seek=40 conv=notrunc status=none
 run finish "$work/damaged.ogg"
 came "a damaged page" 1 '' 'fault open 2 Page 31 4 Checksum\n'
 
-# Feeds of ours, a Skeleton among them, whose own end has a packet.
+# Our own feeds are finished, one of them with a Skeleton, whose end has a packet.
 for name in hello streams; do
     "$program" mux <"$top/examples/$name.feed" >"$work/$name.ogg" 2>"$work/replies"
     python3 "$here/finishing.py" all "$work/$name.ogg" >"$work/want"

@@ -1,12 +1,12 @@
 #!/usr/bin/env python3
-"""What `finish` must write, by a plain program of the tests' own.
+"""What `finish` must write, as the tests' own plain program says.
 
     finishing.py all FILE                what `finish FILE` writes
     finishing.py link FILE NUMBER        what `finish FILE NUMBER` writes
     finishing.py compare PROGRAM         runs the program on many files, made of pages and of feeds, and says where it differs
 
-Of a stream that has ended, the last page after its first that has lacing values is marked, and the pages after it go,
-unless one of them tells a position of its own.
+Of a stream that has ended, the last page after its first that has lacing values is marked, and the pages after it are
+left out, unless one of them states another position.
 """
 import os
 import random
@@ -70,7 +70,7 @@ def finished(link):
 
 
 def packets_of(data):
-    """For each link and stream what it holds, and whether it has ended, told without a look at pages."""
+    """For each link and stream what it holds, and whether it has ended, without regard to pages."""
     held = []
     for link in links_of(pages_of(data)):
         streams = {}
@@ -160,7 +160,7 @@ def compare(program):
                 if (ran.returncode, ran.stdout, ran.stderr) != (0, want, b""):
                     different += 1
                     print(f"{name} {count}, link {number}: status {ran.returncode}, {len(ran.stdout)} bytes, not {len(want)}; {ran.stderr}")
-            # What is finished stays.
+            # What is finished stays as it is.
             with open(path, "wb") as file:
                 file.write(whole)
             if finish().stdout != whole:

@@ -1,7 +1,7 @@
 #!/usr/bin/env python3
 """Kills a recording again and again, and continues it: killing.py PROGRAM MOST
 
-Each run puts packets that say their number, in groups of MOST, and is killed at a time of its own. Then the file must hold
+Each run puts packets that say their number, in groups of MOST, and is killed at another time. Then the file must hold
 the packets from the first on, each once, and every one that a reply said was kept.
 """
 import os
@@ -55,7 +55,7 @@ def feed(run, number):
 
 
 def record(program, path, most, number, wait):
-    """Continues the recording with this packet, kills it, and tells how many were said to be kept."""
+    """Continues the recording with this packet, kills it, and returns how many the replies said were kept."""
     command = [program, "record", path, "--group", str(most)]
     run = subprocess.Popen(command, stdin=subprocess.PIPE, stdout=subprocess.PIPE)
     feeder = threading.Thread(target=feed, args=(run, number))

@@ -1,5 +1,5 @@
 #!/usr/bin/env bash
-# The most streams of a link, and the most links of a file.
+# Tests the most streams of a link, and the most links of a file.
 . "$(dirname "$0")/common.bash"
 
 # 64 streams, a packet for each, and their ends: 64 pages of 31, 64 of 28 + 5 and 64 of 27 bytes.

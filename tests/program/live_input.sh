@@ -1,5 +1,5 @@
 #!/usr/bin/env bash
-# A feed that comes slowly: each command's pages and its reply are out before the next command is there.
+# If a feed comes slowly, each command's pages and its reply are written before the next command is there.
 . "$(dirname "$0")/common.bash"
 
 mkfifo "$work/in" "$work/replies"
@@ -7,7 +7,7 @@ timeout 20 "$program" mux <"$work/in" >"$work/out" 2>"$work/replies" &
 running=$!
 exec 3>"$work/in" 4<"$work/replies"
 
-# replies NAME LINE SIZE: within a bounded time the line comes, and by then the pages have this size.
+# replies NAME LINE SIZE: checks that within a bounded time the line comes, and that by then the pages have this size.
 replies() {
     local line=''
     read -r -t 10 line <&4

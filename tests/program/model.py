@@ -1,8 +1,8 @@
 #!/usr/bin/env python3
-"""What `mux` must write and answer, by a plain program of the tests' own; and random feeds to try both on.
+"""What `mux` must write and answer, as the tests' own plain program says; and random feeds to try both on.
 
     model.py mux [--check] < FEED       does what the program does
-    model.py PROGRAM SEED COUNT         runs the program on so many random feeds, and says where it differs
+    model.py PROGRAM SEED COUNT         runs the program on COUNT random feeds, and says where it differs
 """
 import os
 import random
@@ -25,7 +25,7 @@ class Fault(Exception):
 
 
 class Reader:
-    """Numbers and bytes from the front; `Fault` where there are too few."""
+    """Numbers and bytes from the front; `Fault` if there are too few."""
 
     def __init__(self, data):
         self.data, self.at = data, 0
@@ -66,7 +66,7 @@ def put_of(reader):
 
 
 def payload_of(kind, reader, version):
-    """What a payload says; `Fault` where it isn't exactly one spelling."""
+    """What a payload says; `Fault` if it isn't exactly one spelling."""
     if kind == ANNOUNCEMENT:
         if reader.data != b"\2":
             raise Fault

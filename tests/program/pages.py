@@ -1,5 +1,5 @@
 #!/usr/bin/env python3
-"""Writes Ogg pages (RFC 3533, section 6) for the tests, with a checksum of its own.
+"""Writes Ogg pages (RFC 3533, section 6) for the tests, with a separate checksum.
 
 Each argument is a page, FLAGS POSITION SERIAL SEQUENCE LACING BODY: FLAGS in hex, LACING with commas, each value as N or
 N*COUNT, or - for none; BODY as text, BYTE*COUNT, or - for nothing.
@@ -47,7 +47,7 @@ def content(text):
 
 
 if __name__ == "__main__":
-    # What others publish for these bytes.
+    # The checksum that others publish for these bytes.
     assert checksum(b"123456789") == 0x89A1897F
     for text in sys.argv[1:]:
         flags, position, serial, sequence, lacing, body = text.split()

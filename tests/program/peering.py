@@ -1,10 +1,11 @@
 #!/usr/bin/env python3
 """Serves connections of which one call fails: peering.py PROGRAM LIBRARY WORK
 
-Three connections in a row ask for a file of 70 kB, which goes out in some twenty pieces. The first call on a socket fails, then
-the second, up to a run that meets none: by a reset, by a peer that is gone, or by a single byte that is moved. The connection
-whose call failed gets the front of its answer, the others get theirs whole, and the server ends well; while `live` records,
-its feed is recorded whole. Prints a line for each run that differs; the status is 1 if there was one.
+Three connections in a row ask for a file of 70 kB, which goes out in some twenty pieces. The first call on a socket
+fails, then the second, up to a run in which none fails: by a reset, by a peer that is gone, or by a single byte that is
+moved. The connection whose call failed gets the front of its answer, the others get theirs whole, and the server ends
+well. While `live` records, its feed is recorded whole. Prints a line for each run that differs; the status is 1 if
+there was one.
 """
 import os
 import subprocess

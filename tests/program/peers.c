@@ -1,10 +1,10 @@
-// A library that fails calls on sockets of the program that it is loaded into: what it receives and sends is counted from 1.
+// Makes calls on sockets fail in the program that this library is loaded into: its receives and sends, counted from 1.
 //
 //     cc -O2 -shared -fPIC -D_GNU_SOURCE -o peers.so peers.c
 //     PEERS_CALL=N PEERS_HOW=reset|gone|short PEERS_MET=FILE LD_PRELOAD=./peers.so PROGRAM ..
 //
-// The Nth call fails with ECONNRESET; finds the peer gone, by no byte received or by EPIPE; or moves one byte. FILE is made once a
-// call has been met.
+// The Nth call fails with ECONNRESET; or finds the peer gone, by no byte received or by EPIPE; or moves one byte. FILE
+// is made once a call has been met.
 #include <dlfcn.h>
 #include <errno.h>
 #include <fcntl.h>
@@ -15,7 +15,7 @@
 
 static long calls;
 
-// What is to be done with the next call: null if it is an ordinary one.
+// What to do with the next call: null if it is an ordinary one.
 static const char *met(void) {
     const char *at = getenv("PEERS_CALL"), *how = getenv("PEERS_HOW"), *file = getenv("PEERS_MET");
     calls++;

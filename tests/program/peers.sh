@@ -1,5 +1,5 @@
 #!/usr/bin/env bash
-# Each call on a socket fails in turn: that connection is cut, and the others are served.
+# Each call on a socket fails in turn: its connection is cut, and the others are served.
 . "$(dirname "$0")/common.bash"
 
 cc -O2 -shared -fPIC -D_GNU_SOURCE -o "$work/peers.so" "$here/peers.c" || exit 1

@@ -1,10 +1,11 @@
 #!/usr/bin/env python3
 """Pesters a server while it records a feed: pestering.py PROGRAM WORK
 
-200 requests for everything in the file and for things that it doesn't have, with ranges of each kind. Some come byte by byte or in
-halves, some with more bytes after the head; some clients send no head, half of one or too much, and some go away in the middle of
-an answer. Each answer must be that of the plain program of serving.py over the bytes of the first commands, as many as an answer
-before it showed, or more. Prints a line for each other answer; the status is 1 if there was one.
+Sends 200 requests for everything in the file and for things that it doesn't have, with ranges of each kind. Some come
+byte by byte or in halves, some with more bytes after the head. Some clients send no head, half of one or too much, and
+some go away in the middle of an answer. Each answer must be that of the plain program of serving.py over the bytes of
+the first commands, as many commands as an answer before it showed, or more. Prints a line for each other answer; the
+status is 1 if there was one.
 """
 import random
 import socket
@@ -38,7 +39,7 @@ def run(words, given):
 
 
 def commits(program, path, records, most):
-    """Where the committed bytes end, from the first command on, and the bytes. The first command has a run of its own."""
+    """Where the committed bytes end, from the first command on, and the bytes. The first command has a separate run."""
     told = b""
     for feed in (records[0], b"".join(records[1:])):
         told += run([program, "record", path, "--group", str(most), "--seal"], feed).stdout

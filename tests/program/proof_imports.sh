@@ -19,7 +19,7 @@ foreign() {
 passed=0
 failed=0
 
-# The count itself finds one, where there is one.
+# The count itself finds an import if there is one.
 work=$(mktemp -d)
 trap 'rm -rf "$work"' EXIT
 mkdir -p "$work/low" "$work/high/proofs"

@@ -10,7 +10,7 @@ long_lines() { awk 'length($0) > 120 && !/^\|/ && !/^    / { print FILENAME ":" 
 passed=0
 failed=0
 
-# The count itself finds one, where there is one, and passes a row and a line of 120 over.
+# The count itself finds a long line, and passes over a row and a line of 120 columns.
 work=$(mktemp -d)
 trap 'rm -rf "$work"' EXIT
 {

@@ -1,5 +1,5 @@
 #!/usr/bin/env bash
-# Random feeds, the same in each run, through the program and through a plain program of the tests' own.
+# Random feeds, the same in each run, go through the program and through the tests' own plain program.
 . "$(dirname "$0")/common.bash"
 
 for seed in 1000 2000 3000 4000; do

@@ -206,7 +206,7 @@ def random_files():
 
 
 def sized(size, number):
-    """A page of so many bytes."""
+    """A page of `size` bytes."""
     values = next(n for n in range(256) if 27 + n + 255 * n >= size)
     rest = size - 27 - values
     lacing = ([255] * (rest // 255) + [rest % 255])[:values]
@@ -215,7 +215,7 @@ def sized(size, number):
 
 
 def edges():
-    # Where a page is cut by the room's edge, its rest is read on, and pages before it are lent out of one read.
+    # If the room's edge cuts a page, the rest of the page is read on, and pages before it are lent out of one read.
     longest = 65307
     for first in (27, 28, 1000, 32653, 65279, 65280, 65306, longest):
         for both in (longest - 1, longest, longest + 1, longest + 26, longest + 27, 2 * longest - 1, 2 * longest):

@@ -1,5 +1,5 @@
 #!/usr/bin/env bash
-# Pages, packets and chains in bytes of all kinds, read by the program and by a plain program of the tests' own.
+# Pages, packets and chains in bytes of all kinds are read by the program and by the tests' own plain program.
 here=$(cd "$(dirname "${BASH_SOURCE[0]}")" && pwd)
 program=${READ_OGG:-$here/../../crates/read_ogg/out/read_ogg}
 passed=0

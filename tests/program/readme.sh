@@ -1,6 +1,6 @@
 #!/usr/bin/env bash
-# Each command in README.md's table of things to try works as it stands there, in a folder that has what a clone has; those
-# that install packages aren't run.
+# Each command in README.md's table of things to try works as it stands there, in a folder that has what a clone has;
+# the commands that install packages aren't run.
 . "$(dirname "$0")/common.bash"
 
 mkdir "$work/clone"
@@ -31,7 +31,7 @@ while read -r line; do
 done <"$work/commands"
 check "commands were run: $ran" [ "$ran" -ge 8 ]
 
-# What the first run is said to print.
+# The first run prints what README.md says.
 timeout 60 ./kudzuturret mux <examples/hello.feed 2>"$work/replies" >"$work/out"
 check "the first run's replies" is_text "$work/replies" 'kept 1 31\nkept 2 64\nkept 3 91\n'
 check "the first run's replies are those of README" \

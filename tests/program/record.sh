@@ -1,14 +1,15 @@
 #!/usr/bin/env bash
-# Recordings in real files: made, continued, sealed, in groups, on a full device, and after the program was killed.
+# Recordings in real files are made, continued, sealed, kept in groups, on a full device, and after the program was
+# killed.
 . "$(dirname "$0")/common.bash"
 
-# size FILE WANT
+# size FILE WANT: checks the size of a file.
 size() { check "$1: $(wc -c <"$1") bytes, not $2" [ "$(wc -c <"$1")" -eq "$2" ]; }
 
 ogg=$work/one.ogg
 pages "02 0 1 0 3 abc" "00 5 1 1 5 hello" "04 5 1 2 - -" >"$work/pages"
 
-# A file is made, and continued by the next run: counts begin again, and lengths go on.
+# A file is made, and the next run continues it: counts begin again, and lengths go on.
 records 'begin([1])' >"$work/feed"
 run record "$ogg" <"$work/feed"
 came "a new file" 0 'kept 1 31\n' ''
@@ -37,7 +38,7 @@ check "as mux: status" [ "$status" -eq 0 ]
 check "as mux: replies" cmp "$work/out" "$work/replies"
 check "as mux: pages" cmp "$work/again.ogg" "$work/streams.ogg"
 
-# Groups: what waits is kept by its group, a flush, or the feed's end.
+# Groups: what waits is kept by the end of its group, by a flush, or by the feed's end.
 records 'begin([1]), put([(1, 5, b"hello")]), put([(7, 5, b"x")]), flush(), end(1)' >"$work/feed"
 run record "$work/group.ogg" --group 8 --seal <"$work/feed"
 came "a group of 8" 0 'held 1\nheld 2\nrefused 12 UnknownSerial\nkept 2 64\nheld 3\nkept 3 91\n' ''
@@ -50,7 +51,7 @@ for most in 0 1025 x; do
     check "--group $most: no file is made" [ ! -e "$work/none.ogg" ]
 done
 
-# A feed's fault stands after what was kept; what waited is kept too, and nothing is sealed.
+# A feed's fault is printed after what was kept; what waited is kept too, and nothing is sealed.
 head -c 85 "$top/examples/hello.feed" >"$work/feed"
 run record "$work/cut.ogg" --group 8 --seal <"$work/feed"
 came "a feed that is cut" 1 'held 1\nheld 2\nkept 2 64\n' 'fault feed 1 Truncated\n'
@@ -79,7 +80,7 @@ run record "$work" <"$top/examples/hello.feed"
 came "a folder" 1 '' 'fault file\n'
 run record "$work/none/one.ogg" <"$top/examples/hello.feed"
 came "no such folder" 1 '' 'fault file\n'
-# A folder that nobody may write to, tried by someone who isn't root.
+# A folder that nobody may write to is tried by someone who isn't root.
 mkdir "$work/shut"
 cp "$program" "$work/program"
 chmod 755 "$work"
@@ -98,7 +99,8 @@ check "no such file, listed: none is made" [ ! -e "$work/none.ogg" ]
 run links "$work"
 came "a folder, listed" 1 '' 'fault open 1 Disk\n'
 
-# A device that is full: what was kept before is found again. Files of at most 8 blocks of 1,024 bytes stand for it.
+# After a device is full, what was kept before is found again. Files of at most 8 blocks of 1,024 bytes stand for the
+# device.
 records 'begin([1]), *(put([(1, n, bytes([n]) * 1000)]) for n in range(20))' >"$work/feed"
 (
     trap '' XFSZ

@@ -1,4 +1,4 @@
-// A library that refuses memory to the program that it is loaded into: requests are counted from 1, once main has begun.
+// Refuses memory to the program that this library is loaded into: requests are counted from 1, once main has begun.
 //
 //     cc -O2 -shared -fPIC -D_GNU_SOURCE -o refusing.so refusing.c
 //     REFUSING_CALL=N [REFUSING_ON=1] REFUSING_MET=FILE LD_PRELOAD=./refusing.so PROGRAM ..
@@ -18,7 +18,8 @@ extern void *__libc_memalign(size_t, size_t);
 static long calls, at;
 static int on, ready;
 
-// The first word of the environment that is asked for comes when the library is loaded: what loads the program isn't refused.
+// The first word of the environment that is asked for comes when the library is loaded, so what loads the program
+// isn't refused.
 __attribute__((constructor)) static void begin(void) {
     const char *number = getenv("REFUSING_CALL");
     at = number ? atol(number) : 0;

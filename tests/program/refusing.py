@@ -1,11 +1,13 @@
 #!/usr/bin/env python3
-"""Runs the program with its first request for memory refused, then with the second, up to a run that meets none: once, and from
-then on. refusing.py PROGRAM LIBRARY WORK
+"""Refuses memory to the program, request by request: refusing.py PROGRAM LIBRARY WORK
 
-Feeds go through `mux` and `record`, in groups; files are made into feeds, listed, split, finished, salvaged and served. A run
-may end by a fault, whose status is 1, or by a text in place of the work, whose status is 2. What it wrote is that of a run that
-is refused nothing over the commands that it said it took, or the front of it. Prints a line for each run that differs; the
-status is 1 if there was one.
+The program runs with its first request for memory refused, then with the second, up to a run in which none is refused,
+and the same again with every request refused from that one on.
+
+Feeds go through `mux` and `record`, in groups; files are made into feeds, listed, split, finished, salvaged and served.
+A run may end by a fault, whose status is 1, or by a text in place of the work, whose status is 2. What it wrote is what
+a run that is refused nothing writes over the commands that it said it took, or the front of that. Prints a line for
+each run that differs; the status is 1 if there was one.
 """
 import os
 import re
@@ -32,7 +34,7 @@ FEEDS = {
 }
 
 
-# A fault for want of memory, or the text of a command line that couldn't be read for it.
+# A fault for want of memory, or the text of a command line that couldn't be read for want of memory.
 TOLD = re.compile(rb"^(fault (memory|(feed 6|make 9|open 3|index 3|serve [0-9]+) Memory)|error: out of memory)$", re.MULTILINE)
 
 
@@ -79,7 +81,7 @@ def taken(records, replies):
             given.append(one)
         if words[0] == "kept":
             kept = int(words[1])
-    # A flush at the end has a line of its own.
+    # A flush at the end has a separate line.
     for words in replies[len(records):]:
         if words[0] == "kept":
             kept = int(words[1])

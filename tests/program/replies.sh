@@ -1,8 +1,9 @@
 #!/usr/bin/env bash
-# What is written and answered for feeds without a fault.
+# Checks what is written and answered for feeds without a fault.
 . "$(dirname "$0")/common.bash"
 
-# muxes NAME REPLIES PAGE ..: the feed in $work/feed gives these pages and replies, and with --check the replies alone.
+# muxes NAME REPLIES PAGE ..: checks that the feed in $work/feed gives these pages and replies, and with --check the
+# replies alone.
 muxes() {
     local name=$1 replies=$2
     shift 2
@@ -18,7 +19,7 @@ muxes() {
 : >"$work/feed"
 muxes "no feed" ""
 
-# The example is the bytes of the first two commands and of the end, and the script makes them.
+# The example file has the bytes of the first two commands and of the end, and the script makes these bytes.
 bytes 01 2f000000 00 0100 01000000 0100 03000000 616263 0000 0000000000000000 0000000000000000 0000000000000000 \
     00000000 00 02 17000000 0100 01000000 0500000000000000 05000000 68656c6c6f >"$work/feed"
 bytes 4f676753 00 02 0000000000000000 01000000 00000000 >"$work/first"
@@ -88,7 +89,7 @@ check "flushes: length of the feed" [ "$(wc -c <"$work/feed")" -eq $((89 + 24 + 
 muxes "flushes" 'kept 0 0\nkept 1 31\nkept 2 64\nkept 2 64\nrefused 15 PositionBack\nkept 2 64\nkept 3 91\n' \
     "02 0 1 0 3 abc" "00 5 1 1 5 hello" "04 5 1 2 - -"
 
-# A feed of version 2: message fields stand in a stream's fisbone, behind the media type, in a fisbone of 92 bytes.
+# In a feed of version 2 message fields stand in a stream's fisbone, after the media type, in a fisbone of 92 bytes.
 feed <<'END' >"$work/feed"
 version 2
 skeleton 9 ; 1 audio/vorbis 44100/1 abc -- Title One

@@ -1,7 +1,7 @@
 #!/usr/bin/env python3
-"""Damaged files, and which of their pages `salvage` lists, beside a plain search: salvaging.py PROGRAM
+"""Compares the pages of damaged files that `salvage` lists with those of a plain search: salvaging.py PROGRAM
 
-At each place a page is looked for that begins there, from the front on, and after each page the search goes on.
+From the front on, each place is checked for a page that begins there, and the search goes on after each page.
 """
 import os
 import random

@@ -18,7 +18,7 @@ down() {
     wait "$server"
     status=$?
 }
-# gets NAME TARGET FILE: the body that a GET gets is this file.
+# gets NAME TARGET FILE: checks that the body that a GET gets is this file.
 gets() {
     timeout 20 curl -s -o "$work/body" "http://127.0.0.1:$port$2"
     check "$1" cmp "$work/body" "$3"
@@ -30,7 +30,7 @@ pages "02 0 1 0 3 abc" "02 0 2 0 3 abc" "00 -1 1 1 255*255 y*65025" "00 7 2 1 1 
 head -c 70447 "$work/two.ogg" >"$work/link"
 pages "02 0 2 0 3 abc" "00 7 2 1 1 x" "04 7 2 2 - -" >"$work/stream"
 
-# What is there, and what isn't. A file without a tail is sealed again.
+# The server answers for what is there, and for what isn't. A file without a tail is sealed again.
 cp "$work/two.ogg" "$work/served.ogg"
 up serve "$work/served.ogg" 8
 gets "all of the file" /all "$work/two.ogg"
@@ -77,7 +77,7 @@ timeout 20 curl -s -H 'Range: bytes=0-' -D "$work/head" -o "$work/body" "http://
 check "an empty file" is_text "$work/head" 'HTTP/1.1 200 OK\r\nContent-Type: application/ogg\r\nContent-Length: 0\r\nAccept-Ranges: bytes\r\nConnection: close\r\n\r\n'
 down
 
-# Clients that go away, that send no head, too much, or more than a head: the next one is served.
+# If a client goes away, or sends no head, too much, or more than a head, the next one is served.
 up serve "$work/served.ogg" 8
 asking ask "$port" --shut >"$work/got"
 check "no head at all: no answer" [ ! -s "$work/got" ]
@@ -98,7 +98,7 @@ gets "after all of them" /all "$work/two.ogg"
 down
 came "pestered" 0 '' ''
 
-# Answers are those of a plain program.
+# The answers are those of a plain program.
 check "answers" timeout 200 python3 "$here/serving.py" "$program" "$work" 3
 
 check "answers while a feed is recorded" timeout 200 python3 "$here/pestering.py" "$program" "$work"
@@ -161,7 +161,7 @@ came "live: the rest" 0 'kept 1 93\nrefused 12 UnknownSerial\nkept 2 122\nkept 3
 pages "02 0 1 0 3 abc" "00 5 1 1 5 hello" "00 6 1 2 1 x" "00 7 1 3 1 y" "04 7 1 4 - -" >"$work/want"
 check "live: the rest is in the file" cmp "$work/live.ogg" "$work/want"
 
-# Faults of the feed end no connection, and are told at the end. Nothing is sealed then.
+# Faults of the feed end no connection, and are reported at the end. Nothing is sealed then.
 cp "$work/first" "$work/live.ogg"
 head -c 9 "$work/feed" >"$work/cut"
 up live "$work/live.ogg" "$work/cut" 2
@@ -181,7 +181,7 @@ gets "a folder for a feed" /all "$work/first"
 down
 came "a folder for a feed" 1 '' 'fault feed 5 Read\n'
 
-# A device that is full is opened again, and the feed and the sessions go on.
+# After its device was full, a file is opened again, and the feed and the sessions go on.
 cp "$work/first" "$work/full.ogg"
 records '*(put([(1, 6 + n, bytes([n]) * 1000)]) for n in range(20)), end(1)' >"$work/feed"
 port=$(asking port)

@@ -1,8 +1,8 @@
 #!/usr/bin/env python3
 """Asks a program that serves a file, and compares each answer with that of the plain program below.
 
-serving.py PROGRAM WORK [ROUNDS]: serves files made here on 127.0.0.1, and asks for everything in them, and for things that
-they don't have. Prints a line for each difference; the status is 1 if there was one.
+serving.py PROGRAM WORK [ROUNDS]: serves files made here on 127.0.0.1, and asks for everything in them, and for things
+that they don't have. Prints a line for each difference; the status is 1 if there was one.
 """
 import random
 import re
@@ -17,7 +17,7 @@ import pages
 PIECE = 4096
 
 
-# ---- what is to be answered
+# ---- the answers that must come
 def links_of(data):
     """Each link: its first byte, its length, and its streams in order, each with its pages and whether it has ended."""
     links, at = [], 0

@@ -1,5 +1,5 @@
 #!/usr/bin/env bash
-# Links and streams cut out of files, and the good pages of damaged ones.
+# Links and streams are cut out of files, and the good pages of damaged files are listed.
 . "$(dirname "$0")/common.bash"
 
 # Two streams whose pages alternate, a packet over two pages, and another link after them.
@@ -13,7 +13,7 @@ head -c 70447 "$work/two.ogg" >"$work/link"
 run links "$work/two.ogg"
 came "links" 0 'committed 70477\nlink 0 0 70447 2\nstream 1 70360 3 ended\nstream 2 87 3 ended\nlink 1 70447 30 1\nstream 1 30 1 open\n' ''
 
-# cut NAME WANT WORD ..: what split writes is this file.
+# cut NAME WANT WORD ..: checks that what split writes is this file.
 cut() {
     local name=$1 want=$2
     shift 2
@@ -48,7 +48,8 @@ cp "$work/tail.ogg" "$work/was.ogg"
 cut "before a tail" "$work/link" "$work/tail.ogg" 0
 check "before a tail: untouched" cmp "$work/tail.ogg" "$work/was.ogg"
 
-# Each front of a file of three pages, of 31, 33 and 27 bytes: what is left of a page after one byte is damage.
+# Each front of a file of three pages, of 31, 33 and 27 bytes, is cut off: what is left of a page after one byte is
+# damage.
 pages "02 0 1 0 3 abc" "00 5 1 1 5 hello" "04 5 1 2 - -" >"$work/sealed"
 ends=(0 31 64 91)
 streams=('' 'stream 1 31 1 open\n' 'stream 1 64 2 open\n' 'stream 1 91 3 ended\n')
@@ -69,7 +70,7 @@ for size in $(seq 0 91); do
     fi
 done
 
-# Good pages, in front of damage and after it, and a page inside a packet.
+# Good pages are listed before damage and after it; a page inside a packet is listed only if the outer page is damaged.
 pages "02 0 1 0 3 abc" "00 5 1 1 5 hello" "04 5 1 2 - -" >"$work/bad.ogg"
 printf H | dd of="$work/bad.ogg" bs=1 seek=59 conv=notrunc status=none
 run salvage "$work/bad.ogg"

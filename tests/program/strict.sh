@@ -1,5 +1,5 @@
 #!/usr/bin/env bash
-# Runs that end at the first refusal, and what a run tells whoever sits at the terminal.
+# With --strict a run ends at the first refusal; at a terminal a run prints its totals.
 . "$(dirname "$0")/common.bash"
 
 records 'begin([1]), put([(7, 5, b"x")]), put([(1, 5, b"hello")])' >"$work/feed"
@@ -27,7 +27,7 @@ run record "$work/strict.ogg" --seal --strict <"$work/feed"
 came "record: nothing is refused" 0 'kept 1 64\n' ''
 check "record: sealed" [ "$(stat -c %s "$work/strict.ogg")" -eq 64 ]
 
-# at_terminal FEED WORD ..: what the program writes to standard error if that is a terminal.
+# at_terminal FEED WORD ..: prints what the program writes to standard error if that is a terminal.
 at_terminal() {
     timeout 20 python3 - "$program" "$@" <<'END'
 import os, pty, subprocess, sys
