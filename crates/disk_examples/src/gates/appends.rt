@@ -1,6 +1,7 @@
 //! Appends of one page, stopped at each call.
 use super::tools::{
-    ClosedPage, append, ends, opened, overlaid, page, begin_page, put_page, end_page, seal, try_open,
+    ClosedPage, append, begin_page, end_page, ends, opened, overlaid, page, put_page, seal,
+    try_open,
 };
 use disk_model::{DiskFault, FuseDisk, MemDisk};
 use gate_file::{GateFile, OpenFault};

@@ -1,5 +1,7 @@
 //! Groups of pages, staged one after the other and committed together.
-use super::tools::{ClosedPage, commit, ends, opened, page, begin_page, put_page, end_page, stage_last};
+use super::tools::{
+    ClosedPage, begin_page, commit, end_page, ends, opened, page, put_page, stage_last,
+};
 use disk_model::{Disk, DiskFault, FuseDisk, MemDisk};
 use gate_file::GateFile;
 use std::alloc::Global;

@@ -1,7 +1,7 @@
 //! Files as they are found: cut at each byte, with tails of every kind, damaged.
 ghost use Rattle.std.specs.Prelude.{◌≡◌, ◌+◌, ◌<◌};
 
-use super::tools::{append, ends, opened, overlaid, begin_page, put_page, end_page, try_open};
+use super::tools::{append, begin_page, end_page, ends, opened, overlaid, put_page, try_open};
 use disk_model::{FuseDisk, MemDisk};
 use gate_file::{GateFile, OpenFault, PageVisitor};
 use ogg_page::{Page, PageBuffer, PageFault};
