@@ -65,7 +65,7 @@ impl Feed {
 
     /// The record at the front, or none at the end. An announcement in front of all records is passed over. After the
     /// end or a fault each call returns the same answer, and nothing is read.
-    pub fn next<R: Read + Drop>(&mut self, reader: &mut R) -> Result<Option<Record>, FeedFault>
+    pub fn next<R: Read>(&mut self, reader: &mut R) -> Result<Option<Record>, FeedFault>
         // Only the record is consumed, and the announcement too if the record is the first.
         ensures record { IfOk result (λ found. IfSome found (λ given. (self.old.feed.outcome ≡ None) × (self.new.feed.outcome ≡ None)
             × GivesRecord self.old.feed.version self.new.feed.version (R.remaining reader.old) (R.remaining reader.new) given)) }
@@ -125,7 +125,7 @@ impl Feed {
 }
 
 /// The record at the front of a feed of this version, or of a feed whose front shows its version.
-fn next_record<R: Read + Drop>(
+fn next_record<R: Read>(
     alloc: Global,
     spare: &mut Spare,
     payload: &mut Vec<u8>,
@@ -153,7 +153,7 @@ fn next_record<R: Read + Drop>(
 
 /// The first record of a feed, after the announcement if there is one, or none if no byte is left. The version is that
 /// of the announcement.
-fn first_record<R: Read + Drop>(
+fn first_record<R: Read>(
     alloc: Global,
     spare: &mut Spare,
     payload: &mut Vec<u8>,
@@ -189,7 +189,7 @@ fn first_record<R: Read + Drop>(
 }
 
 /// The record at the front, after the first record or the announcement of a feed; none if no byte is left.
-fn later_record<R: Read + Drop>(
+fn later_record<R: Read>(
     alloc: Global,
     spare: &mut Spare,
     payload: &mut Vec<u8>,
@@ -217,7 +217,7 @@ fn later_record<R: Read + Drop>(
 }
 
 /// What stands at the front, or none if no byte is left.
-fn next_item<R: Read + Drop>(
+fn next_item<R: Read>(
     alloc: Global,
     spare: &mut Spare,
     payload: &mut Vec<u8>,
@@ -258,7 +258,7 @@ fn next_item<R: Read + Drop>(
 }
 
 /// The head of the record at the front, or none if no byte is left.
-fn next_head<R: Read + Drop>(first: bool, reader: &mut R) -> Result<Option<Head>, FeedFault>
+fn next_head<R: Read>(first: bool, reader: &mut R) -> Result<Option<Head>, FeedFault>
     ensures head { IfOk result (λ found. IfSome found (λ head. IsHead first head
         × Consumes (R.remaining reader.old) (R.remaining reader.new) (head_bytes head))) }
     ensures end { IfOk result (λ found. IfNone found (
@@ -279,7 +279,7 @@ fn next_head<R: Read + Drop>(first: bool, reader: &mut R) -> Result<Option<Head>
 }
 
 /// Reads a payload of `wanted` bytes to the front of the buffer, which grows if it is shorter.
-fn read_payload<R: Read + Drop>(
+fn read_payload<R: Read>(
     wanted: usize,
     payload: &mut Vec<u8>,
     reader: &mut R,
@@ -304,11 +304,7 @@ fn read_payload<R: Read + Drop>(
 
 /// Reads `wanted` bytes to the front of the buffer, or all that are left if they are fewer. An error of any kind is
 /// `Read` and isn't tried again.
-fn fill<R: Read + Drop>(
-    reader: &mut R,
-    buffer: &mut [u8],
-    wanted: usize,
-) -> Result<usize, FeedFault>
+fn fill<R: Read>(reader: &mut R, buffer: &mut [u8], wanted: usize) -> Result<usize, FeedFault>
     requires { wanted ≤ length buffer.old }
     ensures ok { IfOk result (λ count. (count ≤ wanted)
         × Consumes (R.remaining reader.old) (R.remaining reader.new) (take count buffer.new)) }

@@ -50,7 +50,7 @@ impl Maker {
     }
 
     /// Reads the next page and gathers its commands; false at the end of the input.
-    fn next_page<R: Read + Drop>(&mut self, reader: &mut R) -> Result<bool, MakingFault>
+    fn next_page<R: Read>(&mut self, reader: &mut R) -> Result<bool, MakingFault>
         requires { GoesOn self.old }
         ensures { NextOf result self.old self.new (R.remaining reader.old) (R.remaining reader.new) }
     {
@@ -89,7 +89,7 @@ impl Maker {
     }
 
     /// Takes the next page, and writes the commands that it completes; false at the end of the input.
-    pub(crate) fn turn<R: Read + Drop, W: Write>(
+    pub(crate) fn turn<R: Read, W: Write>(
         &mut self,
         reader: &mut R,
         writer: &mut W,

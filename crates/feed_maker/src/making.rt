@@ -19,7 +19,7 @@ use std::io::{Read, Write};
 /// up to what the input holds, changed as the options ask. What a page completes is written, and the writer flushed,
 /// before the next read. At the end of the input or at its fault the commands that still wait are written first.
 /// `Limit`, `Write` and `Memory` are the exceptions: after these nothing more is written.
-pub fn make_feed<R: Read + Drop, W: Write>(
+pub fn make_feed<R: Read, W: Write>(
     alloc: Global,
     reader: &mut R,
     writer: &mut W,
@@ -45,7 +45,7 @@ pub fn make_feed<R: Read + Drop, W: Write>(
 }
 
 /// Takes all pages.
-fn take_all<R: Read + Drop, W: Write>(
+fn take_all<R: Read, W: Write>(
     maker: &mut Maker,
     reader: &mut R,
     writer: &mut W,

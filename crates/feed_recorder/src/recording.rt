@@ -24,7 +24,7 @@ use std::io::{Read, Write, sink};
 /// others, and isn't run: in both cases what waits is flushed. `Write` says that `replies` has failed: nothing is
 /// flushed then, and what waits still waits. A disk fault ends nothing: it is the reply of the command that met it,
 /// and each command after it is refused as `Failed`. What waited is lost then, and no reply says that it is kept.
-pub fn record_feed<D: Disk, R: Read + Drop, W: Write>(
+pub fn record_feed<D: Disk, R: Read, W: Write>(
     alloc: Global,
     reader: &mut R,
     replies: &mut W,

@@ -21,7 +21,7 @@ pub enum Next {
 }
 
 /// Reads the next record, after the first `records` of the feed.
-pub fn next_in<R: Read + Drop>(feed: &mut Feed, records: u64, reader: &mut R) -> Next
+pub fn next_in<R: Read>(feed: &mut Feed, records: u64, reader: &mut R) -> Next
     requires open { feed.old.feed.outcome ≡ None }
     requires few { records ≤ 4294967295 }
     ensures { Comes result feed.old.feed feed.new.feed records (R.remaining reader.old) (R.remaining reader.new) }

@@ -54,7 +54,7 @@ impl FeedRun {
     /// Reads the next record, runs it, writes the line of its reply, and returns the reply. If no further record is
     /// run and something waits, it flushes that and returns the flush's reply; only the step after it returns the end
     /// or the fault. After the end or a fault the answer stays, and nothing is read, run or written.
-    pub fn step<T: Runner, R: Read + Drop, P: Write, W: Write>(
+    pub fn step<T: Runner, R: Read, P: Write, W: Write>(
         &mut self,
         runner: &mut T,
         reader: &mut R,

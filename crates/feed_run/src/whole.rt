@@ -15,7 +15,7 @@ use std::io::{Read, Write};
 /// fault of the feed, and `TooMany` says that a record follows 4,294,967,295 others, and isn't run: in both cases
 /// what waits is flushed, and everything before stands. `Write` says that a writer has failed, and then nothing is
 /// flushed.
-pub fn run_feed<T: Runner, R: Read + Drop, P: Write, W: Write>(
+pub fn run_feed<T: Runner, R: Read, P: Write, W: Write>(
     alloc: Global,
     runner: &mut T,
     reader: &mut R,

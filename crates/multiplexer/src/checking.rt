@@ -101,7 +101,7 @@ impl Runner for Checker {
 /// `check_feed` returns the counts at the end of the feed, and stops at the first fault, as `mux` does. `Feed` is a
 /// fault of the feed, and everything before it is written. `Write` says that `replies` has failed, and then a prefix
 /// of the last line is written. `TooMany` says that a record follows 4,294,967,295 others, which isn't run.
-pub fn check_feed<R: Read + Drop, W: Write>(
+pub fn check_feed<R: Read, W: Write>(
     alloc: Global,
     reader: &mut R,
     replies: &mut W,

@@ -86,7 +86,7 @@ impl Runner for Multiplexer {
 /// everything before it is written. `Write` says that one of the writers has failed, and then a prefix of what belongs
 /// to the last command that was read is written. `TooMany` says that a record follows 4,294,967,295 others, which
 /// isn't run.
-pub fn mux<R: Read + Drop, P: Write, W: Write>(
+pub fn mux<R: Read, P: Write, W: Write>(
     alloc: Global,
     reader: &mut R,
     pages: &mut P,

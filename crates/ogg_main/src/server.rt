@@ -125,7 +125,7 @@ fn accept(listener: &TcpListener) -> io::Result<TcpStream> {
 }
 
 /// Whether the file could not be opened again.
-fn is_lost<R: Read + Drop, W: Write + Drop>(feed: &LiveFeed<R, W>) -> bool {
+fn is_lost<R: Read, W: Write + Drop>(feed: &LiveFeed<R, W>) -> bool {
     matches!(feed.ended(), Some(Ok(Step::Lost(_))))
 }
 

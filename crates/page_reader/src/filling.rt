@@ -28,7 +28,7 @@ fn make_room(room: &mut [u8], held: &mut Held)
 }
 
 /// Reads once, as many bytes as come, after what is held. An error of any kind is `Read` and isn't tried again.
-fn read_behind<R: Read + Drop>(
+fn read_behind<R: Read>(
     reader: &mut R,
     room: &mut [u8],
     held: &mut Held,
@@ -52,7 +52,7 @@ fn read_behind<R: Read + Drop>(
 }
 
 /// Reads once, as many bytes as come, after what is held.
-pub(crate) fn read_more<R: Read + Drop>(
+pub(crate) fn read_more<R: Read>(
     reader: &mut R,
     room: &mut [u8],
     held: &mut Held,

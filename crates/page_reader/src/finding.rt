@@ -13,7 +13,7 @@ use std::io::Read;
 
 /// The size of the page at the front of what is held, or none at the end of the input. What is held is checked first,
 /// and then again after each read.
-pub(crate) fn find<R: Read + Drop>(
+pub(crate) fn find<R: Read>(
     reader: &mut R,
     room: &mut [u8],
     held: &mut Held,
@@ -31,7 +31,7 @@ pub(crate) fn find<R: Read + Drop>(
 }
 
 /// Reads on until the page at the front is whole, or is seen to be none, or the input ends.
-fn read_on<R: Read + Drop>(
+fn read_on<R: Read>(
     reader: &mut R,
     room: &mut [u8],
     held: &mut Held,

@@ -59,7 +59,7 @@ impl PageReader {
 
     /// Passes on to the next page, which is lent from then on; none at the end of the input. It reads only while no
     /// whole page is held, and each time as many bytes as come at once. The end and a fault stay.
-    pub fn advance<R: Read + Drop>(&mut self, reader: &mut R) -> Result<(), PageReaderFault>
+    pub fn advance<R: Read>(&mut self, reader: &mut R) -> Result<(), PageReaderFault>
         ensures gives { self.old.outcome ≡ None
             → HasAdvanced self.old (R.remaining reader.old) result self.new (R.remaining reader.new) }
         // A page that was read already, or a fault, needs no call of the reader.

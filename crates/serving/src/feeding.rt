@@ -15,7 +15,7 @@ use std::marker::Model;
 
 /// A feed that is recorded step by step, and the writer of its replies.
 #[derive(Drop)]
-pub struct LiveFeed<R: Read + Drop, W: Write + Drop> {
+pub struct LiveFeed<R: Read, W: Write + Drop> {
     reader: R,
     replies: W,
     run: FeedRun,
@@ -23,7 +23,7 @@ pub struct LiveFeed<R: Read + Drop, W: Write + Drop> {
     ended: Option<Result<Step, RunFault>>,
 }
 
-impl<R: Read + Drop, W: Write + Drop> Model for LiveFeed<R, W> {
+impl<R: Read, W: Write + Drop> Model for LiveFeed<R, W> {
     ghost use Rattle.serving.specs.Feeding.{FeedState, feed_state};
 
     ghost Value = { FeedState R W };
@@ -42,7 +42,7 @@ pub enum Step {
     Lost(OpenFault),
 }
 
-impl<R: Read + Drop, W: Write + Drop> LiveFeed<R, W> {
+impl<R: Read, W: Write + Drop> LiveFeed<R, W> {
     /// A feed of which nothing has been read. No memory is taken.
     pub fn new(alloc: Global, reader: R, replies: W) -> LiveFeed<R, W>
         ensures reader { result.reader ≡ reader }
@@ -108,7 +108,7 @@ fn lasting(answer: Result<Step, RunFault>) -> Option<Result<Step, RunFault>>
 }
 
 /// Takes a step of the run, and opens the file again if the disk has failed in it.
-fn take_step<D: Disk + Drop, R: Read + Drop, W: Write>(
+fn take_step<D: Disk + Drop, R: Read, W: Write>(
     run: &mut FeedRun,
     hub: &mut Hub<D>,
     reader: &mut R,

@@ -18,7 +18,7 @@ use std::io::{Read, Write};
 
 /// Serves one connection, as [`serve_one`](crate::serve_one) does, with its faults, and takes a step of the feed
 /// before each piece of the response. The end of the feed and its faults don't end the connection.
-pub fn live_one<D: Disk + Drop, R: Read, W: Write, F: Read + Drop, L: Write + Drop>(
+pub fn live_one<D: Disk + Drop, R: Read, W: Write, F: Read, L: Write + Drop>(
     hub: &mut Hub<D>,
     reader: &mut R,
     writer: &mut W,
@@ -50,7 +50,7 @@ pub fn live_one<D: Disk + Drop, R: Read, W: Write, F: Read + Drop, L: Write + Dr
 }
 
 /// Reads a session's request and writes its response, with a step of the feed before each piece.
-fn exchange<D: Disk + Drop, R: Read, W: Write, F: Read + Drop, L: Write + Drop>(
+fn exchange<D: Disk + Drop, R: Read, W: Write, F: Read, L: Write + Drop>(
     hub: &mut Hub<D>,
     id: u64,
     reader: &mut R,
@@ -81,10 +81,7 @@ fn exchange<D: Disk + Drop, R: Read, W: Write, F: Read + Drop, L: Write + Drop>(
 }
 
 /// Takes a step of the feed. If it was the last, its answer stays in the feed. No session sees any of it.
-fn go_on<D: Disk + Drop, F: Read + Drop, L: Write + Drop>(
-    hub: &mut Hub<D>,
-    feed: &mut LiveFeed<F, L>,
-)
+fn go_on<D: Disk + Drop, F: Read, L: Write + Drop>(hub: &mut Hub<D>, feed: &mut LiveFeed<F, L>)
     ensures { (before : HubState) → Shows D.is_honest D.state hub.old before
         → (after : HubState) × Shows D.is_honest D.state hub.new after × KeepsAll before after
         × TakesStep D.is_honest D.state D.moment D.images_since D.failures F.remaining L.contents feed.old feed.new before after }
