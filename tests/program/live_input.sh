@@ -1,5 +1,5 @@
 #!/usr/bin/env bash
-# If a feed comes slowly, each command's pages and its reply are written before the next command is there.
+# If a feed comes slowly, each command's pages and its reply are written before more of the feed is there.
 . "$(dirname "$0")/common.bash"
 
 mkfifo "$work/in" "$work/replies"
@@ -31,5 +31,28 @@ wait "$running"
 check "status" [ $? -eq 0 ]
 pages "02 0 1 0 3 abc" "00 5 1 1 5 hello" "04 5 1 2 - -" >"$work/pages"
 check "pages" cmp "$work/out" "$work/pages"
+
+# Lines of commands that wait for their group may be written together, but not after more input is waited for.
+mkfifo "$work/grouped" "$work/lines"
+timeout 20 "$program" record "$work/file.ogg" --group 3 <"$work/grouped" >"$work/lines" 2>"$work/err" &
+running=$!
+exec 3>"$work/grouped" 4<"$work/lines"
+
+# line NAME LINE: checks that within a bounded time the line comes.
+line() {
+    local line=''
+    read -r -t 10 line <&4
+    check "$1: '$line'" [ "$line" = "$2" ]
+}
+
+head -c 66 "$top/examples/hello.feed" >&3
+line "a command, and half of the next one" "held 1"
+head -c 80 "$top/examples/hello.feed" | tail -c 14 >&3
+line "the other half" "held 2"
+tail -c 9 "$top/examples/hello.feed" >&3
+line "the last of its group" "kept 3 91"
+exec 3>&-
+wait "$running"
+check "a group: status" [ $? -eq 0 ]
 
 finish

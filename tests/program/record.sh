@@ -127,6 +127,13 @@ check "no room for replies: status" [ $? -eq 1 ]
 check "no room for replies: the fault" is_text "$work/err" 'fault write\n'
 run links "$work/deaf.ogg"
 came "no room for replies: the first command" 0 'committed 31\nlink 0 0 31 1\nstream 1 31 1 open\n' ''
+for most in 3 16; do
+    "$program" record "$work/deaf_$most.ogg" --group "$most" <"$top/examples/hello.feed" >/dev/full 2>"$work/err"
+    check "no room for replies, groups of $most: status" [ $? -eq 1 ]
+    check "no room for replies, groups of $most: the fault" is_text "$work/err" 'fault write\n'
+    run links "$work/deaf_$most.ogg"
+    came "no room for replies, groups of $most: the group" 0 'committed 91\nlink 0 0 91 1\nstream 1 91 3 ended\n' ''
+done
 
 # Killed again and again while it records: nothing that was acknowledged is lost, and nothing comes twice.
 check "killed" timeout 120 python3 "$here/killing.py" "$program" 1

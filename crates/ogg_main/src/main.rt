@@ -10,6 +10,7 @@ mod indexing;
 mod salvaging;
 mod server;
 mod streams;
+mod together;
 mod watching;
 mod words;
 

@@ -1,5 +1,6 @@
 //! The commands that read a feed from standard input.
 
+use crate::together::{GroupedReplies, Lines, PromptFeed};
 use crate::watching::{Watch, WatchedFeed, WatchedReplies};
 use disk_model::{FileDisk, FileMode};
 use fault_lines::Fault;
@@ -67,11 +68,15 @@ pub fn record(
     // `clap` has checked that `most` lies in this range.
     recorder.group(most.clamp(1, 1024));
     let watch = Watch::new(strict);
-    let Ok(input) = BufReader::with_capacity(alloc, AHEAD, rt.stdin()) else {
+    let Ok(lines) = Lines::new(alloc, rt.stdout()) else {
+        return Err(Fault::Memory);
+    };
+    let prompt = PromptFeed::new(rt.stdin(), &lines);
+    let Ok(input) = BufReader::with_capacity(alloc, AHEAD, prompt) else {
         return Err(Fault::Feed(FeedFault::Memory));
     };
     let mut feed = WatchedFeed::new(input, &watch);
-    let mut replies = WatchedReplies::new(rt.stdout(), &watch);
+    let mut replies = WatchedReplies::new(GroupedReplies::new(&lines), &watch);
     let tally = record_feed(alloc, &mut feed, &mut replies, &mut recorder)?;
     sum_up(rt, tally);
     if recorder.is_failed() {
