@@ -145,16 +145,18 @@ static void end(const unsigned char *at) {
     append(&page);
 }
 
-static void reply(int to, const char *line, int size) {
-    if (write(to, line, size) != size) fail("replying failed");
+// The line of a commit, and with it those that wait for it in the buffer of standard output.
+static void reply_kept(uint64_t kept) {
+    if (printf("kept %" PRIu64 " %" PRIu64 "\n", kept, (uint64_t)committed) < 0 || fflush(stdout)) fail("replying failed");
 }
 
 int main(int words, char **word) {
     unsigned char head[5], *payload = malloc(MOST_PAYLOAD);
-    static char buffer[65536];
+    static char buffer[65536], lines[16384];
     uint64_t kept = 0, held = 0, end_of_file = 0, most = 1;
     char line[64];
     setvbuf(stdin, buffer, _IOFBF, sizeof buffer);
+    setvbuf(stdout, lines, _IOFBF, sizeof lines);
     if (!payload) fail("no memory");
     if (words == 3) {
         most = strtoull(word[2], NULL, 10);
@@ -174,14 +176,14 @@ int main(int words, char **word) {
         }
         held++;
         if (file >= 0 && held < most) {
-            reply(1, line, snprintf(line, sizeof line, "held %" PRIu64 "\n", kept + held));
+            if (printf("held %" PRIu64 "\n", kept + held) < 0) fail("replying failed");
             continue;
         }
         kept += held;
         held = 0;
         if (file >= 0) {
             commit();
-            reply(1, line, snprintf(line, sizeof line, "kept %" PRIu64 " %" PRIu64 "\n", kept, (uint64_t)committed));
+            reply_kept(kept);
             continue;
         }
         // One write for a command, as ours.
@@ -191,12 +193,13 @@ int main(int words, char **word) {
             done += took;
         }
         end_of_file += length;
-        reply(2, line, snprintf(line, sizeof line, "kept %" PRIu64 " %" PRIu64 "\n", kept, end_of_file));
+        int bytes = snprintf(line, sizeof line, "kept %" PRIu64 " %" PRIu64 "\n", kept, end_of_file);
+        if (write(2, line, bytes) != bytes) fail("replying failed");
     }
     if (held) {
         commit();
         kept += held;
-        reply(1, line, snprintf(line, sizeof line, "kept %" PRIu64 " %" PRIu64 "\n", kept, (uint64_t)committed));
+        reply_kept(kept);
     }
     return 0;
 }

@@ -15,6 +15,12 @@ static void fail(const char *what) {
     exit(1);
 }
 
+// A line for each packet. Those of a group are written together, after its commit, as `record` does.
+static void reply(int count, long long end, int is_last) {
+    if ((is_last ? printf("kept %d %lld\n", count, end) : printf("held %d\n", count)) < 0) fail("reply");
+    if (is_last && fflush(stdout)) fail("reply");
+}
+
 static void plain(const char *path, int count, int bytes, int group) {
     int size = 27 + bytes / 255 + 1 + bytes;
     char *page = calloc(1, size + 1);
@@ -25,11 +31,12 @@ static void plain(const char *path, int count, int bytes, int group) {
         memset(page + 28, n * 31 % 256, bytes);
         if (pwrite(file, page, size, at + 1) != size) fail("write");
         at += size;
-        if ((n + 1) % group == 0 || n + 1 == count) {
+        int is_last = (n + 1) % group == 0 || n + 1 == count;
+        if (is_last) {
             if (fsync(file) || pwrite(file, "O", 1, end) != 1 || fsync(file)) fail("commit");
             end = at;
         }
-        if (printf("kept %d %lld\n", n + 1, (long long)end) < 0 || fflush(stdout)) fail("reply");
+        reply(n + 1, end, is_last);
     }
 }
 
@@ -56,8 +63,9 @@ static void sqlite(const char *path, int count, int bytes, int group) {
         sqlite3_bind_blob(insert, 2, packet, bytes, SQLITE_STATIC);
         if (sqlite3_step(insert) != SQLITE_DONE) fail("insert");
         sqlite3_reset(insert);
-        if ((n + 1) % group == 0 || n + 1 == count) run(db, "COMMIT");
-        if (printf("kept %d\n", n + 1) < 0 || fflush(stdout)) fail("reply");
+        int is_last = (n + 1) % group == 0 || n + 1 == count;
+        if (is_last) run(db, "COMMIT");
+        reply(n + 1, n + 1, is_last);
     }
     sqlite3_finalize(insert);
     sqlite3_close(db);
