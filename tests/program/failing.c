@@ -6,7 +6,7 @@
 //
 // The Nth call, or with FAILING_ON each from the Nth on, fails with EIO, ENOSPC or EINTR and does nothing; or moves
 // half of the bytes; or writes half of them and fails; or isn't made, since the program ends before it. FILE is made
-// once a call has been met.
+// once a call has been met. With FAILING_OUTPUT=N the Nth write to standard output fails with EIO and does nothing.
 #include <dlfcn.h>
 #include <errno.h>
 #include <fcntl.h>
@@ -58,5 +58,15 @@ int ftruncate(int file, off_t size) {
     const char *how = met();
     if (!how || !strcmp(how, "short")) return next(file, size);
     errno = number_of(how);
+    return -1;
+}
+
+ssize_t write(int file, const void *bytes, size_t count) {
+    static ssize_t (*next)(int, const void *, size_t);
+    static long written;
+    if (!next) next = (ssize_t (*)(int, const void *, size_t))dlsym(RTLD_NEXT, "write");
+    const char *at = getenv("FAILING_OUTPUT");
+    if (!at || file != 1 || ++written != atol(at)) return next(file, bytes, count);
+    errno = EIO;
     return -1;
 }

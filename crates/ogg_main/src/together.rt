@@ -3,16 +3,18 @@
 ghost use Rattle.std.specs.Prelude.{◌≤◌, IfOk, None, length};
 
 use std::alloc::Global;
-use std::cell::RefCell;
+use std::cell::{Cell, RefCell};
 use std::io::{self, BufWriter, ErrorKind, Read, Write};
 
 /// How many bytes of lines are written at once.
 const TOGETHER: usize = 16384;
 
 /// The lines that wait, and the writer that they go to. The reader of a feed and the writer of its replies share them.
+/// Once the writer has failed, no line is taken any more, so the run ends by the writer's fault and not by the reader's.
 #[derive(Drop)]
 pub struct Lines<W: Write + Drop> {
     out: RefCell<BufWriter<W>>,
+    failed: Cell<bool>,
 }
 
 impl<W: Write + Drop> Lines<W> {
@@ -21,6 +23,7 @@ impl<W: Write + Drop> Lines<W> {
         let out = BufWriter::with_capacity(alloc, TOGETHER, out)?;
         Ok(Lines {
             out: RefCell::new(out),
+            failed: Cell::new(false),
         })
     }
 
@@ -28,6 +31,9 @@ impl<W: Write + Drop> Lines<W> {
     fn put(&self, line: &[u8]) -> io::Result<usize>
         ensures bound { IfOk result (λ count. count ≤ length line.now) }
     {
+        if self.failed.get() {
+            return Err(io::Error::from(ErrorKind::Other));
+        }
         match self.out.try_borrow_mut() {
             Ok(mut out) => out.write(line),
             Err(_) => Err(io::Error::from(ErrorKind::Other)),
@@ -36,10 +42,14 @@ impl<W: Write + Drop> Lines<W> {
 
     /// Writes what waits.
     fn send(&self) -> io::Result<()> {
-        match self.out.try_borrow_mut() {
+        let sent = match self.out.try_borrow_mut() {
             Ok(mut out) => out.flush(),
             Err(_) => Err(io::Error::from(ErrorKind::Other)),
+        };
+        if sent.is_err() {
+            self.failed.set(true);
         }
+        sent
     }
 }
 
