@@ -91,3 +91,7 @@ is_append pages bytes are some whole = subst IsAppend (sym whole) (record {
   some = λ none. absurd (omega (arith, some, ap length (sym (pages_closed pages) ∙ none)));
   closed = ap (λ (l : List ℕ). l ++ 0 ∷ []) (sym (pages_closed pages));
 })
+
+-- the pages of a command, and one closed byte
+pub pages_append : (pages : List Page) (bytes : List ℕ) → AllByRecursion IsPage pages → 0 < length pages → bytes ≡ bytes_of_pages pages ++ 0 ∷ [] → IsAppend bytes
+pages_append pages bytes are some whole = is_append (bytes_of_pages pages) bytes (record { pages = pages; are_pages = are; spelled = refl }) (bytes_some pages some) whole

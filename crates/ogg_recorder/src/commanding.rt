@@ -18,13 +18,12 @@ ghost use Rattle.ogg_recorder.specs.Recorder.{RecorderState, IsIn, recorder_stat
 ghost use Rattle.ogg_recorder.specs.Answer.{Tells, kept_by, call_of, command_step, flush_step};
 
 use crate::Recorder;
-use crate::staging::{prepare_pages, stage_pages};
+use crate::staging::{Unstaged, stage_command};
 use chain_rules::{
     Command, Refusal, command_adds_its_packets, command_adds_pages, refusals_are_of_the_table,
 };
 use disk_model::{Disk, DiskFault};
 use feed_codec::Kept;
-use gate_file::Memory;
 use ogg_command::command_is_in_range;
 
 /// What became of a command that wasn't refused.
@@ -110,17 +109,21 @@ impl<D: Disk> Recorder<D> {
         if self.file.is_failed() {
             return Err(Refusal::Failed);
         }
-        match self.shape.check(command) {
-            Ok(_) => {}
+        let size = match self.shape.check(command) {
+            Ok(size) => size,
             Err(refusal) => return Err(refusal),
-        }
-        let mut pages = match prepare_pages(&mut self.shape, self.alloc, command) {
-            Ok(pages) => pages,
-            Err(Memory) => return Err(Refusal::Memory),
         };
-        match stage_pages(&mut self.file, &mut pages, &mut self.buffer) {
+        match stage_command(
+            &mut self.file,
+            &mut self.shape,
+            command,
+            size,
+            &mut self.buffer,
+            &mut self.small,
+        ) {
             Ok(()) => {}
-            Err(DiskFault) => {
+            Err(Unstaged::Memory) => return Err(Refusal::Memory),
+            Err(Unstaged::Disk) => {
                 self.held = 0;
                 return Err(Refusal::Disk);
             }

@@ -36,7 +36,8 @@ pub struct Recorder<D: Disk> {
     pub(crate) shape: Shape,
     // room for one page
     pub(crate) buffer: PageBuffer,
-    pub(crate) alloc: Global,
+    // the last small page that was made, and a byte after it
+    pub(crate) small: Vec<u8>,
     pub(crate) tail: u64,
     pub(crate) kept: u64,
     pub(crate) held: u64,
@@ -115,7 +116,7 @@ impl<D: Disk> Recorder<D> {
                 file,
                 shape,
                 buffer,
-                alloc,
+                small: Vec::new(alloc),
                 tail,
                 kept: 0,
                 held: 0,

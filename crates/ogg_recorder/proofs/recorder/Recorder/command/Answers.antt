@@ -1,6 +1,4 @@
-use Rattle.std.proofs.Common.{◌≡◌, ℕ, ◌+◌, ◌<◌, List, ◌++◌, length, refl, sym, ◌∙◌, ap, subst, arith}
-use Rattle.std.specs.List.{AllByRecursion}
-use Rattle.ogg_page.specs.Page.{Page, IsPage, bytes_of_pages}
+use Rattle.std.proofs.Common.{◌≡◌, ℕ, ◌+◌, ◌<◌, List, ◌++◌, length, refl, sym, ◌∙◌, ap, subst, arith, Err}
 use Rattle.gate_file.specs.Commit.{CommitsTo}
 use Rattle.gate_file.specs.Gate.{EachImage}
 use Rattle.gate_file.specs.GateFile.{committed, staged_bytes}
@@ -31,29 +29,27 @@ returns-in-Err-clause-cause g c = λ e.
     let few = (c.refusals_are_of_the_table.ensures c.self.inside.shape.chain c.args.command.now c.in-Err.refusal (sym c.check.ensures.decides ∙ c.in-Err.is)).1 in
     absurd (not_disk c.in-Err.refusal few (same_refusal c.in-Err.refusal _ e))
 
-pub stage_pages-requires-clause-are : goal.stage_pages-requires-clause-are
-stage_pages-requires-clause-are g c =
-    subst (λ (l : List Page). AllByRecursion IsPage l) (sym c.in-Ok-prepare_pages.ensures.pages)
-    (command_pages c.command_adds_pages.ensures.pages c.self.inside.shape.chain c.args.command.now c.in-Ok.field-0 c.self.invariant.chain c.command_is_in_range.ensures (sym c.check.ensures.decides ∙ c.in-Ok.is))
+pub stage_command-requires-clause-are : goal.stage_command-requires-clause-are
+stage_command-requires-clause-are g c =
+    command_pages c.command_adds_pages.ensures.pages c.self.inside.shape.chain c.args.command.now c.in-Ok.size c.self.invariant.chain c.command_is_in_range.ensures (sym c.check.ensures.decides ∙ c.in-Ok.is)
 
-pub stage_pages-requires-clause-some : goal.stage_pages-requires-clause-some
-stage_pages-requires-clause-some g c =
-    subst (λ (l : List Page). 0 < length l) (sym c.in-Ok-prepare_pages.ensures.pages)
-    (command_some c.command_adds_pages.ensures.some c.self.inside.shape.chain c.args.command.now c.in-Ok.field-0 c.self.invariant.chain c.command_is_in_range.ensures (sym c.check.ensures.decides ∙ c.in-Ok.is))
+pub stage_command-requires-clause-some : goal.stage_command-requires-clause-some
+stage_command-requires-clause-some g c =
+    command_some c.command_adds_pages.ensures.some c.self.inside.shape.chain c.args.command.now c.in-Ok.size c.self.invariant.chain c.command_is_in_range.ensures (sym c.check.ensures.decides ∙ c.in-Ok.is)
 
-pub stage_pages-requires-clause-images : goal.stage_pages-requires-clause-images
-stage_pages-requires-clause-images g c = c.self.invariant.images (sym c.is_failed.ensures ∙ c.if-is_failed.false)
+pub stage_command-requires-clause-images : goal.stage_command-requires-clause-images
+stage_command-requires-clause-images g c = c.self.invariant.images (sym c.is_failed.ensures ∙ c.if-is_failed.false)
 
-pub returns-in-Err-stage_pages-clause-step : goal.returns-in-Err-stage_pages-clause-step
-returns-in-Err-stage_pages-clause-step g c =
+pub returns-in-Err-Disk-clause-step : goal.returns-in-Err-Disk-clause-step
+returns-in-Err-Disk-clause-step g c =
     let d = g.D.Disk in
     let in_ = c.self.inside in
     let good = sym c.is_failed.ensures ∙ c.if-is_failed.false in
     let kept = sym c.check.ensures.decides ∙ c.in-Ok.is in
     rw (← c.self.view_is)
     (λ first w is_in honest. faulted_staging d.is_honest d.state d.moment d.images_since first w (recorder_state in_.file in_.shape.chain in_.tail in_.kept in_.held in_.most) c.command_adds_its_packets.ensures.links
-    c.args.command.now c.in-Ok.field-0 is_in good honest (c.self.invariant.all good honest) c.command_is_in_range.ensures kept c.stage_pages.new.file (c.stage_pages.ensures.honest.0 honest) c.prepare_pages.new.shape.chain
-    (c.in-Err-stage_pages.ensures.failed.1 refl) (c.stage_pages.ensures.front honest) (c.stage_pages.ensures.any_moment honest))
+    c.args.command.now c.in-Ok.size is_in good honest (c.self.invariant.all good honest) c.command_is_in_range.ensures kept c.stage_command.new.file (c.stage_command.ensures.honest.0 honest) c.stage_command.new.shape.chain
+    (c.in-Err-Disk.ensures.failed (ap Err c.in-Err-Disk.field-0-is)) (c.stage_command.ensures.front honest) (c.in-Err-Disk.ensures.any_moment_err (ap Err c.in-Err-Disk.field-0-is) honest))
 
 pub invariant_of-self-then-self-from : goal.invariant_of-self-then-self-from
 invariant_of-self-then-self-from g c =
@@ -61,24 +57,23 @@ invariant_of-self-then-self-from g c =
     let in_ = c.self.inside in
     let chain = in_.shape.chain in
     let command = c.args.command.now in
-    let size = c.in-Ok.field-0 in
+    let size = c.in-Ok.size in
     let old = recorder_state in_.file chain in_.tail in_.kept in_.held in_.most in
     let good = sym c.is_failed.ensures ∙ c.if-is_failed.false in
     let kept = sym c.check.ensures.decides ∙ c.in-Ok.is in
-    let same = c.prepare_pages.ensures.chain in
-    let bytes : bytes_of_pages c.in-Ok-prepare_pages.pages ≡ command_bytes chain command = ap bytes_of_pages c.in-Ok-prepare_pages.ensures.pages in
-    let file = c.stage_pages.new.file in
+    let same = c.stage_command.ensures.chain in
+    let file = c.stage_command.new.file in
     let whole = c.self.invariant.chain.1 in
     is_waiting d.is_honest d.state old file c.accept.new.self.chain command size c.self.invariant good c.command_adds_its_packets.ensures.links c.command_adds_pages.ensures.some
     (c.command_adds_its_packets.ensures.size chain command size kept) c.command_is_in_range.ensures kept c.in-Ok.ensures.fits
     (λ links is. c.accept.ensures.links links (same ∙ is))
     (c.accept.ensures.grows whole.links size (same ∙ whole.chain_is) (ap (λ (s : ChainState). decision s command) same ∙ kept) ∙ ap (λ (s : ChainState). s.length_of + size) same)
-    (not_failed file.failed (λ bad. never (c.in-Ok-stage_pages.ensures.failed.0 bad))) c.stage_pages.ensures.honest.1
-    (λ now. let honest = c.stage_pages.ensures.honest.1 now in
-    subst (λ (l : List ℕ). EachImage (d.state file.disk) (CommitsTo l)) (sym (c.stage_pages.ensures.front honest))
-    (images_have d.moment d.images_since in_.file.disk file.disk d.state (CommitsTo (committed d.state in_.file)) (g.met.D.Disk.laws file.disk now) (c.stage_pages.ensures.any_moment honest)))
-    (omega (arith, c.if-self-from.true, c.from.ensures)) c.in-Ok-stage_pages.ensures.whole c.stage_pages.ensures.front
-    (λ honest. c.in-Ok-stage_pages.ensures.staged honest ∙ ap (λ (l : List ℕ). staged_bytes d.state in_.file ++ l) bytes)
+    c.in-Ok-stage_command.ensures.good c.stage_command.ensures.honest.1
+    (λ now. let honest = c.stage_command.ensures.honest.1 now in
+    subst (λ (l : List ℕ). EachImage (d.state file.disk) (CommitsTo l)) (sym (c.stage_command.ensures.front honest))
+    (images_have d.moment d.images_since in_.file.disk file.disk d.state (CommitsTo (committed d.state in_.file)) (g.met.D.Disk.laws file.disk now) (c.in-Ok-stage_command.ensures.any_moment honest)))
+    (omega (arith, c.if-self-from.true, c.from.ensures)) c.in-Ok-stage_command.ensures.whole c.stage_command.ensures.front
+    (λ honest. c.in-Ok-stage_command.ensures.staged honest)
 
 pub returns-then-self-from-clause-step : goal.returns-then-self-from-clause-step
 returns-then-self-from-clause-step g c =
@@ -88,13 +83,12 @@ returns-then-self-from-clause-step g c =
     let command = c.args.command.now in
     let good = sym c.is_failed.ensures ∙ c.if-is_failed.false in
     let kept = sym c.check.ensures.decides ∙ c.in-Ok.is in
-    let bytes : bytes_of_pages c.in-Ok-prepare_pages.pages ≡ command_bytes chain command = ap bytes_of_pages c.in-Ok-prepare_pages.ensures.pages in
-    let file = c.stage_pages.new.file in
+    let file = c.stage_command.new.file in
     rw (← c.self.view_is)
     (λ first w is_in honest. held_step d.is_honest d.state d.moment d.images_since first w (recorder_state in_.file chain in_.tail in_.kept in_.held in_.most) c.command_adds_its_packets.ensures.links
-    command c.in-Ok.field-0 is_in good honest (c.self.invariant.all good honest) c.command_is_in_range.ensures kept file (c.stage_pages.ensures.honest.0 honest) c.accept.new.self.chain
-    (not_failed file.failed (λ bad. never (c.in-Ok-stage_pages.ensures.failed.0 bad))) (c.stage_pages.ensures.front honest)
-    (c.in-Ok-stage_pages.ensures.staged honest ∙ ap (λ (l : List ℕ). staged_bytes d.state in_.file ++ l) bytes) (c.stage_pages.ensures.any_moment honest))
+    command c.in-Ok.size is_in good honest (c.self.invariant.all good honest) c.command_is_in_range.ensures kept file (c.stage_command.ensures.honest.0 honest) c.accept.new.self.chain
+    c.in-Ok-stage_command.ensures.good (c.stage_command.ensures.front honest)
+    (c.in-Ok-stage_command.ensures.staged honest) (c.in-Ok-stage_command.ensures.any_moment honest))
 
 pub returns-in-Err-commit-clause-any_moment : goal.returns-in-Err-commit-clause-any_moment
 returns-in-Err-commit-clause-any_moment g c =
@@ -102,12 +96,11 @@ returns-in-Err-commit-clause-any_moment g c =
     let in_ = c.self.inside in
     let chain = in_.shape.chain in
     let command = c.args.command.now in
-    let bytes : bytes_of_pages c.in-Ok-prepare_pages.pages ≡ command_bytes chain command = ap bytes_of_pages c.in-Ok-prepare_pages.ensures.pages in
-    let mid = c.stage_pages.new.file in
+    let mid = c.stage_command.new.file in
     rw (← c.self.view_is)
     (λ honest good. staged_then d.moment d.images_since in_.file.disk mid.disk c.commit.new.self.disk (committed d.state in_.file) (staged_bytes d.state in_.file ++ command_bytes chain command)
-    (committed d.state mid) (staged_bytes d.state mid) (c.stage_pages.ensures.front honest) (c.in-Ok-stage_pages.ensures.staged honest ∙ ap (λ (l : List ℕ). staged_bytes d.state in_.file ++ l) bytes)
-    (c.stage_pages.ensures.any_moment honest) (c.commit.ensures.any_moment (c.stage_pages.ensures.honest.0 honest)))
+    (committed d.state mid) (staged_bytes d.state mid) (c.stage_command.ensures.front honest) (c.in-Ok-stage_command.ensures.staged honest)
+    (c.in-Ok-stage_command.ensures.any_moment honest) (c.commit.ensures.any_moment (c.stage_command.ensures.honest.0 honest)))
 
 pub returns-in-Err-commit-clause-step : goal.returns-in-Err-commit-clause-step
 returns-in-Err-commit-clause-step g c =
@@ -117,20 +110,19 @@ returns-in-Err-commit-clause-step g c =
     let command = c.args.command.now in
     let good = sym c.is_failed.ensures ∙ c.if-is_failed.false in
     let kept = sym c.check.ensures.decides ∙ c.in-Ok.is in
-    let bytes : bytes_of_pages c.in-Ok-prepare_pages.pages ≡ command_bytes chain command = ap bytes_of_pages c.in-Ok-prepare_pages.ensures.pages in
-    let mid = c.stage_pages.new.file in
+    let mid = c.stage_command.new.file in
     let file = c.commit.new.self in
     rw (← c.self.view_is)
     (λ first w is_in honest.
-    let here = c.stage_pages.ensures.honest.0 honest in
+    let here = c.stage_command.ensures.honest.0 honest in
     faulted_commit d.is_honest d.state d.moment d.images_since first w (recorder_state in_.file chain in_.tail in_.kept in_.held in_.most) c.command_adds_its_packets.ensures.links
-    command c.in-Ok.field-0 is_in good honest (c.self.invariant.all good honest) c.command_is_in_range.ensures kept file (c.commit.ensures.honest.0 here) c.prepare_pages.new.shape.chain
+    command c.in-Ok.size is_in good honest (c.self.invariant.all good honest) c.command_is_in_range.ensures kept file (c.commit.ensures.honest.0 here) c.stage_command.new.shape.chain
     (lt_false (length w.held + 1) in_.most (omega (arith, c.if-self-from.false, c.from.ensures, is_in.count (is_open d.is_honest d.state d.moment d.images_since first w _ is_in good))))
     (c.in-Err-commit.ensures.failed.1 refl)
-    (same_front mid.end file.end (d.state file.disk).contents (committed d.state mid) c.in-Err-commit.ensures.end_err (c.commit.ensures.front here) ∙ c.stage_pages.ensures.front honest)
+    (same_front mid.end file.end (d.state file.disk).contents (committed d.state mid) c.in-Err-commit.ensures.end_err (c.commit.ensures.front here) ∙ c.stage_command.ensures.front honest)
     (staged_then d.moment d.images_since in_.file.disk mid.disk file.disk (committed d.state in_.file) (staged_bytes d.state in_.file ++ command_bytes chain command)
-    (committed d.state mid) (staged_bytes d.state mid) (c.stage_pages.ensures.front honest) (c.in-Ok-stage_pages.ensures.staged honest ∙ ap (λ (l : List ℕ). staged_bytes d.state in_.file ++ l) bytes)
-    (c.stage_pages.ensures.any_moment honest) (c.commit.ensures.any_moment here)))
+    (committed d.state mid) (staged_bytes d.state mid) (c.stage_command.ensures.front honest) (c.in-Ok-stage_command.ensures.staged honest)
+    (c.in-Ok-stage_command.ensures.any_moment honest) (c.commit.ensures.any_moment here)))
 
 pub invariant_of-self-2 : goal.invariant_of-self-2
 invariant_of-self-2 g c =
@@ -138,16 +130,15 @@ invariant_of-self-2 g c =
     let in_ = c.self.inside in
     let chain = in_.shape.chain in
     let command = c.args.command.now in
-    let size = c.in-Ok.field-0 in
+    let size = c.in-Ok.size in
     let old = recorder_state in_.file chain in_.tail in_.kept in_.held in_.most in
     let good = sym c.is_failed.ensures ∙ c.if-is_failed.false in
     let kept = sym c.check.ensures.decides ∙ c.in-Ok.is in
-    let same = c.prepare_pages.ensures.chain in
-    let bytes : bytes_of_pages c.in-Ok-prepare_pages.pages ≡ command_bytes chain command = ap bytes_of_pages c.in-Ok-prepare_pages.ensures.pages in
-    let mid = c.stage_pages.new.file in
+    let same = c.stage_command.ensures.chain in
+    let mid = c.stage_command.new.file in
     let file = c.commit.new.self in
     let whole = c.self.invariant.chain.1 in
-    let before : d.is_honest file.disk → d.is_honest in_.file.disk = λ now. c.stage_pages.ensures.honest.1 (c.commit.ensures.honest.1 now) in
+    let before : d.is_honest file.disk → d.is_honest in_.file.disk = λ now. c.stage_command.ensures.honest.1 (c.commit.ensures.honest.1 now) in
     is_kept d.is_honest d.state old file c.accept-2.new.self.chain command size c.self.invariant good c.command_adds_its_packets.ensures.links c.command_adds_pages.ensures.some
     (c.command_adds_its_packets.ensures.size chain command size kept) c.command_is_in_range.ensures kept c.in-Ok.ensures.fits
     (λ links is. c.accept-2.ensures.links links (same ∙ is))
@@ -156,9 +147,9 @@ invariant_of-self-2 g c =
     (λ now. let here = c.commit.ensures.honest.1 now in
     subst (λ (l : List ℕ). EachImage (d.state file.disk) (CommitsTo l)) (sym (c.in-Ok-commit.ensures.grown here)) (c.in-Ok-commit.ensures.only here))
     c.in-Ok-commit.ensures.none
-    (λ honest. let here = c.stage_pages.ensures.honest.0 honest in
+    (λ honest. let here = c.stage_command.ensures.honest.0 honest in
     c.in-Ok-commit.ensures.grown here
-    ∙ (λ i. c.stage_pages.ensures.front honest i ++ (c.in-Ok-stage_pages.ensures.staged honest ∙ ap (λ (l : List ℕ). staged_bytes d.state in_.file ++ l) bytes) i))
+    ∙ (λ i. c.stage_command.ensures.front honest i ++ (c.in-Ok-stage_command.ensures.staged honest) i))
     (omega (arith, c.self.invariant.few))
 
 pub returns-clause-any_moment : goal.returns-clause-any_moment
@@ -167,12 +158,11 @@ returns-clause-any_moment g c =
     let in_ = c.self.inside in
     let chain = in_.shape.chain in
     let command = c.args.command.now in
-    let bytes : bytes_of_pages c.in-Ok-prepare_pages.pages ≡ command_bytes chain command = ap bytes_of_pages c.in-Ok-prepare_pages.ensures.pages in
-    let mid = c.stage_pages.new.file in
+    let mid = c.stage_command.new.file in
     rw (← c.self.view_is)
     (λ honest good. staged_then d.moment d.images_since in_.file.disk mid.disk c.commit.new.self.disk (committed d.state in_.file) (staged_bytes d.state in_.file ++ command_bytes chain command)
-    (committed d.state mid) (staged_bytes d.state mid) (c.stage_pages.ensures.front honest) (c.in-Ok-stage_pages.ensures.staged honest ∙ ap (λ (l : List ℕ). staged_bytes d.state in_.file ++ l) bytes)
-    (c.stage_pages.ensures.any_moment honest) (c.commit.ensures.any_moment (c.stage_pages.ensures.honest.0 honest)))
+    (committed d.state mid) (staged_bytes d.state mid) (c.stage_command.ensures.front honest) (c.in-Ok-stage_command.ensures.staged honest)
+    (c.in-Ok-stage_command.ensures.any_moment honest) (c.commit.ensures.any_moment (c.stage_command.ensures.honest.0 honest)))
 
 pub returns-clause-step : goal.returns-clause-step
 returns-clause-step g c =
@@ -182,24 +172,23 @@ returns-clause-step g c =
     let command = c.args.command.now in
     let good = sym c.is_failed.ensures ∙ c.if-is_failed.false in
     let kept = sym c.check.ensures.decides ∙ c.in-Ok.is in
-    let bytes : bytes_of_pages c.in-Ok-prepare_pages.pages ≡ command_bytes chain command = ap bytes_of_pages c.in-Ok-prepare_pages.ensures.pages in
-    let mid = c.stage_pages.new.file in
+    let mid = c.stage_command.new.file in
     let file = c.commit.new.self in
     rw (← c.self.view_is)
     (λ first w is_in honest.
-    let here = c.stage_pages.ensures.honest.0 honest in
-    let more = c.in-Ok-stage_pages.ensures.staged honest ∙ ap (λ (l : List ℕ). staged_bytes d.state in_.file ++ l) bytes in
-    let grown : committed d.state mid ++ staged_bytes d.state mid ≡ committed d.state in_.file ++ (staged_bytes d.state in_.file ++ command_bytes chain command) = (λ i. c.stage_pages.ensures.front honest i ++ more i) in
+    let here = c.stage_command.ensures.honest.0 honest in
+    let more = c.in-Ok-stage_command.ensures.staged honest in
+    let grown : committed d.state mid ++ staged_bytes d.state mid ≡ committed d.state in_.file ++ (staged_bytes d.state in_.file ++ command_bytes chain command) = (λ i. c.stage_command.ensures.front honest i ++ more i) in
     kept_step d.is_honest d.state d.moment d.images_since first w (recorder_state in_.file chain in_.tail in_.kept in_.held in_.most) c.command_adds_its_packets.ensures.links
-    command c.in-Ok.field-0 is_in good honest (c.self.invariant.all good honest) c.command_is_in_range.ensures kept file (c.commit.ensures.honest.0 here) c.accept-2.new.self.chain
+    command c.in-Ok.size is_in good honest (c.self.invariant.all good honest) c.command_is_in_range.ensures kept file (c.commit.ensures.honest.0 here) c.accept-2.new.self.chain
     (not_failed file.failed (λ bad. never (c.in-Ok-commit.ensures.failed.0 bad))) c.in-Ok-commit.ensures.none
     (c.in-Ok-commit.ensures.grown here ∙ grown)
     (staged_then d.moment d.images_since in_.file.disk mid.disk file.disk (committed d.state in_.file) (staged_bytes d.state in_.file ++ command_bytes chain command)
-    (committed d.state mid) (staged_bytes d.state mid) (c.stage_pages.ensures.front honest) more (c.stage_pages.ensures.any_moment honest) (c.commit.ensures.any_moment here))
+    (committed d.state mid) (staged_bytes d.state mid) (c.stage_command.ensures.front honest) more (c.in-Ok-stage_command.ensures.any_moment honest) (c.commit.ensures.any_moment here))
     (subst (λ (l : List ℕ). EachImage (d.state file.disk) (CommitsTo l)) grown (c.in-Ok-commit.ensures.only here)))
 
 pub returns-then-self-from-clause-stays : goal.returns-then-self-from-clause-stays
-returns-then-self-from-clause-stays g c = rw (← c.self.view_is) (λ honest count is. c.stage_pages.ensures.front honest)
+returns-then-self-from-clause-stays g c = rw (← c.self.view_is) (λ honest count is. c.stage_command.ensures.front honest)
 
 pub returns-clause-none_waits : goal.returns-clause-none_waits
 returns-clause-none_waits g c = λ kept is. nothing_in g.D.Disk.state c.commit.new.self c.in-Ok-commit.ensures.none
