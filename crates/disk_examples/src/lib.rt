@@ -9,6 +9,8 @@
 #[cfg(test)]
 mod disks;
 #[cfg(test)]
+mod fused;
+#[cfg(test)]
 mod gates;
 #[cfg(test)]
 mod recorders;

@@ -4,5 +4,5 @@
 mod commands;
 mod hostile;
 mod openings;
-mod stops;
+mod scripts;
 mod tools;

@@ -6,87 +6,171 @@ use std::test::Fail;
 use std::{env, fs, process};
 
 /// Makes a folder that no other test has.
-fn new_folder(rt: &HostRuntime, name: &str) -> Result<PathBuf, Fail> {
+fn new_folder(rt: &HostRuntime) -> Result<PathBuf, Fail> {
     let id = process::id(rt.process());
-    let name = format!(in rt.alloc(); "disk_model-{name}-{id}")?;
+    let name = format!(in rt.alloc(); "disk_model-{id}")?;
     let folder = env::temp_dir(rt)?.join(rt.alloc(), name.as_str())?;
     fs::create_dir(rt, folder.as_path())?;
     Ok(folder)
 }
 
-#[test]
-fn files_are_opened_as_the_mode_says(rt: HostRuntime) -> Result<(), Fail> {
-    let folder = new_folder(&rt, "modes")?;
-    let file = folder.join(rt.alloc(), "file")?;
-    let path = file.as_str();
+/// What is opened.
+#[derive(Clone, Copy)]
+enum Place {
+    /// A file with this name in the folder.
+    Named(&'static str),
+    /// The folder.
+    Folder,
+    /// A device that has no room, and so takes no byte.
+    Full,
+}
 
+/// A call of a disk.
+#[derive(Clone, Copy)]
+enum Call {
+    Write(u64, &'static [u8]),
+    /// A read of up to five bytes, which are these.
+    Read(u64, &'static [u8]),
+    Cut(u64),
+    Sync,
+    /// The disk's length, which is this.
+    Len(u64),
+}
+
+/// Calls, and whether each succeeds.
+type Calls = &'static [(Call, bool)];
+
+/// What is opened and how, and if it can be opened, calls of it.
+const OPENED: [(Place, FileMode, Option<Calls>); 16] = [
     // Only one mode makes what isn't there.
-    for mode in [FileMode::ReadWrite, FileMode::ReadOnly] {
-        assert!(rt; FileDisk::open(&rt, path, mode).is_err());
-    }
-    let mut disk = FileDisk::open(&rt, path, FileMode::Create).map_err(|_| "open")?;
-    assert!(rt; disk.len() == Ok(0));
-    assert!(rt; disk.write_at(0, b"hello world") == Ok(()));
-    assert!(rt; disk.write_at(6, b"there") == Ok(()));
-    assert!(rt; disk.sync() == Ok(()));
-
+    (Place::Named("a"), FileMode::ReadWrite, None),
+    (Place::Named("a"), FileMode::ReadOnly, None),
+    (
+        Place::Named("a"),
+        FileMode::Create,
+        Some(&[
+            (Call::Len(0), true),
+            (Call::Write(0, b"hello world"), true),
+            (Call::Write(6, b"there"), true),
+            (Call::Sync, true),
+        ]),
+    ),
     // No mode shortens what is there.
-    for mode in [FileMode::Create, FileMode::ReadWrite, FileMode::ReadOnly] {
-        let mut again = FileDisk::open(&rt, path, mode).map_err(|_| "open")?;
-        assert!(rt; again.len() == Ok(11));
-        let mut bytes = [0; 5];
-        assert!(rt; again.read_at(6, &mut bytes) == Ok(()));
-        assert!(rt; &bytes == b"there");
-        let writes = mode != FileMode::ReadOnly;
-        assert!(rt; again.write_at(6, b"w").is_ok() == writes);
-        assert!(rt; again.cut(10).is_ok() == writes);
-        assert!(rt; disk.cut(10) == Ok(()));
-        assert!(rt; disk.write_at(6, b"there") == Ok(()));
-    }
-
-    fs::remove_file(&rt, file.as_path())?;
-    fs::remove_dir(&rt, folder.as_path())?;
-    Ok(())
-}
-
-#[test]
-fn files_fail_where_they_should(rt: HostRuntime) -> Result<(), Fail> {
-    let folder = new_folder(&rt, "faults")?;
-    let file = folder.join(rt.alloc(), "file")?;
-    let mut disk = FileDisk::open(&rt, file.as_str(), FileMode::Create).map_err(|_| "open")?;
-    assert!(rt; disk.write_at(0, b"hello") == Ok(()));
-
+    (Place::Named("a"), FileMode::Create, WRITES),
+    (Place::Named("a"), FileMode::Create, WRITTEN_ANEW),
+    (Place::Named("a"), FileMode::ReadWrite, WRITES),
+    (Place::Named("a"), FileMode::Create, WRITTEN_ANEW),
+    (
+        Place::Named("a"),
+        FileMode::ReadOnly,
+        Some(&[
+            (Call::Len(11), true),
+            (Call::Read(6, b"there"), true),
+            (Call::Write(6, b"w"), false),
+            (Call::Cut(10), false),
+        ]),
+    ),
+    (Place::Named("a"), FileMode::Create, WRITTEN_ANEW),
     // Past the end there is nothing to read, and no disk is longer than 2^63 - 1 bytes.
-    assert!(rt; disk.read_at(4, &mut [0; 2]) == Err(DiskFault));
-    for (at, bytes) in [
-        (i64::MAX as u64, b"x".as_slice()),
-        (u64::MAX, b"xy".as_slice()),
-    ] {
-        assert!(rt; disk.write_at(at, bytes) == Err(DiskFault));
-    }
-    assert!(rt; disk.len() == Ok(5));
-
-    let missing = folder.join(rt.alloc(), "missing/file")?;
-    let made = FileDisk::open(&rt, missing.as_str(), FileMode::Create);
-    assert!(rt; made.is_err());
-
+    (
+        Place::Named("b"),
+        FileMode::Create,
+        Some(&[
+            (Call::Write(0, b"hello"), true),
+            (Call::Read(4, b"o?"), false),
+            (Call::Write(i64::MAX as u64, b"x"), false),
+            (Call::Write(u64::MAX, b"xy"), false),
+            (Call::Len(5), true),
+        ]),
+    ),
+    (Place::Named("missing/file"), FileMode::Create, None),
     // A folder can be opened, but not read.
-    assert!(rt; FileDisk::open(&rt, folder.as_str(), FileMode::ReadWrite).is_err());
-    let mut opened = FileDisk::open(&rt, folder.as_str(), FileMode::ReadOnly).map_err(|_| "open")?;
-    assert!(rt; opened.read_at(0, &mut [0]) == Err(DiskFault));
+    (Place::Folder, FileMode::ReadWrite, None),
+    (
+        Place::Folder,
+        FileMode::ReadOnly,
+        Some(&[(Call::Read(0, b"?"), false)]),
+    ),
+    (
+        Place::Full,
+        FileMode::ReadWrite,
+        Some(&[(Call::Write(0, b"x"), false), (Call::Write(0, b""), true)]),
+    ),
+    // Both files stay.
+    (Place::Named("a"), FileMode::ReadOnly, Some(&[])),
+    (Place::Named("b"), FileMode::ReadOnly, Some(&[])),
+];
 
-    fs::remove_file(&rt, file.as_path())?;
-    fs::remove_dir(&rt, folder.as_path())?;
-    Ok(())
+const WRITES: Option<Calls> = Some(&[
+    (Call::Len(11), true),
+    (Call::Read(6, b"there"), true),
+    (Call::Write(6, b"w"), true),
+    (Call::Cut(10), true),
+]);
+
+const WRITTEN_ANEW: Option<Calls> = Some(&[
+    (Call::Cut(10), true),
+    (Call::Write(6, b"there"), true),
+]);
+
+/// Makes the call, and returns whether it found what it says.
+fn made(disk: &mut FileDisk, call: Call) -> Result<bool, DiskFault> {
+    match call {
+        Call::Write(at, bytes) => disk.write_at(at, bytes)?,
+        Call::Read(at, bytes) => {
+            let mut room = [0; 5];
+            let (buffer, _) = room.split_at_mut(bytes.len().min(5));
+            disk.read_at(at, buffer)?;
+            return Ok(&*buffer == bytes);
+        }
+        Call::Cut(to) => disk.cut(to)?,
+        Call::Sync => disk.sync()?,
+        Call::Len(length) => return Ok(disk.len()? == length),
+    }
+    Ok(true)
 }
 
-/// A device that has no room, and so takes no byte.
+/// Whether each call succeeds or fails as it is told.
+fn are_as_told(disk: &mut FileDisk, calls: Calls) -> bool {
+    for (call, succeeds) in calls {
+        let is_as_told = match made(disk, *call) {
+            Ok(found) => *succeeds && found,
+            Err(DiskFault) => !*succeeds,
+        };
+        if !is_as_told {
+            return false;
+        }
+    }
+    true
+}
+
+/// Opens the place, and makes the calls. It returns whether it can't be opened as it is told, or the calls end as
+/// they are told.
+fn is_as_told(rt: &HostRuntime, path: &str, mode: FileMode, calls: Option<Calls>) -> bool {
+    match (FileDisk::open(rt, path, mode), calls) {
+        (Ok(mut disk), Some(calls)) => are_as_told(&mut disk, calls),
+        (Err(_), None) => true,
+        _ => false,
+    }
+}
+
 #[test]
-fn a_full_device_fails_each_write(rt: HostRuntime) -> Result<(), Fail> {
-    let mut disk = FileDisk::open(&rt, "/dev/full", FileMode::ReadWrite).map_err(
-        |_| "no /dev/full",
-    )?;
-    assert!(rt; disk.write_at(0, b"x") == Err(DiskFault));
-    assert!(rt; disk.write_at(0, b"") == Ok(()));
+fn files_are_opened_written_and_read_as_the_rows_say(rt: HostRuntime) -> Result<(), Fail> {
+    let folder = new_folder(&rt)?;
+    for (place, mode, calls) in OPENED {
+        let is_told = match place {
+            Place::Named(name) => {
+                let file = folder.join(rt.alloc(), name)?;
+                is_as_told(&rt, file.as_str(), mode, calls)
+            }
+            Place::Folder => is_as_told(&rt, folder.as_str(), mode, calls),
+            Place::Full => is_as_told(&rt, "/dev/full", mode, calls),
+        };
+        assert!(rt; is_told);
+    }
+    for name in ["a", "b"] {
+        fs::remove_file(&rt, folder.join(rt.alloc(), name)?.as_path())?;
+    }
+    fs::remove_dir(&rt, folder.as_path())?;
     Ok(())
 }

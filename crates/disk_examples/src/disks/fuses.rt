@@ -1,6 +1,7 @@
 //! Fuses, and fuses within fuses.
 
-use disk_model::{Disk, FuseDisk, MemDisk};
+use crate::fused::{Fuse, fused, over};
+use disk_model::Disk;
 use std::test::Fail;
 
 /// Five calls that any disk takes, and which of them succeeded.
@@ -14,66 +15,133 @@ fn five_calls<D: Disk>(disk: &mut D) -> [bool; 5] {
     ]
 }
 
-#[test]
-fn a_fuse_stops_all_calls_after_so_many(rt: HostRuntime) -> Result<(), Fail> {
-    for (calls, succeeded, contents) in [
-        (0, [false; 5], [1].as_slice()),
-        (1, [true, false, false, false, false], [7].as_slice()),
-        (3, [true, true, true, false, false], [7].as_slice()),
-        (4, [true, true, true, true, false], [].as_slice()),
-        (5, [true; 5], [].as_slice()),
-    ] {
-        let mut disk = FuseDisk::stop_after(MemDisk::of(rt.alloc(), &[1])?, calls);
-        assert!(rt; five_calls(&mut disk) == succeeded);
-        assert!(rt; five_calls(&mut disk) == [false; 5]);
-        assert!(rt; disk.into_inner().contents() == contents);
-    }
-    Ok(())
+/// The fuse of a disk with the byte 1, and the fuse over that one.
+#[derive(Clone, Copy)]
+struct Row {
+    inner: Fuse,
+    outer: Fuse,
+    /// Which of the five calls succeed, as often as they are made.
+    calls: &'static [[bool; 5]],
+    /// Whether a further call succeeds.
+    goes_on: bool,
+    /// What the disk then holds.
+    contents: &'static [u8],
+    /// Bytes, and whether a stop may leave them.
+    images: &'static [(&'static [u8], bool)],
 }
 
-#[test]
-fn a_fuse_fails_one_call(rt: HostRuntime) -> Result<(), Fail> {
-    for (call, succeeded, contents) in [
-        (0, [true; 5], [].as_slice()),
-        (1, [false, true, true, true, true], [].as_slice()),
-        (4, [true, true, true, false, true], [7].as_slice()),
-        (5, [true, true, true, true, false], [].as_slice()),
-        (6, [true; 5], [].as_slice()),
-    ] {
-        let mut disk = FuseDisk::fail_once(MemDisk::of(rt.alloc(), &[1])?, call);
-        assert!(rt; five_calls(&mut disk) == succeeded);
-        assert!(rt; disk.into_inner().contents() == contents);
-    }
-    Ok(())
-}
-
-#[test]
-fn a_fuse_makes_no_call_of_its_own(rt: HostRuntime) -> Result<(), Fail> {
-    // The inner fuse takes five calls, and no more.
-    let inner = FuseDisk::stop_after(MemDisk::of(rt.alloc(), &[1])?, 5);
-    let mut disk = FuseDisk::stop_after(inner, 6);
-    assert!(rt; five_calls(&mut disk) == [true; 5]);
-    assert!(rt; disk.len().is_err());
-    Ok(())
-}
-
-#[test]
-fn fuses_nest(rt: HostRuntime) -> Result<(), Fail> {
+const ROWS: [Row; 13] = [
+    // A fuse stops all calls after a number of them.
+    Row {
+        outer: Fuse::StopAfter(0),
+        calls: &[[false; 5], [false; 5]],
+        contents: &[1],
+        ..STOPPED
+    },
+    Row {
+        outer: Fuse::StopAfter(1),
+        calls: &[[true, false, false, false, false], [false; 5]],
+        contents: &[7],
+        ..STOPPED
+    },
+    Row {
+        outer: Fuse::StopAfter(3),
+        calls: &[[true, true, true, false, false], [false; 5]],
+        contents: &[7],
+        ..STOPPED
+    },
+    Row {
+        outer: Fuse::StopAfter(4),
+        calls: &[[true, true, true, true, false], [false; 5]],
+        ..STOPPED
+    },
+    Row {
+        outer: Fuse::StopAfter(5),
+        calls: &[[true; 5], [false; 5]],
+        ..STOPPED
+    },
+    // A fuse fails one call.
+    Row {
+        outer: Fuse::FailOnce(0),
+        calls: &[[true; 5]],
+        ..FAILED
+    },
+    Row {
+        outer: Fuse::FailOnce(1),
+        calls: &[[false, true, true, true, true]],
+        ..FAILED
+    },
+    Row {
+        outer: Fuse::FailOnce(4),
+        calls: &[[true, true, true, false, true]],
+        contents: &[7],
+        ..FAILED
+    },
+    Row {
+        outer: Fuse::FailOnce(5),
+        calls: &[[true, true, true, true, false]],
+        ..FAILED
+    },
+    Row {
+        outer: Fuse::FailOnce(6),
+        calls: &[[true; 5]],
+        goes_on: false,
+        ..FAILED
+    },
+    // A fuse makes no call of its own: the inner one takes five calls, and no more.
+    Row {
+        inner: Fuse::StopAfter(5),
+        outer: Fuse::StopAfter(6),
+        calls: &[[true; 5]],
+        ..STOPPED
+    },
     // A call that the outer fuse fails isn't counted by the inner one.
-    let inner = FuseDisk::stop_after(MemDisk::of(rt.alloc(), &[1])?, 3);
-    let mut disk = FuseDisk::fail_once(inner, 2);
-    assert!(rt; five_calls(&mut disk) == [true, false, true, true, false]);
+    Row {
+        inner: Fuse::StopAfter(3),
+        outer: Fuse::FailOnce(2),
+        calls: &[[true, false, true, true, false]],
+        ..STOPPED
+    },
+    // A call that the inner fuse fails is counted by the outer one. The sync that failed has settled nothing.
+    Row {
+        inner: Fuse::FailOnce(2),
+        outer: Fuse::StopAfter(3),
+        calls: &[[true, false, true, false, false]],
+        contents: &[7],
+        images: &[(&[1], true), (&[7], true), (&[200], true), (&[], false)],
+        ..STOPPED
+    },
+];
 
-    // A call that the inner fuse fails is counted by the outer one.
-    let inner = FuseDisk::fail_once(MemDisk::of(rt.alloc(), &[1])?, 2);
-    let mut disk = FuseDisk::stop_after(inner, 3);
-    assert!(rt; five_calls(&mut disk) == [true, false, true, false, false]);
+/// No further call succeeds.
+const STOPPED: Row = Row {
+    inner: Fuse::Whole,
+    outer: Fuse::Whole,
+    calls: &[],
+    goes_on: false,
+    contents: &[],
+    images: &[],
+};
 
-    // The sync that failed has settled nothing.
-    let disk = disk.into_inner().into_inner();
-    for (image, is) in [(&[1], true), (&[7], true), (&[200], true)] {
-        assert!(rt; disk.is_image(image) == is);
+/// A further call succeeds.
+const FAILED: Row = Row {
+    goes_on: true,
+    ..STOPPED
+};
+
+#[test]
+fn calls_fail_as_the_fuses_say(rt: HostRuntime) -> Result<(), Fail> {
+    for row in &ROWS {
+        let mut disk = over(fused(rt.alloc(), &[1], row.inner)?, row.outer);
+        for succeeded in row.calls {
+            assert!(rt; five_calls(&mut disk) == *succeeded);
+        }
+        assert!(rt; disk.len().is_ok() == row.goes_on);
+        let disk = disk.into_inner().into_inner();
+        assert!(rt; disk.contents() == row.contents);
+        for (image, is) in row.images {
+            assert!(rt; disk.is_image(image) == *is);
+        }
     }
-    assert!(rt; !disk.is_image(&[]));
     Ok(())
 }

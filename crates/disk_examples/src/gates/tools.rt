@@ -88,17 +88,91 @@ fn closed(bytes: Vec<u8>) -> Result<ClosedPage, Fail> {
     Ok(ClosedPage { bytes })
 }
 
-/// The page of a begin, of a put and of an end, of 31, 33 and 27 bytes.
-pub(super) fn begin_page(alloc: Global) -> Result<ClosedPage, Fail> {
-    page(alloc, 2, 0, 0, &[3], b"abc")
+/// A page of stream 1.
+#[derive(Clone, Copy)]
+pub(super) enum Named {
+    /// A begin with the header `abc`, of 31 bytes.
+    Begin,
+    /// A put of `hello` at position 5, of 33 bytes.
+    Put,
+    /// An end, of 27 bytes.
+    End,
+    /// A put of 60,000 bytes, of 60,263 bytes.
+    Large,
+    /// The first page of a packet of 65,025 bytes, of 65,307 bytes.
+    Full,
+    /// The page of 28 bytes that ends this packet.
+    Rest,
 }
 
-pub(super) fn put_page(alloc: Global) -> Result<ClosedPage, Fail> {
-    page(alloc, 0, 5, 1, &[5], b"hello")
+/// The page with this name.
+pub(super) fn page_of(alloc: Global, named: Named) -> Result<ClosedPage, Fail> {
+    match named {
+        Named::Begin => page(alloc, 2, 0, 0, &[3], b"abc"),
+        Named::Put => page(alloc, 0, 5, 1, &[5], b"hello"),
+        Named::End => page(alloc, 4, 5, 2, &[], b""),
+        Named::Large => {
+            let mut lacing = [255; 236];
+            lacing[235] = 75;
+            page(alloc, 0, 5, 1, &lacing, &[7; 60_000])
+        }
+        Named::Full => page(alloc, 0, u64::MAX, 1, &[255; 255], &[7; 65_025]),
+        Named::Rest => page(alloc, 1, 5, 2, &[0], b""),
+    }
 }
 
-pub(super) fn end_page(alloc: Global) -> Result<ClosedPage, Fail> {
-    page(alloc, 4, 5, 2, &[], b"")
+/// Some bytes of a file.
+#[derive(Clone, Copy)]
+pub(super) enum Part {
+    Page(Named),
+    Bytes(&'static [u8]),
+}
+
+/// The parts, joined.
+pub(super) fn joined(alloc: Global, parts: &[Part]) -> Result<Vec<u8>, Fail> {
+    let mut bytes = Vec::new(alloc);
+    for part in parts {
+        match part {
+            Part::Page(named) => bytes.extend_from_slice(page_of(alloc, *named)?.page())?,
+            Part::Bytes(some) => bytes.extend_from_slice(some)?,
+        }
+    }
+    Ok(bytes)
+}
+
+/// A call of a file.
+#[derive(Clone, Copy)]
+pub(super) enum Step {
+    Append(Named),
+    /// Stages the page, so that another can follow.
+    Stage(Named),
+    /// Stages the page as a last one.
+    StageLast(Named),
+    Commit,
+}
+
+/// Makes the call, and returns whether it succeeded. The one fault is `DiskFault`.
+fn is_made<D: Disk>(alloc: Global, file: &mut GateFile<D>, step: Step) -> Result<bool, Fail> {
+    Ok(match step {
+        Step::Append(named) => append(file, &page_of(alloc, named)?).is_ok(),
+        Step::Stage(named) => page_of(alloc, named)?.stage_in(file).is_ok(),
+        Step::StageLast(named) => stage_last(file, &page_of(alloc, named)?).is_ok(),
+        Step::Commit => commit(file).is_ok(),
+    })
+}
+
+/// Makes the calls up to the first that fails, and returns whether all succeeded.
+pub(super) fn are_made<D: Disk>(
+    alloc: Global,
+    file: &mut GateFile<D>,
+    steps: &[Step],
+) -> Result<bool, Fail> {
+    for step in steps {
+        if !is_made(alloc, file, *step)? {
+            return Ok(false);
+        }
+    }
+    Ok(true)
 }
 
 /// A file, opened and made ready, if it can be.
@@ -119,11 +193,16 @@ pub(super) fn opened<D: Disk + Drop>(alloc: Global, disk: D) -> Result<GateFile<
     }
 }
 
-/// The end of the committed bytes and how many follow, or the fault.
+/// The end of the committed bytes and how many follow, or the fault. After a fault the contents stay as they are.
 pub(super) fn ends(alloc: Global, bytes: &[u8]) -> Result<Result<(u64, u64), OpenFault>, Fail> {
     match GateFile::find(alloc, MemDisk::of(alloc, bytes)?) {
         Ok(found) => Ok(Ok((found.end(), found.tail()))),
-        Err((fault, _)) => Ok(Err(fault)),
+        Err((fault, disk)) => {
+            if disk.contents() != bytes {
+                return Err(Fail::from("changed"));
+            }
+            Ok(Err(fault))
+        }
     }
 }
 

@@ -1,5 +1,6 @@
 //! A disk that fails at each of its calls in turn, once or from then on. Whatever a stop makes of the file, it
 //! holds the first commands: every one that was kept is among them, and at most one group besides.
+use super::commands::sealed;
 use super::tools::{Answer, Given, ends, give, group};
 use disk_model::{Disk, FileDisk, FileMode, FuseDisk, MemDisk};
 use ogg_recorder::Recorder;
@@ -79,17 +80,6 @@ fn run_on<D: Disk + Drop>(alloc: Global, disk: D, run: &Run) -> Result<(u64, D),
         kept = end;
     }
     Ok((kept, sealed(recorder)))
-}
-
-/// Seals the file if it can be sealed, and gives the disk back.
-fn sealed<D: Disk>(recorder: Recorder<D>) -> D {
-    if recorder.is_failed() || recorder.held() > 0 {
-        return recorder.give_back();
-    }
-    match recorder.seal() {
-        Ok(disk) => disk,
-        Err((_, disk)) => disk,
-    }
 }
 
 /// Whether the committed bytes may end at `found` if they were said to end at `kept`: there, or after one more group.

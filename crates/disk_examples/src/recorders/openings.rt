@@ -1,15 +1,11 @@
 //! Files made by hand, opened.
-use super::tools::{
-    Answer, ByHand, Given, ROW_1, ROW_2, ROW_3, ends, give, joined, opened, try_open,
-};
-use chain_rules::Refusal;
-use disk_model::{FuseDisk, MemDisk};
+use super::tools::{ByHand, ROW_1, ROW_2, ROW_3, ends, file_of, joined, try_open};
+use crate::fused::{Fuse, fused};
 use gate_file::OpenFault;
 use link_chain::ChainFault;
 use ogg_page::PageFault;
 use ogg_recorder::Recorder;
 use std::alloc::Global;
-use std::process::Abort;
 use std::test::Fail;
 
 /// Pages, and why the last of them isn't taken.
@@ -75,76 +71,48 @@ fn broken_chains_are_told_and_left_as_they_are(rt: HostRuntime) -> Result<(), Fa
 
         // A damaged page is reported first, wherever it stands.
         let place = bytes.len() as u64;
-        let mut damaged = bytes;
-        damaged.extend_from_slice(b"OggS damaged")?;
+        let damaged = file_of(alloc, pages, b"OggS damaged")?;
         assert!(rt; ends(alloc, &damaged)? == Err(OpenFault::Page(place, PageFault::Short)));
     }
     Ok(())
 }
 
-#[test]
-fn too_many_streams_are_told(rt: HostRuntime) -> Result<(), Fail> {
-    let alloc = rt.alloc();
+/// Too many streams: the first page of a stream for each serial from 1 to 65.
+fn too_many(alloc: Global) -> Result<Vec<u8>, Fail> {
     let mut bytes = Vec::new(alloc);
     for serial in 1..=65 {
         let (_, flags, position, sequence, lacing, body) = ROW_1;
         let page = joined(alloc, &[(serial, flags, position, sequence, lacing, body)])?;
         bytes.extend_from_slice(&page)?;
     }
-    assert!(rt; ends(alloc, &bytes)? == Err(OpenFault::Chain(1984, ChainFault::TooMany)));
-    Ok(())
+    Ok(bytes)
 }
 
-#[test]
-fn a_changed_byte_is_found(rt: HostRuntime) -> Result<(), Fail> {
-    let alloc = rt.alloc();
+/// The pages of the first rows, with an `H` in `hello`.
+fn changed(alloc: Global) -> Result<Vec<u8>, Fail> {
     let mut bytes = joined(alloc, &[ROW_1, ROW_2, ROW_3])?;
     if let Some(byte) = bytes.get_mut(59) {
         *byte = b'H';
     }
-    assert!(rt; ends(alloc, &bytes)? == Err(OpenFault::Page(31, PageFault::Checksum)));
-    Ok(())
+    Ok(bytes)
 }
 
-/// What a stop in the first write of a new file's opening may leave, and what stands there before it.
-#[test]
-fn one_byte_alone_is_a_tail(rt: HostRuntime) -> Result<(), Fail> {
-    let alloc = rt.alloc();
-    for (byte, tail) in [(b"".as_slice(), 0), (b"O", 1), (b"\0", 1)] {
-        let mut recorder = opened(alloc, MemDisk::of(alloc, byte)?)?;
-        assert!(rt; (recorder.end(), recorder.tail()) == (0, tail));
-        assert!(rt; give(alloc, &mut recorder, Given::Begin(&[1]))? == Answer::Kept(1, 31));
-    }
-    Ok(())
-}
-
-#[test]
-fn a_fault_of_the_first_sync_is_the_disks(rt: HostRuntime) -> Result<(), Fail> {
-    let alloc = rt.alloc();
-    let bytes = joined(alloc, &[ROW_1, ROW_2])?;
-    let disk = FuseDisk::fail_once(MemDisk::of(alloc, &bytes)?, 1);
+/// The fault of an opening whose first sync fails, and the end that the next one finds.
+fn found_at_last(alloc: Global) -> Result<(OpenFault, Option<u64>), Fail> {
+    let disk = fused(alloc, &joined(alloc, &[ROW_1, ROW_2])?, Fuse::FailOnce(1))?;
     match Recorder::open(alloc, disk) {
-        Ok(_) => return Err(Fail::from("opened")),
-        Err((fault, disk)) => {
-            assert!(rt; fault == OpenFault::Disk);
-            match try_open(alloc, disk) {
-                Some(recorder) => assert!(rt; recorder.end() == 64),
-                None => return Err(Fail::from("not opened")),
-            }
-        }
+        Ok(_) => Err(Fail::from("opened")),
+        Err((fault, disk)) => Ok((fault, try_open(alloc, disk).map(|recorder| recorder.end()))),
     }
-    Ok(())
 }
 
-/// A file from elsewhere: the serials of its ended link are taken.
 #[test]
-fn serials_of_a_file_are_taken(rt: HostRuntime) -> Result<(), Fail> {
+fn faults_of_an_opening_are_told(rt: HostRuntime) -> Result<(), Fail> {
     let alloc = rt.alloc();
-    let bytes = joined(alloc, &[ROW_1, ROW_2, ROW_3])?;
-    let mut recorder = opened(alloc, MemDisk::of(alloc, &bytes)?)?;
-    assert!(rt;
-        give(alloc, &mut recorder, Given::Begin(&[1]))? == Answer::Refused(Refusal::SerialTaken)
-    );
-    assert!(rt; give(alloc, &mut recorder, Given::Begin(&[2]))? == Answer::Kept(1, 122));
+    let fault = OpenFault::Chain(1984, ChainFault::TooMany);
+    assert!(rt; ends(alloc, &too_many(alloc)?)? == Err(fault));
+    let fault = OpenFault::Page(31, PageFault::Checksum);
+    assert!(rt; ends(alloc, &changed(alloc)?)? == Err(fault));
+    assert!(rt; found_at_last(alloc)? == (OpenFault::Disk, Some(64)));
     Ok(())
 }

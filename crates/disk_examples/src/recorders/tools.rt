@@ -30,28 +30,41 @@ pub(super) enum Answer {
     Refused(Refusal),
 }
 
-/// Gives the command to the recorder.
+/// Gives the command to the recorder, or flushes it.
 pub(super) fn give<D: Disk>(
     alloc: Global,
     recorder: &mut Recorder<D>,
     given: Given,
 ) -> Result<Answer, Fail> {
-    let command = match given {
-        Given::Begin(serials) => begin(alloc, serials)?,
-        Given::Put(entries) => put(alloc, entries)?,
-        Given::Zeros(length) => zeros(alloc, length)?,
-        Given::End(serial) => Command::End(serial),
-        Given::Flush => {
-            return match recorder.flush() {
-                Ok(kept) => Ok(Answer::Kept(kept.count, kept.end)),
-                Err(refusal) => Ok(Answer::Refused(refusal)),
-            };
-        }
-    };
-    match recorder.command(&command) {
-        Ok(Outcome::Held(count)) => Ok(Answer::Held(count)),
-        Ok(Outcome::Kept(kept)) => Ok(Answer::Kept(kept.count, kept.end)),
-        Err(refusal) => Ok(Answer::Refused(refusal)),
+    match command_of(alloc, given)? {
+        Some(command) => Ok(commanded(recorder, &command)),
+        None => Ok(flushed(recorder)),
+    }
+}
+
+fn commanded<D: Disk>(recorder: &mut Recorder<D>, command: &Command) -> Answer {
+    match recorder.command(command) {
+        Ok(Outcome::Held(count)) => Answer::Held(count),
+        Ok(Outcome::Kept(kept)) => Answer::Kept(kept.count, kept.end),
+        Err(refusal) => Answer::Refused(refusal),
+    }
+}
+
+fn flushed<D: Disk>(recorder: &mut Recorder<D>) -> Answer {
+    match recorder.flush() {
+        Ok(kept) => Answer::Kept(kept.count, kept.end),
+        Err(refusal) => Answer::Refused(refusal),
+    }
+}
+
+/// The command, or `None` for a flush.
+fn command_of(alloc: Global, given: Given) -> Result<Option<Command>, Fail> {
+    match given {
+        Given::Begin(serials) => Ok(Some(begin(alloc, serials)?)),
+        Given::Put(entries) => Ok(Some(put(alloc, entries)?)),
+        Given::Zeros(length) => Ok(Some(zeros(alloc, length)?)),
+        Given::End(serial) => Ok(Some(Command::End(serial))),
+        Given::Flush => Ok(None),
     }
 }
 
@@ -121,6 +134,13 @@ pub(super) fn joined(alloc: Global, pages: &[ByHand]) -> Result<Vec<u8>, Fail> {
     for page in pages {
         bytes.extend_from_slice(&page_of(alloc, *page)?)?;
     }
+    Ok(bytes)
+}
+
+/// The pages and what follows them.
+pub(super) fn file_of(alloc: Global, pages: &[ByHand], tail: &[u8]) -> Result<Vec<u8>, Fail> {
+    let mut bytes = joined(alloc, pages)?;
+    bytes.extend_from_slice(tail)?;
     Ok(bytes)
 }
 
