@@ -3,9 +3,10 @@ ghost use Rattle.std.specs.Prelude.{◌≡◌, Some};
 ghost use Rattle.feed_codec.specs.Record.{FitsRecord};
 ghost use Rattle.feed_codec.specs.declared.version.Version.{Version as VersionOf};
 
+use crate::files::joined;
 use fakes::{FakeReader, FakeWriter};
 use feed_codec::*;
-use ogg_command::{Command, Memory, Refusal};
+use ogg_command::{Begin, Command, Memory, Put, Refusal, SkeletonHead};
 use ogg_page::WriteFault;
 use std::alloc::Global;
 use std::process::Abort;
@@ -13,23 +14,33 @@ use std::test::Fail;
 
 pub(crate) mod fakes;
 
-/// A begin of a stream with serial 1 and the header `abc`, the packet `hello` at position 5, and the
-/// stream's end: 52, 28 and 9 bytes.
-const FEED: [u8; 89] = *b"\x01\x2f\0\0\0\0\x01\0\x01\0\0\0\x01\0\x03\0\0\0abc\0\0\
-    \0\0\0\0\0\0\0\0\0\0\0\0\0\0\0\0\0\0\0\0\0\0\0\0\0\0\0\0\0\
-    \x02\x17\0\0\0\x01\0\x01\0\0\0\x05\0\0\0\0\0\0\0\x05\0\0\0hello\
-    \x03\x04\0\0\0\x01\0\0\0";
+/// The announcement of version 2.
+pub(crate) const ANNOUNCEMENT: [u8; 6] = *b"\0\x01\0\0\0\x02";
 
-/// A feed of version 2: its announcement, a begin of a stream with serial 1, the header `abc` and the field `Title`,
-/// and a flush: 6, 66 and 5 bytes.
-const FEED_2: [u8; 77] = *b"\0\x01\0\0\0\x02\
-    \x01\x3d\0\0\0\0\x01\0\x01\0\0\0\x01\0\x03\0\0\0abc\0\0\
-    \0\0\0\0\0\0\0\0\0\0\0\0\0\0\0\0\0\0\0\0\0\0\0\0\0\0\0\0\0\
-    \x01\0\x05\0Title\x03\0One\
-    \x04\0\0\0\0";
+/// A begin of a stream with serial 1 and the header `abc`.
+pub(crate) const BEGIN: [u8; 52] = *b"\x01\x2f\0\0\0\0\x01\0\x01\0\0\0\x01\0\x03\0\0\0abc\0\0\
+    \0\0\0\0\0\0\0\0\0\0\0\0\0\0\0\0\0\0\0\0\0\0\0\0\0\0\0\0\0";
 
-/// Where the records of `FEED` end.
-const ENDS: [usize; 3] = [52, 80, 89];
+/// The same in version 2, and the stream has the field `Title`.
+const BEGIN_2: [u8; 66] = *b"\x01\x3d\0\0\0\0\x01\0\x01\0\0\0\x01\0\x03\0\0\0abc\0\0\
+    \0\0\0\0\0\0\0\0\0\0\0\0\0\0\0\0\0\0\0\0\0\0\0\0\0\0\0\0\0\
+    \x01\0\x05\0Title\x03\0One";
+
+/// The packet `hello` at position 5.
+pub(crate) const PUT: [u8; 28] =
+    *b"\x02\x17\0\0\0\x01\0\x01\0\0\0\x05\0\0\0\0\0\0\0\x05\0\0\0hello";
+
+/// The stream's end.
+pub(crate) const END: [u8; 9] = *b"\x03\x04\0\0\0\x01\0\0\0";
+
+/// A flush.
+pub(crate) const FLUSH: [u8; 5] = *b"\x04\0\0\0\0";
+
+/// A feed of a begin, a packet and an end: 52, 28 and 9 bytes.
+const FEED: [&[u8]; 3] = [&BEGIN, &PUT, &END];
+
+/// A feed of version 2: its announcement, a begin and a flush: 6, 66 and 5 bytes.
+const FEED_2: [&[u8]; 3] = [&ANNOUNCEMENT, &BEGIN_2, &FLUSH];
 
 /// A begin with a Skeleton and no stream: serial 7, 1000/-2, 3/4 and a time of 20 letters.
 const SKELETON: [u8; 64] =
@@ -58,6 +69,24 @@ const FAULTY: [(&[u8], FeedFault); 20] = [
     (b"\x02\0\0\0\0", FeedFault::Form),
     (b"\x02\x02\0\0\0\x01\0", FeedFault::Form),
     (b"\x01\x03\0\0\0\x02\0\0", FeedFault::Form),
+];
+
+/// Feeds of which a record is in the wrong place or has the wrong form, how many records come before it, and the fault.
+const MIXED: [(&[&[u8]], usize, FeedFault); 4] = [
+    // a begin of version 1 after the announcement, and the announcement after a record
+    (&[&ANNOUNCEMENT, &BEGIN], 0, FeedFault::Form),
+    (&[&BEGIN, &ANNOUNCEMENT], 1, FeedFault::Kind),
+    // a begin of version 2 with no announcement
+    (&[&BEGIN_2], 0, FeedFault::Form),
+    // a begin with a byte more than its streams take
+    (
+        &[
+            b"\x01\x30\0\0\0\0\x01\0\x01\0\0\0\x01\0\x03\0\0\0abc\0\0\
+            \0\0\0\0\0\0\0\0\0\0\0\0\0\0\0\0\0\0\0\0\0\0\0\0\0\0\0\0\0\0",
+        ],
+        0,
+        FeedFault::Form,
+    ),
 ];
 
 /// The result of a feed: its commands' records, how many there were, and the fault that ended it.
@@ -130,95 +159,93 @@ fn run(
     }
 }
 
-/// How many records end within the first `length` bytes.
-fn whole_records(length: usize) -> usize {
-    ENDS.iter().filter(|end| **end <= length).count()
+/// A feed in pieces, how many bytes its announcement has, and where its records end.
+type Shape = (&'static [&'static [u8]], usize, &'static [usize]);
+
+const SHAPES: [Shape; 2] = [(&FEED, 0, &[52, 80, 89]), (&FEED_2, 6, &[72, 77])];
+
+/// How many of the records end within the first `length` bytes.
+fn whole_records(ends: &[usize], length: usize) -> usize {
+    ends.iter().filter(|end| **end <= length).count()
+}
+
+/// What follows the first `count` bytes.
+fn after(bytes: &[u8], count: usize) -> &[u8] {
+    bytes.get(count..).unwrap_or(&[])
 }
 
 #[test]
 fn a_feed_cut_at_every_byte_ends_inside_a_record_or_between_two(
     rt: HostRuntime,
 ) -> Result<(), Fail> {
-    for length in 0..=89usize {
-        let (bytes, _) = FEED.split_at(length);
-        let run = run(&rt, rt.alloc(), bytes, 64, 0)?;
-        let between = length == 0 || ENDS.contains(&length);
-        let fault = if between {
-            None
-        } else {
-            Some(FeedFault::Truncated)
-        };
-        assert!(rt; run.fault == fault, "{length} bytes");
-        assert!(rt; run.commands == whole_records(length), "{length} bytes");
-        assert!(rt; bytes.starts_with(run.records.as_slice()), "{length} bytes");
+    for (pieces, announcement, ends) in SHAPES {
+        let feed = joined(rt.alloc(), pieces)?;
+        for length in 0..=feed.len() {
+            let bytes = feed.get(..length).unwrap_or(&feed);
+            let run = run(&rt, rt.alloc(), bytes, 64, 0)?;
+            let between = length == 0 || length == announcement || ends.contains(&length);
+            let fault = if between {
+                None
+            } else {
+                Some(FeedFault::Truncated)
+            };
+            let want = (fault, whole_records(ends, length));
+            assert!(rt; (run.fault, run.commands) == want, "{length} bytes");
+            assert!(rt;
+                after(bytes, announcement).starts_with(&run.records),
+                "{length} bytes"
+            );
+        }
     }
     Ok(())
 }
+
+/// Feeds in pieces, how many bytes the announcement has, how many bytes a read takes, and how many records there are.
+const WRITTEN: [(&[&[u8]], usize, usize, usize); 3] = [
+    (&FEED, 0, 1, 3),
+    (&[&SKELETON], 0, 7, 1),
+    (&FEED_2, 6, 1, 2),
+];
 
 #[test]
 fn what_was_read_is_written_the_same(rt: HostRuntime) -> Result<(), Fail> {
-    let all = run(&rt, rt.alloc(), &FEED, 1, 0)?;
-    assert!(rt; all.records.as_slice() == FEED.as_slice());
-    let skeleton = run(&rt, rt.alloc(), &SKELETON, 7, 0)?;
-    assert!(rt; skeleton.records.as_slice() == SKELETON.as_slice());
+    for (pieces, announcement, step, commands) in WRITTEN {
+        let feed = joined(rt.alloc(), pieces)?;
+        let all = run(&rt, rt.alloc(), &feed, step, 0)?;
+        assert!(rt; (all.fault, all.commands) == (None, commands));
+        assert!(rt; all.records.as_slice() == after(&feed, announcement));
+    }
+    let mut announced = Vec::new(rt.alloc());
+    write_version(&mut announced)?;
+    assert!(rt; announced.as_slice() == ANNOUNCEMENT.as_slice());
     Ok(())
 }
 
 #[test]
-fn version_2_is_announced_once_and_read_back(rt: HostRuntime) -> Result<(), Fail> {
-    let all = run(&rt, rt.alloc(), &FEED_2, 1, 0)?;
-    assert!(rt; (all.commands, all.fault) == (2, None));
-    let mut written = Vec::new(rt.alloc());
-    write_version(&mut written)?;
-    written.extend_from_slice(all.records.as_slice())?;
-    assert!(rt; written.as_slice() == FEED_2.as_slice());
-    for length in 1..77usize {
-        let (bytes, _) = FEED_2.split_at(length);
-        let run = run(&rt, rt.alloc(), bytes, 64, 0)?;
-        let between = length == 6 || length == 72;
-        assert!(rt; run.fault.is_none() == between, "{length} bytes");
+fn the_first_fault_is_told(rt: HostRuntime) -> Result<(), Fail> {
+    for (bytes, fault) in FAULTY {
+        let run = run(&rt, rt.alloc(), bytes, 2, 0)?;
+        assert!(rt;
+            (run.commands, run.fault) == (0, Some(fault)),
+            "of {bytes:?}"
+        );
+    }
+    for (pieces, commands, fault) in MIXED {
+        let bytes = joined(rt.alloc(), pieces)?;
+        let run = run(&rt, rt.alloc(), &bytes, 64, 0)?;
+        assert!(rt; (run.commands, run.fault) == (commands, Some(fault)));
     }
     Ok(())
 }
 
 #[test]
-fn records_of_one_version_are_none_of_the_other(rt: HostRuntime) -> Result<(), Fail> {
-    // A begin of version 1 after the announcement, and the announcement after a record.
-    let mut early = Vec::new(rt.alloc());
-    write_version(&mut early)?;
-    early.extend_from_slice(&FEED[..52])?;
-    let run_early = run(&rt, rt.alloc(), early.as_slice(), 64, 0)?;
-    assert!(rt; (run_early.commands, run_early.fault) == (0, Some(FeedFault::Form)));
-    let mut late = FEED[..52].to_vec(rt.alloc())?;
-    write_version(&mut late)?;
-    let run_late = run(&rt, rt.alloc(), late.as_slice(), 64, 0)?;
-    assert!(rt; (run_late.commands, run_late.fault) == (1, Some(FeedFault::Kind)));
-    // A begin of version 2 with no announcement.
-    let run_bare = run(&rt, rt.alloc(), &FEED_2[6..72], 64, 0)?;
-    assert!(rt; (run_bare.commands, run_bare.fault) == (0, Some(FeedFault::Form)));
-    Ok(())
-}
-
-#[test]
-fn message_fields_are_read(rt: HostRuntime) -> Result<(), Fail> {
-    let mut feed = Feed::new(rt.alloc());
-    let mut reader = FakeReader::new(&FEED_2, 64, 0);
-    assert!(rt; feed.version() == None);
-    match feed.next(&mut reader) {
-        Ok(Some(Record::Command(Command::Begin(begin)))) => {
-            assert!(rt; begin.streams.len() == 1);
-            for stream in begin.streams.as_slice() {
-                assert!(rt; stream.fields.len() == 1);
-                for field in stream.fields.as_slice() {
-                    assert!(rt; field.name() == b"Title".as_slice());
-                    assert!(rt; field.value() == b"One".as_slice());
-                }
-            }
-        }
-        other => assert!(rt; matches!(other, Err(FeedFault::Memory)), "no begin"),
+fn a_failing_reader_is_a_fault_that_stays(rt: HostRuntime) -> Result<(), Fail> {
+    let feed = joined(rt.alloc(), &FEED)?;
+    for whole in 0..=89usize {
+        let run = run(&rt, rt.alloc(), &feed, 1, whole as u64 + 1)?;
+        let want = (Some(FeedFault::Read), whole_records(&[52, 80, 89], whole));
+        assert!(rt; (run.fault, run.commands) == want, "after {whole} bytes");
     }
-    assert!(rt; feed.version() == Some(Version::Two));
-    assert!(rt; matches!(feed.next(&mut reader), Ok(Some(Record::Flush))));
     Ok(())
 }
 
@@ -232,139 +259,155 @@ fn record_after(alloc: Global, bytes: &[u8], count: u32) -> Result<Option<Record
     feed.next(&mut reader)
 }
 
-#[test]
-fn a_begin_tells_its_streams(rt: HostRuntime) -> Result<(), Fail> {
-    match record_after(rt.alloc(), &FEED, 0) {
-        Ok(Some(Record::Command(Command::Begin(begin)))) => {
-            assert!(rt; begin.skeleton == None);
-            assert!(rt; begin.streams.len() == 1);
-            for stream in begin.streams.as_slice() {
-                assert!(rt; (stream.serial, stream.media.len(), stream.shift) == (1, 0, 0));
-                for header in stream.headers.as_slice() {
-                    assert!(rt; header.as_slice() == b"abc".as_slice());
-                }
-            }
-        }
-        other => assert!(rt; matches!(other, Err(FeedFault::Memory)), "no begin"),
+/// The begin that a feed begins with.
+fn begin_of(alloc: Global, bytes: &[u8]) -> Result<Begin, Fail> {
+    match record_after(alloc, bytes, 0)? {
+        Some(Record::Command(Command::Begin(begin))) => Ok(begin),
+        _other => Err("no begin")?,
     }
-    Ok(())
+}
+
+/// The put after the first record of a feed.
+fn put_of(alloc: Global, bytes: &[u8]) -> Result<Put, Fail> {
+    match record_after(alloc, bytes, 1)? {
+        Some(Record::Command(Command::Put(put))) => Ok(put),
+        _other => Err("no put")?,
+    }
+}
+
+/// The serial of the end after the first two records of a feed.
+fn end_of(alloc: Global, bytes: &[u8]) -> Result<u32, Fail> {
+    match record_after(alloc, bytes, 2)? {
+        Some(Record::Command(Command::End(serial))) => Ok(serial),
+        _other => Err("no end")?,
+    }
+}
+
+/// The only stream of a begin: its serial, how long its media type is, the shift, and its only header.
+fn only_stream(begin: &Begin) -> Option<((u32, usize, u8), &[u8])> {
+    match begin.streams.as_slice() {
+        [stream] => match stream.headers.as_slice() {
+            [header] => Some((
+                (stream.serial, stream.media.len(), stream.shift),
+                header.as_slice(),
+            )),
+            _ => None,
+        },
+        _ => None,
+    }
+}
+
+/// The name and the value of the only field of the only stream of a begin.
+fn only_field(begin: &Begin) -> Option<(&[u8], &[u8])> {
+    match begin.streams.as_slice() {
+        [stream] => match stream.fields.as_slice() {
+            [field] => Some((field.name(), field.value())),
+            _ => None,
+        },
+        _ => None,
+    }
+}
+
+/// The only packet of a put: its serial, its position and its bytes.
+fn only_entry(put: &Put) -> Option<((u32, u64), &[u8])> {
+    match put.entries.as_slice() {
+        [entry] => Some(((entry.serial, entry.position), entry.packet.as_slice())),
+        _ => None,
+    }
 }
 
 #[test]
-fn a_put_tells_its_packets(rt: HostRuntime) -> Result<(), Fail> {
-    match record_after(rt.alloc(), &FEED, 1) {
-        Ok(Some(Record::Command(Command::Put(put)))) => {
-            assert!(rt; put.entries.len() == 1);
-            for entry in put.entries.as_slice() {
-                assert!(rt; (entry.serial, entry.position) == (1, 5));
-                assert!(rt; entry.packet.as_slice() == b"hello".as_slice());
-            }
-        }
-        other => assert!(rt; matches!(other, Err(FeedFault::Memory)), "no put"),
-    }
-    Ok(())
-}
-
-#[test]
-fn an_end_tells_its_serial(rt: HostRuntime) -> Result<(), Fail> {
-    match record_after(rt.alloc(), &FEED, 2) {
-        Ok(Some(Record::Command(Command::End(serial)))) => assert!(rt; serial == 1),
-        other => assert!(rt; matches!(other, Err(FeedFault::Memory)), "no end"),
-    }
+fn commands_tell_their_streams(rt: HostRuntime) -> Result<(), Fail> {
+    let begin = begin_of(rt.alloc(), &BEGIN)?;
+    assert!(rt; begin.skeleton == None);
+    assert!(rt; only_stream(&begin) == Some(((1, 0, 0), b"abc".as_slice())));
+    let feed_2 = joined(rt.alloc(), &FEED_2)?;
+    let begin = begin_of(rt.alloc(), &feed_2)?;
+    assert!(rt; only_field(&begin) == Some((b"Title".as_slice(), b"One".as_slice())));
+    let feed = joined(rt.alloc(), &FEED)?;
+    let put = put_of(rt.alloc(), &feed)?;
+    assert!(rt; only_entry(&put) == Some(((1, 5), b"hello".as_slice())));
+    assert!(rt; end_of(rt.alloc(), &feed)? == 1);
     Ok(())
 }
 
 #[test]
 fn a_begin_tells_its_skeleton(rt: HostRuntime) -> Result<(), Fail> {
-    match record_after(rt.alloc(), &SKELETON, 0) {
-        Ok(Some(Record::Command(Command::Begin(begin)))) => {
-            let head = begin.skeleton.ok_or("no Skeleton")?;
-            assert!(rt; (head.serial, head.presentation, head.base) == (7, (1000, -2), (3, 4)));
-            assert!(rt; head.utc == [b'u'; 20]);
-        }
-        other => assert!(rt; matches!(other, Err(FeedFault::Memory)), "no begin"),
-    }
+    let want = SkeletonHead {
+        serial: 7,
+        presentation: (1000, -2),
+        base: (3, 4),
+        utc: [b'u'; 20],
+    };
+    let begin = begin_of(rt.alloc(), &SKELETON)?;
+    assert!(rt; begin.skeleton == Some(want));
     Ok(())
 }
 
 #[test]
-fn the_first_fault_is_told(rt: HostRuntime) -> Result<(), Fail> {
-    for (bytes, fault) in FAULTY {
-        let run = run(&rt, rt.alloc(), bytes, 2, 0)?;
-        assert!(rt;
-            (run.commands, run.fault) == (0, Some(fault)),
-            "of {bytes:?}"
-        );
-    }
-    // The begin, with a byte more than its streams take.
-    let mut longer = Vec::from_slice(rt.alloc(), &FEED)?;
-    longer.truncate(52);
-    longer.push(0)?;
-    longer[1] = 48;
-    let run = run(&rt, rt.alloc(), longer.as_slice(), 64, 0)?;
-    assert!(rt; (run.commands, run.fault) == (0, Some(FeedFault::Form)));
+fn a_feed_tells_its_version_and_its_flushes(rt: HostRuntime) -> Result<(), Fail> {
+    let bytes = joined(rt.alloc(), &FEED_2)?;
+    let mut feed = Feed::new(rt.alloc());
+    let mut reader = FakeReader::new(&bytes, 64, 0);
+    assert!(rt; feed.version() == None);
+    feed.next(&mut reader)?;
+    assert!(rt; feed.version() == Some(Version::Two));
+    assert!(rt; matches!(feed.next(&mut reader), Ok(Some(Record::Flush))));
     Ok(())
 }
 
-#[test]
-fn a_failing_reader_is_a_fault_that_stays(rt: HostRuntime) -> Result<(), Fail> {
-    for bad in 1..=90u64 {
-        let run = run(&rt, rt.alloc(), &FEED, 1, bad)?;
-        assert!(rt; run.fault == Some(FeedFault::Read), "call {bad}");
-        assert!(rt;
-            run.commands == whole_records(bad as usize - 1),
-            "call {bad}"
-        );
-    }
-    Ok(())
-}
+/// A reply, how many bytes a write takes and which write fails, whether the call succeeds, what is written, and how
+/// often the writer is called: a line is one write.
+type Line = (
+    Reply,
+    (usize, u64),
+    Result<(), WriteFault>,
+    &'static str,
+    u64,
+);
 
-/// Replies, and their lines.
-const LINES: [(Reply, &str); 5] = [
-    (Reply::Held(3), "held 3\n"),
-    (Reply::Kept(Kept { count: 2, end: 64 }), "kept 2 64\n"),
-    (Reply::Kept(Kept { count: 0, end: 0 }), "kept 0 0\n"),
+const KEPT: Reply = Reply::Kept(Kept { count: 2, end: 64 });
+
+const LINES: [Line; 7] = [
+    (Reply::Held(3), (64, 0), Ok(()), "held 3\n", 1),
+    (KEPT, (64, 0), Ok(()), "kept 2 64\n", 1),
+    (
+        Reply::Kept(Kept { count: 0, end: 0 }),
+        (64, 0),
+        Ok(()),
+        "kept 0 0\n",
+        1,
+    ),
     (
         Reply::Kept(Kept {
             count: u64::MAX,
             end: u64::MAX,
         }),
+        (64, 0),
+        Ok(()),
         "kept 18446744073709551615 18446744073709551615\n",
+        1,
     ),
     (
         Reply::Refused(Refusal::UnknownSerial),
+        (64, 0),
+        Ok(()),
         "refused 12 UnknownSerial\n",
+        1,
     ),
+    // A writer that takes nothing, and one whose third call fails.
+    (KEPT, (0, 0), Err(WriteFault), "", 1),
+    (KEPT, (3, 3), Err(WriteFault), "kept 2", 3),
 ];
 
 #[test]
-fn replies_are_lines(rt: HostRuntime) -> Result<(), Fail> {
-    for (reply, line) in LINES {
-        let mut writer = FakeWriter::new(Vec::with_capacity(rt.alloc(), 64)?, 64, 0);
-        write_reply(&reply, &mut writer)?;
-        assert!(rt; writer.written() == line.as_bytes());
-        assert!(rt; writer.calls() == 1, "a line is one write");
+fn replies_are_lines_of_which_a_failing_writer_has_a_front(rt: HostRuntime) -> Result<(), Fail> {
+    for (reply, (step, bad), want, line, calls) in LINES {
+        let mut writer = FakeWriter::new(Vec::with_capacity(rt.alloc(), 64)?, step, bad);
+        assert!(rt; write_reply(&reply, &mut writer) == want);
+        assert!(rt; (writer.written(), writer.calls()) == (line.as_bytes(), calls));
     }
     Ok(())
-}
-
-#[test]
-fn a_failing_writer_has_a_front_of_the_line(rt: HostRuntime) -> Result<(), Fail> {
-    let (reply, _) = LINES[1];
-    let mut stuck = FakeWriter::new(Vec::with_capacity(rt.alloc(), 64)?, 0, 0);
-    assert!(rt; write_reply(&reply, &mut stuck) == Err(WriteFault));
-    assert!(rt; stuck.written() == b"".as_slice());
-    let mut failing = FakeWriter::new(Vec::with_capacity(rt.alloc(), 64)?, 3, 3);
-    assert!(rt; write_reply(&reply, &mut failing) == Err(WriteFault));
-    assert!(rt; failing.written() == b"kept 2".as_slice());
-    Ok(())
-}
-
-#[test]
-fn faults_have_numbers_and_names(rt: HostRuntime) {
-    let fault = RunFault::Feed(FeedFault::Form);
-    assert!(rt; (fault.code(), fault.name()) == (1, "Feed"));
-    assert!(rt; (FeedFault::Memory.code(), FeedFault::Memory.name()) == (6, "Memory"));
 }
 
 #[test]

@@ -8,7 +8,11 @@
 #[cfg(test)]
 mod codecs;
 #[cfg(test)]
+mod faults;
+#[cfg(test)]
 mod feeds;
+#[cfg(test)]
+mod files;
 #[cfg(test)]
 mod indexes;
 #[cfg(test)]

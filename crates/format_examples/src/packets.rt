@@ -1,30 +1,13 @@
 //! Packets of pages that are written out byte by byte, with checksums by another program.
-mod streams;
+pub(crate) mod streams;
 
-use ogg_page::{Memory, PageFault, PageHead, write_page};
+use crate::files::{Held, PageSpec, file_of, joined};
+use crate::pages::{END_PAGE, FIRST_PAGE, HELLO_PAGE};
+use ogg_page::PageFault;
 use packet_view::*;
 use std::alloc::Global;
 use std::process::Abort;
 use std::test::Fail;
-
-/// The first page of stream 1: `abc`.
-const FIRST: [u8; 31] = [
-    0x4F, 0x67, 0x67, 0x53, 0x00, 0x02, 0x00, 0x00, 0x00, 0x00, 0x00, 0x00, 0x00, 0x00, 0x01, 0x00,
-    0x00, 0x00, 0x00, 0x00, 0x00, 0x00, 0x92, 0xDD, 0xF6, 0x15, 0x01, 0x03, 0x61, 0x62, 0x63,
-];
-
-/// The second page of stream 1, at position 5: `hello`.
-const HELLO: [u8; 33] = [
-    0x4F, 0x67, 0x67, 0x53, 0x00, 0x00, 0x05, 0x00, 0x00, 0x00, 0x00, 0x00, 0x00, 0x00, 0x01, 0x00,
-    0x00, 0x00, 0x01, 0x00, 0x00, 0x00, 0xBB, 0xFE, 0x76, 0xEA, 0x01, 0x05, 0x68, 0x65, 0x6C, 0x6C,
-    0x6F,
-];
-
-/// The last page of stream 1, at position 5, without a packet.
-const END: [u8; 27] = [
-    0x4F, 0x67, 0x67, 0x53, 0x00, 0x04, 0x05, 0x00, 0x00, 0x00, 0x00, 0x00, 0x00, 0x00, 0x01, 0x00,
-    0x00, 0x00, 0x02, 0x00, 0x00, 0x00, 0xDB, 0x9D, 0x91, 0x8B, 0x00,
-];
 
 /// The second page of stream 1, at position 7: `x` and `yz`.
 const TWO: [u8; 32] = [
@@ -65,37 +48,37 @@ struct Row {
 
 const ROWS: [Row; 9] = [
     Row {
-        pages: &[&FIRST, &HELLO, &END],
+        pages: &[&FIRST_PAGE, &HELLO_PAGE, &END_PAGE],
         packets: &[(b"abc", Some(0)), (b"hello", Some(5))],
         fault: None,
     },
     Row {
-        pages: &[&FIRST, &END],
+        pages: &[&FIRST_PAGE, &END_PAGE],
         packets: &[(b"abc", Some(0))],
         fault: Some(ViewFault::Sequence(31)),
     },
     Row {
-        pages: &[&OTHER, &FIRST, &TWO],
+        pages: &[&OTHER, &FIRST_PAGE, &TWO],
         packets: &[(b"abc", Some(0)), (b"x", None), (b"yz", Some(7))],
         fault: None,
     },
     Row {
-        pages: &[&FIRST, &NOWHERE],
+        pages: &[&FIRST_PAGE, &NOWHERE],
         packets: &[(b"abc", Some(0)), (b"x", None)],
         fault: None,
     },
     Row {
-        pages: &[&FIRST, &CONTINUED],
+        pages: &[&FIRST_PAGE, &CONTINUED],
         packets: &[(b"abc", Some(0))],
         fault: Some(ViewFault::Continued(31)),
     },
     Row {
-        pages: &[&ONLY, &END],
+        pages: &[&ONLY, &END_PAGE],
         packets: &[(b"abc", Some(0))],
         fault: Some(ViewFault::AfterEos(31)),
     },
     Row {
-        pages: &[&FIRST, b"Ogg"],
+        pages: &[&FIRST_PAGE, b"Ogg"],
         packets: &[(b"abc", Some(0))],
         fault: Some(ViewFault::Page(31, PageFault::Short)),
     },
@@ -111,12 +94,29 @@ const ROWS: [Row; 9] = [
     },
 ];
 
-fn joined(alloc: Global, pages: &[&[u8]]) -> Result<Vec<u8>, Memory> {
-    let mut bytes = Vec::new(alloc);
-    for page in pages {
-        bytes.extend_from_slice(page)?;
+/// Whether the next packet has these bytes and this position.
+fn is_next(
+    packets: &mut Packets<'_>,
+    text: &[u8],
+    position: Option<u64>,
+) -> Result<bool, ViewFault> {
+    match packets.next()? {
+        Some(packet) => Ok(
+            packet.as_slice() == Some(text)
+                && packet.len() == text.len()
+                && packet.position() == position,
+        ),
+        None => Ok(false),
     }
-    Ok(bytes)
+}
+
+/// The fault that ends the packets, or `Some(None)` at their end. If a packet comes in its place, there is no answer.
+fn end_of(packets: &mut Packets<'_>) -> Option<Option<ViewFault>> {
+    match packets.next() {
+        Ok(Some(_)) => None,
+        Ok(None) => Some(None),
+        Err(fault) => Some(Some(fault)),
+    }
 }
 
 #[test]
@@ -125,114 +125,69 @@ fn packets_come_up_to_the_first_fault(rt: HostRuntime) -> Result<(), Fail> {
         let bytes = joined(rt.alloc(), row.pages)?;
         let mut packets = Packets::of(&bytes, 1);
         for (text, position) in row.packets {
-            let packet = packets.next()?;
-            assert!(rt; packet.is_some(), "{text:?} is missing");
-            if let Some(packet) = packet {
-                assert!(rt; packet.as_slice() == Some(*text));
-                assert!(rt; packet.len() == text.len());
-                assert!(rt; packet.position() == *position);
-            }
+            assert!(rt;
+                is_next(&mut packets, text, *position)?,
+                "{text:?} is missing"
+            );
         }
         for _ in 0..2 {
-            match packets.next() {
-                Ok(packet) => assert!(rt; packet.is_none() && row.fault.is_none()),
-                Err(fault) => assert!(rt; Some(fault) == row.fault),
-            }
+            assert!(rt; end_of(&mut packets) == Some(row.fault));
         }
     }
     Ok(())
 }
 
-#[test]
-fn faults_have_their_numbers_and_names(rt: HostRuntime) {
-    let faults = [
-        (ViewFault::Page(0, PageFault::Short), 1, "Page"),
-        (ViewFault::Sequence(0), 2, "Sequence"),
-        (ViewFault::Continued(0), 3, "Continued"),
-        (ViewFault::AfterEos(0), 4, "AfterEos"),
-        (ViewFault::Unfinished, 5, "Unfinished"),
-    ];
-    for (fault, code, name) in faults {
-        assert!(rt; fault.code() == code);
-        assert!(rt; fault.name() == name);
-    }
-    let faults = [
-        (StreamFault::Source, 1, "Source"),
-        (StreamFault::View(ViewFault::Unfinished), 2, "View"),
-    ];
-    for (fault, code, name) in faults {
-        assert!(rt; fault.code() == code);
-        assert!(rt; fault.name() == name);
-    }
-}
+/// A page of 283 bytes whose packet goes on.
+const OPEN: [PageSpec; 1] = [(2, u64::MAX, 1, 0, Held::Open)];
 
-/// A page of 283 bytes whose packet goes on: flags 2, no position, stream 1, sequence 0.
-fn open_page(alloc: Global) -> Result<Vec<u8>, Memory> {
-    let mut bytes = Vec::new(alloc);
-    let head = PageHead {
-        flags: 2,
-        position: u64::MAX,
-        serial: 1,
-        sequence: 0,
-    };
-    write_page(&head, &[255], &[7; 255], &mut bytes)?;
-    Ok(bytes)
-}
+/// The places of that packet, when it goes on as `x`, and their bytes.
+const PLACES: [(usize, u8); 3] = [(0, 7), (254, 7), (255, b'x')];
 
-/// The bytes of the packet that begins in that page and goes on as `x`.
-fn sevens_and_x() -> [u8; 256] {
-    let mut bytes = [7; 256];
-    bytes[255] = b'x';
-    bytes
-}
-
-/// Checks that a packet is the one of two parts.
-fn assert_two_parts(rt: &impl Abort, packet: &Packet<'_>) {
-    assert!(rt; packet.len() == 256);
-    assert!(rt; packet.position() == Some(9));
-    assert!(rt; packet.as_slice().is_none());
+/// Checks that a packet is the one of two parts, which are 255 bytes of 7 and `x`.
+fn assert_two_parts(rt: &impl Abort, packet: &Packet<'_>, whole: &[u8]) {
+    let size = (packet.len(), packet.position(), packet.as_slice());
+    assert!(rt; size == (256, Some(9), None));
     let mut parts = packet.parts();
-    assert!(rt; parts.next() == Some([7; 255].as_slice()));
-    assert!(rt; parts.next() == Some(b"x".as_slice()));
-    assert!(rt; parts.next().is_none());
-    assert!(rt; packet.same_as(&sevens_and_x()));
-    assert!(rt; !packet.same_as(&[7; 255]));
-    assert!(rt; !packet.same_as(&[7; 256]));
+    let found = (parts.next(), parts.next(), parts.next());
+    assert!(rt; found == (Some([7; 255].as_slice()), Some(b"x".as_slice()), None));
+    let same = (
+        packet.same_as(whole),
+        packet.same_as(&[7; 255]),
+        packet.same_as(&[7; 256]),
+    );
+    assert!(rt; same == (true, false, false));
+    for (index, want) in PLACES {
+        assert!(rt;
+            index < packet.len() && packet.byte_at(index) == want,
+            "at {index}"
+        );
+    }
+}
+
+/// Checks that these bytes begin with that packet, and that it is written whole.
+fn assert_read_whole(
+    rt: &impl Abort,
+    alloc: Global,
+    bytes: &[u8],
+    whole: &[u8],
+) -> Result<(), Fail> {
+    let mut packets = Packets::of(bytes, 1);
+    let packet = packets.next()?.ok_or("no packet")?;
+    assert_two_parts(rt, &packet, whole);
+    let mut out = Vec::new(alloc);
+    packet.write_to(&mut out)?;
+    assert!(rt; out.as_slice() == whole);
+    Ok(())
 }
 
 #[test]
 fn a_packet_goes_on_behind_pages_of_other_streams(rt: HostRuntime) -> Result<(), Fail> {
-    let mut bytes = open_page(rt.alloc())?;
-    bytes.extend_from_slice(&OTHER)?;
-    bytes.extend_from_slice(&CONTINUED)?;
-    match Packets::of(&bytes, 1).next()? {
-        Some(packet) => assert_two_parts(&rt, &packet),
-        None => assert!(rt; false),
-    }
-    Ok(())
-}
-
-#[test]
-fn a_packet_is_written_whole(rt: HostRuntime) -> Result<(), Fail> {
-    let mut bytes = open_page(rt.alloc())?;
-    bytes.extend_from_slice(&CONTINUED)?;
-    let mut out = Vec::new(rt.alloc());
-    if let Some(packet) = Packets::of(&bytes, 1).next()? {
-        packet.write_to(&mut out)?;
-        for (index, want) in [(0, 7), (254, 7), (255, b'x')] {
-            if index < packet.len() {
-                assert!(rt; packet.byte_at(index) == want, "at {index}");
-            }
-        }
-    }
-    assert!(rt; out.as_slice() == sevens_and_x().as_slice());
-    Ok(())
-}
-
-#[test]
-fn an_unfinished_packet_is_a_fault(rt: HostRuntime) -> Result<(), Fail> {
-    let bytes = open_page(rt.alloc())?;
-    let fault = Packets::of(&bytes, 1).next().err();
-    assert!(rt; fault == Some(ViewFault::Unfinished));
+    let open = file_of(rt.alloc(), &OPEN, None)?;
+    let whole = joined(rt.alloc(), &[&[7; 255], b"x"])?;
+    let next = joined(rt.alloc(), &[&open, &CONTINUED])?;
+    assert_read_whole(&rt, rt.alloc(), &next, &whole)?;
+    let behind = joined(rt.alloc(), &[&open, &OTHER, &CONTINUED])?;
+    assert_read_whole(&rt, rt.alloc(), &behind, &whole)?;
+    assert!(rt; end_of(&mut Packets::of(&open, 1)) == Some(Some(ViewFault::Unfinished)));
     Ok(())
 }

@@ -1,15 +1,10 @@
 //! Values from RFC 9110 and by hand, and a check that a call succeeds if there is memory.
-ghost use Rattle.ogg_http.specs.Answer.{AnswerFits};
-
-use arrayvec::ArrayVec;
+use crate::files::joined;
 use ogg_http::{
     Answer, HeadRead, Memory, Ranged, Request, Resource, Verb, range_of, read_head, response_head,
 };
 use std::alloc::Global;
 use std::test::Fail;
-
-/// Bytes that take no memory, so that a refusal reaches only what is tested.
-type Bytes = ArrayVec<u8, 8193>;
 
 /// Whole heads, and what they say. The lengths are left to the test.
 const HEADS: [(&[u8], Verb, &[u8], bool, u32, Option<&[u8]>); 10] = [
@@ -82,10 +77,11 @@ const HEADS: [(&[u8], Verb, &[u8], bool, u32, Option<&[u8]>); 10] = [
 ];
 
 #[test]
-fn reads_whole_heads_and_awaits_their_prefixes(rt: HostRuntime) {
+fn reads_whole_heads_and_awaits_their_prefixes(rt: HostRuntime) -> Result<(), Fail> {
     for (text, verb, target, http11, hosts, range) in HEADS {
         for end in 0..text.len() {
-            assert!(rt; read_head(&text[..end]) == HeadRead::Partial, "at {end}");
+            let front = text.get(..end).unwrap_or(text);
+            assert!(rt; read_head(front) == HeadRead::Partial, "at {end}");
         }
         let used = text.len();
         let want = HeadRead::Whole(Request {
@@ -97,118 +93,134 @@ fn reads_whole_heads_and_awaits_their_prefixes(rt: HostRuntime) {
             used,
         });
         assert!(rt; read_head(text) == want);
-        let mut more = Bytes::new();
-        assert!(rt; more.try_extend_from_slice(text).is_ok());
-        assert!(rt;
-            more.try_extend_from_slice(b"GET /more HTTP/1.1\r\n\r\n")
-                .is_ok()
-        );
-        assert!(rt; read_head(more.as_slice()) == want);
+        let more = joined(rt.alloc(), &[text, b"GET /more HTTP/1.1\r\n\r\n"])?;
+        assert!(rt; read_head(&more) == want);
     }
+    Ok(())
 }
+
+/// Bytes that no head begins with.
+const HOPELESS: [&[u8]; 8] = [
+    b"\x00",
+    b"GET / HTTP/2.0\r\n\r\n",
+    b"GET  / HTTP/1.1\r\n\r\n",
+    b"GET / HTTP/1.1\r\nHost a\r\n\r\n",
+    b"GET / HTTP/1.1\r\nHost : a\r\n\r\n",
+    b"GET / HTTP/1.1\r\n Host: a\r\n\r\n",
+    &[b'a'; 8192],
+    &[b'a'; 8193],
+];
 
 #[test]
 fn finds_hopeless_heads_bad(rt: HostRuntime) {
-    for text in [
-        b"\x00".as_slice(),
-        b"GET / HTTP/2.0\r\n\r\n".as_slice(),
-        b"GET  / HTTP/1.1\r\n\r\n".as_slice(),
-        b"GET / HTTP/1.1\r\nHost a\r\n\r\n".as_slice(),
-        b"GET / HTTP/1.1\r\nHost : a\r\n\r\n".as_slice(),
-        b"GET / HTTP/1.1\r\n Host: a\r\n\r\n".as_slice(),
-        [b'a'; 8192].as_slice(),
-        [b'a'; 8193].as_slice(),
-    ] {
+    for text in HOPELESS {
         assert!(rt; read_head(text) == HeadRead::Bad);
     }
     assert!(rt; read_head(&[b'a'; 8191]) == HeadRead::Partial);
 }
 
-#[test]
-fn reads_8192_bytes_and_no_more(rt: HostRuntime) {
-    for (target, len, is_whole) in [
-        (8_174u32, 8_191, true),
-        (8_175, 8_192, true),
-        (8_176, 8_193, false),
-    ] {
-        let mut head = Bytes::new();
-        assert!(rt; head.try_extend_from_slice(b"GET ").is_ok());
-        for _ in 0..target {
-            assert!(rt; head.try_push(b'/').is_ok());
-        }
-        assert!(rt; head.try_extend_from_slice(b" HTTP/1.1\r\n\r\n").is_ok());
-        assert!(rt; head.len() == len);
-        match read_head(head.as_slice()) {
-            HeadRead::Whole(request) => assert!(rt; is_whole && request.used == len),
-            read => assert!(rt; !is_whole && read == HeadRead::Bad),
-        }
+/// A piece of a head that stands in it several times: what comes before and after it, how often it stands there, the
+/// length of the head, and how many `Host` fields it has, or none if it is too long or has too many fields.
+type Repeated = (&'static [&'static [u8]; 3], u32, usize, Option<u32>);
+
+/// A target of many letters, and `Host` many times.
+const LONG_TARGET: [&[u8]; 3] = [b"GET ", b"/", b" HTTP/1.1\r\n\r\n"];
+
+const MANY_HOSTS: [&[u8]; 3] = [b"GET / HTTP/1.1\r\n", b"Host: a\r\n", b"\r\n"];
+
+/// A head has 8,192 bytes and 64 fields at most.
+const LIMITS: [Repeated; 7] = [
+    (&LONG_TARGET, 8_174, 8_191, Some(0)),
+    (&LONG_TARGET, 8_175, 8_192, Some(0)),
+    (&LONG_TARGET, 8_176, 8_193, None),
+    (&MANY_HOSTS, 63, 585, Some(63)),
+    (&MANY_HOSTS, 64, 594, Some(64)),
+    (&MANY_HOSTS, 65, 603, None),
+    (&MANY_HOSTS, 66, 612, None),
+];
+
+/// The head with its middle piece repeated.
+fn repeated(alloc: Global, pieces: &[&[u8]; 3], count: u32) -> Result<Vec<u8>, Memory> {
+    let [front, middle, rest] = pieces;
+    let mut head = Vec::new(alloc);
+    head.extend_from_slice(front)?;
+    for _ in 0..count {
+        head.extend_from_slice(middle)?;
+    }
+    head.extend_from_slice(rest)?;
+    Ok(head)
+}
+
+/// The `Host` fields and the length of a whole head.
+fn hosts_of(head: &[u8]) -> Result<(u32, usize), bool> {
+    match read_head(head) {
+        HeadRead::Whole(request) => Ok((request.hosts, request.used)),
+        read => Err(read == HeadRead::Bad),
     }
 }
 
 #[test]
-fn reads_64_fields_and_no_more(rt: HostRuntime) {
-    for (fields, hosts) in [(63u32, Some(63)), (64, Some(64)), (65, None), (66, None)] {
-        let mut head = Bytes::new();
-        assert!(rt; head.try_extend_from_slice(b"GET / HTTP/1.1\r\n").is_ok());
-        for _ in 0..fields {
-            assert!(rt; head.try_extend_from_slice(b"Host: a\r\n").is_ok());
-        }
-        assert!(rt; head.try_extend_from_slice(b"\r\n").is_ok());
-        match read_head(head.as_slice()) {
-            HeadRead::Whole(request) => assert!(rt; Some(request.hosts) == hosts),
-            read => assert!(rt; hosts.is_none() && read == HeadRead::Bad),
-        }
+fn reads_8192_bytes_and_64_fields_and_no_more(rt: HostRuntime) -> Result<(), Fail> {
+    for (pieces, count, len, hosts) in LIMITS {
+        let head = repeated(rt.alloc(), pieces, count)?;
+        assert!(rt; head.len() == len);
+        let want = match hosts {
+            Some(hosts) => Ok((hosts, len)),
+            None => Err(true),
+        };
+        assert!(rt; hosts_of(&head) == want, "{count} times");
     }
+    Ok(())
 }
+
+/// Targets, and the resources that they name.
+const TARGETS: [(&[u8], Option<Resource>); 38] = [
+    (b"/", Some(Resource::List)),
+    (b"/all", Some(Resource::All)),
+    (b"/link/0", Some(Resource::Link(0))),
+    (b"/link/4294967295", Some(Resource::Link(4_294_967_295))),
+    (b"/link/0/0", Some(Resource::Stream(0, 0))),
+    (
+        b"/link/10/4294967295",
+        Some(Resource::Stream(10, 4_294_967_295)),
+    ),
+    (b"http://a", Some(Resource::List)),
+    (b"http://", Some(Resource::List)),
+    (b"http://a/", Some(Resource::List)),
+    (b"HTTP://a:80/link/7", Some(Resource::Link(7))),
+    (b"hTTp:///all", Some(Resource::All)),
+    (b"", None),
+    (b"*", None),
+    (b"all", None),
+    (b"//", None),
+    (b"/All", None),
+    (b"/all/", None),
+    (b"/all?", None),
+    (b"/%61ll", None),
+    (b"/link", None),
+    (b"/link/", None),
+    (b"/link/00", None),
+    (b"/link/01", None),
+    (b"/link/+1", None),
+    (b"/link/-1", None),
+    (b"/link/1a", None),
+    (b"/link/4294967296", None),
+    (b"/link/18446744073709551616", None),
+    (b"/link/1/", None),
+    (b"/link//1", None),
+    (b"/link/1/02", None),
+    (b"/link/1/4294967296", None),
+    (b"/link/4294967296/1", None),
+    (b"/link/1/2/", None),
+    (b"/link/1/2/3", None),
+    (b"https://a/all", None),
+    (b"http:/all", None),
+    (b" /all", None),
+];
 
 #[test]
 fn names_resources(rt: HostRuntime) {
-    for (target, want) in [
-        (b"/".as_slice(), Some(Resource::List)),
-        (b"/all".as_slice(), Some(Resource::All)),
-        (b"/link/0".as_slice(), Some(Resource::Link(0))),
-        (
-            b"/link/4294967295".as_slice(),
-            Some(Resource::Link(4_294_967_295)),
-        ),
-        (b"/link/0/0".as_slice(), Some(Resource::Stream(0, 0))),
-        (
-            b"/link/10/4294967295".as_slice(),
-            Some(Resource::Stream(10, 4_294_967_295)),
-        ),
-        (b"http://a".as_slice(), Some(Resource::List)),
-        (b"http://".as_slice(), Some(Resource::List)),
-        (b"http://a/".as_slice(), Some(Resource::List)),
-        (b"HTTP://a:80/link/7".as_slice(), Some(Resource::Link(7))),
-        (b"hTTp:///all".as_slice(), Some(Resource::All)),
-        (b"".as_slice(), None),
-        (b"*".as_slice(), None),
-        (b"all".as_slice(), None),
-        (b"//".as_slice(), None),
-        (b"/All".as_slice(), None),
-        (b"/all/".as_slice(), None),
-        (b"/all?".as_slice(), None),
-        (b"/%61ll".as_slice(), None),
-        (b"/link".as_slice(), None),
-        (b"/link/".as_slice(), None),
-        (b"/link/00".as_slice(), None),
-        (b"/link/01".as_slice(), None),
-        (b"/link/+1".as_slice(), None),
-        (b"/link/-1".as_slice(), None),
-        (b"/link/1a".as_slice(), None),
-        (b"/link/4294967296".as_slice(), None),
-        (b"/link/18446744073709551616".as_slice(), None),
-        (b"/link/1/".as_slice(), None),
-        (b"/link//1".as_slice(), None),
-        (b"/link/1/02".as_slice(), None),
-        (b"/link/1/4294967296".as_slice(), None),
-        (b"/link/4294967296/1".as_slice(), None),
-        (b"/link/1/2/".as_slice(), None),
-        (b"/link/1/2/3".as_slice(), None),
-        (b"https://a/all".as_slice(), None),
-        (b"http:/all".as_slice(), None),
-        (b" /all".as_slice(), None),
-    ] {
+    for (target, want) in TARGETS {
         assert!(rt; Resource::of(target) == want);
     }
 }
@@ -280,64 +292,68 @@ fn takes_ranges(rt: HostRuntime) {
     assert!(rt; range_of(b"bytes=18446744073709551615-", u64::MAX) == Ranged::Unsatisfiable);
 }
 
-/// The head, written after what was there. If memory is refused, the call is made again.
-fn append(answer: Answer, out: &mut Vec<u8>) -> Result<(), Memory>
-    requires { AnswerFits answer }
-{
+/// Answers one after the other, and their heads.
+const WRITTEN: [(&[Answer], &[u8]); 9] = [
+    (
+        &[Answer::Full(91)],
+        b"HTTP/1.1 200 OK\r\nContent-Type: application/ogg\r\nContent-Length: 91\r\nAccept-Ranges: bytes\r\nConnection: close\r\n\r\n",
+    ),
+    (
+        &[Answer::Part(0, 30, 91)],
+        b"HTTP/1.1 206 Partial Content\r\nContent-Type: application/ogg\r\nContent-Length: 31\r\nContent-Range: bytes 0-30/91\r\nAccept-Ranges: bytes\r\nConnection: close\r\n\r\n",
+    ),
+    (
+        &[Answer::Part(0, u64::MAX - 1, u64::MAX)],
+        b"HTTP/1.1 206 Partial Content\r\nContent-Type: application/ogg\r\nContent-Length: 18446744073709551615\r\nContent-Range: bytes 0-18446744073709551614/18446744073709551615\r\nAccept-Ranges: bytes\r\nConnection: close\r\n\r\n",
+    ),
+    (
+        &[Answer::Unsatisfiable(91)],
+        b"HTTP/1.1 416 Range Not Satisfiable\r\nContent-Length: 0\r\nContent-Range: bytes */91\r\nAccept-Ranges: bytes\r\nConnection: close\r\n\r\n",
+    ),
+    (
+        &[Answer::Listing(0)],
+        b"HTTP/1.1 200 OK\r\nContent-Type: text/plain\r\nContent-Length: 0\r\nConnection: close\r\n\r\n",
+    ),
+    (
+        &[Answer::BadRequest],
+        b"HTTP/1.1 400 Bad Request\r\nContent-Length: 0\r\nConnection: close\r\n\r\n",
+    ),
+    (
+        &[Answer::NotFound],
+        b"HTTP/1.1 404 Not Found\r\nContent-Length: 0\r\nConnection: close\r\n\r\n",
+    ),
+    (
+        &[Answer::NotAllowed],
+        b"HTTP/1.1 405 Method Not Allowed\r\nContent-Length: 0\r\nAllow: GET, HEAD\r\nConnection: close\r\n\r\n",
+    ),
+    // one head after another
+    (
+        &[Answer::NotFound, Answer::BadRequest],
+        b"HTTP/1.1 404 Not Found\r\nContent-Length: 0\r\nConnection: close\r\n\r\nHTTP/1.1 400 Bad Request\r\nContent-Length: 0\r\nConnection: close\r\n\r\n",
+    ),
+];
+
+/// Appends the head of an answer that fits. If memory is refused, the call is made again.
+fn append(answer: Answer, out: &mut Vec<u8>) -> Result<(), Memory> {
+    if let Answer::Part(first, last, len) = answer {
+        if first > last || last >= len {
+            return Ok(());
+        }
+    }
     if response_head(&answer, out).is_ok() {
         return Ok(());
     }
     response_head(&answer, out)
 }
 
-fn head_of(alloc: Global, answer: Answer) -> Result<Vec<u8>, Memory>
-    requires { AnswerFits answer }
-{
-    let mut out = Vec::new(alloc);
-    append(answer, &mut out)?;
-    Ok(out)
-}
-
 #[test]
 fn writes_heads(rt: HostRuntime) -> Result<(), Fail> {
-    let alloc = rt.alloc();
-    assert!(rt;
-        head_of(alloc, Answer::Full(91))?.as_slice()
-            == b"HTTP/1.1 200 OK\r\nContent-Type: application/ogg\r\nContent-Length: 91\r\nAccept-Ranges: bytes\r\nConnection: close\r\n\r\n".as_slice()
-    );
-    assert!(rt;
-        head_of(alloc, Answer::Part(0, 30, 91))?.as_slice()
-            == b"HTTP/1.1 206 Partial Content\r\nContent-Type: application/ogg\r\nContent-Length: 31\r\nContent-Range: bytes 0-30/91\r\nAccept-Ranges: bytes\r\nConnection: close\r\n\r\n".as_slice()
-    );
-    assert!(rt;
-        head_of(alloc, Answer::Part(0, u64::MAX - 1, u64::MAX))?.as_slice()
-            == b"HTTP/1.1 206 Partial Content\r\nContent-Type: application/ogg\r\nContent-Length: 18446744073709551615\r\nContent-Range: bytes 0-18446744073709551614/18446744073709551615\r\nAccept-Ranges: bytes\r\nConnection: close\r\n\r\n".as_slice()
-    );
-    assert!(rt;
-        head_of(alloc, Answer::Unsatisfiable(91))?.as_slice()
-            == b"HTTP/1.1 416 Range Not Satisfiable\r\nContent-Length: 0\r\nContent-Range: bytes */91\r\nAccept-Ranges: bytes\r\nConnection: close\r\n\r\n".as_slice()
-    );
-    assert!(rt;
-        head_of(alloc, Answer::Listing(0))?.as_slice()
-            == b"HTTP/1.1 200 OK\r\nContent-Type: text/plain\r\nContent-Length: 0\r\nConnection: close\r\n\r\n".as_slice()
-    );
-    assert!(rt;
-        head_of(alloc, Answer::BadRequest)?.as_slice()
-            == b"HTTP/1.1 400 Bad Request\r\nContent-Length: 0\r\nConnection: close\r\n\r\n".as_slice()
-    );
-    assert!(rt;
-        head_of(alloc, Answer::NotFound)?.as_slice()
-            == b"HTTP/1.1 404 Not Found\r\nContent-Length: 0\r\nConnection: close\r\n\r\n".as_slice()
-    );
-    assert!(rt;
-        head_of(alloc, Answer::NotAllowed)?.as_slice()
-            == b"HTTP/1.1 405 Method Not Allowed\r\nContent-Length: 0\r\nAllow: GET, HEAD\r\nConnection: close\r\n\r\n".as_slice()
-    );
-    let mut out = head_of(alloc, Answer::NotFound)?;
-    append(Answer::BadRequest, &mut out)?;
-    assert!(rt;
-        out.as_slice()
-            == b"HTTP/1.1 404 Not Found\r\nContent-Length: 0\r\nConnection: close\r\n\r\nHTTP/1.1 400 Bad Request\r\nContent-Length: 0\r\nConnection: close\r\n\r\n".as_slice()
-    );
+    for (answers, want) in WRITTEN {
+        let mut out = Vec::new(rt.alloc());
+        for answer in answers {
+            append(*answer, &mut out)?;
+        }
+        assert!(rt; out.as_slice() == want);
+    }
     Ok(())
 }

@@ -1,27 +1,15 @@
 //! Runs over feeds by a runner that holds commands in groups.
-ghost use Rattle.std.specs.Prelude.{◌≡◌, length};
-
+use crate::feeds::fakes::FakeWriter;
+use crate::feeds::{BEGIN, END, FLUSH, PUT};
+use crate::files::joined;
 use feed_codec::{FeedFault, Kept, Reply, RunFault};
 use feed_run::*;
-use ogg_command::{Command, Memory, Refusal};
+use ogg_command::{Command, Refusal};
 use ogg_page::WriteFault;
 use std::alloc::Global;
 use std::io;
-use std::io::{ErrorKind, Write};
+use std::io::Write;
 use std::test::Fail;
-
-/// A begin of a stream with serial 1 and the header `abc`.
-const BEGIN: [u8; 52] = *b"\x01\x2f\0\0\0\0\x01\0\x01\0\0\0\x01\0\x03\0\0\0abc\0\0\
-    \0\0\0\0\0\0\0\0\0\0\0\0\0\0\0\0\0\0\0\0\0\0\0\0\0\0\0\0\0";
-
-/// The packet `hello` at position 5.
-const PUT: [u8; 28] = *b"\x02\x17\0\0\0\x01\0\x01\0\0\0\x05\0\0\0\0\0\0\0\x05\0\0\0hello";
-
-/// The stream's end.
-const END: [u8; 9] = *b"\x03\x04\0\0\0\x01\0\0\0";
-
-/// A flush.
-const FLUSH: [u8; 5] = *b"\x04\0\0\0\0";
 
 /// Holds commands and keeps them in groups of `most`. After `good` commits its disk fails.
 #[derive(Drop)]
@@ -125,33 +113,6 @@ impl Runner for Grouping {
     }
 }
 
-/// Keeps lines, and fails from the call with the number `bad` on.
-#[derive(Drop)]
-struct Lines {
-    written: Vec<u8>,
-    bad: u64,
-    calls: u64,
-}
-
-impl Write for Lines {
-    ghost use Rattle.std.specs.Prelude.{Some};
-
-    ghost contents = { λ w. Some w.written.items };
-
-    fn write(&mut self, buf: &[u8]) -> io::Result<usize> {
-        self.calls = self.calls.saturating_add(1);
-        if self.calls >= self.bad {
-            return Err(io::Error::from(ErrorKind::Other));
-        }
-        self.written.extend_from_slice(buf)?;
-        Ok(buf.len())
-    }
-
-    fn flush(&mut self) -> io::Result<()> {
-        Ok(())
-    }
-}
-
 /// The result of a run: commands, kept, refused, and the length.
 type Came = (u64, u64, u64, u64);
 
@@ -206,12 +167,15 @@ const RUNS: [(&[&[u8]], u64, u64, &str, Result<Came, RunFault>); 8] = [
     ),
 ];
 
-fn joined(alloc: Global, pieces: &[&[u8]]) -> Result<Vec<u8>, Memory> {
-    let mut bytes = Vec::new(alloc);
-    for piece in pieces {
-        bytes.extend_from_slice(piece)?;
-    }
-    Ok(bytes)
+/// What a run over these bytes answers.
+fn ran<W: Write>(
+    alloc: Global,
+    runner: &mut Grouping,
+    mut feed: &[u8],
+    replies: &mut W,
+) -> Result<Came, RunFault> {
+    let tally = run_feed(alloc, runner, &mut feed, &mut io::sink(), replies)?;
+    Ok((tally.commands, tally.kept, tally.refused, tally.end))
 }
 
 #[test]
@@ -220,18 +184,10 @@ fn what_waits_is_kept_by_its_group_or_a_flush_or_at_the_end(rt: HostRuntime) -> 
         let feed = joined(rt.alloc(), pieces)?;
         let mut runner = Grouping::new(most, good);
         let mut replies = Vec::new(rt.alloc());
-        let run = run_feed(
-            rt.alloc(),
-            &mut runner,
-            &mut feed.as_slice(),
-            &mut io::sink(),
-            &mut replies,
+        assert!(rt;
+            ran(rt.alloc(), &mut runner, &feed, &mut replies) == came,
+            "{lines}"
         );
-        let found = match run {
-            Ok(tally) => Ok((tally.commands, tally.kept, tally.refused, tally.end)),
-            Err(fault) => Err(fault),
-        };
-        assert!(rt; found == came, "{lines}");
         assert!(rt; replies.as_slice() == lines.as_bytes());
     }
     Ok(())
@@ -241,23 +197,23 @@ fn what_waits_is_kept_by_its_group_or_a_flush_or_at_the_end(rt: HostRuntime) -> 
 fn a_writer_that_fails_ends_the_run_and_nothing_is_flushed(rt: HostRuntime) -> Result<(), Fail> {
     let feed = joined(rt.alloc(), &[&BEGIN, &PUT, &END])?;
     let mut runner = Grouping::new(8, 9);
-    let mut replies = Lines {
-        written: Vec::new(rt.alloc()),
-        bad: 2,
-        calls: 0,
-    };
-    let run = run_feed(
-        rt.alloc(),
-        &mut runner,
-        &mut feed.as_slice(),
-        &mut io::sink(),
-        &mut replies,
-    );
-    assert!(rt; run == Err(RunFault::Write), "the second line is written");
-    assert!(rt; replies.written.as_slice() == b"held 1\n".as_slice());
+    let mut replies = FakeWriter::new(Vec::new(rt.alloc()), 64, 2);
+    let found = ran(rt.alloc(), &mut runner, &feed, &mut replies);
+    assert!(rt; found == Err(RunFault::Write), "the second line is written");
+    assert!(rt; (replies.written(), replies.calls()) == (b"held 1\n".as_slice(), 2));
     assert!(rt; (runner.held, runner.end) == (2, 0));
     Ok(())
 }
+
+/// What the steps over three commands reply: one more keeps what waits, and then the run is at its end.
+const STEPS: [Option<Reply>; 6] = [
+    Some(Reply::Held(1)),
+    Some(Reply::Held(2)),
+    Some(Reply::Held(3)),
+    Some(Reply::Kept(Kept { count: 3, end: 91 })),
+    None,
+    None,
+];
 
 #[test]
 fn the_step_after_the_flush_is_the_end_and_it_stays(rt: HostRuntime) -> Result<(), Fail> {
@@ -266,15 +222,7 @@ fn the_step_after_the_flush_is_the_end_and_it_stays(rt: HostRuntime) -> Result<(
     let mut run = FeedRun::new(rt.alloc());
     let mut reader = feed.as_slice();
     let mut replies = Vec::new(rt.alloc());
-    let wanted = [
-        Some(Reply::Held(1)),
-        Some(Reply::Held(2)),
-        Some(Reply::Held(3)),
-        Some(Reply::Kept(Kept { count: 3, end: 91 })),
-        None,
-        None,
-    ];
-    for reply in wanted {
+    for reply in STEPS {
         let found = run.step(&mut runner, &mut reader, &mut io::sink(), &mut replies);
         assert!(rt; found == Ok(reply), "a step gives another reply");
     }

@@ -1,4 +1,5 @@
 //! Packets written out by hand from the layout of Ogg Skeleton 3.0, and what is read of others.
+use crate::files::{change, joined};
 use skeleton3::*;
 use std::alloc::Global;
 use std::test::Fail;
@@ -61,57 +62,102 @@ const NO_MESSAGES: [&[u8]; 9] = [
     b"Title\r\nContent-Type: a\r\n",
 ];
 
-fn with_message(alloc: Global, message: &[u8]) -> Result<Vec<u8>, Memory> {
-    let mut packet = FIXED_PART.to_vec(alloc)?;
-    packet.extend_from_slice(message)?;
-    Ok(packet)
+/// Message fields: the name and the value of each.
+type Fields = &'static [(&'static [u8], &'static [u8])];
+
+/// Fields that follow the media type, the message that they make, and how many bytes the packet has.
+const WITH_FIELDS: [(Fields, &[u8], usize); 3] = [
+    (&[], b"Content-Type: audio/vorbis\r\n", 80),
+    (
+        &[(b"Title", b"One")],
+        b"Content-Type: audio/vorbis\r\nTitle: One\r\n",
+        92,
+    ),
+    (
+        &[(b"Title", b"One"), (b"Role", b"audio/main: a")],
+        b"Content-Type: audio/vorbis\r\nTitle: One\r\nRole: audio/main: a\r\n",
+        113,
+    ),
+];
+
+/// What `write` appends of `FISHEAD` to a byte.
+fn fishead_after_a_byte(alloc: Global) -> Result<Vec<u8>, Memory> {
+    let mut out = joined(alloc, &[&[7]])?;
+    FISHEAD.write(&mut out)?;
+    Ok(out)
+}
+
+/// What `write` appends of `FISBONE` to a byte.
+fn fisbone_after_a_byte(alloc: Global) -> Result<Vec<u8>, Memory> {
+    let mut out = joined(alloc, &[&[7]])?;
+    FISBONE.write(&mut out)?;
+    Ok(out)
+}
+
+/// What `write_with` appends of `FISBONE` and these fields to a byte.
+fn fisbone_with(alloc: Global, pairs: Fields) -> Result<Vec<u8>, Memory> {
+    let mut fields = Vec::new(alloc);
+    for (name, value) in pairs {
+        fields.push(Field::of(name.to_vec(alloc)?, value.to_vec(alloc)?))?;
+    }
+    let mut out = joined(alloc, &[&[7]])?;
+    FISBONE.write_with(&fields, &mut out)?;
+    Ok(out)
 }
 
 #[test]
 fn packets_are_appended_byte_for_byte(rt: HostRuntime) -> Result<(), Fail> {
-    let mut out = [7u8].to_vec(rt.alloc())?;
-    FISHEAD.write(&mut out)?;
-    assert!(rt; &out[..1] == [7].as_slice());
-    assert!(rt; &out[1..] == FISHEAD_BYTES.as_slice());
-    assert!(rt; FISHEAD.size() == 64);
-
-    let mut out = [7u8].to_vec(rt.alloc())?;
-    FISBONE.write(&mut out)?;
-    let packet = with_message(rt.alloc(), b"Content-Type: audio/vorbis\r\n")?;
-    assert!(rt; &out[..1] == [7].as_slice());
-    assert!(rt; &out[1..] == packet.as_slice());
-    assert!(rt; FISBONE.size() == 80);
+    let fishead = joined(rt.alloc(), &[&[7], &FISHEAD_BYTES])?;
+    assert!(rt; fishead_after_a_byte(rt.alloc())?.as_slice() == fishead.as_slice());
+    let message = b"Content-Type: audio/vorbis\r\n";
+    let fisbone = joined(rt.alloc(), &[&[7], &FIXED_PART, message])?;
+    assert!(rt; fisbone_after_a_byte(rt.alloc())?.as_slice() == fisbone.as_slice());
+    assert!(rt; (FISHEAD.size(), FISBONE.size()) == (64, 80));
     Ok(())
 }
 
 #[test]
-fn fisheads_are_read_whatever_their_minor_version(rt: HostRuntime) {
-    let mut packet = FISHEAD_BYTES;
-    assert!(rt; Fishead::read(&packet) == Ok(FISHEAD));
-    packet[10] = 0xff;
-    packet[11] = 0xff;
-    assert!(rt; Fishead::read(&packet) == Ok(FISHEAD));
+fn message_fields_follow_the_media_type(rt: HostRuntime) -> Result<(), Fail> {
+    for (fields, message, size) in WITH_FIELDS {
+        let want = joined(rt.alloc(), &[&[7], &FIXED_PART, message])?;
+        assert!(rt; fisbone_with(rt.alloc(), fields)?.as_slice() == want.as_slice());
+        let packet = joined(rt.alloc(), &[&FIXED_PART, message])?;
+        assert!(rt; packet.len() == size);
+        assert!(rt; Fisbone::read(&packet) == Ok(FISBONE));
+    }
+    Ok(())
 }
 
+/// How many bytes of the packet of `FISHEAD` and a further byte are read, the bytes that are changed, and the answer.
+/// The minor version may be any.
+const FISHEADS: [(usize, &[(usize, u8)], Result<Fishead, SkeletonFault>); 15] = [
+    (64, &[], Ok(FISHEAD)),
+    (64, &[(10, 0xff), (11, 0xff)], Ok(FISHEAD)),
+    (0, &[], Err(SkeletonFault::Length)),
+    (63, &[], Err(SkeletonFault::Length)),
+    (65, &[], Err(SkeletonFault::Length)),
+    (64, &[(0, b'F')], Err(SkeletonFault::Name)),
+    (64, &[(7, 1)], Err(SkeletonFault::Name)),
+    (64, &[(8, 4)], Err(SkeletonFault::Version)),
+    (64, &[(8, 2)], Err(SkeletonFault::Version)),
+    (64, &[(9, 1)], Err(SkeletonFault::Version)),
+    (64, &[(0, b'X')], Err(SkeletonFault::Name)),
+    (64, &[(7, 1), (0, b'X')], Err(SkeletonFault::Name)),
+    (64, &[(8, 4), (0, b'X')], Err(SkeletonFault::Name)),
+    (64, &[(8, 2), (0, b'X')], Err(SkeletonFault::Name)),
+    (64, &[(9, 1), (0, b'X')], Err(SkeletonFault::Name)),
+];
+
 #[test]
-fn fisheads_are_refused_by_their_first_fault(rt: HostRuntime) -> Result<(), Fail> {
-    assert!(rt; Fishead::read(b"") == Err(SkeletonFault::Length));
-    assert!(rt; Fishead::read(&FISHEAD_BYTES[..63]) == Err(SkeletonFault::Length));
-    let mut longer = FISHEAD_BYTES.to_vec(rt.alloc())?;
-    longer.push(0)?;
-    assert!(rt; Fishead::read(&longer) == Err(SkeletonFault::Length));
-    for (at, byte, fault) in [
-        (0, b'F', SkeletonFault::Name),
-        (7, 1, SkeletonFault::Name),
-        (8, 4, SkeletonFault::Version),
-        (8, 2, SkeletonFault::Version),
-        (9, 1, SkeletonFault::Version),
-    ] {
-        let mut packet = FISHEAD_BYTES;
-        packet[at] = byte;
-        assert!(rt; Fishead::read(&packet) == Err(fault), "at {at}");
-        packet[0] = b'X';
-        assert!(rt; Fishead::read(&packet) == Err(SkeletonFault::Name));
+fn fisheads_are_read_or_refused_by_their_first_fault(rt: HostRuntime) -> Result<(), Fail> {
+    for (length, changes, want) in FISHEADS {
+        let mut packet = joined(rt.alloc(), &[&FISHEAD_BYTES, b"\0"])?;
+        packet.truncate(length);
+        change(&mut packet, changes);
+        assert!(rt;
+            Fishead::read(&packet) == want,
+            "{length} bytes, {changes:?}"
+        );
     }
     Ok(())
 }
@@ -119,111 +165,82 @@ fn fisheads_are_refused_by_their_first_fault(rt: HostRuntime) -> Result<(), Fail
 #[test]
 fn media_types_are_found_among_the_message_fields(rt: HostRuntime) -> Result<(), Fail> {
     for (message, media) in MESSAGES {
-        let packet = with_message(rt.alloc(), message)?;
+        let packet = joined(rt.alloc(), &[&FIXED_PART, message])?;
         let want = Fisbone { media, ..FISBONE };
         assert!(rt; Fisbone::read(&packet) == Ok(want), "in {message:?}");
     }
     for message in NO_MESSAGES {
-        let packet = with_message(rt.alloc(), message)?;
+        let packet = joined(rt.alloc(), &[&FIXED_PART, message])?;
         assert!(rt;
             Fisbone::read(&packet) == Err(SkeletonFault::Fields),
             "in {message:?}"
+        );
+        assert!(rt; Fisbone::message(&packet).err() == Some(SkeletonFault::Fields));
+    }
+    Ok(())
+}
+
+/// How many bytes of the packet of `FISBONE` are read, the bytes that are changed, and the answer. The offset of the
+/// message and the padding may be any.
+const FISBONES: [(
+    usize,
+    &[(usize, u8)],
+    Result<Fisbone<'static>, SkeletonFault>,
+); 11] = [
+    (80, &[], Ok(FISBONE)),
+    (80, &[(8, 45)], Ok(FISBONE)),
+    (80, &[(8, 45), (11, 45)], Ok(FISBONE)),
+    (80, &[(8, 45), (11, 45), (49, 45)], Ok(FISBONE)),
+    (80, &[(8, 45), (11, 45), (49, 45), (50, 45)], Ok(FISBONE)),
+    (
+        80,
+        &[(8, 45), (11, 45), (49, 45), (50, 45), (51, 45)],
+        Ok(FISBONE),
+    ),
+    (0, &[], Err(SkeletonFault::Length)),
+    (51, &[], Err(SkeletonFault::Length)),
+    (52, &[], Err(SkeletonFault::Fields)),
+    (52, &[(7, b'0')], Err(SkeletonFault::Name)),
+    (51, &[(7, b'0')], Err(SkeletonFault::Length)),
+];
+
+#[test]
+fn fisbones_are_read_or_refused_by_their_first_fault(rt: HostRuntime) -> Result<(), Fail> {
+    for (length, changes, want) in FISBONES {
+        let message = b"Content-Type: audio/vorbis\r\n";
+        let mut packet = joined(rt.alloc(), &[&FIXED_PART, message])?;
+        packet.truncate(length);
+        change(&mut packet, changes);
+        assert!(rt;
+            Fisbone::read(&packet) == want,
+            "{length} bytes, {changes:?}"
         );
     }
     Ok(())
 }
 
-fn field(alloc: Global, name: &[u8], value: &[u8]) -> Result<Field, Memory> {
-    Ok(Field::of(name.to_vec(alloc)?, value.to_vec(alloc)?))
-}
+/// The message fields of a packet in order, and then no more.
+const LENT: [Option<(&[u8], &[u8])>; 6] = [
+    Some((b"Title", b"One")),
+    Some((b"", b"")),
+    Some((b"Content-Type", b"audio/ogg")),
+    Some((b"Title", b"Two")),
+    None,
+    None,
+];
 
 #[test]
-fn message_fields_follow_the_media_type(rt: HostRuntime) -> Result<(), Fail> {
-    let mut fields = Vec::new(rt.alloc());
-    fields.push(field(rt.alloc(), b"Title", b"One")?)?;
-    fields.push(field(rt.alloc(), b"Role", b"audio/main: a")?)?;
-    let mut out = [7u8].to_vec(rt.alloc())?;
-    FISBONE.write_with(&fields, &mut out)?;
-    let message = b"Content-Type: audio/vorbis\r\nTitle: One\r\nRole: audio/main: a\r\n";
-    let packet = with_message(rt.alloc(), message)?;
-    assert!(rt; &out[..1] == [7].as_slice());
-    assert!(rt; &out[1..] == packet.as_slice());
-    assert!(rt; Fisbone::read(&packet) == Ok(FISBONE));
-    Ok(())
-}
-
-#[test]
-fn one_more_field_makes_a_packet_of_92_bytes(rt: HostRuntime) -> Result<(), Fail> {
-    let mut fields = Vec::new(rt.alloc());
-    fields.push(field(rt.alloc(), b"Title", b"One")?)?;
-    let mut out = Vec::new(rt.alloc());
-    FISBONE.write_with(&fields, &mut out)?;
-    assert!(rt; out.len() == 92);
-    Ok(())
-}
-
-#[test]
-fn message_fields_are_lent_in_order(rt: HostRuntime) -> Result<(), Fail> {
+fn message_fields_are_lent_in_order_or_refused_as_the_packet_is(
+    rt: HostRuntime,
+) -> Result<(), Fail> {
     let message = b"\r\nTitle:\t One \n:\nContent-Type:audio/ogg\r\nTitle: Two";
-    let packet = with_message(rt.alloc(), message)?;
-    let wanted: [(&[u8], &[u8]); 4] = [
-        (b"Title", b"One"),
-        (b"", b""),
-        (b"Content-Type", b"audio/ogg"),
-        (b"Title", b"Two"),
-    ];
+    let packet = joined(rt.alloc(), &[&FIXED_PART, message])?;
     let mut fields = Fisbone::message(&packet)?;
-    for want in wanted {
-        assert!(rt; fields.next() == Some(want));
+    for want in LENT {
+        assert!(rt; fields.next() == want);
     }
-    assert!(rt; fields.next() == None);
-    assert!(rt; fields.next() == None);
-    Ok(())
-}
-
-#[test]
-fn message_fields_are_refused_as_the_packet_is(rt: HostRuntime) -> Result<(), Fail> {
-    for message in NO_MESSAGES {
-        let packet = with_message(rt.alloc(), message)?;
-        assert!(rt; Fisbone::message(&packet).err() == Some(SkeletonFault::Fields));
-    }
-    assert!(rt; Fisbone::message(&FIXED_PART[..51]).err() == Some(SkeletonFault::Length));
+    let (short, _) = FIXED_PART.split_at(51);
+    assert!(rt; Fisbone::message(short).err() == Some(SkeletonFault::Length));
     assert!(rt; Fisbone::message(&FISHEAD_BYTES).err() == Some(SkeletonFault::Name));
     Ok(())
-}
-
-#[test]
-fn fisbones_are_read_whatever_their_offset_and_padding(rt: HostRuntime) -> Result<(), Fail> {
-    let mut packet = with_message(rt.alloc(), b"Content-Type: audio/vorbis\r\n")?;
-    assert!(rt; Fisbone::read(&packet) == Ok(FISBONE));
-    for at in [8, 11, 49, 50, 51] {
-        packet[at] = 45;
-        assert!(rt; Fisbone::read(&packet) == Ok(FISBONE), "at {at}");
-    }
-    Ok(())
-}
-
-#[test]
-fn fisbones_are_refused_by_their_first_fault(rt: HostRuntime) {
-    assert!(rt; Fisbone::read(b"") == Err(SkeletonFault::Length));
-    assert!(rt; Fisbone::read(&FIXED_PART[..51]) == Err(SkeletonFault::Length));
-    assert!(rt; Fisbone::read(&FIXED_PART) == Err(SkeletonFault::Fields));
-    let mut packet = FIXED_PART;
-    packet[7] = b'0';
-    assert!(rt; Fisbone::read(&packet) == Err(SkeletonFault::Name));
-    assert!(rt; Fisbone::read(&packet[..51]) == Err(SkeletonFault::Length));
-}
-
-#[test]
-fn faults_have_their_numbers_and_names(rt: HostRuntime) {
-    let faults = [
-        (SkeletonFault::Length, 1, "Length"),
-        (SkeletonFault::Name, 2, "Name"),
-        (SkeletonFault::Version, 3, "Version"),
-        (SkeletonFault::Fields, 4, "Fields"),
-    ];
-    for (fault, code, name) in faults {
-        assert!(rt; fault.code() == code);
-        assert!(rt; fault.name() == name);
-    }
 }

@@ -1,5 +1,5 @@
 //! Pages made piece by piece.
-use super::THREE_PAGES;
+use super::{END_PAGE, HELLO_PAGE};
 use ogg_page::{PageBuffer, PageHead};
 use std::test::Fail;
 
@@ -16,10 +16,8 @@ fn a_page_is_made_piece_by_piece(rt: HostRuntime) -> Result<(), Fail> {
         serial: 1,
         sequence: 1,
     });
-    assert!(rt; buffer.bytes() == &THREE_PAGES[31..64]);
-    let mut closed = THREE_PAGES[31..64].to_vec(rt.alloc())?;
-    closed.push(0)?;
-    assert!(rt; buffer.closed() == closed.as_slice());
+    assert!(rt; buffer.bytes() == HELLO_PAGE.as_slice());
+    assert!(rt; buffer.closed().split_last() == Some((&0, HELLO_PAGE.as_slice())));
 
     buffer.start(&[]);
     buffer.finish(&PageHead {
@@ -28,6 +26,6 @@ fn a_page_is_made_piece_by_piece(rt: HostRuntime) -> Result<(), Fail> {
         serial: 1,
         sequence: 2,
     });
-    assert!(rt; buffer.bytes() == &THREE_PAGES[64..]);
+    assert!(rt; buffer.bytes() == END_PAGE.as_slice());
     Ok(())
 }

@@ -1,8 +1,13 @@
 //! Pages that come through a pipe, and the feed that is made of them.
-use super::{FISBONE_PAGE, FISHEAD_PAGE, SKELETON_END, THREE_PAGES};
+use super::{
+    END_PAGE, FIRST_PAGE, FISBONE_PAGE, FISHEAD_PAGE, HELLO_PAGE, SKELETON_END, THREE_PAGES,
+};
 use crate::feeds::fakes::{FakeReader, FakeWriter};
+use crate::feeds::{ANNOUNCEMENT, END, PUT};
+use crate::files::joined;
 use feed_maker::{ChangeOptions, Made, MakingFault, Skeletons, make_feed};
 use page_reader::{PageReader, PageReaderFault};
+use std::alloc::Global;
 use std::test::Fail;
 
 /// How many bytes a read returns, and how often the reader was called when each of the three pages was returned: as
@@ -15,78 +20,53 @@ const CALLS: [(usize, [u64; 3]); 5] = [
     (1000, [1, 1, 1]),
 ];
 
+/// The fault of the next advance if there is one, whether a page is lent, and how often the reader was called so far.
+fn advanced(
+    pages: &mut PageReader,
+    reader: &mut FakeReader<'_>,
+) -> (Option<PageReaderFault>, bool, u64) {
+    let fault = pages.advance(reader).err();
+    (fault, pages.lent().is_some(), reader.calls())
+}
+
 #[test]
 fn a_page_is_given_with_its_last_byte(rt: HostRuntime) -> Result<(), Fail> {
+    let bytes = joined(rt.alloc(), &THREE_PAGES)?;
     for (step, calls) in CALLS {
-        let mut reader = FakeReader::new(&THREE_PAGES, step, 0);
+        let mut reader = FakeReader::new(&bytes, step, 0);
         let mut pages = PageReader::new(rt.alloc())?;
         for want in calls {
-            pages.advance(&mut reader)?;
-            assert!(rt; pages.lent().is_some());
-            assert!(rt; reader.calls() == want, "of {step}: {}", reader.calls());
+            assert!(rt;
+                advanced(&mut pages, &mut reader) == (None, true, want),
+                "of {step}"
+            );
         }
-        pages.advance(&mut reader)?;
-        assert!(rt; pages.lent().is_none());
-        assert!(rt; pages.offset() == 91);
+        let (fault, is_lent, _) = advanced(&mut pages, &mut reader);
+        assert!(rt;
+            (fault, is_lent, pages.offset()) == (None, false, 91),
+            "of {step}"
+        );
     }
     Ok(())
 }
 
 #[test]
 fn a_failing_read_stays_a_fault(rt: HostRuntime) -> Result<(), Fail> {
-    let mut reader = FakeReader::new(&THREE_PAGES, 40, 2);
+    let bytes = joined(rt.alloc(), &THREE_PAGES)?;
+    let mut reader = FakeReader::new(&bytes, 40, 2);
     let mut pages = PageReader::new(rt.alloc())?;
-    pages.advance(&mut reader)?;
+    assert!(rt; advanced(&mut pages, &mut reader) == (None, true, 1));
     for _ in 0..2 {
-        let failed = pages.advance(&mut reader);
-        assert!(rt; failed.is_err_and(|fault| fault == PageReaderFault::Read));
-        assert!(rt; pages.lent().is_none());
+        let found = advanced(&mut pages, &mut reader);
+        assert!(rt; found == (Some(PageReaderFault::Read), false, 2));
         assert!(rt; pages.offset() == 31);
     }
-    assert!(rt; reader.calls() == 2);
     Ok(())
 }
 
-/// The announcement, a begin of stream 1 with the header `abc`, the packet `hello` at position 5, and the stream's
-/// end.
-const FEED: [u8; 97] = *b"\0\x01\0\0\0\x02\
-    \x01\x31\0\0\0\0\x01\0\x01\0\0\0\x01\0\x03\0\0\0abc\0\0\
-    \0\0\0\0\0\0\0\0\0\0\0\0\0\0\0\0\0\0\0\0\0\0\0\0\0\0\0\0\0\0\0\
-    \x02\x17\0\0\0\x01\0\x01\0\0\0\x05\0\0\0\0\0\0\0\x05\0\0\0hello\
-    \x03\x04\0\0\0\x01\0\0\0";
-
-#[test]
-fn a_feed_is_made_of_three_pages(rt: HostRuntime) -> Result<(), Fail> {
-    for step in [1, 40, 1000] {
-        let mut reader = FakeReader::new(&THREE_PAGES, step, 0);
-        let mut writer = FakeWriter::new(Vec::new(rt.alloc()), step, 0);
-        let made = make_feed(rt.alloc(), &mut reader, &mut writer, ChangeOptions::none())?;
-        assert!(rt;
-            made == Made {
-                pages: 3,
-                commands: 3
-            }
-        );
-        assert!(rt; writer.written() == FEED.as_slice());
-    }
-    Ok(())
-}
-
-#[test]
-fn what_is_whole_is_written_before_a_fault_is_told(rt: HostRuntime) -> Result<(), Fail> {
-    // Only the first page, whose stream's begin waits, and then the first two.
-    for (front, written, want) in [
-        (&THREE_PAGES[..31], &FEED[..60], MakingFault::Read(31)),
-        (&THREE_PAGES[..64], &FEED[..88], MakingFault::Read(64)),
-    ] {
-        let mut reader = FakeReader::new(front, 100, 2);
-        let mut writer = FakeWriter::new(Vec::new(rt.alloc()), 1000, 0);
-        let failed = make_feed(rt.alloc(), &mut reader, &mut writer, ChangeOptions::none());
-        assert!(rt; failed.is_err_and(|fault| fault == want));
-        assert!(rt; writer.written() == written);
-    }
-    Ok(())
-}
+/// A begin of version 2 of stream 1 with the header `abc`. `PUT` and `END` are its packet and its end.
+const BEGIN: [u8; 54] = *b"\x01\x31\0\0\0\0\x01\0\x01\0\0\0\x01\0\x03\0\0\0abc\0\0\
+    \0\0\0\0\0\0\0\0\0\0\0\0\0\0\0\0\0\0\0\0\0\0\0\0\0\0\0\0\0\0\0";
 
 /// The records of the same commands, of stream 0.
 const RECORDS_OF_STREAM_0: [u8; 91] = *b"\x01\x31\0\0\0\0\x01\0\0\0\0\0\x01\0\x03\0\0\0abc\0\0\
@@ -94,71 +74,164 @@ const RECORDS_OF_STREAM_0: [u8; 91] = *b"\x01\x31\0\0\0\0\x01\0\0\0\0\0\x01\0\x0
     \x02\x17\0\0\0\x01\0\0\0\0\0\x05\0\0\0\0\0\0\0\x05\0\0\0hello\
     \x03\x04\0\0\0\0\0\0\0";
 
-/// The announcement, and the begin of stream 1 with a Skeleton of serial 9: from 0 seconds on, no time of day, a codec
-/// that isn't known, and a rate of 1.
-const DESCRIBED: [u8; 140] = *b"\0\x01\0\0\0\x02\
-    \x01\x81\0\0\0\x01\x09\0\0\0\
+/// The begin of stream 1 with a Skeleton of serial 9: from 0 seconds on, no time of day, a codec that isn't known, and
+/// a rate of 1.
+const DESCRIBED: [u8; 134] = *b"\x01\x81\0\0\0\x01\x09\0\0\0\
     \0\0\0\0\0\0\0\0\xE8\x03\0\0\0\0\0\0\0\0\0\0\0\0\0\0\xE8\x03\0\0\0\0\0\0\
     \0\0\0\0\0\0\0\0\0\0\0\0\0\0\0\0\0\0\0\0\
     \x01\0\x01\0\0\0\x01\0\x03\0\0\0abc\x18\0application/octet-stream\
     \x01\0\0\0\0\0\0\0\x01\0\0\0\0\0\0\0\0\0\0\0\0\0\0\0\0\0\0\0\0\0\0";
 
-/// The pieces, one after the other.
-fn joined(rt: &HostRuntime, pieces: &[&[u8]]) -> Result<Vec<u8>, Fail> {
-    let mut bytes = Vec::new(rt.alloc());
-    for piece in pieces {
-        bytes.extend_from_slice(piece)?;
+/// An input in pieces, how many bytes a read takes and which read fails, how many bytes a write takes, the options
+/// (with `None` nothing is changed), what is written, and the answer.
+type Making = (
+    &'static [&'static [u8]],
+    (usize, u64),
+    usize,
+    Option<ChangeOptions>,
+    &'static [&'static [u8]],
+    Result<Made, MakingFault>,
+);
+
+const MAKINGS: [Making; 8] = [
+    (
+        &THREE_PAGES,
+        (1, 0),
+        1,
+        None,
+        &[&ANNOUNCEMENT, &BEGIN, &PUT, &END],
+        Ok(Made {
+            pages: 3,
+            commands: 3,
+        }),
+    ),
+    (
+        &THREE_PAGES,
+        (40, 0),
+        40,
+        None,
+        &[&ANNOUNCEMENT, &BEGIN, &PUT, &END],
+        Ok(Made {
+            pages: 3,
+            commands: 3,
+        }),
+    ),
+    (
+        &THREE_PAGES,
+        (1000, 0),
+        1000,
+        None,
+        &[&ANNOUNCEMENT, &BEGIN, &PUT, &END],
+        Ok(Made {
+            pages: 3,
+            commands: 3,
+        }),
+    ),
+    // What is whole is written before a fault is told: of the first page alone, whose stream's begin waits, and of the
+    // first two.
+    (
+        &[&FIRST_PAGE],
+        (100, 2),
+        1000,
+        None,
+        &[&ANNOUNCEMENT, &BEGIN],
+        Err(MakingFault::Read(31)),
+    ),
+    (
+        &[&FIRST_PAGE, &HELLO_PAGE],
+        (100, 2),
+        1000,
+        None,
+        &[&ANNOUNCEMENT, &BEGIN, &PUT],
+        Err(MakingFault::Read(64)),
+    ),
+    // A second copy gets a free serial.
+    (
+        &[
+            &FIRST_PAGE,
+            &HELLO_PAGE,
+            &END_PAGE,
+            &FIRST_PAGE,
+            &HELLO_PAGE,
+            &END_PAGE,
+        ],
+        (40, 0),
+        1000,
+        Some(ChangeOptions {
+            renumber: true,
+            skeletons: Skeletons::Kept,
+        }),
+        &[&ANNOUNCEMENT, &BEGIN, &PUT, &END, &RECORDS_OF_STREAM_0],
+        Ok(Made {
+            pages: 6,
+            commands: 6,
+        }),
+    ),
+    // A Skeleton is made.
+    (
+        &THREE_PAGES,
+        (40, 0),
+        1000,
+        Some(ChangeOptions {
+            renumber: false,
+            skeletons: Skeletons::Made(9),
+        }),
+        &[&ANNOUNCEMENT, &DESCRIBED, &PUT, &END],
+        Ok(Made {
+            pages: 3,
+            commands: 3,
+        }),
+    ),
+    // A Skeleton is left out.
+    (
+        &[
+            &FISHEAD_PAGE,
+            &FIRST_PAGE,
+            &FISBONE_PAGE,
+            &SKELETON_END,
+            &HELLO_PAGE,
+            &END_PAGE,
+        ],
+        (40, 0),
+        1000,
+        Some(ChangeOptions {
+            renumber: false,
+            skeletons: Skeletons::LeftOut,
+        }),
+        &[&ANNOUNCEMENT, &BEGIN, &PUT, &END],
+        Ok(Made {
+            pages: 6,
+            commands: 3,
+        }),
+    ),
+];
+
+/// What `make_feed` answers, and what it wrote before.
+fn made(
+    alloc: Global,
+    input: &[u8],
+    (step, bad): (usize, u64),
+    write_step: usize,
+    options: ChangeOptions,
+) -> (Result<Made, MakingFault>, FakeWriter) {
+    let mut reader = FakeReader::new(input, step, bad);
+    let mut writer = FakeWriter::new(Vec::new(alloc), write_step, 0);
+    let answer = make_feed(alloc, &mut reader, &mut writer, options);
+    (answer, writer)
+}
+
+#[test]
+fn a_feed_is_made_of_pages(rt: HostRuntime) -> Result<(), Fail> {
+    for (pieces, reads, write_step, options, written, want) in MAKINGS {
+        let input = joined(rt.alloc(), pieces)?;
+        let options = match options {
+            Some(options) => options,
+            None => ChangeOptions::none(),
+        };
+        let (answer, writer) = made(rt.alloc(), &input, reads, write_step, options);
+        assert!(rt; answer == want);
+        let written = joined(rt.alloc(), written)?;
+        assert!(rt; writer.written() == written.as_slice());
     }
-    Ok(bytes)
-}
-
-/// What `make_feed` writes with these options of the pieces of an input.
-fn fed(rt: &HostRuntime, pieces: &[&[u8]], options: ChangeOptions) -> Result<Vec<u8>, Fail> {
-    let input = joined(rt, pieces)?;
-    let mut reader = FakeReader::new(input.as_slice(), 40, 0);
-    let mut writer = FakeWriter::new(Vec::new(rt.alloc()), 1000, 0);
-    make_feed(rt.alloc(), &mut reader, &mut writer, options)?;
-    joined(rt, &[writer.written()])
-}
-
-#[test]
-fn a_second_copy_gets_a_free_serial(rt: HostRuntime) -> Result<(), Fail> {
-    let options = ChangeOptions {
-        renumber: true,
-        skeletons: Skeletons::Kept,
-    };
-    let written = fed(&rt, &[&THREE_PAGES, &THREE_PAGES], options)?;
-    let want = joined(&rt, &[&FEED, &RECORDS_OF_STREAM_0])?;
-    assert!(rt; written.as_slice() == want.as_slice());
-    Ok(())
-}
-
-#[test]
-fn a_skeleton_is_made(rt: HostRuntime) -> Result<(), Fail> {
-    let options = ChangeOptions {
-        renumber: false,
-        skeletons: Skeletons::Made(9),
-    };
-    let written = fed(&rt, &[&THREE_PAGES], options)?;
-    let want = joined(&rt, &[&DESCRIBED, &FEED[60..]])?;
-    assert!(rt; written.as_slice() == want.as_slice());
-    Ok(())
-}
-
-#[test]
-fn a_skeleton_is_left_out(rt: HostRuntime) -> Result<(), Fail> {
-    let options = ChangeOptions {
-        renumber: false,
-        skeletons: Skeletons::LeftOut,
-    };
-    let pieces = [
-        FISHEAD_PAGE.as_slice(),
-        &THREE_PAGES[..31],
-        &FISBONE_PAGE,
-        &SKELETON_END,
-        &THREE_PAGES[31..],
-    ];
-    let written = fed(&rt, &pieces, options)?;
-    assert!(rt; written.as_slice() == FEED.as_slice());
     Ok(())
 }

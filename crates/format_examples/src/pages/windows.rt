@@ -1,137 +1,94 @@
 //! Windows over sources that read, and that fail.
-ghost use Rattle.std.specs.Prelude.{◌≡◌, ◌↔◌, ◌+◌, ◌≤◌, ℕ, List, length, refl, take, drop, OnOk};
-
-use super::{FIRST_HEAD, THREE_PAGES};
-use ogg_page::{
-    PageBuffer, PageFault, PageSource, SourceFault, Whole, Window, WindowFault, write_page,
-};
+use super::THREE_PAGES;
+use crate::files::{Failing, Held, PageSpec, file_of, joined, over};
+use ogg_page::{FIRST, PageBuffer, PageFault, PageSource, Whole, Window, WindowFault};
+use std::alloc::Global;
 use std::test::Fail;
 
-/// Bytes of which each read longer than `longest` fails, and the read with the number `fails_at`.
-#[derive(Drop)]
-struct Failing<'a> {
-    bytes: &'a [u8],
-    longest: usize,
-    fails_at: u64,
-    reads: u64,
-    failures: u64,
-}
-
-impl<'a> PageSource for Failing<'a> {
-    ghost use Rattle.std.specs.Prelude.{◌≡◌, length, refl};
-    ghost use Rattle.std.proofs.Common.{◌∙◌};
-
-    ghost bytes = { λ s. s.bytes.now };
-
-    ghost size = { λ s. length s.bytes.now };
-
-    ghost is_honest = { λ s. Unit {0} };
-
-    ghost failures = { λ s. s.failures };
-
-    ghost only_reads = { λ s t. s.bytes.now ≡ t.bytes.now };
-
-    fn end(&self) -> u64 {
-        self.bytes.len() as u64
-    }
-
-    fn read_at(&mut self, at: u64, buffer: &mut [u8]) -> Result<(), SourceFault> {
-        self.reads = self.reads.saturating_add(1);
-        if self.reads == self.fails_at || buffer.len() > self.longest {
-            self.failures = self.failures.saturating_add(1);
-            return Err(SourceFault);
-        }
-        let (_, rest) = self.bytes.split_at(at as usize);
-        buffer.copy_from_slice(rest.split_at(buffer.len()).0);
-        Ok(())
-    }
-
-    ghost fits = { λ s h. refl };
-
-    ghost reads_nothing = { λ s. refl };
-
-    ghost reads_on = { λ s t u first second. first ∙ second };
-}
-
-/// A window over a range of a source, as far as the source has it.
-fn over<S: PageSource>(source: S, buffer: PageBuffer, from: u64, to: u64) -> Window<S> {
-    let end = to.min(source.end());
-    Window::new(source, buffer, from.min(end), end)
-}
-
-/// Pages of 31, 65,307, 27 and 31 bytes, and then four bytes of a front.
-fn long_bytes(rt: &HostRuntime, bytes: &mut Vec<u8>) -> Result<(), Fail> {
-    let body = vec![in rt.alloc(); 7u8; 65_025]?;
-    let lacing = vec![in rt.alloc(); 255u8; 255]?;
-    write_page(&FIRST_HEAD, &[3], b"abc", bytes)?;
-    write_page(&FIRST_HEAD, lacing.as_slice(), body.as_slice(), bytes)?;
-    write_page(&FIRST_HEAD, &[], b"", bytes)?;
-    write_page(&FIRST_HEAD, &[3], b"def", bytes)?;
-    bytes.extend_from_slice(b"OggS")?;
-    Ok(())
-}
-
-/// Where those pages begin, and how long they are.
-const LONG_PAGES: [(u64, usize); 4] = [(0, 31), (31, 65_307), (65_338, 27), (65_365, 31)];
-
-#[test]
-fn pages_are_lent_over_the_edge_of_the_room(rt: HostRuntime) -> Result<(), Fail> {
-    let mut bytes = Vec::new(rt.alloc());
-    long_bytes(&rt, &mut bytes)?;
-    let buffer = PageBuffer::new(rt.alloc())?;
-    let mut window = over(Whole::of(&bytes), buffer, 0, 65_400);
-    for want in LONG_PAGES {
-        let lent = window
-            .next()?
-            .map(|lent| (lent.offset(), lent.page().whole().len()));
-        assert!(rt; lent == Some(want));
-    }
-    for _ in 0..2 {
-        let fault = window.next().err();
-        assert!(rt; fault == Some(WindowFault::Page(65_396, PageFault::Short)));
-    }
-    window.set(0, 0);
-    assert!(rt; window.next()?.is_none());
-    assert!(rt; window.next()?.is_none());
-    Ok(())
-}
-
-/// Ranges of the three pages of 31, 33 and 27 bytes, where their pages begin, and what ends them.
-const RANGES: [(u64, u64, &[u64], Option<WindowFault>); 7] = [
-    (0, 91, &[0, 31, 64], None),
-    (31, 91, &[31, 64], None),
-    (31, 64, &[31], None),
-    (64, 64, &[], None),
-    (0, 63, &[0], Some(WindowFault::Page(31, PageFault::Short))),
-    (1, 91, &[], Some(WindowFault::Page(1, PageFault::Pattern))),
-    (64, 90, &[], Some(WindowFault::Page(64, PageFault::Short))),
+/// Pages of 31, 65,307, 27 and 31 bytes.
+const LONG_PAGES: [PageSpec; 4] = [
+    (FIRST, 0, 1, 0, Held::Short(b"abc")),
+    (FIRST, 0, 1, 0, Held::Front),
+    (FIRST, 0, 1, 0, Held::Nothing),
+    (FIRST, 0, 1, 0, Held::Short(b"def")),
 ];
 
-/// Whether the next pages are lent at these offsets.
-fn lends_at<S: PageSource>(window: &mut Window<S>, offsets: &[u64]) -> Result<bool, WindowFault> {
-    for offset in offsets {
-        match window.next()? {
-            Some(lent) if lent.offset() == *offset => {}
-            _ => return Ok(false),
-        }
+/// Those pages, and then four bytes of a front.
+fn long_bytes(alloc: Global) -> Result<Vec<u8>, Fail> {
+    let pages = file_of(alloc, &LONG_PAGES, None)?;
+    Ok(joined(alloc, &[&pages, b"OggS"])?)
+}
+
+/// Where a page begins in the source, and how long it is.
+type Place = (u64, usize);
+
+/// Whether the bytes are the long ones or the three pages, a range of them, its pages, and what comes after.
+const RANGES: [(bool, u64, u64, &[Place], Result<Option<Place>, WindowFault>); 8] = [
+    (
+        true,
+        0,
+        65_400,
+        &[(0, 31), (31, 65_307), (65_338, 27), (65_365, 31)],
+        Err(WindowFault::Page(65_396, PageFault::Short)),
+    ),
+    (false, 0, 91, &[(0, 31), (31, 33), (64, 27)], Ok(None)),
+    (false, 31, 91, &[(31, 33), (64, 27)], Ok(None)),
+    (false, 31, 64, &[(31, 33)], Ok(None)),
+    (false, 64, 64, &[], Ok(None)),
+    (
+        false,
+        0,
+        63,
+        &[(0, 31)],
+        Err(WindowFault::Page(31, PageFault::Short)),
+    ),
+    (
+        false,
+        1,
+        91,
+        &[],
+        Err(WindowFault::Page(1, PageFault::Pattern)),
+    ),
+    (
+        false,
+        64,
+        90,
+        &[],
+        Err(WindowFault::Page(64, PageFault::Short)),
+    ),
+];
+
+/// The next page that is lent.
+fn lent<S: PageSource>(window: &mut Window<S>) -> Result<Option<Place>, WindowFault> {
+    match window.next()? {
+        Some(lent) => Ok(Some((lent.offset(), lent.page().whole().len()))),
+        None => Ok(None),
     }
-    Ok(true)
 }
 
 #[test]
 fn a_range_has_its_pages_with_offsets_in_the_source(rt: HostRuntime) -> Result<(), Fail> {
+    let long = long_bytes(rt.alloc())?;
+    let three = joined(rt.alloc(), &THREE_PAGES)?;
     let mut buffer = PageBuffer::new(rt.alloc())?;
-    for (from, to, offsets, end) in RANGES {
-        let mut window = over(Whole::of(&THREE_PAGES), buffer, from, to);
-        assert!(rt; lends_at(&mut window, offsets)?, "from {from} to {to}");
-        let fault = match window.next() {
-            Ok(lent) => {
-                assert!(rt; lent.is_none());
-                None
-            }
-            Err(fault) => Some(fault),
+    for (is_long, from, to, places, end) in RANGES {
+        let bytes = if is_long {
+            long.as_slice()
+        } else {
+            three.as_slice()
         };
-        assert!(rt; fault == end);
+        let mut window = over(Whole::of(bytes), buffer, from, to);
+        for want in places {
+            assert!(rt; lent(&mut window) == Ok(Some(*want)), "from {from} to {to}");
+        }
+        // The end stays, and so does a fault, until `set`.
+        for _ in 0..2 {
+            assert!(rt; lent(&mut window) == end, "from {from} to {to}");
+        }
+        window.set(0, 0);
+        for _ in 0..2 {
+            assert!(rt; lent(&mut window) == Ok(None), "from {from} to {to}");
+        }
         let (_, room) = window.into_parts();
         buffer = room;
     }
@@ -141,7 +98,7 @@ fn a_range_has_its_pages_with_offsets_in_the_source(rt: HostRuntime) -> Result<(
 /// How many pages are lent before the end, or before the source fails.
 fn pages_before_a_fault(window: &mut Window<Failing<'_>>) -> Result<u64, u64> {
     for count in 0..100 {
-        match window.next() {
+        match lent(window) {
             Ok(Some(_)) => {}
             Ok(None) => return Ok(count),
             Err(WindowFault::Source) => return Err(count),
@@ -162,30 +119,16 @@ const FAILING_READS: [(u64, Result<u64, u64>); 4] = [
 
 #[test]
 fn each_read_fails_in_turn(rt: HostRuntime) -> Result<(), Fail> {
-    let mut bytes = Vec::new(rt.alloc());
-    long_bytes(&rt, &mut bytes)?;
+    let bytes = long_bytes(rt.alloc())?;
     let mut buffer = PageBuffer::new(rt.alloc())?;
-
     for (number, want) in FAILING_READS {
-        let source = Failing {
-            bytes: &bytes,
-            longest: 65_307,
-            fails_at: number,
-            reads: 0,
-            failures: 0,
-        };
-        let mut window = over(source, buffer, 0, 65_400);
-        let found = pages_before_a_fault(&mut window);
-        assert!(rt; found == want, "read {number}");
+        let mut window = over(Failing::new(&bytes, number), buffer, 0, 65_400);
+        assert!(rt; pages_before_a_fault(&mut window) == want, "read {number}");
         // A fault stays until `set`.
         if want.is_err() {
-            assert!(rt;
-                window
-                    .next()
-                    .is_err_and(|fault| fault == WindowFault::Source)
-            );
+            assert!(rt; lent(&mut window) == Err(WindowFault::Source));
             window.set(0, 0);
-            assert!(rt; window.next()?.is_none());
+            assert!(rt; lent(&mut window) == Ok(None));
         }
         let (source, room) = window.into_parts();
         assert!(rt; source.failures == u64::from(want.is_err()));
