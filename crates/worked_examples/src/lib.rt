@@ -14,4 +14,6 @@ mod records;
 #[cfg(test)]
 mod refused;
 #[cfg(test)]
+mod running;
+#[cfg(test)]
 mod taking;

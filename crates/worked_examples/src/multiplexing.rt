@@ -6,14 +6,12 @@ use crate::records::Record::{
     Put, PutMany, Version,
 };
 use crate::records::{Described, Field, Packet, Record, append};
+use crate::running::{ReadPacket, read, run, run_of, stand};
 use crate::taking::take_pages;
 use chain_rules::{Command, Shape};
 use feed_codec::{Feed, FeedFault, RunFault};
-use multiplexer::mux;
 use ogg_page::PageBuffer;
-use packet_view::Packets;
 use std::alloc::Global;
-use std::process::Abort;
 use std::test::Fail;
 
 /// A begin of the stream with serial 1 and the header `abc`.
@@ -412,36 +410,37 @@ const EXAMPLES: [Example; 22] = [
     },
 ];
 
-/// Whether these bytes stand in the pages at this offset.
-fn stands(pages: &[u8], at: usize, bytes: &[u8]) -> bool {
-    pages.get(at..).is_some_and(|rest| rest.starts_with(bytes))
+/// The feed of an example, the lines that answer it, and how many commands it has.
+fn told(alloc: Global, example: &Example) -> Result<(Vec<u8>, Vec<u8>, u64), Fail> {
+    let mut feed = Vec::new(alloc);
+    let mut lines = Vec::new(alloc);
+    let mut commands = 0u64;
+    for (record, line) in example.turns {
+        append(*record, &mut feed)?;
+        lines.extend_from_slice(line.as_bytes())?;
+        if !matches!(record, Version | Flush) {
+            commands = commands.saturating_add(1);
+        }
+    }
+    Ok((feed, lines, commands))
+}
+
+/// The end of the pages that are taken, whether a fault follows, and the first stream with an unfinished packet.
+fn taken(alloc: Global, pages: &[u8]) -> Result<(u64, bool, Option<u32>), Fail> {
+    let taken = take_pages(alloc, pages)?;
+    Ok((taken.end, taken.fault.is_some(), taken.shape.unfinished()))
 }
 
 #[test]
 fn each_command_is_answered_and_its_pages_are_written(rt: HostRuntime) -> Result<(), Fail> {
     for example in &EXAMPLES {
-        let mut feed = Vec::new(rt.alloc());
-        let mut lines = Vec::new(rt.alloc());
-        let mut commands = 0u64;
-        for (record, line) in example.turns {
-            append(*record, &mut feed)?;
-            lines.extend_from_slice(line.as_bytes())?;
-            if !matches!(record, Version | Flush) {
-                commands = commands.saturating_add(1);
-            }
-        }
-        let mut pages = Vec::new(rt.alloc());
-        let mut replies = Vec::new(rt.alloc());
-        let tally = mux(rt.alloc(), &mut feed.as_slice(), &mut pages, &mut replies)?;
-        assert_eq!(rt; replies.as_slice(), lines.as_slice());
-        assert_eq!(rt; tally.commands, commands);
-        assert_eq!(rt; (tally.end, pages.len() as u64), (example.end, example.end));
-        let taken = take_pages(rt.alloc(), pages.as_slice())?;
-        assert_eq!(rt; (taken.end, taken.fault), (example.end, None));
-        assert_eq!(rt; taken.shape.unfinished(), None);
-        for (at, bytes) in example.found {
-            assert!(rt; stands(pages.as_slice(), *at, bytes), "{bytes:?} at {at}");
-        }
+        let (feed, lines, commands) = told(rt.alloc(), example)?;
+        let run = run(rt.alloc(), &feed)?;
+        assert!(rt; run.result == Ok((commands, example.end)));
+        assert!(rt; run.replies.as_slice() == lines.as_slice());
+        assert!(rt; run.pages.len() as u64 == example.end);
+        assert!(rt; taken(rt.alloc(), &run.pages)? == (example.end, false, None));
+        assert!(rt; stand(&run.pages, example.found));
     }
     Ok(())
 }
@@ -475,27 +474,27 @@ fn add_command(
     Ok(())
 }
 
+/// The pages of a feed's commands, made one at a time.
+fn made_of(alloc: Global, feed: &[u8], turns: usize) -> Result<Vec<u8>, Fail> {
+    let mut buffer = PageBuffer::new(alloc)?;
+    let mut records = Feed::new(alloc);
+    let mut rest = feed;
+    let mut shape = Shape::new(alloc);
+    let mut made = Vec::new(alloc);
+    for _ in 0..turns {
+        if let Some(feed_codec::Record::Command(command)) = records.next(&mut rest)? {
+            add_command(alloc, &mut shape, &command, &mut buffer, &mut made)?;
+        }
+    }
+    Ok(made)
+}
+
 #[test]
 fn the_pages_made_one_at_a_time_are_those_appended(rt: HostRuntime) -> Result<(), Fail> {
-    let mut buffer = PageBuffer::new(rt.alloc())?;
     for example in &EXAMPLES {
-        let mut feed = Vec::new(rt.alloc());
-        for (record, _) in example.turns {
-            append(*record, &mut feed)?;
-        }
-        let mut records = Feed::new(rt.alloc());
-        let mut rest = feed.as_slice();
-        let mut shape = Shape::new(rt.alloc());
-        let mut made = Vec::new(rt.alloc());
-        for _ in example.turns {
-            if let Some(feed_codec::Record::Command(command)) = records.next(&mut rest)? {
-                add_command(rt.alloc(), &mut shape, &command, &mut buffer, &mut made)?;
-            }
-        }
-        assert_eq!(rt; made.len() as u64, example.end);
-        for (at, bytes) in example.found {
-            assert!(rt; stands(made.as_slice(), *at, bytes), "{bytes:?} at {at}");
-        }
+        let (feed, ..) = told(rt.alloc(), example)?;
+        let made = made_of(rt.alloc(), &feed, example.turns.len())?;
+        assert!(rt; made.len() as u64 == example.end && stand(&made, example.found));
     }
     Ok(())
 }
@@ -507,64 +506,76 @@ const LONGER: Record = Bytes(
       \0\0\0\0\0\0\0\0\0\0\0\0\0\0\0\0\0\0\0\0\0\0\0\0\0\0\0\0\0\0",
 );
 
-/// What follows a feed's begin, and its fault.
-const FAULTS: [(Record, FeedFault); 8] = [
-    (Bytes(b"\x02\x17\0\0\0\x01\0\x01"), FeedFault::Truncated),
-    (Bytes(b"\x02\x17\0"), FeedFault::Truncated),
-    (Bytes(b"\x09\x04\0\0\0\x01\0\0\0"), FeedFault::Kind),
-    (Bytes(b"\x02\x01\0\0\x02"), FeedFault::Length),
-    (Bytes(b"\x03\x03\0\0\0\x01\0\0"), FeedFault::Form),
-    (LONGER, FeedFault::Form),
+/// A feed, its fault, and the pages and the lines that are written before the fault.
+type Faulty = (&'static [Record], FeedFault, &'static [u8], &'static str);
+
+const FAULTS: [Faulty; 11] = [
+    (
+        &[ONE, Bytes(b"\x02\x17\0\0\0\x01\0\x01")],
+        FeedFault::Truncated,
+        FIRST,
+        KEPT,
+    ),
+    (
+        &[ONE, Bytes(b"\x02\x17\0")],
+        FeedFault::Truncated,
+        FIRST,
+        KEPT,
+    ),
+    (
+        &[ONE, Bytes(b"\x09\x04\0\0\0\x01\0\0\0")],
+        FeedFault::Kind,
+        FIRST,
+        KEPT,
+    ),
+    (
+        &[ONE, Bytes(b"\x02\x01\0\0\x02")],
+        FeedFault::Length,
+        FIRST,
+        KEPT,
+    ),
+    (
+        &[ONE, Bytes(b"\x03\x03\0\0\0\x01\0\0")],
+        FeedFault::Form,
+        FIRST,
+        KEPT,
+    ),
+    (&[ONE, LONGER], FeedFault::Form, FIRST, KEPT),
     // The announcement stands only in front of all records, and a flush has no payload.
-    (Version, FeedFault::Kind),
-    (Bytes(b"\x04\x01\0\0\0\0"), FeedFault::Form),
+    (&[ONE, Version], FeedFault::Kind, FIRST, KEPT),
+    (
+        &[ONE, Bytes(b"\x04\x01\0\0\0\0")],
+        FeedFault::Form,
+        FIRST,
+        KEPT,
+    ),
+    // A fault in front leaves no page. There is no version 3.
+    (&[Bytes(b"\0\x01\0\0\0\x03"), ONE], FeedFault::Form, b"", ""),
+    (&[Bytes(b"\0\0\0\0\0"), ONE], FeedFault::Form, b"", ""),
+    // In version 2 a stream has a number of fields, even if the number is 0.
+    (&[Version, ONE, HELLO], FeedFault::Form, b"", ""),
 ];
+
+/// The line that answers the first begin.
+const KEPT: &str = "kept 1 31\n";
 
 #[test]
 fn what_stands_before_a_fault_of_the_feed_is_run(rt: HostRuntime) -> Result<(), Fail> {
-    for (broken, fault) in FAULTS {
-        let mut feed = Vec::new(rt.alloc());
-        append(ONE, &mut feed)?;
-        append(broken, &mut feed)?;
-        let mut pages = Vec::new(rt.alloc());
-        let mut replies = Vec::new(rt.alloc());
-        let run = mux(rt.alloc(), &mut feed.as_slice(), &mut pages, &mut replies);
-        assert_eq!(rt; run, Err(RunFault::Feed(fault)));
-        assert_eq!(rt; pages.as_slice(), FIRST);
-        assert_eq!(rt; replies.as_slice(), b"kept 1 31\n".as_slice());
+    for (records, fault, pages, lines) in FAULTS {
+        let run = run_of(rt.alloc(), records)?;
+        assert!(rt; run.result == Err(RunFault::Feed(fault)));
+        assert!(rt; run.pages.as_slice() == pages);
+        assert!(rt; run.replies.as_slice() == lines.as_bytes());
     }
     Ok(())
 }
 
-/// Feeds that end in a fault before anything is run.
-const FAULTS_AT_ONCE: [(&[Record], FeedFault); 3] = [
-    // There is no version 3.
-    (&[Bytes(b"\0\x01\0\0\0\x03"), ONE], FeedFault::Form),
-    (&[Bytes(b"\0\0\0\0\0"), ONE], FeedFault::Form),
-    // In version 2 a stream has a number of fields, even if the number is 0.
-    (&[Version, ONE, HELLO], FeedFault::Form),
-];
+/// The header `abc`, as it is read.
+const HEADER: ReadPacket = (3, 1, Some(0));
 
-#[test]
-fn a_fault_in_front_leaves_no_page(rt: HostRuntime) -> Result<(), Fail> {
-    for (records, fault) in FAULTS_AT_ONCE {
-        let mut feed = Vec::new(rt.alloc());
-        for record in records {
-            append(*record, &mut feed)?;
-        }
-        let mut pages = Vec::new(rt.alloc());
-        let mut replies = Vec::new(rt.alloc());
-        let run = mux(rt.alloc(), &mut feed.as_slice(), &mut pages, &mut replies);
-        assert_eq!(rt; run, Err(RunFault::Feed(fault)));
-        assert!(rt; pages.is_empty() && replies.is_empty(), "something was run");
-    }
-    Ok(())
-}
-
-/// What is put to the stream with serial 1, each time from its beginning, and the packets that are read back after
-/// the header: how long each is, in how many parts, and its position.
-const READ_BACK: [(Record, &[(usize, usize, Option<u64>)]); 4] = [
-    (HELLO, &[(5, 1, Some(5))]),
+/// What is put to the stream with serial 1, each time from its beginning, and the packets that are read back.
+const READ_BACK: [(Record, &[ReadPacket]); 4] = [
+    (HELLO, &[HEADER, (5, 1, Some(5))]),
     (
         Put(&[
             (1, 1, Zeros(0)),
@@ -573,55 +584,31 @@ const READ_BACK: [(Record, &[(usize, usize, Option<u64>)]); 4] = [
             (1, 4, Zeros(510)),
         ]),
         &[
+            HEADER,
             (0, 0, None),
             (254, 1, None),
             (255, 1, None),
             (510, 1, Some(4)),
         ],
     ),
-    (Put(&[(1, 7, Zeros(65_024))]), &[(65_024, 1, Some(7))]),
+    (
+        Put(&[(1, 7, Zeros(65_024))]),
+        &[HEADER, (65_024, 1, Some(7))],
+    ),
     (
         Put(&[(1, 8, Zeros(65_025)), (1, 9, Zeros(130_051))]),
-        &[(65_025, 1, Some(8)), (130_051, 3, Some(9))],
+        &[HEADER, (65_025, 1, Some(8)), (130_051, 3, Some(9))],
     ),
 ];
-
-/// The packets of stream 1 after `abc`: each one's length, how many parts it has, and its position.
-fn are_read_back(
-    rt: &impl Abort,
-    pages: &[u8],
-    wanted: &[(usize, usize, Option<u64>)],
-) -> Result<(), Fail> {
-    let mut packets = Packets::of(pages, 1);
-    let header = packets.next()?.ok_or("no header")?;
-    assert_eq!(rt; header.as_slice(), Some(b"abc".as_slice()));
-    for (length, parts, position) in wanted {
-        let packet = packets.next()?.ok_or("a packet is missing")?;
-        let mut found = 0usize;
-        for _ in packet.parts() {
-            found = found.saturating_add(1);
-        }
-        assert_eq!(rt;
-            (packet.len(), found, packet.position()),
-            (*length, *parts, *position)
-        );
-    }
-    assert!(rt; packets.next()?.is_none(), "one packet too many");
-    Ok(())
-}
 
 #[test]
 fn what_was_put_is_read_back(rt: HostRuntime) -> Result<(), Fail> {
     for (record, wanted) in READ_BACK {
-        let mut feed = Vec::new(rt.alloc());
-        append(ONE, &mut feed)?;
-        append(record, &mut feed)?;
-        let mut pages = Vec::new(rt.alloc());
-        let mut replies = Vec::new(rt.alloc());
-        mux(rt.alloc(), &mut feed.as_slice(), &mut pages, &mut replies)?;
-        are_read_back(&rt, pages.as_slice(), wanted)?;
-        let mut others = Packets::of(pages.as_slice(), 2);
-        assert!(rt; others.next()?.is_none(), "a packet of another stream");
+        let run = run_of(rt.alloc(), &[ONE, record])?;
+        let (header, packets) = read(rt.alloc(), &run.pages, 1)?;
+        assert!(rt; header == Some(b"abc".as_slice()) && packets.as_slice() == wanted);
+        let (_, others) = read(rt.alloc(), &run.pages, 2)?;
+        assert!(rt; others.is_empty(), "a packet of another stream");
     }
     Ok(())
 }

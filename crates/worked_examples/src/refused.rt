@@ -1,8 +1,9 @@
 //! Feeds that are run while one request for memory is refused: `rt try --test --fail-alloc N` refuses the `N`th. A
 //! run that meets the refusal leaves what stood before it, and the next run has the result that the feed has with
 //! memory.
+use crate::running::stand;
 use example_feeds::{BEGIN_DESCRIBED, BEGIN_THREE, BEGIN_TWO, PUT_FOUR, ZEROS, bytes_of};
-use feed_codec::{FeedFault, RunFault, Tally};
+use feed_codec::{FeedFault, RunFault};
 use multiplexer::mux;
 use ogg_page::Memory;
 use std::alloc::Global;
@@ -77,29 +78,28 @@ fn room(alloc: Global) -> Result<Vec<u8>, Memory> {
     Ok(out)
 }
 
+/// Runs the feed, and returns the length of the pages.
+fn run(
+    alloc: Global,
+    feed: &[u8],
+    pages: &mut Vec<u8>,
+    replies: &mut Vec<u8>,
+) -> Result<u64, RunFault> {
+    let mut feed = feed;
+    match mux(alloc, &mut feed, pages, replies) {
+        Ok(tally) => Ok(tally.end),
+        Err(fault) => Err(fault),
+    }
+}
+
 /// Whether a run has left this.
-fn has_left(run: &Result<Tally, RunFault>, replies: &[u8], pages: &[u8], left: &Left) -> bool {
+fn has_left(run: &Result<u64, RunFault>, replies: &[u8], pages: &[u8], left: &Left) -> bool {
     let (is_read, lines, length) = *left;
     let ended = match run {
-        Ok(tally) => is_read && tally.end == length as u64,
+        Ok(end) => is_read && *end == length as u64,
         Err(fault) => !is_read && *fault == RunFault::Feed(FeedFault::Memory),
     };
     ended && replies == lines.as_bytes() && pages.len() == length
-}
-
-/// Whether these bytes stand in the pages.
-fn stand(pages: &[u8], found: &[(usize, &[u8])]) -> bool {
-    for (at, bytes) in found {
-        match pages.get(*at..) {
-            Some(rest) => {
-                if !rest.starts_with(bytes) {
-                    return false;
-                }
-            }
-            None => return false,
-        }
-    }
-    true
 }
 
 #[test]
@@ -109,21 +109,21 @@ fn a_run_that_was_refused_memory_is_made_anew(rt: HostRuntime) -> Result<(), Fai
     let mut first = room(rt.alloc())?;
     for row in &ROWS {
         let feed = bytes_of(rt.alloc(), row.feed)?;
-        let mut run = mux(rt.alloc(), &mut feed.as_slice(), &mut pages, &mut replies);
-        if !has_left(&run, &replies, &pages, &row.whole) {
+        let mut ran = run(rt.alloc(), &feed, &mut pages, &mut replies);
+        if !has_left(&ran, &replies, &pages, &row.whole) {
             assert!(rt;
                 row.refused
                     .iter()
-                    .any(|left| has_left(&run, &replies, &pages, left))
+                    .any(|left| has_left(&ran, &replies, &pages, left))
             );
             first.extend_from_slice(&pages)?;
             pages.clear();
             replies.clear();
-            run = mux(rt.alloc(), &mut feed.as_slice(), &mut pages, &mut replies);
+            ran = run(rt.alloc(), &feed, &mut pages, &mut replies);
             assert!(rt; pages.starts_with(&first));
             first.clear();
         }
-        assert!(rt; has_left(&run, &replies, &pages, &row.whole));
+        assert!(rt; has_left(&ran, &replies, &pages, &row.whole));
         assert!(rt; stand(&pages, row.found));
         pages.clear();
         replies.clear();
