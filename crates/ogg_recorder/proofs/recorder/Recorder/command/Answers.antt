@@ -1,4 +1,4 @@
-use Rattle.std.proofs.Common.{◌≡◌, ℕ, ◌+◌, ◌<◌, List, ◌++◌, length, refl, sym, ◌∙◌, ap, subst, arith, Err}
+use Rattle.std.proofs.Common.{◌≡◌, ℕ, ◌+◌, List, ◌++◌, length, refl, sym, ◌∙◌, ap, subst, arith, Err}
 use Rattle.gate_file.specs.Commit.{CommitsTo}
 use Rattle.gate_file.specs.Gate.{EachImage}
 use Rattle.gate_file.specs.GateFile.{committed, staged_bytes}
