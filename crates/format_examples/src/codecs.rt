@@ -16,7 +16,7 @@ const FIRSTS: [(&[u8], u32); 9] = [
 
 #[test]
 fn headers_are_counted_by_the_first_packet(rt: HostRuntime) {
-    for (first, count) in FIRSTS {
+    for &(first, count) in &FIRSTS {
         assert!(rt; header_count(first) == count);
     }
 }
@@ -72,7 +72,7 @@ fn said(packet: &[u8]) -> Said {
 
 #[test]
 fn first_packets_describe_their_streams(rt: HostRuntime) {
-    for (packet, want) in PACKETS {
+    for &(packet, want) in &PACKETS {
         assert!(rt; said(packet) == want);
     }
 }

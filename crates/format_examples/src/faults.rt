@@ -37,16 +37,16 @@ const OF_SKELETONS: [(SkeletonFault, (u8, &str)); 4] = [
 
 #[test]
 fn faults_have_their_numbers_and_names(rt: HostRuntime) {
-    for (fault, want) in OF_PAGES {
+    for &(fault, want) in &OF_PAGES {
         assert!(rt; (fault.code(), fault.name()) == want);
     }
-    for (fault, want) in OF_VIEWS {
+    for &(fault, want) in &OF_VIEWS {
         assert!(rt; (fault.code(), fault.name()) == want);
     }
-    for (fault, want) in OF_STREAMS {
+    for &(fault, want) in &OF_STREAMS {
         assert!(rt; (fault.code(), fault.name()) == want);
     }
-    for (fault, want) in OF_SKELETONS {
+    for &(fault, want) in &OF_SKELETONS {
         assert!(rt; (fault.code(), fault.name()) == want);
     }
     let run = RunFault::Feed(FeedFault::Form);

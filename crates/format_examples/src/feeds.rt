@@ -178,7 +178,7 @@ fn after(bytes: &[u8], count: usize) -> &[u8] {
 fn a_feed_cut_at_every_byte_ends_inside_a_record_or_between_two(
     rt: HostRuntime,
 ) -> Result<(), Fail> {
-    for (pieces, announcement, ends) in SHAPES {
+    for &(pieces, announcement, ends) in &SHAPES {
         let feed = joined(rt.alloc(), pieces)?;
         for length in 0..=feed.len() {
             let bytes = feed.get(..length).unwrap_or(&feed);
@@ -190,11 +190,8 @@ fn a_feed_cut_at_every_byte_ends_inside_a_record_or_between_two(
                 Some(FeedFault::Truncated)
             };
             let want = (fault, whole_records(ends, length));
-            assert!(rt; (run.fault, run.commands) == want, "{length} bytes");
-            assert!(rt;
-                after(bytes, announcement).starts_with(&run.records),
-                "{length} bytes"
-            );
+            assert!(rt; (run.fault, run.commands) == want);
+            assert!(rt; after(bytes, announcement).starts_with(&run.records));
         }
     }
     Ok(())
@@ -209,7 +206,7 @@ const WRITTEN: [(&[&[u8]], usize, usize, usize); 3] = [
 
 #[test]
 fn what_was_read_is_written_the_same(rt: HostRuntime) -> Result<(), Fail> {
-    for (pieces, announcement, step, commands) in WRITTEN {
+    for &(pieces, announcement, step, commands) in &WRITTEN {
         let feed = joined(rt.alloc(), pieces)?;
         let all = run(&rt, rt.alloc(), &feed, step, 0)?;
         assert!(rt; (all.fault, all.commands) == (None, commands));
@@ -223,14 +220,11 @@ fn what_was_read_is_written_the_same(rt: HostRuntime) -> Result<(), Fail> {
 
 #[test]
 fn the_first_fault_is_told(rt: HostRuntime) -> Result<(), Fail> {
-    for (bytes, fault) in FAULTY {
+    for &(bytes, fault) in &FAULTY {
         let run = run(&rt, rt.alloc(), bytes, 2, 0)?;
-        assert!(rt;
-            (run.commands, run.fault) == (0, Some(fault)),
-            "of {bytes:?}"
-        );
+        assert!(rt; (run.commands, run.fault) == (0, Some(fault)));
     }
-    for (pieces, commands, fault) in MIXED {
+    for &(pieces, commands, fault) in &MIXED {
         let bytes = joined(rt.alloc(), pieces)?;
         let run = run(&rt, rt.alloc(), &bytes, 64, 0)?;
         assert!(rt; (run.commands, run.fault) == (commands, Some(fault)));
@@ -244,7 +238,7 @@ fn a_failing_reader_is_a_fault_that_stays(rt: HostRuntime) -> Result<(), Fail> {
     for whole in 0..=89usize {
         let run = run(&rt, rt.alloc(), &feed, 1, whole as u64 + 1)?;
         let want = (Some(FeedFault::Read), whole_records(&[52, 80, 89], whole));
-        assert!(rt; (run.fault, run.commands) == want, "after {whole} bytes");
+        assert!(rt; (run.fault, run.commands) == want);
     }
     Ok(())
 }
@@ -402,7 +396,7 @@ const LINES: [Line; 7] = [
 
 #[test]
 fn replies_are_lines_of_which_a_failing_writer_has_a_front(rt: HostRuntime) -> Result<(), Fail> {
-    for (reply, (step, bad), want, line, calls) in LINES {
+    for &(reply, (step, bad), want, line, calls) in &LINES {
         let mut writer = FakeWriter::new(Vec::with_capacity(rt.alloc(), 64)?, step, bad);
         assert!(rt; write_reply(&reply, &mut writer) == want);
         assert!(rt; (writer.written(), writer.calls()) == (line.as_bytes(), calls));

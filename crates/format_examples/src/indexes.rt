@@ -100,7 +100,7 @@ fn listing_of(alloc: Global, index: &Index) -> Result<Vec<u8>, Memory> {
 /// memory.
 #[test]
 fn a_file_is_listed_by_its_links_and_streams(rt: HostRuntime) -> Result<(), Fail> {
-    for (pages, want) in LISTINGS {
+    for &(pages, want) in &LISTINGS {
         let mut pieces = Index::new(rt.alloc());
         for page in pages {
             let bytes = file_again(rt.alloc(), &[*page])?;

@@ -125,10 +125,7 @@ fn packets_come_up_to_the_first_fault(rt: HostRuntime) -> Result<(), Fail> {
         let bytes = joined(rt.alloc(), row.pages)?;
         let mut packets = Packets::of(&bytes, 1);
         for (text, position) in row.packets {
-            assert!(rt;
-                is_next(&mut packets, text, *position)?,
-                "{text:?} is missing"
-            );
+            assert!(rt; is_next(&mut packets, text, *position)?);
         }
         for _ in 0..2 {
             assert!(rt; end_of(&mut packets) == Some(row.fault));
@@ -156,11 +153,8 @@ fn assert_two_parts(rt: &impl Abort, packet: &Packet<'_>, whole: &[u8]) {
         packet.same_as(&[7; 256]),
     );
     assert!(rt; same == (true, false, false));
-    for (index, want) in PLACES {
-        assert!(rt;
-            index < packet.len() && packet.byte_at(index) == want,
-            "at {index}"
-        );
+    for &(index, want) in &PLACES {
+        assert!(rt; index < packet.len() && packet.byte_at(index) == want);
     }
 }
 

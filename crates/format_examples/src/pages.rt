@@ -20,7 +20,7 @@ const CHECKSUMS: [(&[u8], u32); 6] = [
 
 #[test]
 fn checksums_are_those_of_the_standard(rt: HostRuntime) {
-    for (bytes, want) in CHECKSUMS {
+    for &(bytes, want) in &CHECKSUMS {
         assert!(rt; checksum(bytes) == want);
     }
 }
@@ -147,14 +147,14 @@ fn code_of(bytes: &[u8]) -> u8 {
 
 #[test]
 fn a_page_that_is_changed_or_cut_is_refused_by_its_first_fault(rt: HostRuntime) {
-    for (place, value, code) in CHANGED {
+    for &(place, value, code) in &CHANGED {
         let mut bytes = FIRST_PAGE;
         change(&mut bytes, &[(place, value)]);
-        assert!(rt; code_of(&bytes) == code, "{value} at {place}");
+        assert!(rt; code_of(&bytes) == code);
     }
-    for length in CUT {
+    for &length in &CUT {
         let front = FIRST_PAGE.get(..length).unwrap_or(&FIRST_PAGE);
-        assert!(rt; code_of(front) == PageFault::Short.code(), "of {length}");
+        assert!(rt; code_of(front) == PageFault::Short.code());
     }
 }
 
@@ -178,11 +178,11 @@ const EACH_CHANGED: [&[u8]; 4] = [&FISHEAD_PAGE, &FIRST_PAGE, &FISBONE_PAGE, &SK
 
 #[test]
 fn each_changed_byte_of_a_page_is_a_fault(rt: HostRuntime) -> Result<(), Fail> {
-    for page in EACH_CHANGED {
+    for &page in &EACH_CHANGED {
         assert!(rt; read_page(page).is_ok_and(|read| read.whole() == page));
         for place in 0..page.len() {
             if place != 26 && place != 27 {
-                assert!(rt; refused_at(rt.alloc(), page, place)? == 255, "at {place}");
+                assert!(rt; refused_at(rt.alloc(), page, place)? == 255);
             }
         }
     }
@@ -253,7 +253,7 @@ const FOUND: [(u8, [Shown; 5]); 2] = [
 
 #[test]
 fn pages_are_found_with_their_offsets_up_to_a_fault(rt: HostRuntime) -> Result<(), Fail> {
-    for (letter, found) in FOUND {
+    for &(letter, found) in &FOUND {
         let mut bytes = joined(rt.alloc(), &THREE_PAGES)?;
         change(&mut bytes, &[(59, letter)]);
         let mut pages = Pages::of(&bytes);

@@ -6,95 +6,132 @@ use ogg_http::{
 use std::alloc::Global;
 use std::test::Fail;
 
-/// Whole heads, and what they say. The lengths are left to the test.
-const HEADS: [(&[u8], Verb, &[u8], bool, u32, Option<&[u8]>); 10] = [
-    (
-        b"GET / HTTP/1.1\r\nHost: a\r\n\r\n",
-        Verb::Get,
-        b"/",
-        true,
-        1,
-        None,
-    ),
-    (b"GET / HTTP/1.1\r\n\r\n", Verb::Get, b"/", true, 0, None),
-    (b"GET / HTTP/1.0\n\n", Verb::Get, b"/", false, 0, None),
-    (
-        b"get / HTTP/1.1\r\nHost: a\r\nhOST: b\r\n\r\n",
-        Verb::Other,
-        b"/",
-        true,
-        2,
-        None,
-    ),
-    (
-        b"POST / HTTP/1.1\r\nHost: a\r\n\r\n",
-        Verb::Other,
-        b"/",
-        true,
-        1,
-        None,
-    ),
-    (
-        b"GET /link/0 HTTP/1.1\r\nHost: a\r\nRange: bytes=0-30\r\n\r\n",
-        Verb::Get,
-        b"/link/0",
-        true,
-        1,
-        Some(b"bytes=0-30"),
-    ),
-    (
-        b"HEAD /link/0 HTTP/1.1\r\nHost: a\r\nRange: bytes=0-30\r\n\r\n",
-        Verb::Head,
-        b"/link/0",
-        true,
-        1,
-        Some(b"bytes=0-30"),
-    ),
-    (
-        b"\r\n\nGET http://a/all HTTP/1.1\r\nhost:a\r\nrANGE: \tbytes=-27\t \r\nRanges: b\r\n\r\n",
-        Verb::Get,
-        b"http://a/all",
-        true,
-        1,
-        Some(b"bytes=-27"),
-    ),
-    (
-        b"GET /all HTTP/1.1\r\nRange: bytes=0-\r\nHost: a\r\nRange: bytes=0-\r\n\r\n",
-        Verb::Get,
-        b"/all",
-        true,
-        1,
-        None,
-    ),
-    (
-        b"GET /all HTTP/1.1\r\nIF-Range: \"x\"\r\nHost: a\r\nRange: bytes=0-\r\n\r\n",
-        Verb::Get,
-        b"/all",
-        true,
-        1,
-        None,
-    ),
+/// A whole head, and what it says.
+struct Head {
+    text: &'static [u8],
+    verb: Verb,
+    target: &'static [u8],
+    http11: bool,
+    hosts: u32,
+    range: Option<&'static [u8]>,
+}
+
+const HEADS: [Head; 10] = [
+    Head {
+        text: b"GET / HTTP/1.1\r\nHost: a\r\n\r\n",
+        verb: Verb::Get,
+        target: b"/",
+        http11: true,
+        hosts: 1,
+        range: None,
+    },
+    Head {
+        text: b"GET / HTTP/1.1\r\n\r\n",
+        verb: Verb::Get,
+        target: b"/",
+        http11: true,
+        hosts: 0,
+        range: None,
+    },
+    Head {
+        text: b"GET / HTTP/1.0\n\n",
+        verb: Verb::Get,
+        target: b"/",
+        http11: false,
+        hosts: 0,
+        range: None,
+    },
+    Head {
+        text: b"get / HTTP/1.1\r\nHost: a\r\nhOST: b\r\n\r\n",
+        verb: Verb::Other,
+        target: b"/",
+        http11: true,
+        hosts: 2,
+        range: None,
+    },
+    Head {
+        text: b"POST / HTTP/1.1\r\nHost: a\r\n\r\n",
+        verb: Verb::Other,
+        target: b"/",
+        http11: true,
+        hosts: 1,
+        range: None,
+    },
+    Head {
+        text: b"GET /link/0 HTTP/1.1\r\nHost: a\r\nRange: bytes=0-30\r\n\r\n",
+        verb: Verb::Get,
+        target: b"/link/0",
+        http11: true,
+        hosts: 1,
+        range: Some(b"bytes=0-30"),
+    },
+    Head {
+        text: b"HEAD /link/0 HTTP/1.1\r\nHost: a\r\nRange: bytes=0-30\r\n\r\n",
+        verb: Verb::Head,
+        target: b"/link/0",
+        http11: true,
+        hosts: 1,
+        range: Some(b"bytes=0-30"),
+    },
+    Head {
+        text: b"\r\n\nGET http://a/all HTTP/1.1\r\nhost:a\r\nrANGE: \tbytes=-27\t \r\nRanges: b\r\n\r\n",
+        verb: Verb::Get,
+        target: b"http://a/all",
+        http11: true,
+        hosts: 1,
+        range: Some(b"bytes=-27"),
+    },
+    Head {
+        text: b"GET /all HTTP/1.1\r\nRange: bytes=0-\r\nHost: a\r\nRange: bytes=0-\r\n\r\n",
+        verb: Verb::Get,
+        target: b"/all",
+        http11: true,
+        hosts: 1,
+        range: None,
+    },
+    Head {
+        text: b"GET /all HTTP/1.1\r\nIF-Range: \"x\"\r\nHost: a\r\nRange: bytes=0-\r\n\r\n",
+        verb: Verb::Get,
+        target: b"/all",
+        http11: true,
+        hosts: 1,
+        range: None,
+    },
 ];
+
+/// What the head is read as.
+fn wanted(head: &Head) -> HeadRead<'static> {
+    HeadRead::Whole(Request {
+        verb: head.verb,
+        target: head.target,
+        http11: head.http11,
+        hosts: head.hosts,
+        range: head.range,
+        used: head.text.len(),
+    })
+}
+
+/// Whether more is awaited after each front of the head that isn't all of it.
+fn fronts_are_partial(text: &[u8]) -> bool {
+    for end in 0..text.len() {
+        if read_head(text.get(..end).unwrap_or(text)) != HeadRead::Partial {
+            return false;
+        }
+    }
+    true
+}
+
+/// Whether the head is read, alone and before another one.
+fn is_read(alloc: Global, head: &Head) -> Result<bool, Memory> {
+    let more = joined(alloc, &[head.text, b"GET /more HTTP/1.1\r\n\r\n"])?;
+    Ok(read_head(head.text) == wanted(head) && read_head(&more) == wanted(head))
+}
 
 #[test]
 fn reads_whole_heads_and_awaits_their_prefixes(rt: HostRuntime) -> Result<(), Fail> {
-    for (text, verb, target, http11, hosts, range) in HEADS {
-        for end in 0..text.len() {
-            let front = text.get(..end).unwrap_or(text);
-            assert!(rt; read_head(front) == HeadRead::Partial, "at {end}");
-        }
-        let used = text.len();
-        let want = HeadRead::Whole(Request {
-            verb,
-            target,
-            http11,
-            hosts,
-            range,
-            used,
-        });
-        assert!(rt; read_head(text) == want);
-        let more = joined(rt.alloc(), &[text, b"GET /more HTTP/1.1\r\n\r\n"])?;
-        assert!(rt; read_head(&more) == want);
+    for head in &HEADS {
+        assert!(rt; fronts_are_partial(head.text));
+        assert!(rt; is_read(rt.alloc(), head)?);
     }
     Ok(())
 }
@@ -113,7 +150,7 @@ const HOPELESS: [&[u8]; 8] = [
 
 #[test]
 fn finds_hopeless_heads_bad(rt: HostRuntime) {
-    for text in HOPELESS {
+    for &text in &HOPELESS {
         assert!(rt; read_head(text) == HeadRead::Bad);
     }
     assert!(rt; read_head(&[b'a'; 8191]) == HeadRead::Partial);
@@ -161,14 +198,14 @@ fn hosts_of(head: &[u8]) -> Result<(u32, usize), bool> {
 
 #[test]
 fn reads_8192_bytes_and_64_fields_and_no_more(rt: HostRuntime) -> Result<(), Fail> {
-    for (pieces, count, len, hosts) in LIMITS {
+    for &(pieces, count, len, hosts) in &LIMITS {
         let head = repeated(rt.alloc(), pieces, count)?;
         assert!(rt; head.len() == len);
         let want = match hosts {
             Some(hosts) => Ok((hosts, len)),
             None => Err(true),
         };
-        assert!(rt; hosts_of(&head) == want, "{count} times");
+        assert!(rt; hosts_of(&head) == want);
     }
     Ok(())
 }
@@ -220,7 +257,7 @@ const TARGETS: [(&[u8], Option<Resource>); 38] = [
 
 #[test]
 fn names_resources(rt: HostRuntime) {
-    for (target, want) in TARGETS {
+    for &(target, want) in &TARGETS {
         assert!(rt; Resource::of(target) == want);
     }
 }
@@ -280,10 +317,10 @@ const EDGES: [(&[u8], Ranged); 31] = [
 
 #[test]
 fn takes_ranges(rt: HostRuntime) {
-    for (text, want) in EXAMPLES {
+    for &(text, want) in &EXAMPLES {
         assert!(rt; range_of(text, 10_000) == want);
     }
-    for (text, want) in EDGES {
+    for &(text, want) in &EDGES {
         assert!(rt; range_of(text, 91) == want);
         assert!(rt; range_of(text, 0) == Ranged::Whole);
     }
@@ -348,7 +385,7 @@ fn append(answer: Answer, out: &mut Vec<u8>) -> Result<(), Memory> {
 
 #[test]
 fn writes_heads(rt: HostRuntime) -> Result<(), Fail> {
-    for (answers, want) in WRITTEN {
+    for &(answers, want) in &WRITTEN {
         let mut out = Vec::new(rt.alloc());
         for answer in answers {
             append(*answer, &mut out)?;

@@ -180,14 +180,11 @@ fn ran<W: Write>(
 
 #[test]
 fn what_waits_is_kept_by_its_group_or_a_flush_or_at_the_end(rt: HostRuntime) -> Result<(), Fail> {
-    for (pieces, most, good, lines, came) in RUNS {
+    for &(pieces, most, good, lines, came) in &RUNS {
         let feed = joined(rt.alloc(), pieces)?;
         let mut runner = Grouping::new(most, good);
         let mut replies = Vec::new(rt.alloc());
-        assert!(rt;
-            ran(rt.alloc(), &mut runner, &feed, &mut replies) == came,
-            "{lines}"
-        );
+        assert!(rt; ran(rt.alloc(), &mut runner, &feed, &mut replies) == came);
         assert!(rt; replies.as_slice() == lines.as_bytes());
     }
     Ok(())
@@ -222,7 +219,7 @@ fn the_step_after_the_flush_is_the_end_and_it_stays(rt: HostRuntime) -> Result<(
     let mut run = FeedRun::new(rt.alloc());
     let mut reader = feed.as_slice();
     let mut replies = Vec::new(rt.alloc());
-    for reply in STEPS {
+    for &reply in &STEPS {
         let found = run.step(&mut runner, &mut reader, &mut io::sink(), &mut replies);
         assert!(rt; found == Ok(reply), "a step gives another reply");
     }

@@ -118,7 +118,7 @@ fn packets_are_appended_byte_for_byte(rt: HostRuntime) -> Result<(), Fail> {
 
 #[test]
 fn message_fields_follow_the_media_type(rt: HostRuntime) -> Result<(), Fail> {
-    for (fields, message, size) in WITH_FIELDS {
+    for &(fields, message, size) in &WITH_FIELDS {
         let want = joined(rt.alloc(), &[&[7], &FIXED_PART, message])?;
         assert!(rt; fisbone_with(rt.alloc(), fields)?.as_slice() == want.as_slice());
         let packet = joined(rt.alloc(), &[&FIXED_PART, message])?;
@@ -150,31 +150,25 @@ const FISHEADS: [(usize, &[(usize, u8)], Result<Fishead, SkeletonFault>); 15] = 
 
 #[test]
 fn fisheads_are_read_or_refused_by_their_first_fault(rt: HostRuntime) -> Result<(), Fail> {
-    for (length, changes, want) in FISHEADS {
+    for &(length, changes, want) in &FISHEADS {
         let mut packet = joined(rt.alloc(), &[&FISHEAD_BYTES, b"\0"])?;
         packet.truncate(length);
         change(&mut packet, changes);
-        assert!(rt;
-            Fishead::read(&packet) == want,
-            "{length} bytes, {changes:?}"
-        );
+        assert!(rt; Fishead::read(&packet) == want);
     }
     Ok(())
 }
 
 #[test]
 fn media_types_are_found_among_the_message_fields(rt: HostRuntime) -> Result<(), Fail> {
-    for (message, media) in MESSAGES {
+    for &(message, media) in &MESSAGES {
         let packet = joined(rt.alloc(), &[&FIXED_PART, message])?;
         let want = Fisbone { media, ..FISBONE };
-        assert!(rt; Fisbone::read(&packet) == Ok(want), "in {message:?}");
+        assert!(rt; Fisbone::read(&packet) == Ok(want));
     }
-    for message in NO_MESSAGES {
+    for &message in &NO_MESSAGES {
         let packet = joined(rt.alloc(), &[&FIXED_PART, message])?;
-        assert!(rt;
-            Fisbone::read(&packet) == Err(SkeletonFault::Fields),
-            "in {message:?}"
-        );
+        assert!(rt; Fisbone::read(&packet) == Err(SkeletonFault::Fields));
         assert!(rt; Fisbone::message(&packet).err() == Some(SkeletonFault::Fields));
     }
     Ok(())
@@ -206,15 +200,12 @@ const FISBONES: [(
 
 #[test]
 fn fisbones_are_read_or_refused_by_their_first_fault(rt: HostRuntime) -> Result<(), Fail> {
-    for (length, changes, want) in FISBONES {
+    for &(length, changes, want) in &FISBONES {
         let message = b"Content-Type: audio/vorbis\r\n";
         let mut packet = joined(rt.alloc(), &[&FIXED_PART, message])?;
         packet.truncate(length);
         change(&mut packet, changes);
-        assert!(rt;
-            Fisbone::read(&packet) == want,
-            "{length} bytes, {changes:?}"
-        );
+        assert!(rt; Fisbone::read(&packet) == want);
     }
     Ok(())
 }
@@ -236,7 +227,7 @@ fn message_fields_are_lent_in_order_or_refused_as_the_packet_is(
     let message = b"\r\nTitle:\t One \n:\nContent-Type:audio/ogg\r\nTitle: Two";
     let packet = joined(rt.alloc(), &[&FIXED_PART, message])?;
     let mut fields = Fisbone::message(&packet)?;
-    for want in LENT {
+    for &want in &LENT {
         assert!(rt; fields.next() == want);
     }
     let (short, _) = FIXED_PART.split_at(51);

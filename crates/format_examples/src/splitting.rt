@@ -1,10 +1,11 @@
 //! Copies out of a small file, and pages of damaged bytes, with sizes counted by hand from RFC 3533, section 6.
 use crate::feeds::fakes::FakeWriter;
 use crate::files::{Failing, Held, PageSpec, change, file_again, file_of, over, write_short};
-use crate::packets::streams::next_of;
+use crate::packets::streams::{Want, next_of};
 use link_index::{Index, IndexFault};
 use ogg_page::{FIRST, LAST, PageBuffer, PageHead, PageSource, Window};
 use ogg_split::*;
+use packet_view::{Packets, Stream, StreamFault, ViewFault};
 use std::alloc::Global;
 use std::io::{self, Write};
 use std::test::Fail;
@@ -66,23 +67,67 @@ const COPIES: [((u32, Option<u32>), Result<u64, SplitFault>); 6] = [
     ((1, Some(1)), Err(SplitFault::NoLink)),
 ];
 
+/// What a copy answers, and the bytes that it writes.
+type Copied = (Result<u64, SplitFault>, Vec<u8>);
+
+/// A copy out of the slice.
+fn copied(alloc: Global, bytes: &[u8], index: &Index, asked: (u32, Option<u32>)) -> Copied {
+    let mut out = Vec::new(alloc);
+    (copy(bytes, index, asked, &mut out), out)
+}
+
+/// A copy out of the window.
+fn copied_from<S: PageSource>(
+    alloc: Global,
+    window: &mut Window<S>,
+    index: &Index,
+    asked: (u32, Option<u32>),
+) -> Copied {
+    let mut out = Vec::new(alloc);
+    (copy_from(window, index, asked, &mut out), out)
+}
+
+/// The pages that a copy writes if it answers this.
+fn wanted(
+    alloc: Global,
+    asked: (u32, Option<u32>),
+    answer: Result<u64, SplitFault>,
+) -> Result<Vec<u8>, Memory> {
+    match answer {
+        Ok(_) => file_of(alloc, &TWO_STREAMS, asked.1),
+        Err(_) => Ok(Vec::new(alloc)),
+    }
+}
+
+/// Whether all copies out of the slice answer and write what they must.
+fn slice_is_copied(alloc: Global, bytes: &[u8], index: &Index) -> Result<bool, Memory> {
+    for &(asked, want) in &COPIES {
+        let (answer, out) = copied(alloc, bytes, index, asked);
+        if answer != want || out != wanted(alloc, asked, want)? {
+            return Ok(false);
+        }
+    }
+    Ok(true)
+}
+
+/// The same for copies out of one window.
+fn window_is_copied(alloc: Global, bytes: &[u8], index: &Index) -> Result<bool, Memory> {
+    let mut window = window_over(alloc, bytes, 0)?;
+    for &(asked, want) in &COPIES {
+        let (answer, out) = copied_from(alloc, &mut window, index, asked);
+        if answer != want || out != wanted(alloc, asked, want)? {
+            return Ok(false);
+        }
+    }
+    Ok(true)
+}
+
 #[test]
 fn a_copy_is_the_pages_asked_for(rt: HostRuntime) -> Result<(), Fail> {
     let bytes = file_of(rt.alloc(), &TWO_STREAMS, None)?;
     let index = Index::scan(rt.alloc(), &bytes)?;
-    let mut window = window_over(rt.alloc(), &bytes, 0)?;
-    for (asked, want) in COPIES {
-        let mut all = file_of(rt.alloc(), &TWO_STREAMS, asked.1)?;
-        if want.is_err() {
-            all.clear();
-        }
-        let mut out = Vec::new(rt.alloc());
-        assert!(rt; copy(&bytes, &index, asked, &mut out) == want);
-        assert!(rt; out.as_slice() == all.as_slice());
-        out.clear();
-        assert!(rt; copy_from(&mut window, &index, asked, &mut out) == want);
-        assert!(rt; out.as_slice() == all.as_slice());
-    }
+    assert!(rt; slice_is_copied(rt.alloc(), &bytes, &index)?);
+    assert!(rt; window_is_copied(rt.alloc(), &bytes, &index)?);
     Ok(())
 }
 
@@ -108,7 +153,7 @@ fn copies_are_made_after_memory_was_refused(rt: HostRuntime) -> Result<(), Fail>
     let bytes = file_again(rt.alloc(), &TWO_STREAMS)?;
     let index = scanned(rt.alloc(), &bytes)?;
     let mut window = window_again(rt.alloc(), &bytes)?;
-    for (asked, want) in COPIES {
+    for &(asked, want) in &COPIES {
         assert!(rt; copy(&bytes, &index, asked, &mut io::sink()) == want);
         assert!(rt; copy_from(&mut window, &index, asked, &mut io::sink()) == want);
     }
@@ -124,45 +169,99 @@ const FAILURES: [(u64, u64, SplitFault, usize); 5] = [
     (0, 3, SplitFault::Write, 65_338),
 ];
 
-/// What a copy of stream 1 answers, whose read and write with these numbers fail, and the writer after it.
+/// What a copy of stream 1 answers, whose read and write with these numbers fail, and what it writes.
 fn failed(
     alloc: Global,
     bytes: &[u8],
     index: &Index,
     (read, write): (u64, u64),
-) -> Result<(Result<u64, SplitFault>, FakeWriter), Memory> {
+) -> Result<(Option<SplitFault>, FakeWriter), Memory> {
     let mut window = window_over(alloc, bytes, read)?;
     let mut out = FakeWriter::new(Vec::new(alloc), 65_307, write);
     let answer = copy_from(&mut window, index, (0, Some(1)), &mut out);
-    Ok((answer, out))
+    Ok((answer.err(), out))
+}
+
+/// Whether each copy that fails writes so many bytes of stream 1's pages, and no other.
+fn prefixes_are_left(alloc: Global, bytes: &[u8], index: &Index) -> Result<bool, Memory> {
+    let all = file_of(alloc, &TWO_STREAMS, Some(1))?;
+    for &(read, write, want, count) in &FAILURES {
+        let (fault, out) = failed(alloc, bytes, index, (read, write))?;
+        let written = out.written();
+        if fault != Some(want) || written.len() != count || !all.starts_with(written) {
+            return Ok(false);
+        }
+    }
+    Ok(true)
+}
+
+/// What copies of the link and of stream 2 come to, and whether packets of stream 2 are given.
+fn of_short(alloc: Global, short: &[u8], index: &Index) -> (Copied, Copied, bool) {
+    (
+        copied(alloc, short, index, (0, None)),
+        copied(alloc, short, index, (0, Some(2))),
+        packets_of(short, index, 0, 2).is_ok(),
+    )
+}
+
+/// Whether these copies wrote nothing, as bytes are missing, and packets aren't given.
+fn is_refused(((link, all), (stream, one), are_given): (Copied, Copied, bool)) -> bool {
+    let faults = (link, stream) == (Err(SplitFault::Source), Err(SplitFault::Source));
+    faults && all.is_empty() && one.is_empty() && !are_given
 }
 
 #[test]
 fn a_fault_leaves_a_prefix(rt: HostRuntime) -> Result<(), Fail> {
     let bytes = file_of(rt.alloc(), &TWO_STREAMS, None)?;
     let index = Index::scan(rt.alloc(), &bytes)?;
-    let all = file_of(rt.alloc(), &TWO_STREAMS, Some(1))?;
-    for (read, write, fault, count) in FAILURES {
-        let (found, out) = failed(rt.alloc(), &bytes, &index, (read, write))?;
-        assert!(rt; found == Err(fault), "read {read}, write {write}");
-        assert!(rt; out.written().len() == count && all.starts_with(out.written()));
-    }
+    assert!(rt; prefixes_are_left(rt.alloc(), &bytes, &index)?);
     let short = bytes.get(..70_446).unwrap_or(&[]);
-    for asked in [(0, None), (0, Some(2))] {
-        let mut out = Vec::new(rt.alloc());
-        assert!(rt; copy(short, &index, asked, &mut out) == Err(SplitFault::Source));
-        assert!(rt; out.is_empty());
-    }
-    assert!(rt; packets_of(short, &index, 0, 2).is_err());
+    assert!(rt; is_refused(of_short(rt.alloc(), short, &index)));
     Ok(())
 }
 
+/// The sizes of the next three packets, of which the third is that there is none.
+fn sizes_left(packets: &mut Packets) -> Result<[Option<usize>; 3], ViewFault> {
+    Ok([
+        size_of_next(packets)?,
+        size_of_next(packets)?,
+        size_of_next(packets)?,
+    ])
+}
+
+/// The size of the next packet.
+fn size_of_next(packets: &mut Packets) -> Result<Option<usize>, ViewFault> {
+    match packets.next()? {
+        Some(packet) => Ok(Some(packet.len())),
+        None => Ok(None),
+    }
+}
+
+/// Whether the packets of stream 1 are given, of 3 and of 70,000 bytes.
+fn packets_are_given(bytes: &[u8], index: &Index) -> bool {
+    match packets_of(bytes, index, 0, 1) {
+        Ok(mut packets) => sizes_left(&mut packets) == Ok([Some(3), Some(70_000), None]),
+        Err(_) => false,
+    }
+}
+
 /// The parts of stream 1: how many bytes each has, whether its packet begins and ends with it, and its position.
-const PARTS: [(usize, bool, bool, Option<u64>); 3] = [
-    (3, true, true, Some(0)),
-    (65_025, true, false, None),
-    (4_975, false, true, Some(7)),
+const PARTS: [Option<Want>; 4] = [
+    Some((3, true, true, Some(0))),
+    Some((65_025, true, false, None)),
+    Some((4_975, false, true, Some(7))),
+    None,
 ];
+
+/// The parts that a stream is left with, as far as a fourth one.
+fn parts_left<S: PageSource>(stream: &mut Stream<S>) -> Result<[Option<Want>; 4], StreamFault> {
+    Ok([
+        next_of(stream)?,
+        next_of(stream)?,
+        next_of(stream)?,
+        next_of(stream)?,
+    ])
+}
 
 /// The fault that `parts_of` gives back with the window.
 fn refused<'a>(
@@ -176,33 +275,41 @@ fn refused<'a>(
     }
 }
 
-/// A link and a serial of which one isn't there, and the fault.
-const MISSING: [((u32, u32), SplitFault); 2] = [
-    ((1, 1), SplitFault::NoLink),
-    ((0, 3), SplitFault::NoStream),
-];
+/// The faults of a link and of a serial that aren't there, and then the parts of stream 1, all by one window.
+fn parts_after_faults(
+    window: Window<Failing>,
+    index: &Index,
+) -> (Option<SplitFault>, Option<SplitFault>, bool) {
+    let (no_link, window) = refused(window, index, (1, 1));
+    let (no_stream, window) = refused(window, index, (0, 3));
+    (no_link, no_stream, are_given(window, index))
+}
+
+/// Whether the parts of stream 1 are given by this window.
+fn are_given(window: Window<Failing>, index: &Index) -> bool {
+    match parts_of(window, index, 0, 1) {
+        Ok(mut stream) => parts_left(&mut stream) == Ok(PARTS),
+        Err(_) => false,
+    }
+}
+
+/// The faults of asking for the packets of a link and of a serial that aren't there.
+fn faults_of(bytes: &[u8], index: &Index) -> (Option<SplitFault>, Option<SplitFault>) {
+    (
+        packets_of(bytes, index, 1, 1).err(),
+        packets_of(bytes, index, 0, 3).err(),
+    )
+}
 
 #[test]
 fn the_packets_and_the_parts_of_a_stream_are_given(rt: HostRuntime) -> Result<(), Fail> {
     let bytes = file_of(rt.alloc(), &TWO_STREAMS, None)?;
     let index = Index::scan(rt.alloc(), &bytes)?;
-    let mut window = window_over(rt.alloc(), &bytes, 0)?;
-    for ((link, serial), fault) in MISSING {
-        assert!(rt; packets_of(&bytes, &index, link, serial).err() == Some(fault));
-        let (found, back) = refused(window, &index, (link, serial));
-        assert!(rt; found == Some(fault), "link {link}, serial {serial}");
-        window = back;
-    }
-    let mut packets = packets_of(&bytes, &index, 0, 1)?;
-    for want in [Some(3), Some(70_000), None] {
-        let size = packets.next()?.map(|packet| packet.len());
-        assert!(rt; size == want);
-    }
-    let mut stream = parts_of(window, &index, 0, 1).map_err(|(fault, _)| fault)?;
-    for want in PARTS {
-        assert!(rt; next_of(&mut stream)? == Some(want));
-    }
-    assert!(rt; next_of(&mut stream)? == None);
+    let (no_link, no_stream) = (Some(SplitFault::NoLink), Some(SplitFault::NoStream));
+    assert!(rt; faults_of(&bytes, &index) == (no_link, no_stream));
+    assert!(rt; packets_are_given(&bytes, &index));
+    let window = window_over(rt.alloc(), &bytes, 0)?;
+    assert!(rt; parts_after_faults(window, &index) == (no_link, no_stream, true));
     Ok(())
 }
 
@@ -265,12 +372,12 @@ fn nested(alloc: Global) -> Result<Vec<u8>, Memory> {
 
 #[test]
 fn good_pages_are_found_around_damage(rt: HostRuntime) -> Result<(), Fail> {
-    for (pages, changed, good) in DAMAGES {
+    for &(pages, changed, good) in &DAMAGES {
         let mut bytes = file_of(rt.alloc(), pages, None)?;
         damage(&mut bytes, changed);
         assert!(rt; lists(rt.alloc(), &bytes, good)?);
     }
-    for (changed, good) in NESTED {
+    for &(changed, good) in &NESTED {
         let mut bytes = nested(rt.alloc())?;
         damage(&mut bytes, changed);
         assert!(rt; lists(rt.alloc(), &bytes, good)?);

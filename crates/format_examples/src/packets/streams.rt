@@ -54,7 +54,7 @@ const PARTS: [(&[PageSpec], [Want; 3]); 2] = [
 
 #[test]
 fn a_packet_comes_in_a_part_for_each_page(rt: HostRuntime) -> Result<(), Fail> {
-    for (pages, parts) in PARTS {
+    for &(pages, parts) in &PARTS {
         let bytes = file_of(rt.alloc(), pages, None)?;
         let window = over(Whole::of(&bytes), PageBuffer::new(rt.alloc())?, 0, u64::MAX);
         let mut stream = Stream::of(window, 1);
@@ -91,10 +91,7 @@ fn parts_are_those_of_the_packets(rt: HostRuntime) -> Result<(), Fail> {
         let bytes = joined(rt.alloc(), row.pages)?;
         let mut stream = Stream::of(over(Whole::of(&bytes), buffer, 0, u64::MAX), 1);
         for (text, position) in row.packets {
-            assert!(rt;
-                is_whole_next(&mut stream, text, *position)?,
-                "{text:?} is missing"
-            );
+            assert!(rt; is_whole_next(&mut stream, text, *position)?);
         }
         let end = match row.fault {
             Some(fault) => Err(StreamFault::View(fault)),

@@ -32,20 +32,14 @@ fn advanced(
 #[test]
 fn a_page_is_given_with_its_last_byte(rt: HostRuntime) -> Result<(), Fail> {
     let bytes = joined(rt.alloc(), &THREE_PAGES)?;
-    for (step, calls) in CALLS {
+    for &(step, calls) in &CALLS {
         let mut reader = FakeReader::new(&bytes, step, 0);
         let mut pages = PageReader::new(rt.alloc())?;
         for want in calls {
-            assert!(rt;
-                advanced(&mut pages, &mut reader) == (None, true, want),
-                "of {step}"
-            );
+            assert!(rt; advanced(&mut pages, &mut reader) == (None, true, want));
         }
         let (fault, is_lent, _) = advanced(&mut pages, &mut reader);
-        assert!(rt;
-            (fault, is_lent, pages.offset()) == (None, false, 91),
-            "of {step}"
-        );
+        assert!(rt; (fault, is_lent, pages.offset()) == (None, false, 91));
     }
     Ok(())
 }
@@ -222,7 +216,7 @@ fn made(
 
 #[test]
 fn a_feed_is_made_of_pages(rt: HostRuntime) -> Result<(), Fail> {
-    for (pieces, reads, write_step, options, written, want) in MAKINGS {
+    for &(pieces, reads, write_step, options, written, want) in &MAKINGS {
         let input = joined(rt.alloc(), pieces)?;
         let options = match options {
             Some(options) => options,

@@ -66,31 +66,33 @@ fn lent<S: PageSource>(window: &mut Window<S>) -> Result<Option<Place>, WindowFa
     }
 }
 
+/// Whether these pages are lent, and then this end.
+fn lends<S: PageSource>(
+    window: &mut Window<S>,
+    places: &[Place],
+    end: Result<Option<Place>, WindowFault>,
+) -> bool {
+    for want in places {
+        if lent(window) != Ok(Some(*want)) {
+            return false;
+        }
+    }
+    // The end stays, and so does a fault, until `set`.
+    let ends = (lent(window), lent(window));
+    window.set(0, 0);
+    ends == (end, end) && (lent(window), lent(window)) == (Ok(None), Ok(None))
+}
+
 #[test]
 fn a_range_has_its_pages_with_offsets_in_the_source(rt: HostRuntime) -> Result<(), Fail> {
     let long = long_bytes(rt.alloc())?;
     let three = joined(rt.alloc(), &THREE_PAGES)?;
     let mut buffer = PageBuffer::new(rt.alloc())?;
-    for (is_long, from, to, places, end) in RANGES {
-        let bytes = if is_long {
-            long.as_slice()
-        } else {
-            three.as_slice()
-        };
+    for &(is_long, from, to, places, end) in &RANGES {
+        let bytes = if is_long { &long } else { &three };
         let mut window = over(Whole::of(bytes), buffer, from, to);
-        for want in places {
-            assert!(rt; lent(&mut window) == Ok(Some(*want)), "from {from} to {to}");
-        }
-        // The end stays, and so does a fault, until `set`.
-        for _ in 0..2 {
-            assert!(rt; lent(&mut window) == end, "from {from} to {to}");
-        }
-        window.set(0, 0);
-        for _ in 0..2 {
-            assert!(rt; lent(&mut window) == Ok(None), "from {from} to {to}");
-        }
-        let (_, room) = window.into_parts();
-        buffer = room;
+        assert!(rt; lends(&mut window, places, end));
+        (_, buffer) = window.into_parts();
     }
     Ok(())
 }
@@ -117,22 +119,36 @@ const FAILING_READS: [(u64, Result<u64, u64>); 4] = [
     (4, Ok(65_396)),
 ];
 
+/// Whether the window says again that the source failed, until `set`.
+fn says_so_until_set(window: &mut Window<Failing<'_>>) -> bool {
+    let again = lent(window);
+    window.set(0, 0);
+    again == Err(WindowFault::Source) && lent(window) == Ok(None)
+}
+
+/// Whether this is found if the read with this number fails, and the buffer again.
+fn is_found(
+    bytes: &[u8],
+    buffer: PageBuffer,
+    number: u64,
+    want: Result<u64, u64>,
+) -> (bool, PageBuffer) {
+    let mut window = over(Failing::new(bytes, number), buffer, 0, 65_400);
+    let is_first = pages_before_a_fault(&mut window) == want;
+    let stays = want.is_ok() || says_so_until_set(&mut window);
+    let (source, buffer) = window.into_parts();
+    let is_counted = source.failures == u64::from(want.is_err());
+    (is_first && stays && is_counted, buffer)
+}
+
 #[test]
 fn each_read_fails_in_turn(rt: HostRuntime) -> Result<(), Fail> {
     let bytes = long_bytes(rt.alloc())?;
     let mut buffer = PageBuffer::new(rt.alloc())?;
-    for (number, want) in FAILING_READS {
-        let mut window = over(Failing::new(&bytes, number), buffer, 0, 65_400);
-        assert!(rt; pages_before_a_fault(&mut window) == want, "read {number}");
-        // A fault stays until `set`.
-        if want.is_err() {
-            assert!(rt; lent(&mut window) == Err(WindowFault::Source));
-            window.set(0, 0);
-            assert!(rt; lent(&mut window) == Ok(None));
-        }
-        let (source, room) = window.into_parts();
-        assert!(rt; source.failures == u64::from(want.is_err()));
-        buffer = room;
+    for &(number, want) in &FAILING_READS {
+        let (found, again) = is_found(&bytes, buffer, number, want);
+        assert!(rt; found);
+        buffer = again;
     }
     Ok(())
 }
