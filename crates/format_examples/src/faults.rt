@@ -35,20 +35,46 @@ const OF_SKELETONS: [(SkeletonFault, (u8, &str)); 4] = [
     (SkeletonFault::Fields, (4, "Fields")),
 ];
 
+fn pages_faults_are_told() -> bool {
+    for (fault, want) in &OF_PAGES {
+        if (fault.code(), fault.name()) != *want {
+            return false;
+        }
+    }
+    true
+}
+
+fn views_faults_are_told() -> bool {
+    for (fault, want) in &OF_VIEWS {
+        if (fault.code(), fault.name()) != *want {
+            return false;
+        }
+    }
+    true
+}
+
+fn streams_faults_are_told() -> bool {
+    for (fault, want) in &OF_STREAMS {
+        if (fault.code(), fault.name()) != *want {
+            return false;
+        }
+    }
+    true
+}
+
+fn skeletons_faults_are_told() -> bool {
+    for (fault, want) in &OF_SKELETONS {
+        if (fault.code(), fault.name()) != *want {
+            return false;
+        }
+    }
+    true
+}
+
 #[test]
 fn faults_have_their_numbers_and_names(rt: HostRuntime) {
-    for &(fault, want) in &OF_PAGES {
-        assert!(rt; (fault.code(), fault.name()) == want);
-    }
-    for &(fault, want) in &OF_VIEWS {
-        assert!(rt; (fault.code(), fault.name()) == want);
-    }
-    for &(fault, want) in &OF_STREAMS {
-        assert!(rt; (fault.code(), fault.name()) == want);
-    }
-    for &(fault, want) in &OF_SKELETONS {
-        assert!(rt; (fault.code(), fault.name()) == want);
-    }
+    assert!(rt; pages_faults_are_told() && views_faults_are_told());
+    assert!(rt; streams_faults_are_told() && skeletons_faults_are_told());
     let run = RunFault::Feed(FeedFault::Form);
     assert!(rt; (run.code(), run.name()) == (1, "Feed"));
     let feed = FeedFault::Memory;

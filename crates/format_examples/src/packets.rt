@@ -6,7 +6,6 @@ use crate::pages::{END_PAGE, FIRST_PAGE, HELLO_PAGE};
 use ogg_page::PageFault;
 use packet_view::*;
 use std::alloc::Global;
-use std::process::Abort;
 use std::test::Fail;
 
 /// The second page of stream 1, at position 7: `x` and `yz`.
@@ -119,17 +118,23 @@ fn end_of(packets: &mut Packets<'_>) -> Option<Option<ViewFault>> {
     }
 }
 
+/// Whether the row's packets come, and then twice its fault or the end.
+fn come(bytes: &[u8], row: &Row) -> Result<bool, ViewFault> {
+    let mut packets = Packets::of(bytes, 1);
+    for (text, position) in row.packets {
+        if !is_next(&mut packets, text, *position)? {
+            return Ok(false);
+        }
+    }
+    let ends = (end_of(&mut packets), end_of(&mut packets));
+    Ok(ends == (Some(row.fault), Some(row.fault)))
+}
+
 #[test]
 fn packets_come_up_to_the_first_fault(rt: HostRuntime) -> Result<(), Fail> {
     for row in &ROWS {
         let bytes = joined(rt.alloc(), row.pages)?;
-        let mut packets = Packets::of(&bytes, 1);
-        for (text, position) in row.packets {
-            assert!(rt; is_next(&mut packets, text, *position)?);
-        }
-        for _ in 0..2 {
-            assert!(rt; end_of(&mut packets) == Some(row.fault));
-        }
+        assert!(rt; come(&bytes, row)?);
     }
     Ok(())
 }
@@ -140,38 +145,41 @@ const OPEN: [PageSpec; 1] = [(2, u64::MAX, 1, 0, Held::Open)];
 /// The places of that packet, when it goes on as `x`, and their bytes.
 const PLACES: [(usize, u8); 3] = [(0, 7), (254, 7), (255, b'x')];
 
-/// Checks that a packet is the one of two parts, which are 255 bytes of 7 and `x`.
-fn assert_two_parts(rt: &impl Abort, packet: &Packet<'_>, whole: &[u8]) {
-    let size = (packet.len(), packet.position(), packet.as_slice());
-    assert!(rt; size == (256, Some(9), None));
-    let mut parts = packet.parts();
-    let found = (parts.next(), parts.next(), parts.next());
-    assert!(rt; found == (Some([7; 255].as_slice()), Some(b"x".as_slice()), None));
-    let same = (
-        packet.same_as(whole),
-        packet.same_as(&[7; 255]),
-        packet.same_as(&[7; 256]),
-    );
-    assert!(rt; same == (true, false, false));
-    for &(index, want) in &PLACES {
-        assert!(rt; index < packet.len() && packet.byte_at(index) == want);
-    }
+/// Whether a packet is the one of two parts, which are 255 bytes of 7 and `x`.
+fn is_of_two_parts(packet: &Packet<'_>, whole: &[u8]) -> bool {
+    let size = (packet.len(), packet.position());
+    let is_split = size == (256, Some(9)) && packet.as_slice().is_none();
+    is_split && gives_two_parts(packet) && is_same(packet, whole)
 }
 
-/// Checks that these bytes begin with that packet, and that it is written whole.
-fn assert_read_whole(
-    rt: &impl Abort,
-    alloc: Global,
-    bytes: &[u8],
-    whole: &[u8],
-) -> Result<(), Fail> {
-    let mut packets = Packets::of(bytes, 1);
-    let packet = packets.next()?.ok_or("no packet")?;
-    assert_two_parts(rt, &packet, whole);
+fn gives_two_parts(packet: &Packet<'_>) -> bool {
+    let mut parts = packet.parts();
+    let found = (parts.next(), parts.next(), parts.next());
+    found == (Some([7; 255].as_slice()), Some(b"x".as_slice()), None)
+}
+
+/// Whether a packet has these bytes, found all at once and one by one, and no others.
+fn is_same(packet: &Packet<'_>, whole: &[u8]) -> bool {
+    for &(index, want) in &PLACES {
+        if index >= packet.len() || packet.byte_at(index) != want {
+            return false;
+        }
+    }
+    packet.same_as(whole) && !packet.same_as(&[7; 255]) && !packet.same_as(&[7; 256])
+}
+
+/// Whether a packet is written as these bytes.
+fn is_written(alloc: Global, packet: &Packet<'_>, whole: &[u8]) -> bool {
     let mut out = Vec::new(alloc);
-    packet.write_to(&mut out)?;
-    assert!(rt; out.as_slice() == whole);
-    Ok(())
+    packet.write_to(&mut out).is_ok() && out.as_slice() == whole
+}
+
+/// Whether these bytes begin with that packet, and it is written whole.
+fn is_read_whole(alloc: Global, bytes: &[u8], whole: &[u8]) -> bool {
+    match Packets::of(bytes, 1).next() {
+        Ok(Some(packet)) => is_of_two_parts(&packet, whole) && is_written(alloc, &packet, whole),
+        _other => false,
+    }
 }
 
 #[test]
@@ -179,9 +187,9 @@ fn a_packet_goes_on_behind_pages_of_other_streams(rt: HostRuntime) -> Result<(),
     let open = file_of(rt.alloc(), &OPEN, None)?;
     let whole = joined(rt.alloc(), &[&[7; 255], b"x"])?;
     let next = joined(rt.alloc(), &[&open, &CONTINUED])?;
-    assert_read_whole(&rt, rt.alloc(), &next, &whole)?;
+    assert!(rt; is_read_whole(rt.alloc(), &next, &whole));
     let behind = joined(rt.alloc(), &[&open, &OTHER, &CONTINUED])?;
-    assert_read_whole(&rt, rt.alloc(), &behind, &whole)?;
+    assert!(rt; is_read_whole(rt.alloc(), &behind, &whole));
     assert!(rt; end_of(&mut Packets::of(&open, 1)) == Some(Some(ViewFault::Unfinished)));
     Ok(())
 }

@@ -431,16 +431,30 @@ fn taken(alloc: Global, pages: &[u8]) -> Result<(u64, bool, Option<u32>), Fail> 
     Ok((taken.end, taken.fault.is_some(), taken.shape.unfinished()))
 }
 
+/// Whether these are the example's pages: all of them are taken, and they stand where it says.
+fn are_pages(alloc: Global, pages: &[u8], example: &Example) -> Result<bool, Fail> {
+    Ok(
+        pages.len() as u64 == example.end
+            && taken(alloc, pages)? == (example.end, false, None)
+            && stand(pages, example.found),
+    )
+}
+
+/// Whether the example's commands are answered as it says, and their pages are written.
+fn is_run(alloc: Global, example: &Example) -> Result<bool, Fail> {
+    let (feed, lines, commands) = told(alloc, example)?;
+    let run = run(alloc, &feed)?;
+    Ok(
+        run.result == Ok((commands, example.end))
+            && run.replies.as_slice() == lines.as_slice()
+            && are_pages(alloc, &run.pages, example)?,
+    )
+}
+
 #[test]
 fn each_command_is_answered_and_its_pages_are_written(rt: HostRuntime) -> Result<(), Fail> {
     for example in &EXAMPLES {
-        let (feed, lines, commands) = told(rt.alloc(), example)?;
-        let run = run(rt.alloc(), &feed)?;
-        assert!(rt; run.result == Ok((commands, example.end)));
-        assert!(rt; run.replies.as_slice() == lines.as_slice());
-        assert!(rt; run.pages.len() as u64 == example.end);
-        assert!(rt; taken(rt.alloc(), &run.pages)? == (example.end, false, None));
-        assert!(rt; stand(&run.pages, example.found));
+        assert!(rt; is_run(rt.alloc(), example)?);
     }
     Ok(())
 }
@@ -559,13 +573,20 @@ const FAULTS: [Faulty; 11] = [
 /// The line that answers the first begin.
 const KEPT: &str = "kept 1 31\n";
 
+/// Whether the feed ends by its fault, and has written its pages and lines then.
+fn ends_so(alloc: Global, (records, fault, pages, lines): Faulty) -> Result<bool, Fail> {
+    let run = run_of(alloc, records)?;
+    Ok(
+        run.result == Err(RunFault::Feed(fault))
+            && run.pages.as_slice() == pages
+            && run.replies.as_slice() == lines.as_bytes(),
+    )
+}
+
 #[test]
 fn what_stands_before_a_fault_of_the_feed_is_run(rt: HostRuntime) -> Result<(), Fail> {
-    for (records, fault, pages, lines) in FAULTS {
-        let run = run_of(rt.alloc(), records)?;
-        assert!(rt; run.result == Err(RunFault::Feed(fault)));
-        assert!(rt; run.pages.as_slice() == pages);
-        assert!(rt; run.replies.as_slice() == lines.as_bytes());
+    for faulty in &FAULTS {
+        assert!(rt; ends_so(rt.alloc(), *faulty)?);
     }
     Ok(())
 }
@@ -601,14 +622,22 @@ const READ_BACK: [(Record, &[ReadPacket]); 4] = [
     ),
 ];
 
+/// Whether just these packets are read back, from stream 1 alone.
+fn is_read_back(alloc: Global, record: Record, wanted: &[ReadPacket]) -> Result<bool, Fail> {
+    let run = run_of(alloc, &[ONE, record])?;
+    let (header, packets) = read(alloc, &run.pages, 1)?;
+    let (_, others) = read(alloc, &run.pages, 2)?;
+    Ok(
+        header == Some(b"abc".as_slice())
+            && packets.as_slice() == wanted
+            && others.as_slice().is_empty(),
+    )
+}
+
 #[test]
 fn what_was_put_is_read_back(rt: HostRuntime) -> Result<(), Fail> {
-    for (record, wanted) in READ_BACK {
-        let run = run_of(rt.alloc(), &[ONE, record])?;
-        let (header, packets) = read(rt.alloc(), &run.pages, 1)?;
-        assert!(rt; header == Some(b"abc".as_slice()) && packets.as_slice() == wanted);
-        let (_, others) = read(rt.alloc(), &run.pages, 2)?;
-        assert!(rt; others.is_empty(), "a packet of another stream");
+    for &(record, wanted) in &READ_BACK {
+        assert!(rt; is_read_back(rt.alloc(), record, wanted)?);
     }
     Ok(())
 }

@@ -56,77 +56,125 @@ pub enum Record {
 
 /// Appends the record.
 pub fn append(record: Record, feed: &mut Vec<u8>) -> Result<(), Fail> {
-    let alloc = *feed.allocator();
+    if let Record::Bytes(bytes) = record {
+        feed.extend_from_slice(bytes)?;
+        return Ok(());
+    }
+    let payload = payload_of(*feed.allocator(), record)?;
+    append_payload(kind_of(record), payload.as_slice(), feed)
+}
+
+/// The number of the record's kind.
+fn kind_of(record: Record) -> u8 {
     match record {
-        Record::Version => append_payload(0, &[2], feed),
-        Record::Begin(streams) => {
-            let mut payload = begin_of(alloc, u16::try_from(streams.len())?)?;
-            for (serial, headers) in streams {
-                append_stream(*serial, headers, &mut payload)?;
-            }
-            append_payload(1, payload.as_slice(), feed)
-        }
+        Record::Version | Record::Bytes(_) => 0,
+        Record::Begin(_) | Record::BeginOne(_) | Record::BeginMany(_) => 1,
+        Record::BeginWithSkeleton(_, _, _) | Record::BeginWithFields(_, _, _) => 1,
+        Record::BeginManyWithSkeleton(_) => 1,
+        Record::Put(_) | Record::PutMany(_, _) => 2,
+        Record::End(_) => 3,
+        Record::Flush => 4,
+    }
+}
+
+/// What stands in the record after its kind and its length.
+fn payload_of(alloc: Global, record: Record) -> Result<Vec<u8>, Fail> {
+    match record {
+        Record::Version => Ok(Vec::from_slice(alloc, &[2])?),
+        Record::Begin(streams) => begin(alloc, streams),
         Record::BeginWithSkeleton(serial, times, streams) => {
-            let mut payload = skeleton_of(alloc, serial, times, u16::try_from(streams.len())?)?;
-            for stream in streams {
-                append_described(stream, &mut payload)?;
-            }
-            append_payload(1, payload.as_slice(), feed)
+            begin_described(alloc, serial, times, streams)
         }
         Record::BeginWithFields(serial, times, streams) => {
-            let mut payload = skeleton_of(alloc, serial, times, u16::try_from(streams.len())?)?;
-            for (stream, fields) in streams {
-                append_described(stream, &mut payload)?;
-                append_fields(fields, &mut payload)?;
-            }
-            append_payload(1, payload.as_slice(), feed)
+            begin_with_fields(alloc, serial, times, streams)
         }
-        Record::BeginManyWithSkeleton(count) => {
-            let mut payload = skeleton_of(alloc, 1000, (1, 1), count)?;
-            for serial in 1..=u32::from(count) {
-                let stream = Described {
-                    serial,
-                    headers: &[Packet::Text(b"abc")],
-                    media: b"audio/vorbis",
-                    rate: (1, 1),
-                };
-                append_described(&stream, &mut payload)?;
-            }
-            append_payload(1, payload.as_slice(), feed)
-        }
-        Record::BeginOne(serial) => {
-            let mut payload = begin_of(alloc, 1)?;
-            append_stream(serial, &[Packet::Text(b"abc")], &mut payload)?;
-            append_payload(1, payload.as_slice(), feed)
-        }
-        Record::BeginMany(count) => {
-            let mut payload = begin_of(alloc, count)?;
-            for serial in 1..=u32::from(count) {
-                append_stream(serial, &[Packet::Text(b"abc")], &mut payload)?;
-            }
-            append_payload(1, payload.as_slice(), feed)
-        }
-        Record::Put(entries) => {
-            let mut payload = Vec::from_slice(alloc, &u16::try_from(entries.len())?.to_le_bytes())?;
-            for (serial, position, packet) in entries {
-                append_entry(*serial, *position, *packet, &mut payload)?;
-            }
-            append_payload(2, payload.as_slice(), feed)
-        }
-        Record::PutMany(count, packet) => {
-            let mut payload = Vec::from_slice(alloc, &count.to_le_bytes())?;
-            for _ in 0..count {
-                append_entry(1, 0, packet, &mut payload)?;
-            }
-            append_payload(2, payload.as_slice(), feed)
-        }
-        Record::End(serial) => append_payload(3, &serial.to_le_bytes(), feed),
-        Record::Flush => append_payload(4, &[], feed),
-        Record::Bytes(bytes) => {
-            feed.extend_from_slice(bytes)?;
-            Ok(())
-        }
+        Record::BeginManyWithSkeleton(count) => begin_many_described(alloc, count),
+        Record::BeginOne(serial) => begin_one(alloc, serial),
+        Record::BeginMany(count) => begin_many(alloc, count),
+        Record::Put(entries) => put(alloc, entries),
+        Record::PutMany(count, packet) => put_many(alloc, count, packet),
+        Record::End(serial) => Ok(Vec::from_slice(alloc, &serial.to_le_bytes())?),
+        Record::Flush | Record::Bytes(_) => Ok(Vec::new(alloc)),
     }
+}
+
+fn begin(alloc: Global, streams: &[(u32, &[Packet])]) -> Result<Vec<u8>, Fail> {
+    let mut payload = begin_of(alloc, u16::try_from(streams.len())?)?;
+    for (serial, headers) in streams {
+        append_stream(*serial, headers, &mut payload)?;
+    }
+    Ok(payload)
+}
+
+fn begin_described(
+    alloc: Global,
+    serial: u32,
+    times: (i64, i64),
+    streams: &[Described],
+) -> Result<Vec<u8>, Fail> {
+    let mut payload = skeleton_of(alloc, serial, times, u16::try_from(streams.len())?)?;
+    for stream in streams {
+        append_described(stream, &mut payload)?;
+    }
+    Ok(payload)
+}
+
+fn begin_with_fields(
+    alloc: Global,
+    serial: u32,
+    times: (i64, i64),
+    streams: &[(Described, &[Field])],
+) -> Result<Vec<u8>, Fail> {
+    let mut payload = skeleton_of(alloc, serial, times, u16::try_from(streams.len())?)?;
+    for (stream, fields) in streams {
+        append_described(stream, &mut payload)?;
+        append_fields(fields, &mut payload)?;
+    }
+    Ok(payload)
+}
+
+fn begin_many_described(alloc: Global, count: u16) -> Result<Vec<u8>, Fail> {
+    let mut payload = skeleton_of(alloc, 1000, (1, 1), count)?;
+    for serial in 1..=u32::from(count) {
+        let stream = Described {
+            serial,
+            headers: &[Packet::Text(b"abc")],
+            media: b"audio/vorbis",
+            rate: (1, 1),
+        };
+        append_described(&stream, &mut payload)?;
+    }
+    Ok(payload)
+}
+
+fn begin_one(alloc: Global, serial: u32) -> Result<Vec<u8>, Fail> {
+    let mut payload = begin_of(alloc, 1)?;
+    append_stream(serial, &[Packet::Text(b"abc")], &mut payload)?;
+    Ok(payload)
+}
+
+fn begin_many(alloc: Global, count: u16) -> Result<Vec<u8>, Fail> {
+    let mut payload = begin_of(alloc, count)?;
+    for serial in 1..=u32::from(count) {
+        append_stream(serial, &[Packet::Text(b"abc")], &mut payload)?;
+    }
+    Ok(payload)
+}
+
+fn put(alloc: Global, entries: &[(u32, u64, Packet)]) -> Result<Vec<u8>, Fail> {
+    let mut payload = Vec::from_slice(alloc, &u16::try_from(entries.len())?.to_le_bytes())?;
+    for (serial, position, packet) in entries {
+        append_entry(*serial, *position, *packet, &mut payload)?;
+    }
+    Ok(payload)
+}
+
+fn put_many(alloc: Global, count: u16, packet: Packet) -> Result<Vec<u8>, Fail> {
+    let mut payload = Vec::from_slice(alloc, &count.to_le_bytes())?;
+    for _ in 0..count {
+        append_entry(1, 0, packet, &mut payload)?;
+    }
+    Ok(payload)
 }
 
 /// The front of a begin's payload: no Skeleton, and the number of streams.

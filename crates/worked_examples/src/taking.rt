@@ -4,10 +4,10 @@ use crate::pages::{FIRST, SECOND, THIRD};
 use crate::records::Packet::Text;
 use crate::records::Record::{Begin, BeginMany, BeginOne, End, Put};
 use crate::records::{Record, append};
-use crate::running::{read, run, run_of, second};
+use crate::running::{ReadPacket, read, run, run_of, second};
 use chain_rules::{ChainFault, Command, Refusal, Shape};
 use example_feeds::bytes_of;
-use feed_codec::Feed;
+use feed_codec::{Feed, FeedFault};
 use link_chain::{Chain, WalkFault};
 use std::alloc::Global;
 use std::test::Fail;
@@ -198,28 +198,48 @@ pub fn take_pages(alloc: Global, bytes: &[u8]) -> Result<Taken, Fail> {
     })
 }
 
+/// Whether the file's pages are taken as far as it says.
+fn is_taken(alloc: Global, file: &File) -> Result<bool, Fail> {
+    let bytes = bytes_of(alloc, file.pieces)?;
+    let taken = take_pages(alloc, bytes.as_slice())?;
+    let left = (taken.end, taken.fault, taken.shape.unfinished());
+    Ok(left == (file.end, file.fault, file.unfinished))
+}
+
 #[test]
 fn pages_are_taken_up_to_the_first_fault(rt: HostRuntime) -> Result<(), Fail> {
     for file in &FILES {
-        let bytes = bytes_of(rt.alloc(), file.pieces)?;
-        let taken = take_pages(rt.alloc(), bytes.as_slice())?;
-        assert!(rt; (taken.end, taken.fault) == (file.end, file.fault));
-        assert!(rt; taken.shape.unfinished() == file.unfinished);
+        assert!(rt; is_taken(rt.alloc(), file)?);
     }
     Ok(())
+}
+
+/// The packets of stream 1 after its header's, and the parts of its second one.
+const OF_1: [ReadPacket; 2] = [(3, 1, Some(0)), (70_000, 2, Some(9))];
+
+const PARTS_OF_1: [(usize, bool); 2] = [(65_025, true), (4975, true)];
+
+/// Whether stream 1 is read, its second packet in parts.
+fn stream_1_is_read(alloc: Global, bytes: &[u8]) -> Result<bool, Fail> {
+    let (header, packets) = read(alloc, bytes, 1)?;
+    let (whole, parts) = second(alloc, bytes, 1)?;
+    let is_listed = header == Some(b"abc".as_slice()) && packets.as_slice() == OF_1.as_slice();
+    Ok(is_listed && whole.is_none() && parts.as_slice() == PARTS_OF_1.as_slice())
+}
+
+/// Whether stream 2 is read, its second packet whole.
+fn stream_2_is_read(alloc: Global, bytes: &[u8]) -> Result<bool, Fail> {
+    let (header, packets) = read(alloc, bytes, 2)?;
+    let (whole, _) = second(alloc, bytes, 2)?;
+    let is_listed = header == Some(b"abc".as_slice()) && packets.len() == 2;
+    Ok(is_listed && whole == Some(b"x".as_slice()))
 }
 
 #[test]
 fn a_packet_is_read_in_two_parts(rt: HostRuntime) -> Result<(), Fail> {
     let bytes = bytes_of(rt.alloc(), TWO_PARTS.pieces)?;
-    let (header, packets) = read(rt.alloc(), &bytes, 1)?;
-    assert!(rt; header == Some(b"abc".as_slice()));
-    assert!(rt; packets.as_slice() == [(3, 1, Some(0)), (70_000, 2, Some(9))].as_slice());
-    let (whole, parts) = second(rt.alloc(), &bytes, 1)?;
-    assert!(rt; whole.is_none() && parts.as_slice() == [(65_025, true), (4975, true)].as_slice());
-    let (header, packets) = read(rt.alloc(), &bytes, 2)?;
-    assert!(rt; header == Some(b"abc".as_slice()) && packets.len() == 2);
-    assert!(rt; second(rt.alloc(), &bytes, 2)?.0 == Some(b"x".as_slice()));
+    assert!(rt; stream_1_is_read(rt.alloc(), &bytes)?);
+    assert!(rt; stream_2_is_read(rt.alloc(), &bytes)?);
     Ok(())
 }
 
@@ -233,24 +253,29 @@ fn the_65th_stream_of_a_link_is_too_many(rt: HostRuntime) -> Result<(), Fail> {
     Ok(())
 }
 
+/// What these bytes begin with.
+fn first_of(alloc: Global, bytes: &[u8]) -> Result<Option<feed_codec::Record>, FeedFault> {
+    let mut rest = bytes;
+    Feed::new(alloc).next(&mut rest)
+}
+
 /// The command of this record.
 fn command_of(alloc: Global, record: Record) -> Result<Command, Fail> {
     let mut bytes = Vec::new(alloc);
     append(record, &mut bytes)?;
-    match Feed::new(alloc).next(&mut bytes.as_slice())? {
+    match first_of(alloc, &bytes)? {
         Some(feed_codec::Record::Command(command)) => Ok(command),
         _ => Err("no command".into()),
     }
 }
 
 /// What the rules answer to a command after these pages.
-fn answer(alloc: Global, pages: &[u8], record: Record) -> Result<Option<Refusal>, Fail> {
-    let command = command_of(alloc, record)?;
+fn answer(alloc: Global, pages: &[u8], command: &Command) -> Result<Option<Refusal>, Fail> {
     let taken = take_pages(alloc, pages)?;
     if taken.fault.is_some() {
         return Err("a page isn't taken".into());
     }
-    Ok(taken.shape.check(&command).err())
+    Ok(taken.shape.check(command).err())
 }
 
 /// Commands that would need one more page.
@@ -261,8 +286,9 @@ const LAST: &[u8] = b"OggS\0\x02\0\0\0\0\0\0\0\0\x01\0\0\0\xff\xff\xff\xff\x9d\x
 
 #[test]
 fn no_page_follows_the_last_number(rt: HostRuntime) -> Result<(), Fail> {
-    for record in ONE_MORE {
-        assert!(rt; answer(rt.alloc(), LAST, record)? == Some(Refusal::SequenceEnd));
+    for &record in &ONE_MORE {
+        let command = command_of(rt.alloc(), record)?;
+        assert!(rt; answer(rt.alloc(), LAST, &command)? == Some(Refusal::SequenceEnd));
     }
     Ok(())
 }
@@ -280,14 +306,22 @@ fn links(alloc: Global) -> Result<Vec<u8>, Fail> {
     Ok(feed)
 }
 
+/// Whether another link is refused after these pages, and taken if there is one link less. A link has two pages, of 31
+/// and 27 bytes.
+fn is_full(alloc: Global, pages: &[u8]) -> Result<bool, Fail> {
+    let next = command_of(alloc, NEXT)?;
+    let fewer = pages.get(58..).unwrap_or(&[]);
+    Ok(
+        pages.len() == 65_536 * 58
+            && answer(alloc, pages, &next)? == Some(Refusal::LinksFull)
+            && answer(alloc, fewer, &next)? == None,
+    )
+}
+
 #[test]
 fn links_are_taken_until_there_are_65536(rt: HostRuntime) -> Result<(), Fail> {
     let run = run(rt.alloc(), &links(rt.alloc())?)?;
     assert!(rt; run.result.is_ok());
-    // A link has two pages, of 31 and 27 bytes.
-    assert!(rt; run.pages.len() == 65_536 * 58);
-    assert!(rt; answer(rt.alloc(), &run.pages, NEXT)? == Some(Refusal::LinksFull));
-    let fewer = run.pages.get(58..).ok_or("too few pages")?;
-    assert!(rt; answer(rt.alloc(), fewer, NEXT)? == None);
+    assert!(rt; is_full(rt.alloc(), &run.pages)?);
     Ok(())
 }

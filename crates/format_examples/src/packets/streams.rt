@@ -52,20 +52,23 @@ const PARTS: [(&[PageSpec], [Want; 3]); 2] = [
     ),
 ];
 
+/// Whether the stream has these parts, and its window has lent its last page then.
+fn has_parts(mut stream: Stream<Whole<'_>>, parts: &[Want]) -> bool {
+    for want in parts {
+        if next_of(&mut stream) != Ok(Some(*want)) {
+            return false;
+        }
+    }
+    let ends = (next_of(&mut stream), next_of(&mut stream));
+    ends == (Ok(None), Ok(None)) && matches!(stream.into_window().next(), Ok(None))
+}
+
 #[test]
 fn a_packet_comes_in_a_part_for_each_page(rt: HostRuntime) -> Result<(), Fail> {
-    for &(pages, parts) in &PARTS {
+    for (pages, parts) in &PARTS {
         let bytes = file_of(rt.alloc(), pages, None)?;
         let window = over(Whole::of(&bytes), PageBuffer::new(rt.alloc())?, 0, u64::MAX);
-        let mut stream = Stream::of(window, 1);
-        for want in parts {
-            assert!(rt; next_of(&mut stream) == Ok(Some(want)));
-        }
-        for _ in 0..2 {
-            assert!(rt; next_of(&mut stream) == Ok(None));
-        }
-        let mut window = stream.into_window();
-        assert!(rt; window.next()?.is_none());
+        assert!(rt; has_parts(Stream::of(window, 1), parts));
     }
     Ok(())
 }
@@ -84,24 +87,28 @@ fn is_whole_next<S: PageSource>(
     }
 }
 
+/// Whether the stream's parts are the row's packets, whole, and then comes twice its fault or the end.
+fn are_packets<S: PageSource>(stream: &mut Stream<S>, row: &Row) -> Result<bool, StreamFault> {
+    for (text, position) in row.packets {
+        if !is_whole_next(stream, text, *position)? {
+            return Ok(false);
+        }
+    }
+    let end = match row.fault {
+        Some(fault) => Err(StreamFault::View(fault)),
+        None => Ok(None),
+    };
+    Ok((next_of(stream), next_of(stream)) == (end, end))
+}
+
 #[test]
 fn parts_are_those_of_the_packets(rt: HostRuntime) -> Result<(), Fail> {
     let mut buffer = PageBuffer::new(rt.alloc())?;
     for row in &ROWS {
         let bytes = joined(rt.alloc(), row.pages)?;
         let mut stream = Stream::of(over(Whole::of(&bytes), buffer, 0, u64::MAX), 1);
-        for (text, position) in row.packets {
-            assert!(rt; is_whole_next(&mut stream, text, *position)?);
-        }
-        let end = match row.fault {
-            Some(fault) => Err(StreamFault::View(fault)),
-            None => Ok(None),
-        };
-        for _ in 0..2 {
-            assert!(rt; next_of(&mut stream) == end);
-        }
-        let (_, room) = stream.into_window().into_parts();
-        buffer = room;
+        assert!(rt; are_packets(&mut stream, row)?);
+        (_, buffer) = stream.into_window().into_parts();
     }
     Ok(())
 }
@@ -115,9 +122,8 @@ fn a_read_that_fails_ends_the_stream(rt: HostRuntime) -> Result<(), Fail> {
         27,
     );
     let mut stream = Stream::of(window, 1);
-    for _ in 0..2 {
-        assert!(rt; next_of(&mut stream) == Err(StreamFault::Source));
-    }
+    let faults = (next_of(&mut stream), next_of(&mut stream));
+    assert!(rt; faults == (Err(StreamFault::Source), Err(StreamFault::Source)));
     // The window keeps its fault, so a stream made of it has that fault from the beginning.
     let mut again = Stream::of(stream.into_window(), 1);
     assert!(rt; next_of(&mut again) == Err(StreamFault::Source));
