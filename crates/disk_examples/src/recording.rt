@@ -40,7 +40,7 @@ struct Run {
     end: u64,
 }
 
-const RUNS: [Run; 6] = [
+const RUNS: &[Run] = &[
     Run {
         feed: &[BEGIN, PUT, END, END],
         most: 1,
@@ -117,39 +117,55 @@ fn opened<D: Disk + Drop>(alloc: Global, disk: D, most: u32) -> Result<Recorder<
     }
 }
 
+/// Records the feed. It returns how the run ended, and the end of the committed bytes that an opening then finds.
+fn recorded(
+    alloc: Global,
+    feed: &[u8],
+    disk: FuseDisk<MemDisk>,
+    most: u32,
+    replies: &mut Vec<u8>,
+) -> Result<(Came, u64), Fail> {
+    let mut feed = feed;
+    let mut recorder = opened(alloc, disk, most)?;
+    let came = match record_feed(alloc, &mut feed, replies, &mut recorder) {
+        Ok(tally) => Ok((tally.commands, tally.kept, tally.refused, tally.end)),
+        Err(fault) => Err(fault),
+    };
+    let found = opened(alloc, recorder.give_back().into_inner(), 1)?;
+    Ok((came, found.end()))
+}
+
 #[test]
 fn feeds_are_answered_and_found_again_as_the_rows_say(rt: HostRuntime) -> Result<(), Fail> {
     let alloc = rt.alloc();
-    for run in &RUNS {
+    for run in RUNS {
         let feed = joined(alloc, run.feed)?;
         let disk = FuseDisk::fail_once(MemDisk::of(alloc, b"")?, run.bad);
-        let mut recorder = opened(alloc, disk, run.most)?;
         let mut replies = Vec::new(alloc);
-        let came = match record_feed(alloc, &mut feed.as_slice(), &mut replies, &mut recorder) {
-            Ok(tally) => Ok((tally.commands, tally.kept, tally.refused, tally.end)),
-            Err(fault) => Err(fault),
-        };
-        assert!(rt; replies.as_slice() == run.lines.as_bytes());
-        assert!(rt; came == run.came);
-        let found = opened(alloc, recorder.give_back().into_inner(), 1)?;
-        assert!(rt; found.end() == run.end);
+        let seen = recorded(alloc, &feed, disk, run.most, &mut replies)?;
+        assert!(rt; seen == (run.came, run.end) && replies.as_slice() == run.lines.as_bytes());
     }
     Ok(())
+}
+
+/// How many commands of a group wait, and where the committed bytes end, after there is no more room for replies.
+fn held_after(alloc: Global, room: &mut [u8]) -> Result<(u64, u64), Fail> {
+    let feed = joined(alloc, &[BEGIN, PUT, END])?;
+    let mut recorder = opened(alloc, MemDisk::of(alloc, b"")?, 8)?;
+    let mut replies = room;
+    match record_feed(alloc, &mut feed.as_slice(), &mut replies, &mut recorder) {
+        Err(RunFault::Write) => Ok((recorder.held(), recorder.end())),
+        _ => Err(Fail::from("the second line is written")),
+    }
 }
 
 #[test]
 fn a_writer_that_fails_ends_the_run_and_what_waits_still_waits(
     rt: HostRuntime,
 ) -> Result<(), Fail> {
-    let alloc = rt.alloc();
-    let feed = joined(alloc, &[BEGIN, PUT, END])?;
-    let mut recorder = opened(alloc, MemDisk::of(alloc, b"")?, 8)?;
     // Room for one line.
     let mut line = [0; 7];
-    let mut replies: &mut [u8] = &mut line;
-    let run = record_feed(alloc, &mut feed.as_slice(), &mut replies, &mut recorder);
-    assert!(rt; run == Err(RunFault::Write), "the second line is written");
-    assert!(rt; (recorder.held(), recorder.end()) == (2, 0));
+    assert!(rt; held_after(rt.alloc(), &mut line)? == (2, 0));
     assert!(rt; &line == b"held 1\n");
     Ok(())
 }

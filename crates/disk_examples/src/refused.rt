@@ -4,7 +4,7 @@
 use chain_rules::{Command, Refusal};
 use disk_model::MemDisk;
 use example_feeds::{BEGIN_DESCRIBED, BEGIN_THREE, BEGIN_TWO, PUT_FOUR, ZEROS, bytes_of};
-use feed_codec::{FeedFault, RunFault};
+use feed_codec::{FeedFault, Kept, RunFault};
 use feed_recorder::record_feed;
 use gate_file::OpenFault;
 use ogg_command::{Begin, Listed, Memory, NewStream};
@@ -187,6 +187,45 @@ fn begin_of(alloc: Global, serial: u32) -> Result<Command, Memory> {
     }
 }
 
+/// Whether the begin is kept, as the one command, and the committed bytes end here.
+fn is_begun(recorder: &Recorder<MemDisk>, answer: Result<Outcome, Refusal>, end: u64) -> bool {
+    answer == Ok(Outcome::Kept(Kept { count: 1, end })) && recorder.end() == end
+}
+
+/// Gives the command, and again if memory is refused. Then nothing has changed before.
+fn given(
+    recorder: &mut Recorder<MemDisk>,
+    command: &Command,
+    end: u64,
+) -> Result<Result<Outcome, Refusal>, Fail> {
+    let answer = recorder.command(command);
+    if answer != Err(Refusal::Memory) {
+        return Ok(answer);
+    }
+    if (recorder.count(), recorder.held(), recorder.end()) != (0, 0, end) {
+        return Err(Fail::from("changed"));
+    }
+    Ok(recorder.command(command))
+}
+
+/// Opens the file again after `Disk`, and gives the begin if the file doesn't have it.
+fn begins_again(
+    alloc: Global,
+    mut recorder: Recorder<MemDisk>,
+    command: &Command,
+    end: u64,
+) -> Result<bool, Fail> {
+    if recorder.command(command) != Err(Refusal::Failed) {
+        return Ok(false);
+    }
+    let mut again = opened(alloc, recorder.give_back())?;
+    if again.end() == end {
+        return Ok(true);
+    }
+    let answer = again.command(command);
+    Ok(is_begun(&again, answer, end))
+}
+
 /// Gives the recorder of a file with `end` committed bytes a begin that has a page of 31 bytes, and returns whether
 /// the end is then 31 bytes later. After `Memory` nothing has changed, and the command is given again. After `Disk`
 /// the file is opened again, and the command is given again if the file doesn't have it.
@@ -197,29 +236,11 @@ fn begins(
     end: u64,
 ) -> Result<bool, Fail> {
     let later = end.saturating_add(31);
-    let mut answer = recorder.command(command);
-    if answer == Err(Refusal::Memory) {
-        if (recorder.count(), recorder.held(), recorder.end()) != (0, 0, end) {
-            return Ok(false);
-        }
-        answer = recorder.command(command);
+    let answer = given(&mut recorder, command, end)?;
+    if answer != Err(Refusal::Disk) {
+        return Ok(is_begun(&recorder, answer, later));
     }
-    if answer == Err(Refusal::Disk) {
-        if recorder.end() != end || recorder.command(command) != Err(Refusal::Failed) {
-            return Ok(false);
-        }
-        recorder = opened(alloc, recorder.give_back())?;
-        if recorder.end() == later {
-            return Ok(true);
-        }
-        answer = recorder.command(command);
-    }
-    match answer {
-        Ok(Outcome::Kept(kept)) => {
-            Ok(kept.count == 1 && kept.end == later && recorder.end() == later)
-        }
-        _ => Ok(false),
-    }
+    Ok(recorder.end() == end && begins_again(alloc, recorder, command, later)?)
 }
 
 #[test]

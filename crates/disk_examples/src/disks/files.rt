@@ -157,7 +157,7 @@ fn is_as_told(rt: &HostRuntime, path: &str, mode: FileMode, calls: Option<Calls>
 #[test]
 fn files_are_opened_written_and_read_as_the_rows_say(rt: HostRuntime) -> Result<(), Fail> {
     let folder = new_folder(&rt)?;
-    for (place, mode, calls) in OPENED {
+    for &(place, mode, calls) in &OPENED {
         let is_told = match place {
             Place::Named(name) => {
                 let file = folder.join(rt.alloc(), name)?;

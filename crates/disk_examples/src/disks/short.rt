@@ -152,7 +152,7 @@ const TORN: [(u64, &[u8], bool); 4] = [
 
 #[test]
 fn a_write_that_fails_has_written_a_part(rt: HostRuntime) -> Result<(), Fail> {
-    for (call, contents, written) in TORN {
+    for &(call, contents, written) in &TORN {
         let mut disk = short(rt.alloc(), b".....", 2, call)?;
         assert!(rt; disk.write_at(0, b"hello").is_ok() == written);
         let ShortFile { disk, .. } = disk.into_inner();

@@ -31,7 +31,7 @@ fn after(alloc: Global, file: &[Part], calls: u64) -> Result<Option<MemDisk>, Fa
 
 #[test]
 fn an_opening_makes_as_many_calls_as_the_rows_say(rt: HostRuntime) -> Result<(), Fail> {
-    for (file, calls, contents) in OPENINGS {
+    for &(file, calls, contents) in &OPENINGS {
         let contents = joined(rt.alloc(), contents)?;
         for given in 0..=calls {
             match after(rt.alloc(), file, given)? {

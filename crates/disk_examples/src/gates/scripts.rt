@@ -3,7 +3,6 @@ use super::tools::{Named, Part, Step, are_made, ends, joined, opened, overlaid, 
 use crate::fused::{Fuse, fused};
 use disk_model::MemDisk;
 use std::alloc::Global;
-use std::process::Abort;
 use std::test::Fail;
 
 /// A file, and calls of it, which are made up to the first that fails.
@@ -26,7 +25,7 @@ struct Script {
 /// pages, or if the file is empty.
 type Stop = (Fuse, bool, (u64, u64));
 
-const SCRIPTS: [Script; 12] = [
+const SCRIPTS: &[Script] = &[
     // An append of a page: a write, a sync, the write of the commit byte, a sync.
     Script {
         file: &[Part::Page(Named::Begin), Part::Bytes(&[0])],
@@ -228,28 +227,23 @@ fn is_as_told(seen: Seen, script: &Script, all: bool) -> bool {
     made == all && failed != all && told
 }
 
-/// Checks one stop of a script, over these bytes.
-fn check_stop<R: Abort>(
-    rt: &R,
-    alloc: Global,
-    bytes: &[u8],
-    script: &Script,
-    stop: &Stop,
-) -> Result<(), Fail> {
+/// Whether a stop of a script over these bytes is answered, and leaves what the script says.
+fn is_stopped(alloc: Global, bytes: &[u8], script: &Script, stop: &Stop) -> Result<bool, Fail> {
     let (fuse, all, found) = *stop;
-    assert!(rt; ends(alloc, bytes)? == Ok(script.before));
     let (seen, disk) = made(alloc, bytes, fuse, script.steps)?;
-    assert!(rt; is_as_told(seen, script, all));
-    assert!(rt; ends(alloc, disk.contents())? == Ok(found));
-    assert!(rt;
-        !all || disk
-            .contents()
-            .starts_with(&joined(alloc, script.contents)?)
-    );
-    if disk.contents().len() > LONG {
-        return Ok(());
+    let is_told = ends(alloc, bytes)? == Ok(script.before)
+        && is_as_told(seen, script, all)
+        && ends(alloc, disk.contents())? == Ok(found)
+        && (!all || begins_with(alloc, disk.contents(), script.contents)?);
+    if !is_told || disk.contents().len() > LONG {
+        return Ok(is_told);
     }
-    check_images(rt, alloc, &disk, script.before.0, found.0, all)
+    images_are_found(alloc, &disk, script.before.0, found.0, all)
+}
+
+/// Whether the bytes begin with these parts.
+fn begins_with(alloc: Global, bytes: &[u8], parts: &[Part]) -> Result<bool, Fail> {
+    Ok(bytes.starts_with(&joined(alloc, parts)?))
 }
 
 /// The images of longer contents aren't opened, since that would take minutes.
@@ -281,16 +275,16 @@ fn images_of(alloc: Global, bytes: &[u8], commit: usize) -> Result<Vec<Vec<u8>>,
     Ok(images)
 }
 
-/// Finds the end of each of the images that a stop now may leave. If all calls succeeded it is the new one. Otherwise
-/// it is the one before, or the new one if the commit byte is the first of a page.
-fn check_images<R: Abort>(
-    rt: &R,
+/// Whether the right end is found in each of the images that a stop now may leave, of which there is one at least. If
+/// all calls succeeded it is the new one. Otherwise it is the one before, or the new one if the commit byte is the
+/// first of a page.
+fn images_are_found(
     alloc: Global,
     disk: &MemDisk,
     before: u64,
     after: u64,
     all: bool,
-) -> Result<(), Fail> {
+) -> Result<bool, Fail> {
     let mut asked = false;
     for image in &images_of(alloc, disk.contents(), before as usize)? {
         if disk.is_image(image) {
@@ -298,19 +292,20 @@ fn check_images<R: Abort>(
             let is_open = image.get(before as usize) == Some(&b'O');
             let end = if all || is_open { after } else { before };
             let tail = (image.len() as u64).saturating_sub(end);
-            assert!(rt; ends(alloc, image)? == Ok((end, tail)));
+            if ends(alloc, image)? != Ok((end, tail)) {
+                return Ok(false);
+            }
         }
     }
-    assert!(rt; asked);
-    Ok(())
+    Ok(asked)
 }
 
 #[test]
 fn scripts_of_calls_are_whole_or_not_at_all(rt: HostRuntime) -> Result<(), Fail> {
-    for script in &SCRIPTS {
+    for script in SCRIPTS {
         let bytes = joined(rt.alloc(), script.file)?;
         for stop in script.stops {
-            check_stop(&rt, rt.alloc(), &bytes, script, stop)?;
+            assert!(rt; is_stopped(rt.alloc(), &bytes, script, stop)?);
         }
     }
     Ok(())
@@ -354,18 +349,19 @@ fn tailed(alloc: Global, closed: u8, tail: &[Part]) -> Result<Vec<u8>, Fail> {
 #[test]
 fn what_follows_a_closed_byte_is_a_tail(rt: HostRuntime) -> Result<(), Fail> {
     for closed in [0, 1, b'o', 0xFF] {
-        for tail in TAILS {
+        for &tail in &TAILS {
             let bytes = tailed(rt.alloc(), closed, tail)?;
-            check_stop(
-                &rt,
-                rt.alloc(),
-                &bytes,
-                &TAILED,
-                &(Fuse::Whole, true, (64, 59)),
-            )?;
+            let stop = (Fuse::Whole, true, (64, 59));
+            assert!(rt; is_stopped(rt.alloc(), &bytes, &TAILED, &stop)?);
         }
     }
     Ok(())
+}
+
+/// Whether a page is appended to a file with these bytes, and the bytes then.
+fn appended(alloc: Global, bytes: &[u8], fuse: Fuse, page: Named) -> Result<(bool, Vec<u8>), Fail> {
+    let ((all, ..), disk) = made(alloc, bytes, fuse, &[Step::Append(page)])?;
+    Ok((all, disk.contents().to_vec(alloc)?))
 }
 
 /// A large page is stopped before its commit byte is written, and the next append writes over it.
@@ -373,13 +369,9 @@ fn what_follows_a_closed_byte_is_a_tail(rt: HostRuntime) -> Result<(), Fail> {
 fn the_next_append_writes_over_what_was_not_committed(rt: HostRuntime) -> Result<(), Fail> {
     let alloc = rt.alloc();
     let first = joined(alloc, &[Part::Page(Named::Begin), Part::Bytes(&[0])])?;
-    let large = [Step::Append(Named::Large)];
-    let ((all, ..), disk) = made(alloc, &first, Fuse::StopAfter(6), &large)?;
-    assert!(rt; (all, disk.contents().len()) == (false, 60_295));
-    assert!(rt; ends(alloc, disk.contents())? == Ok((31, 60_264)));
-    let mut file = opened(alloc, disk)?;
-    assert!(rt; are_made(alloc, &mut file, &[Step::Append(Named::Put)])?);
-    assert!(rt; file.end() == 64);
-    assert!(rt; ends(alloc, file.give_back().contents())? == Ok((64, 60_231)));
+    let (all, stopped) = appended(alloc, &first, Fuse::StopAfter(6), Named::Large)?;
+    assert!(rt; !all && ends(alloc, &stopped)? == Ok((31, 60_264)));
+    let (all, next) = appended(alloc, &stopped, Fuse::Whole, Named::Put)?;
+    assert!(rt; all && ends(alloc, &next)? == Ok((64, 60_231)));
     Ok(())
 }

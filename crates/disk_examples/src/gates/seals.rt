@@ -133,7 +133,7 @@ fn read<D: Disk>(file: &mut GateFile<D>, from: u64) -> Option<[u8; 5]> {
 
 #[test]
 fn committed_bytes_are_read_after_a_fault_too(rt: HostRuntime) -> Result<(), Fail> {
-    for (file, steps, fuse, from, bytes) in READINGS {
+    for &(file, steps, fuse, from, bytes) in &READINGS {
         let disk = fused(rt.alloc(), &joined(rt.alloc(), file)?, fuse)?;
         let mut file = opened(rt.alloc(), disk)?;
         let all = are_made(rt.alloc(), &mut file, steps)?;

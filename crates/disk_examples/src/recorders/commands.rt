@@ -41,7 +41,7 @@ pub(super) fn sealed<D: Disk>(recorder: Recorder<D>) -> D {
 #[test]
 fn the_file_is_the_pages_and_one_closed_byte(rt: HostRuntime) -> Result<(), Fail> {
     let alloc = rt.alloc();
-    for (count, pages) in PAGES {
+    for &(count, pages) in &PAGES {
         let disk = recorded(alloc, count)?.give_back();
         assert!(rt; disk.contents() == file_of(alloc, pages, b"\0")?.as_slice());
     }

@@ -5,7 +5,6 @@ use super::tools::{Answer, Given, ends, give, group};
 use disk_model::{Disk, FileDisk, FileMode, FuseDisk, MemDisk};
 use ogg_recorder::Recorder;
 use std::alloc::Global;
-use std::process::Abort;
 use std::test::Fail;
 use std::{env, fs, process};
 
@@ -88,9 +87,8 @@ fn may_end(run: &Run, kept: u64, found: u64) -> bool {
     after.next() == Some(&kept) && (found == kept || after.next() == Some(&found))
 }
 
-/// If a stop now may leave these bytes, the first commands are found in them.
-fn check_image<R: Abort>(
-    rt: &R,
+/// How many images these bytes are, none or one. If a stop now may leave them, the first commands are found in them.
+fn check_image(
     alloc: Global,
     disk: &MemDisk,
     run: &Run,
@@ -101,10 +99,10 @@ fn check_image<R: Abort>(
         return Ok(0);
     }
     match ends(alloc, image)? {
-        Ok((found, _)) => assert!(rt; may_end(run, kept, found)),
-        Err(_) => return Err(Fail::from("damaged")),
+        Ok((found, _)) if may_end(run, kept, found) => Ok(1),
+        Ok(_) => Err(Fail::from("other commands are found")),
+        Err(_) => Err(Fail::from("damaged")),
     }
-    Ok(1)
 }
 
 /// How many images were checked so far.
@@ -113,19 +111,13 @@ fn more(found: u64, others: u64) -> u64 {
 }
 
 /// The file as it is, cut, and with each range filled with zeros, with ones, and with a page of another recording.
-fn check_images<R: Abort>(
-    rt: &R,
-    alloc: Global,
-    disk: &MemDisk,
-    run: &Run,
-    kept: u64,
-) -> Result<u64, Fail> {
+fn check_images(alloc: Global, disk: &MemDisk, run: &Run, kept: u64) -> Result<u64, Fail> {
     let whole = disk.contents();
-    let mut found = check_image(rt, alloc, disk, run, kept, whole)?;
+    let mut found = check_image(alloc, disk, run, kept, whole)?;
     for length in 0..whole.len().min(100) {
         found = more(
             found,
-            check_image(rt, alloc, disk, run, kept, &whole[..length])?,
+            check_image(alloc, disk, run, kept, &whole[..length])?,
         );
     }
     for from in run.places {
@@ -134,11 +126,8 @@ fn check_images<R: Abort>(
                 for fill in 0..3 {
                     let mut image = whole.to_vec(alloc)?;
                     fill_range(&mut image[*from..*to], fill);
-                    found = more(found, check_image(rt, alloc, disk, run, kept, &image)?);
-                    found = more(
-                        found,
-                        check_image(rt, alloc, disk, run, kept, &image[..*to])?,
-                    );
+                    found = more(found, check_image(alloc, disk, run, kept, &image)?);
+                    found = more(found, check_image(alloc, disk, run, kept, &image[..*to])?);
                 }
             }
         }
@@ -158,8 +147,13 @@ fn fill_range(range: &mut [u8], fill: u8) {
     }
 }
 
-/// Each call fails in turn; if `stays`, so do all calls after it.
-fn check_run<R: Abort>(rt: &R, alloc: Global, run: &Run, stays: bool) -> Result<u64, Fail> {
+/// Whether all of the run is on the disk, and nothing else.
+fn is_whole(run: &Run, disk: &MemDisk, kept: u64) -> bool {
+    run.ends.last() == Some(&kept) && disk.contents().len() as u64 == kept
+}
+
+/// How many images were checked. Each call fails in turn; if `stays`, so do all calls after it.
+fn check_run(alloc: Global, run: &Run, stays: bool) -> Result<u64, Fail> {
     let mut images = 0;
     for call in 0..CALLS {
         let disk = MemDisk::of(alloc, b"")?;
@@ -170,10 +164,9 @@ fn check_run<R: Abort>(rt: &R, alloc: Global, run: &Run, stays: bool) -> Result<
         };
         let (kept, fuse) = run_on(alloc, fuse, run)?;
         let disk = fuse.into_inner();
-        images = more(images, check_images(rt, alloc, &disk, run, kept)?);
-        if call == CALLS - 1 && stays {
-            assert!(rt; run.ends.last() == Some(&kept));
-            assert!(rt; disk.contents().len() as u64 == kept);
+        images = more(images, check_images(alloc, &disk, run, kept)?);
+        if call == CALLS - 1 && stays && !is_whole(run, &disk, kept) {
+            return Err(Fail::from("the last call isn't the last"));
         }
     }
     Ok(images)
@@ -182,10 +175,18 @@ fn check_run<R: Abort>(rt: &R, alloc: Global, run: &Run, stays: bool) -> Result<
 #[test]
 fn each_failing_call_leaves_the_first_commands(rt: HostRuntime) -> Result<(), Fail> {
     for run in &RUNS {
-        assert!(rt; check_run(&rt, rt.alloc(), run, false)? > 100);
-        assert!(rt; check_run(&rt, rt.alloc(), run, true)? > 100);
+        assert!(rt; check_run(rt.alloc(), run, false)? > 100);
+        assert!(rt; check_run(rt.alloc(), run, true)? > 100);
     }
     Ok(())
+}
+
+/// Whether the file opens, and its committed bytes end where they may.
+fn is_found(alloc: Global, file: FileDisk, run: &Run, kept: u64) -> bool {
+    match Recorder::open(alloc, file) {
+        Ok(recorder) => may_end(run, kept, recorder.end()),
+        Err(_) => false,
+    }
 }
 
 /// The same over a file of the system, which is opened again as it stands.
@@ -199,11 +200,7 @@ fn a_file_of_the_system_is_found_so_too(rt: HostRuntime) -> Result<(), Fail> {
         for call in 0..CALLS {
             let file = FileDisk::open(&rt, path.as_str(), FileMode::Create).map_err(|_| "made")?;
             let (kept, fuse) = run_on(alloc, FuseDisk::stop_after(file, call), run)?;
-            let file = fuse.into_inner();
-            match Recorder::open(alloc, file) {
-                Ok(recorder) => assert!(rt; may_end(run, kept, recorder.end())),
-                Err(_) => return Err(Fail::from("damaged")),
-            }
+            assert!(rt; is_found(alloc, fuse.into_inner(), run, kept));
             fs::remove_file(&rt, path.as_path())?;
         }
     }

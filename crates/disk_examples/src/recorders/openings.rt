@@ -65,7 +65,7 @@ const BROKEN: [(&[ByHand], OpenFault); 12] = [
 #[test]
 fn broken_chains_are_told_and_left_as_they_are(rt: HostRuntime) -> Result<(), Fail> {
     let alloc = rt.alloc();
-    for (pages, fault) in BROKEN {
+    for &(pages, fault) in &BROKEN {
         let bytes = joined(alloc, pages)?;
         assert!(rt; ends(alloc, &bytes)? == Err(fault));
 

@@ -7,7 +7,6 @@ use chain_rules::Refusal;
 use disk_model::{Disk, MemDisk};
 use ogg_recorder::Recorder;
 use std::alloc::Global;
-use std::process::Abort;
 use std::test::Fail;
 
 /// A command and its answer.
@@ -71,7 +70,7 @@ pub(super) const FIRST: &[Turn] = &[
     (Given::End(1), Answer::Kept(3, 91)),
 ];
 
-const SCRIPTS: [Script; 15] = [
+const SCRIPTS: &[Script] = &[
     Script {
         turns: FIRST,
         stops: &[(Fuse::Whole, true, (91, 1))],
@@ -296,76 +295,77 @@ pub(super) fn made<D: Disk + Drop>(
     Ok(((found, other, is_failed, refuses), recorder.give_back()))
 }
 
-/// Whatever a stop makes of the commit byte, either none of the group is found or all of it.
-fn check_images<R: Abort>(
-    rt: &R,
+/// Whether, whatever a stop makes of the commit byte, either none of the group is found or all of it.
+fn all_or_none_is_found(
     alloc: Global,
     disk: &MemDisk,
     before: u64,
     end: u64,
-) -> Result<(), Fail> {
+) -> Result<bool, Fail> {
     for byte in [0, 1, b'O', 0xFF] {
         let mut image = disk.contents().to_vec(alloc)?;
         if let Some(place) = image.get_mut(before as usize) {
             *place = byte;
         }
-        if disk.is_image(&image) {
-            match ends(alloc, &image)? {
-                Ok((found, _)) => assert!(rt; found == before || found == before.max(end)),
-                Err(_) => return Err(Fail::from("damaged")),
-            }
+        if disk.is_image(&image) && !ends_by(alloc, &image, before, end)? {
+            return Ok(false);
         }
     }
-    Ok(())
+    Ok(true)
 }
 
-/// Checks one stop of a script, and gives the disk back.
-fn check_stop<R: Abort>(
-    rt: &R,
-    alloc: Global,
-    script: &Script,
-    stop: &Stop,
-) -> Result<MemDisk, Fail> {
+/// Whether the committed bytes of this image end at one of these places.
+fn ends_by(alloc: Global, image: &[u8], before: u64, end: u64) -> Result<bool, Fail> {
+    match ends(alloc, image)? {
+        Ok((found, _)) => Ok(found == before || found == before.max(end)),
+        Err(_) => Ok(false),
+    }
+}
+
+/// Whether a stop of a script is answered and leaves what the script says, also where the disk is opened again.
+fn is_as_told(alloc: Global, script: &Script, stop: &Stop) -> Result<bool, Fail> {
     let (fuse, all, found) = *stop;
     let disk = fused(alloc, &file_of(alloc, script.file, script.tail)?, fuse)?;
     let (seen, disk) = made(alloc, disk, script.most, script.turns)?;
-    let other = if all {
-        None
-    } else {
-        Some(Answer::Refused(Refusal::Disk))
-    };
-    assert!(rt; seen == (script.before, other, !all, true));
-    let disk = disk.into_inner();
-    assert!(rt; ends(alloc, disk.contents())? == Ok(found));
-    check_images(rt, alloc, &disk, script.before.0, found.0)?;
-    Ok(disk)
+    if seen != (script.before, fault_unless(all), !all, true) {
+        return Ok(false);
+    }
+    leaves(alloc, script, found, disk.into_inner())
 }
 
-/// Opens the disk again, and gives the recorder what the script then says.
-fn check_again<R: Abort>(
-    rt: &R,
-    alloc: Global,
-    disk: MemDisk,
-    script: &Script,
-    found: (u64, u64),
-) -> Result<(), Fail> {
+/// The answer of a disk that has failed, if not all commands are answered as the script says.
+fn fault_unless(all: bool) -> Option<Answer> {
+    if all {
+        return None;
+    }
+    Some(Answer::Refused(Refusal::Disk))
+}
+
+/// Whether the disk has what the script says, and takes what the script then says.
+fn leaves(alloc: Global, script: &Script, found: (u64, u64), disk: MemDisk) -> Result<bool, Fail> {
+    Ok(
+        ends(alloc, disk.contents())? == Ok(found)
+            && all_or_none_is_found(alloc, &disk, script.before.0, found.0)?
+            && goes_on(alloc, disk, script, found)?,
+    )
+}
+
+/// Whether the disk, opened again, takes what the script then says.
+fn goes_on(alloc: Global, disk: MemDisk, script: &Script, found: (u64, u64)) -> Result<bool, Fail> {
     let (seen, disk) = made(alloc, disk, 1, script.again)?;
-    assert!(rt; seen == (found, None, false, true));
     let at_last = if script.again.is_empty() {
         found
     } else {
         script.at_last
     };
-    assert!(rt; ends(alloc, disk.contents())? == Ok(at_last));
-    Ok(())
+    Ok(seen == (found, None, false, true) && ends(alloc, disk.contents())? == Ok(at_last))
 }
 
 #[test]
 fn commands_are_answered_and_found_as_the_rows_say(rt: HostRuntime) -> Result<(), Fail> {
-    for script in &SCRIPTS {
+    for script in SCRIPTS {
         for stop in script.stops {
-            let disk = check_stop(&rt, rt.alloc(), script, stop)?;
-            check_again(&rt, rt.alloc(), disk, script, stop.2)?;
+            assert!(rt; is_as_told(rt.alloc(), script, stop)?);
         }
     }
     Ok(())
