@@ -1,31 +1,55 @@
 //! Pages counted, and packets listed.
 use md5::{Digest, Md5};
-use ogg_page::Pages;
+use ogg_page::{PageFault, Pages};
 use packet_view::{Packet, Packets};
 use std::io::{self, Write};
 
+/// Pages up to the first fault: how many there are, where the last of them ends, and the fault with its offset.
+#[derive(Clone, Copy)]
+pub struct Counted {
+    pub count: u64,
+    pub end: u64,
+    pub fault: Option<(u64, PageFault)>,
+}
+
+impl Counted {
+    pub fn new() -> Counted {
+        Counted {
+            count: 0,
+            end: 0,
+            fault: None,
+        }
+    }
+
+    /// Counts a page that has this offset and length.
+    pub fn add(&mut self, offset: u64, length: usize) {
+        self.count = self.count.saturating_add(1);
+        self.end = offset.saturating_add(length as u64);
+    }
+
+    /// Writes what was counted, and returns whether there was no fault.
+    pub fn write<W: Write>(&self, output: &mut W) -> io::Result<bool> {
+        writeln!(output, "pages {} {}", self.count, self.end)?;
+        match self.fault {
+            None => Ok(true),
+            Some((offset, fault)) => {
+                writeln!(output, "fault {offset} {} {}", fault.code(), fault.name())?;
+                Ok(false)
+            }
+        }
+    }
+}
+
 /// Counts the pages up to the first fault.
 pub fn count_pages<W: Write>(bytes: &[u8], output: &mut W) -> io::Result<bool> {
-    let mut count = 0u64;
-    let mut end = 0u64;
-    let mut fault = None;
+    let mut counted = Counted::new();
     for found in Pages::of(bytes) {
         match found {
-            Ok((offset, page)) => {
-                count = count.saturating_add(1);
-                end = offset.saturating_add(page.whole().len() as u64);
-            }
-            Err(found) => fault = Some(found),
+            Ok((offset, page)) => counted.add(offset, page.whole().len()),
+            Err(fault) => counted.fault = Some(fault),
         }
     }
-    writeln!(output, "pages {count} {end}")?;
-    match fault {
-        None => Ok(true),
-        Some((offset, fault)) => {
-            writeln!(output, "fault {offset} {} {}", fault.code(), fault.name())?;
-            Ok(false)
-        }
-    }
+    counted.write(output)
 }
 
 /// Lists the packets of a stream up to the first fault.

@@ -18,6 +18,7 @@ mod window;
 use crate::chain::check_chain;
 use crate::listing::{count_pages, list_packets};
 use crate::window::count_lent;
+use std::alloc::Global;
 use std::env;
 use std::io::{self, BufWriter, Read, Write};
 use std::process::ExitCode;
@@ -33,24 +34,33 @@ fn main(rt: HostRuntime) -> ExitCode {
 /// Whether what was asked for was found without a fault.
 fn run(rt: &HostRuntime) -> io::Result<bool> {
     let mut output = BufWriter::new(rt.alloc(), rt.stdout())?;
+    let is_sound = answer(rt, &mut output)?;
+    output.flush()?;
+    Ok(is_sound)
+}
+
+/// Answers what the words ask for.
+fn answer<W: Write>(rt: &HostRuntime, output: &mut W) -> io::Result<bool> {
     let mut words = env::args(rt)?.skip(1);
     let word = words.next();
     if let Some(path) = words.next() {
-        let sound = count_lent(rt, path.as_str(), &mut output)?;
-        output.flush()?;
-        return Ok(sound);
+        return count_lent(rt, path.as_str(), output);
     }
     let mut bytes = Vec::new(rt.alloc());
     rt.stdin().read_to_end(&mut bytes)?;
-    let bytes = bytes.as_slice();
-    let sound = match word {
-        None => count_pages(bytes, &mut output)?,
-        Some(word) if word.as_str() == "chain" => check_chain(rt.alloc(), bytes, &mut output)?,
-        Some(word) => match word.parse::<u32>() {
-            Ok(serial) => list_packets(bytes, serial, &mut output)?,
-            Err(_) => return Err(io::Error::from(io::ErrorKind::InvalidInput)),
-        },
-    };
-    output.flush()?;
-    Ok(sound)
+    match word {
+        None => count_pages(&bytes, output),
+        Some(word) => read(rt.alloc(), word.as_str(), &bytes, output),
+    }
+}
+
+/// Reads the bytes as a chain, or the packets of the stream with this serial.
+fn read<W: Write>(alloc: Global, word: &str, bytes: &[u8], output: &mut W) -> io::Result<bool> {
+    if word == "chain" {
+        return check_chain(alloc, bytes, output);
+    }
+    match word.parse::<u32>() {
+        Ok(serial) => list_packets(bytes, serial, output),
+        Err(_) => Err(io::Error::from(io::ErrorKind::InvalidInput)),
+    }
 }

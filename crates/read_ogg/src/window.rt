@@ -1,6 +1,7 @@
 //! Pages of a file, through a window that holds one of them at a time.
 ghost use Rattle.std.specs.Prelude.{◌≡◌};
 
+use crate::listing::Counted;
 use ogg_page::{PageBuffer, PageSource, SourceFault, Window, WindowFault};
 use std::fs::File;
 use std::io::{self, Write};
@@ -61,8 +62,8 @@ fn fill(file: &File, at: u64, buffer: &mut [u8]) -> bool {
     done >= buffer.len()
 }
 
-/// Counts the pages of a file up to the first fault, as they are lent.
-pub fn count_lent<W: Write>(rt: &HostRuntime, path: &str, output: &mut W) -> io::Result<bool> {
+/// A window over a file, and its buffer.
+fn opened(rt: &HostRuntime, path: &str) -> io::Result<Window<FileSource>> {
     let file = File::open(rt, path)?;
     let length = file.metadata()?.len();
     let buffer = match PageBuffer::new(rt.alloc()) {
@@ -74,32 +75,27 @@ pub fn count_lent<W: Write>(rt: &HostRuntime, path: &str, output: &mut W) -> io:
         length,
         failures: 0,
     };
-    let mut window = Window::new(source, buffer, 0, length);
-    let mut count = 0u64;
-    let mut end = 0u64;
-    let mut fault = None;
+    Ok(Window::new(source, buffer, 0, length))
+}
+
+/// Counts the pages up to the first fault, as they are lent.
+fn counted(window: &mut Window<FileSource>) -> io::Result<Counted> {
+    let mut counted = Counted::new();
     for _ in 0..u64::MAX {
         match window.next() {
-            Ok(Some(lent)) => {
-                count = count.saturating_add(1);
-                end = lent
-                    .offset()
-                    .saturating_add(lent.page().whole().len() as u64);
-            }
+            Ok(Some(lent)) => counted.add(lent.offset(), lent.page().whole().len()),
             Ok(None) => break,
-            Err(WindowFault::Page(offset, found)) => {
-                fault = Some((offset, found));
+            Err(WindowFault::Page(offset, fault)) => {
+                counted.fault = Some((offset, fault));
                 break;
             }
             Err(WindowFault::Source) => return Err(io::Error::from(io::ErrorKind::InvalidData)),
         }
     }
-    writeln!(output, "pages {count} {end}")?;
-    match fault {
-        None => Ok(true),
-        Some((offset, fault)) => {
-            writeln!(output, "fault {offset} {} {}", fault.code(), fault.name())?;
-            Ok(false)
-        }
-    }
+    Ok(counted)
+}
+
+/// Counts the pages of a file up to the first fault.
+pub fn count_lent<W: Write>(rt: &HostRuntime, path: &str, output: &mut W) -> io::Result<bool> {
+    counted(&mut opened(rt, path)?)?.write(output)
 }
