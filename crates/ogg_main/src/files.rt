@@ -3,9 +3,11 @@
 use crate::indexing::{Indexed, find_index};
 use disk_model::{FileDisk, FileMode};
 use fault_lines::Fault;
+use gate_file::Found;
+use link_index::Index;
 use ogg_page::{Window, write_whole};
 use ogg_split::{SplitFault, copy_link_from, copy_stream_from};
-use std::io::{BufWriter, Write};
+use std::io::{BufWriter, Stdout, Write};
 
 /// How many bytes of a copy are written at once.
 const TOGETHER: usize = 32768;
@@ -23,27 +25,71 @@ pub fn links(rt: &HostRuntime, file: &str) -> Result<(), Fault> {
     }
 }
 
-/// Writes the pages of a link to standard output, or those of one of its streams.
-pub fn split(rt: &HostRuntime, file: &str, link: u32, serial: Option<u32>) -> Result<(), Fault> {
+/// A window over the committed bytes of a file, and their index.
+#[derive(Drop)]
+pub struct Reading {
+    pub window: Window<Found<FileDisk>>,
+    pub index: Index,
+}
+
+/// Opens a file whose pages are written. It is only read.
+pub fn read(rt: &HostRuntime, file: &str) -> Result<Reading, Fault> {
     let Indexed {
         found,
         index,
         buffer,
     } = find_index(rt.alloc(), open(rt, file)?)?;
-    let Ok(mut out) = BufWriter::with_capacity(rt.alloc(), TOGETHER, rt.stdout()) else {
-        return Err(Fault::Memory);
-    };
-    let mut window = Window::new(found, buffer, 0, 0);
-    let copied = match serial {
-        Some(serial) => copy_stream_from(&mut window, &index, link, serial, &mut out),
-        None => copy_link_from(&mut window, &index, link, &mut out),
-    };
-    // What was copied before a fault goes out too.
+    Ok(Reading {
+        window: Window::new(found, buffer, 0, 0),
+        index,
+    })
+}
+
+/// Standard output, to which this many bytes are written at once.
+pub fn output(rt: &HostRuntime, together: usize) -> Result<BufWriter<Stdout>, Fault> {
+    match BufWriter::with_capacity(rt.alloc(), together, rt.stdout()) {
+        Ok(out) => Ok(out),
+        Err(_) => Err(Fault::Memory),
+    }
+}
+
+/// What became of pages that were written, after what they left in the buffer. What was written before a fault goes
+/// out too.
+pub fn flushed<W: Write>(written: Result<(), SplitFault>, out: &mut W) -> Result<(), SplitFault> {
     let flushed = out.flush();
-    match (copied, flushed) {
-        (Err(fault), _) => Err(Fault::Split(fault)),
-        (Ok(_), Err(_)) => Err(Fault::Split(SplitFault::Write)),
-        (Ok(_), Ok(())) => Ok(()),
+    match (written, flushed) {
+        (Err(fault), _) => Err(fault),
+        (Ok(()), Err(_)) => Err(SplitFault::Write),
+        (Ok(()), Ok(())) => Ok(()),
+    }
+}
+
+/// Writes the pages of a link to standard output, or those of one of its streams.
+pub fn split(rt: &HostRuntime, file: &str, link: u32, serial: Option<u32>) -> Result<(), Fault> {
+    let mut reading = read(rt, file)?;
+    let mut out = output(rt, TOGETHER)?;
+    let copied = copy(&mut reading, link, serial, &mut out);
+    match flushed(copied, &mut out) {
+        Ok(()) => Ok(()),
+        Err(fault) => Err(Fault::Split(fault)),
+    }
+}
+
+/// Copies the pages of the link, or those of one of its streams.
+fn copy<W: Write>(
+    reading: &mut Reading,
+    link: u32,
+    serial: Option<u32>,
+    out: &mut W,
+) -> Result<(), SplitFault> {
+    let Reading { window, index } = reading;
+    let copied = match serial {
+        Some(serial) => copy_stream_from(window, index, link, serial, out),
+        None => copy_link_from(window, index, link, out),
+    };
+    match copied {
+        Ok(_) => Ok(()),
+        Err(fault) => Err(fault),
     }
 }
 

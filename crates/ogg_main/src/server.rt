@@ -56,21 +56,40 @@ pub fn live(
     let Opened { mut hub, sealed } = open_hub(rt, file)?;
     // `clap` has checked that `most` lies in this range, and nothing waits yet.
     hub.group(most.clamp(1, 1024));
-    let Ok(feed) = File::open(rt, feed) else {
+    let input = open_feed(rt, feed)?;
+    let listener = listen(rt, address)?;
+    let mut feed = LiveFeed::new(rt.alloc(), input, rt.stdout());
+    let met = serve_live(&mut hub, &listener, &mut feed, count);
+    record_rest(&mut hub, &mut feed);
+    let met = met.or(fault_in(feed.ended()));
+    close(hub, sealed, met)
+}
+
+/// The feed that is recorded.
+fn open_feed(rt: &HostRuntime, feed: &str) -> Result<BufReader<File>, Fault> {
+    let Ok(file) = File::open(rt, feed) else {
         return Err(Fault::File);
     };
-    let Ok(feed) = BufReader::with_capacity(rt.alloc(), AHEAD, feed) else {
-        return Err(Fault::Feed(FeedFault::Memory));
-    };
-    let listener = listen(rt, address)?;
-    let mut feed = LiveFeed::new(rt.alloc(), feed, rt.stdout());
+    match BufReader::with_capacity(rt.alloc(), AHEAD, file) {
+        Ok(input) => Ok(input),
+        Err(_) => Err(Fault::Feed(FeedFault::Memory)),
+    }
+}
+
+/// Serves this many connections, unless the file is lost, and records the feed meanwhile. Returns the first fault.
+fn serve_live<R: Read, W: Write + Drop>(
+    hub: &mut Hub<FileDisk>,
+    listener: &TcpListener,
+    feed: &mut LiveFeed<R, W>,
+    count: u32,
+) -> Option<Fault> {
     let mut met = None;
     for _ in 0..count {
-        if is_lost(&feed) {
+        if is_lost(feed) {
             break;
         }
-        if let Ok(stream) = accept(&listener) {
-            let served = live_one(&mut hub, &mut &stream, &mut &stream, &mut feed);
+        if let Ok(stream) = accept(listener) {
+            let served = live_one(hub, &mut &stream, &mut &stream, feed);
             // A fault of the feed came before one that has ended the connection.
             met = met.or(fault_in(feed.ended()));
             if let Err(fault) = served {
@@ -78,14 +97,17 @@ pub fn live(
             }
         }
     }
+    met
+}
+
+/// Records what is left of the feed.
+fn record_rest<R: Read, W: Write + Drop>(hub: &mut Hub<FileDisk>, feed: &mut LiveFeed<R, W>) {
     for _ in 0..MOST_STEPS {
         if feed.ended().is_some() {
             break;
         }
-        let _ = feed.step(&mut hub);
+        let _ = feed.step(hub);
     }
-    met = met.or(fault_in(feed.ended()));
-    close(hub, sealed, met)
 }
 
 /// Opens a file to be served, which is there already. Nothing waits in it.

@@ -57,40 +57,59 @@ pub fn record(
     most: u32,
     strict: bool,
 ) -> Result<(), Fault> {
-    let alloc = rt.alloc();
-    let Ok(disk) = FileDisk::open(rt, file, FileMode::Create) else {
-        return Err(Fault::File);
-    };
-    let mut recorder = match Recorder::open(alloc, disk) {
-        Ok(recorder) => recorder,
-        Err((fault, _)) => return Err(Fault::Open(fault)),
-    };
-    // `clap` has checked that `most` lies in this range.
-    recorder.group(most.clamp(1, 1024));
+    let mut recorder = open_recorder(rt, file, most)?;
     let watch = Watch::new(strict);
-    let Ok(lines) = Lines::new(alloc, rt.stdout()) else {
-        return Err(Fault::Memory);
-    };
-    let prompt = PromptFeed::new(rt.stdin(), &lines);
-    let Ok(input) = BufReader::with_capacity(alloc, AHEAD, prompt) else {
-        return Err(Fault::Feed(FeedFault::Memory));
-    };
-    let mut feed = WatchedFeed::new(input, &watch);
-    let mut replies = WatchedReplies::new(GroupedReplies::new(&lines), &watch);
-    let tally = record_feed(alloc, &mut feed, &mut replies, &mut recorder)?;
+    let tally = record_input(rt, &mut recorder, &watch)?;
     sum_up(rt, tally);
     if recorder.is_failed() {
         return Err(Fault::Failed);
     }
     watch.outcome()?;
-    // After a run to the feed's end nothing waits.
-    if seal && recorder.held() == 0 {
-        match recorder.seal() {
-            Ok(_) => {}
-            Err(_) => return Err(Fault::Seal),
+    if seal { seal_file(recorder) } else { Ok(()) }
+}
+
+/// The recorder of the file, which is made if there is none; `most` commands share a commit.
+fn open_recorder(rt: &HostRuntime, file: &str, most: u32) -> Result<Recorder<FileDisk>, Fault> {
+    let Ok(disk) = FileDisk::open(rt, file, FileMode::Create) else {
+        return Err(Fault::File);
+    };
+    match Recorder::open(rt.alloc(), disk) {
+        Ok(mut recorder) => {
+            // `clap` has checked that `most` lies in this range.
+            recorder.group(most.clamp(1, 1024));
+            Ok(recorder)
         }
+        Err((fault, _)) => Err(Fault::Open(fault)),
     }
-    Ok(())
+}
+
+/// Records the feed on standard input, and writes the replies to standard output.
+fn record_input(
+    rt: &HostRuntime,
+    recorder: &mut Recorder<FileDisk>,
+    watch: &Watch,
+) -> Result<Tally, Fault> {
+    let Ok(lines) = Lines::new(rt.alloc(), rt.stdout()) else {
+        return Err(Fault::Memory);
+    };
+    let prompt = PromptFeed::new(rt.stdin(), &lines);
+    let Ok(input) = BufReader::with_capacity(rt.alloc(), AHEAD, prompt) else {
+        return Err(Fault::Feed(FeedFault::Memory));
+    };
+    let mut feed = WatchedFeed::new(input, watch);
+    let mut replies = WatchedReplies::new(GroupedReplies::new(&lines), watch);
+    Ok(record_feed(rt.alloc(), &mut feed, &mut replies, recorder)?)
+}
+
+/// Seals the file of a recorder that hasn't failed. After a run to the feed's end nothing waits.
+fn seal_file(recorder: Recorder<FileDisk>) -> Result<(), Fault> {
+    if recorder.is_failed() || recorder.held() > 0 {
+        return Ok(());
+    }
+    match recorder.seal() {
+        Ok(_) => Ok(()),
+        Err(_) => Err(Fault::Seal),
+    }
 }
 
 /// Writes the feed of the Ogg bitstream on standard input to standard output, changed as the options ask.

@@ -78,22 +78,26 @@ pub fn words(rt: &HostRuntime) -> Result<Vec<String>, Error> {
 /// words.
 pub fn action_of<'a>(alloc: Global, words: &'a [String]) -> Result<Action<'a>, Error> {
     let matches = program(alloc)?.try_get_matches_from(words)?;
-    let action = match matches.subcommand() {
-        Some(("feed", words)) => Some(feed_of(words)),
-        Some(("mux", words)) => Some(mux_of(words)),
-        Some(("record", words)) => record_of(words),
-        Some(("links", words)) => links_of(words),
-        Some(("split", words)) => split_of(words),
-        Some(("finish", words)) => finish_of(words),
-        Some(("salvage", words)) => salvage_of(words),
-        Some(("serve", words)) => serve_of(words),
-        Some(("live", words)) => live_of(words),
-        _ => None,
-    };
-    match action {
+    match matches.subcommand().and_then(asked) {
         Some(action) => Ok(action),
         // `clap` has checked that there is a subcommand, that it is one of these, and that it has its words.
         None => Err(refusal(alloc, "the words ask for nothing")?),
+    }
+}
+
+/// What a subcommand with these words asks for.
+fn asked<'a>((name, words): (&str, &ArgMatches<'a>)) -> Option<Action<'a>> {
+    match name {
+        "feed" => Some(feed_of(words)),
+        "mux" => Some(mux_of(words)),
+        "record" => record_of(words),
+        "links" => links_of(words),
+        "split" => split_of(words),
+        "finish" => finish_of(words),
+        "salvage" => salvage_of(words),
+        "serve" => serve_of(words),
+        "live" => live_of(words),
+        _ => None,
     }
 }
 
@@ -103,22 +107,57 @@ fn refusal(alloc: Global, message: &str) -> Result<Error, AllocError> {
 }
 
 fn program<'a>(alloc: Global) -> Result<Command<'a>, AllocError> {
-    Command::new(alloc, "kudzuturret")
-        .bin_name("kudzuturret")?
-        .about("Records packets into Ogg files as they come (RFC 3533)")
-        .version("0.1.0")
-        .after_help(PROGRAM_HELP)
-        .subcommand_required(true)
-        .arg_required_else_help(true)
-        .subcommand(feed(alloc)?)?
-        .subcommand(mux(alloc)?)?
-        .subcommand(record(alloc)?)?
-        .subcommand(links(alloc)?)?
-        .subcommand(split(alloc)?)?
-        .subcommand(finish(alloc)?)?
-        .subcommand(salvage(alloc)?)?
-        .subcommand(serve(alloc)?)?
-        .subcommand(live(alloc)?)
+    with_servers(
+        alloc,
+        with_readers(alloc, with_recorders(alloc, bare(alloc)?)?)?,
+    )
+}
+
+/// The program without its subcommands.
+fn bare<'a>(alloc: Global) -> Result<Command<'a>, AllocError> {
+    Ok(
+        Command::new(alloc, "kudzuturret")
+            .bin_name("kudzuturret")?
+            .about("Records packets into Ogg files as they come (RFC 3533)")
+            .version("0.1.0")
+            .after_help(PROGRAM_HELP)
+            .subcommand_required(true)
+            .arg_required_else_help(true),
+    )
+}
+
+/// With the subcommands that make a feed, and pages of one.
+fn with_recorders<'a>(alloc: Global, program: Command<'a>) -> Result<Command<'a>, AllocError> {
+    let program = with(program, feed(alloc))?;
+    let program = with(program, mux(alloc))?;
+    with(program, record(alloc))
+}
+
+/// With the subcommands that read a file.
+fn with_readers<'a>(alloc: Global, program: Command<'a>) -> Result<Command<'a>, AllocError> {
+    let program = with(program, links(alloc))?;
+    let program = with(program, split(alloc))?;
+    let program = with(program, finish(alloc))?;
+    with(program, salvage(alloc))
+}
+
+/// With the subcommands that serve one.
+fn with_servers<'a>(alloc: Global, program: Command<'a>) -> Result<Command<'a>, AllocError> {
+    let program = with(program, serve(alloc))?;
+    with(program, live(alloc))
+}
+
+/// With one more subcommand.
+fn with<'a>(
+    program: Command<'a>,
+    subcommand: Result<Command<'a>, AllocError>,
+) -> Result<Command<'a>, AllocError> {
+    program.subcommand(subcommand?)
+}
+
+/// A subcommand without its arguments.
+fn subcommand<'a>(alloc: Global, name: &'a str, about: &'a str, help: &'a str) -> Command<'a> {
+    Command::new(alloc, name).about(about).after_help(help)
 }
 
 const PROGRAM_HELP: &str = "\
@@ -143,28 +182,45 @@ fn file<'a>(alloc: Global, help: &'a str) -> Arg<'a> {
 }
 
 fn feed<'a>(alloc: Global) -> Result<Command<'a>, AllocError> {
-    let renumber = Arg::new(alloc, "renumber")
-        .long("renumber")
-        .help("Gives a stream another serial if an earlier link of the input has its serial")
-        .action(ArgAction::SetTrue);
-    let skeleton = Arg::new(alloc, "skeleton")
+    subcommand(
+        alloc,
+        "feed",
+        "Makes a feed of the Ogg stream on standard input, as an encoder writes it",
+        FEED_HELP,
+    )
+    .arg(skeleton(alloc))?
+    .arg(no_skeleton(alloc)?)?
+    .arg(renumber(alloc))
+}
+
+/// The serial of the Skeletons that are made anew.
+fn skeleton<'a>(alloc: Global) -> Arg<'a> {
+    Arg::new(alloc, "skeleton")
         .long("skeleton")
         .value_name("SERIAL")
         .help(
             "Begins each link with a Skeleton made anew, of this serial or the next one that is free",
         )
-        .value_parser(value_parser!(u32));
-    let no_skeleton = Arg::new(alloc, "no-skeleton")
-        .long("no-skeleton")
-        .help("Leaves out the Skeletons of the input")
-        .conflicts_with("skeleton")?
-        .action(ArgAction::SetTrue);
-    Command::new(alloc, "feed")
-        .about("Makes a feed of the Ogg stream on standard input, as an encoder writes it")
-        .after_help(FEED_HELP)
-        .arg(skeleton)?
-        .arg(no_skeleton)?
-        .arg(renumber)
+        .value_parser(value_parser!(u32))
+}
+
+/// Whether Skeletons are left out.
+fn no_skeleton<'a>(alloc: Global) -> Result<Arg<'a>, AllocError> {
+    Ok(
+        Arg::new(alloc, "no-skeleton")
+            .long("no-skeleton")
+            .help("Leaves out the Skeletons of the input")
+            .conflicts_with("skeleton")?
+            .action(ArgAction::SetTrue),
+    )
+}
+
+/// Whether serials that were there are changed.
+fn renumber<'a>(alloc: Global) -> Arg<'a> {
+    Arg::new(alloc, "renumber")
+        .long("renumber")
+        .help("Gives a stream another serial if an earlier link of the input has its serial")
+        .action(ArgAction::SetTrue)
 }
 
 fn feed_of<'a>(words: &ArgMatches<'a>) -> Action<'a> {
@@ -212,16 +268,23 @@ What can't be taken ends the feed by a fault with its offset, after everything b
   fault make 4 Unfinished OFFSET SERIAL    the input ends within a packet of this stream
 ";
 
-fn mux<'a>(alloc: Global) -> Result<Command<'a>, AllocError> {
-    let check = Arg::new(alloc, "check")
+/// Whether only the replies are written.
+fn check<'a>(alloc: Global) -> Arg<'a> {
+    Arg::new(alloc, "check")
         .long("check")
         .help("Writes no pages, and the replies to standard output")
-        .action(ArgAction::SetTrue);
-    Command::new(alloc, "mux")
-        .about("Writes the pages of the feed on standard input")
-        .after_help(MUX_HELP)
-        .arg(check)?
-        .arg(strict(alloc))
+        .action(ArgAction::SetTrue)
+}
+
+fn mux<'a>(alloc: Global) -> Result<Command<'a>, AllocError> {
+    subcommand(
+        alloc,
+        "mux",
+        "Writes the pages of the feed on standard input",
+        MUX_HELP,
+    )
+    .arg(check(alloc))?
+    .arg(strict(alloc))
 }
 
 const MUX_HELP: &str = "\
@@ -264,21 +327,28 @@ fn group<'a>(alloc: Global) -> Arg<'a> {
         .default_value("1")
 }
 
-fn record<'a>(alloc: Global) -> Result<Command<'a>, AllocError> {
-    let seal = Arg::new(alloc, "seal")
+/// Whether the file is cut to its pages.
+fn seal<'a>(alloc: Global) -> Arg<'a> {
+    Arg::new(alloc, "seal")
         .long("seal")
         .help("At the end, if no fault came, cuts the file to its pages")
-        .action(ArgAction::SetTrue);
-    Command::new(alloc, "record")
-        .about("Records the feed on standard input into a file that survives a stop at any moment")
-        .after_help(RECORD_HELP)
-        .arg(file(
-            alloc,
-            "The file; it is made if there is none, and continued if there is one",
-        ))?
-        .arg(seal)?
-        .arg(group(alloc))?
-        .arg(strict(alloc))
+        .action(ArgAction::SetTrue)
+}
+
+fn record<'a>(alloc: Global) -> Result<Command<'a>, AllocError> {
+    subcommand(
+        alloc,
+        "record",
+        "Records the feed on standard input into a file that survives a stop at any moment",
+        RECORD_HELP,
+    )
+    .arg(file(
+        alloc,
+        "The file; it is made if there is none, and continued if there is one",
+    ))?
+    .arg(seal(alloc))?
+    .arg(group(alloc))?
+    .arg(strict(alloc))
 }
 
 const RECORD_HELP: &str = "\
@@ -316,10 +386,13 @@ fn record_of<'a>(words: &ArgMatches<'a>) -> Option<Action<'a>> {
 }
 
 fn links<'a>(alloc: Global) -> Result<Command<'a>, AllocError> {
-    Command::new(alloc, "links")
-        .about("Lists the links of a file and their streams")
-        .after_help(LINKS_HELP)
-        .arg(file(alloc, "The file, which is only read"))
+    subcommand(
+        alloc,
+        "links",
+        "Lists the links of a file and their streams",
+        LINKS_HELP,
+    )
+    .arg(file(alloc, "The file, which is only read"))
 }
 
 const LINKS_HELP: &str = "\
@@ -342,19 +415,30 @@ fn links_of<'a>(words: &ArgMatches<'a>) -> Option<Action<'a>> {
 }
 
 fn split<'a>(alloc: Global) -> Result<Command<'a>, AllocError> {
-    let link = Arg::new(alloc, "LINK")
+    subcommand(
+        alloc,
+        "split",
+        "Writes the pages of a link, or of one of its streams",
+        SPLIT_HELP,
+    )
+    .arg(file(alloc, "The file, which is only read"))?
+    .arg(link(alloc))?
+    .arg(serial(alloc))
+}
+
+/// The link that is written.
+fn link<'a>(alloc: Global) -> Arg<'a> {
+    Arg::new(alloc, "LINK")
         .required(true)
         .help("The link's number, counted from 0, as `links` lists it")
-        .value_parser(value_parser!(u32));
-    let serial = Arg::new(alloc, "SERIAL")
+        .value_parser(value_parser!(u32))
+}
+
+/// The stream that is written alone.
+fn serial<'a>(alloc: Global) -> Arg<'a> {
+    Arg::new(alloc, "SERIAL")
         .help("The serial of one of its streams; without it the whole link is written")
-        .value_parser(value_parser!(u32));
-    Command::new(alloc, "split")
-        .about("Writes the pages of a link, or of one of its streams")
-        .after_help(SPLIT_HELP)
-        .arg(file(alloc, "The file, which is only read"))?
-        .arg(link)?
-        .arg(serial)
+        .value_parser(value_parser!(u32))
 }
 
 const SPLIT_HELP: &str = "\
@@ -383,11 +467,14 @@ fn finish<'a>(alloc: Global) -> Result<Command<'a>, AllocError> {
             "The link's number, counted from 0, as `links` lists it; without it all links are written",
         )
         .value_parser(value_parser!(u32));
-    Command::new(alloc, "finish")
-        .about("Writes a file, or one of its links, as players like it")
-        .after_help(FINISH_HELP)
-        .arg(file(alloc, "The file, which is only read"))?
-        .arg(link)
+    subcommand(
+        alloc,
+        "finish",
+        "Writes a file, or one of its links, as players like it",
+        FINISH_HELP,
+    )
+    .arg(file(alloc, "The file, which is only read"))?
+    .arg(link)
 }
 
 const FINISH_HELP: &str = "\
@@ -411,10 +498,13 @@ fn finish_of<'a>(words: &ArgMatches<'a>) -> Option<Action<'a>> {
 }
 
 fn salvage<'a>(alloc: Global) -> Result<Command<'a>, AllocError> {
-    Command::new(alloc, "salvage")
-        .about("Lists the good pages of a damaged file")
-        .after_help(SALVAGE_HELP)
-        .arg(file(alloc, "The file, which is only read"))
+    subcommand(
+        alloc,
+        "salvage",
+        "Lists the good pages of a damaged file",
+        SALVAGE_HELP,
+    )
+    .arg(file(alloc, "The file, which is only read"))
 }
 
 const SALVAGE_HELP: &str = "\
@@ -452,12 +542,15 @@ fn count<'a>(alloc: Global) -> Arg<'a> {
 }
 
 fn serve<'a>(alloc: Global) -> Result<Command<'a>, AllocError> {
-    Command::new(alloc, "serve")
-        .about("Serves a file over HTTP: all of it, its links, single streams and ranges of bytes")
-        .after_help(SERVE_HELP)
-        .arg(file(alloc, "The file; a tail after its pages is closed"))?
-        .arg(address(alloc))?
-        .arg(count(alloc))
+    subcommand(
+        alloc,
+        "serve",
+        "Serves a file over HTTP: all of it, its links, single streams and ranges of bytes",
+        SERVE_HELP,
+    )
+    .arg(file(alloc, "The file; a tail after its pages is closed"))?
+    .arg(address(alloc))?
+    .arg(count(alloc))
 }
 
 const SERVE_HELP: &str = "\
@@ -490,20 +583,27 @@ fn serve_of<'a>(words: &ArgMatches<'a>) -> Option<Action<'a>> {
 }
 
 fn live<'a>(alloc: Global) -> Result<Command<'a>, AllocError> {
-    let feed = Arg::new(alloc, "FEED")
+    subcommand(
+        alloc,
+        "live",
+        "Serves a file over HTTP, and records a feed into it meanwhile",
+        LIVE_HELP,
+    )
+    .arg(file(
+        alloc,
+        "The file, which is there already; a tail after its pages is closed",
+    ))?
+    .arg(address(alloc))?
+    .arg(recorded(alloc))?
+    .arg(count(alloc))?
+    .arg(group(alloc))
+}
+
+/// The path of the feed that is recorded.
+fn recorded<'a>(alloc: Global) -> Arg<'a> {
+    Arg::new(alloc, "FEED")
         .required(true)
-        .help("The feed that is recorded into the file");
-    Command::new(alloc, "live")
-        .about("Serves a file over HTTP, and records a feed into it meanwhile")
-        .after_help(LIVE_HELP)
-        .arg(file(
-            alloc,
-            "The file, which is there already; a tail after its pages is closed",
-        ))?
-        .arg(address(alloc))?
-        .arg(feed)?
-        .arg(count(alloc))?
-        .arg(group(alloc))
+        .help("The feed that is recorded into the file")
 }
 
 const LIVE_HELP: &str = "\
