@@ -1,14 +1,12 @@
 #!/usr/bin/env bash
-# Measures what the gate (rt ci) costs, crate by crate, in processor seconds (user and system), not by the clock: the
-# proof from nothing, the proof with the tests, each must-fail edit, and the check of the crate itself that follows its
-# edits. It does each step as rt ci does, one after the other, with one job, in a copy, and changes nothing here. A
-# crate that is used by a crate named here is proved first, and its proof isn't counted. Not part of the tests.
+# Measures what the gate (./check) costs, crate by crate, in processor seconds (user and system), not by the clock: the
+# proof from nothing, the proof with the tests, and the wrong bodies. It does each step as the gate does, one after the
+# other, with one job, in a copy, and changes nothing here. A crate that is used by a crate named here is proved first,
+# and its proof isn't counted. Not part of the tests.
 #
-#     bench/gate.sh [--kept] [--only proof|tests|edits] [CRATE ..]      none: every crate, about four hours of one processor
+#     bench/gate.sh [--kept] [--only proof|tests|edits] [CRATE ..]      none: every crate, about three hours of one processor
 #
-# The first edit of a crate checks it whole; each further one checks what it changes. With --kept the libraries and the
-# work that rt lib left in out/ are taken over, so that the edits are measured in minutes; then the first edit costs
-# what the others do.
+# With --kept the libraries that rt lib or rt ci left in out/ are taken over.
 set -u
 top=$(cd "$(dirname "$(readlink -f "$0")")/.." && pwd) || exit 2
 rt=$(readlink -f "$(command -v rt)") || { echo "rt isn't here" >&2; exit 2; }
@@ -17,12 +15,14 @@ trap 'rm -rf "$work"' EXIT
 
 cat >"$work/gate.py" <<'END'
 import contextlib
+import glob
 import importlib.machinery
 import importlib.util
 import io
 import os
 import resource
 import shutil
+import subprocess
 import sys
 import tempfile
 
@@ -40,6 +40,7 @@ room = f"{work}/copy"
 os.mkdir(room)
 for name in ("crates.txt", "HANDLES"):
     shutil.copy(f"{top}/{name}", room)
+shutil.copytree(f"{top}/tests", f"{room}/tests")
 shutil.copytree(f"{top}/crates", f"{room}/crates", ignore=None if kept else shutil.ignore_patterns("out"))
 os.chdir(room)
 rt.rtlib.stop = rt.stop
@@ -83,21 +84,18 @@ def line(name, what, seconds, says=""):
 
 
 def edits(crate):
-    """The seconds of each edit in turn over what those before it proved, and those of the crate itself at the end."""
-    files = rt.edits_of(crate)[0]
-    took = []
-    with tempfile.TemporaryDirectory(prefix="kept-", dir=work) as over:
-        if kept and os.path.isdir(f"{crate.folder}/out/incremental"):
-            shutil.copytree(f"{crate.folder}/out/incremental", over, dirs_exist_ok=True)
-        for it in files:
-            (refused, text), seconds = measured(rt.must_fail, crate, it, ["--jobs", "1"], over if len(files) > 1 else None)
-            line(crate.name, f"edit {os.path.basename(it)[:-5]}", seconds, "" if refused else f": {text}")
-            took.append(seconds)
-        if len(files) > 1:
-            ran, seconds = measured(rt.checked, crate, {}, ["--jobs", "1"], over)
-            line(crate.name, "itself, after its edits", seconds, " FAILED" if ran.returncode else "")
-            took.append(seconds)
-    return took
+    """The seconds of the crate's wrong bodies: of those planted together, and of each that is a must-fail edit."""
+    took = 0.0
+    number = len(glob.glob(f"{crate.folder}/wrong-bodies/*.edit"))
+    if number:
+        words = [sys.executable, f"{room}/tests/wrong_bodies.py", crate.name]
+        ran, took = measured(lambda: subprocess.run(words, stdout=subprocess.PIPE, text=True))
+        line(crate.name, f"{number} wrong bodies", took, "" if ran.returncode == 0 else f": {ran.stdout[-3000:]}")
+    for it in rt.edits_of(crate)[0]:
+        (refused, text), seconds = measured(rt.must_fail, crate, it, ["--jobs", "1"], None)
+        line(crate.name, f"edit {os.path.basename(it)[:-5]}", seconds, "" if refused else f": {text}")
+        took, number = took + seconds, number + 1
+    return took, number
 
 
 rows = []
@@ -115,8 +113,8 @@ for crate in crates:
         os.makedirs(f"{crate.folder}/out", exist_ok=True)
         well, tests = quietly(crate, crate.ci, ["--jobs", "1"], True)
         line(crate.name, "proof with its tests", tests, "" if well else " FAILED")
-    took = edits(crate) if only in (None, "edits") else []
-    rows.append((crate.name, proof, tests, sum(took), len(rt.edits_of(crate)[0])))
+    took, number = edits(crate) if only in (None, "edits") else (0.0, 0)
+    rows.append((crate.name, proof, tests, took, number))
 
 print(f"\n{'crate':18} {'proof':>8} {'tests':>8} {'edits':>8} {'(number)':>9} {'in all':>8}   processor minutes")
 for name, *seconds, number in [*rows, ("in all", *(sum(it[at] for it in rows) for at in range(1, 5)))]:

@@ -1,0 +1,287 @@
+#!/usr/bin/env python3
+"""Tries the wrong bodies: functions with an error put in, which their contracts must refuse.
+
+    tests/wrong_bodies.py [--alone] [CRATE ..]      none: every crate
+
+crates/CRATE/wrong-bodies/NAME.edit is named for its mistake. It names the function that must be refused, as a check
+prints it, and has the lines that are changed:
+
+    refused: page::Page::serial
+    file: src/page.rt
+    old:         self.head.serial
+    new:         self.head.sequence
+
+What stands after 'old: ' is in the file once; what stands after 'new: ' takes its place.
+
+The wrong bodies of a crate are planted together in one copy of it, and one check says of each function whether it is
+proved. None of them hides another: the proof of a function rests on the contracts of what it calls, not on the bodies,
+and the check tells a function that isn't proved from one that only calls such a function. Two in one function go into
+two copies. With --alone each has a copy of its own, which takes hours.
+
+A wrong body is refused if the check doesn't prove its function. It is a failure if that function is proved, if the
+check has no verdict on it, or if a function is refused in which nothing was changed.
+
+The crates below must be built, as './check' and './kudzuturret' leave them. As many crates are tried side by side as
+there are processors. The last line is 'N passed, M failed'; the status is 0 if nothing failed.
+"""
+import itertools
+import os
+import re
+import shutil
+import subprocess
+import sys
+import tempfile
+from concurrent.futures import ThreadPoolExecutor
+from pathlib import Path
+
+TOP = Path(__file__).resolve().parent.parent
+# A check takes up to ten minutes; one that takes this many seconds hangs.
+LONGEST = 3600
+# What a check may take of the memory, in bytes.
+MEMORY = 3_000_000_000
+
+
+# A body of text_line that means what the one before meant. If this one counted as refused, any other might.
+RIGHT = """refused: line::Line::as_slice
+file: src/line.rt
+old:         let (_, text) = self.bytes.split_at(self.start);
+new:         let (_, text) = (self.bytes).split_at(self.start);
+"""
+
+
+class BadEdit(Exception):
+    """Why a wrong body can't be planted."""
+
+
+class Edit:
+    """A wrong body: its name, the functions that must be refused, and the changed lines by file."""
+
+    def __init__(self, name, text):
+        self.name = name
+        self.refused = []
+        self.changes = []
+        file = old = None
+        for line in text.splitlines():
+            word, _, rest = line.partition(":")
+            rest = rest.removeprefix(" ")
+            if word == "refused":
+                self.refused.append(rest)
+            elif word == "file":
+                file = rest
+            elif word == "old":
+                old = rest
+            elif word == "new" and file and old:
+                self.changes.append((file, old, rest))
+                old = None
+            else:
+                raise BadEdit(f"what does this line say: {line[:80]}")
+        if not self.refused or not self.changes:
+            raise BadEdit("it names no function that must be refused, or changes nothing")
+
+    def plant(self, texts, folder):
+        """The texts, which are by file, with the changed lines, or why that can't be."""
+        planted = dict(texts)
+        for file, old, new in self.changes:
+            if file not in planted:
+                if not file.startswith(("src/", "specs/", "proofs/")) or not (folder / file).is_file():
+                    raise BadEdit(f"there is no file {file}")
+                planted[file] = (folder / file).read_text(encoding="utf-8")
+            count = planted[file].count(old)
+            if count != 1:
+                raise BadEdit(f"an 'old:' is in {file} {count} times, and not once")
+            planted[file] = planted[file].replace(old, new)
+        return planted
+
+
+class Copy:
+    """Wrong bodies that stand in one copy of a crate, each in another function, and the texts of the changed files."""
+
+    def __init__(self, folder):
+        self.folder = folder
+        self.edits = []
+        self.texts = {}
+
+    def functions(self):
+        return [it for edit in self.edits for it in edit.refused]
+
+    def take(self, edit):
+        """Plants one more, and says whether that could be done."""
+        if {*self.functions()} & {*edit.refused}:
+            return False
+        try:
+            self.texts = edit.plant(self.texts, self.folder)
+        except BadEdit:
+            return False
+        self.edits.append(edit)
+        return True
+
+
+class Crate:
+    """A crate, and the libraries that its line in crates.txt names."""
+
+    def __init__(self, name, uses):
+        self.name = name
+        self.uses = uses
+        self.folder = TOP / "crates" / name
+        self.rlib = self.folder / "out" / "rlib" / f"{name}.rlib"
+
+    def copies(self, alone):
+        """The copies that try the crate's wrong bodies, and a line for each that can't be planted."""
+        copies, bad = [], []
+        for path in sorted((self.folder / "wrong-bodies").glob("*")):
+            try:
+                edit = Edit(path.stem, path.read_text(encoding="utf-8"))
+                edit.plant({}, self.folder)
+            except (BadEdit, ValueError) as why:
+                bad.append(f"{self.name}/{path.name}: {why}")
+                continue
+            if alone or not any(it.take(edit) for it in copies):
+                copies.append(Copy(self.folder))
+                copies[-1].take(edit)
+        return copies, bad
+
+
+class Checker:
+    """The toolchain's check, and the crates by name."""
+
+    def __init__(self, kit):
+        self.kit = kit
+        self.crates = {}
+        for line in (TOP / "crates.txt").read_text(encoding="utf-8").splitlines():
+            if line and not line.startswith("#"):
+                name, _, uses = line.partition(":")
+                self.crates[name] = Crate(name, uses.split())
+
+    def below(self, crate):
+        """The crates of the repository that a crate stands on, each once."""
+        found = {}
+        for name in crate.uses:
+            if name in self.crates:
+                found.update({it.name: it for it in self.below(self.crates[name])})
+                found[name] = self.crates[name]
+        return [*found.values()]
+
+    def command(self, crate):
+        """The words that check the crate in the folder where they are run."""
+        words = [f"{self.kit}/bin/rattle", "check", "--crate-name", crate.name, "src/lib.rt"]
+        for name in ["std", *crate.uses]:
+            ours = self.crates.get(name)
+            words += ["--extern", f"{name}={ours.rlib if ours else f'{self.kit}/rlibs/{name}.rlib'}"]
+        words += ["-L", f"dependency={self.kit}/rlibs"]
+        for it in self.below(crate):
+            words += ["-L", f"dependency={it.rlib.parent}"]
+        words += ["--antt-project", f"{self.kit}/rattle/logic/antt-project.json"]
+        words += ["--logic-built", f"{self.kit}/logic_built"]
+        return [*words, "--links", f"{crate.name}=", "--jobs", "1"]
+
+    def check(self, crate, copy, room):
+        """What the check of a copy says, and its status. What it proves is kept in the room for the next copy."""
+        with tempfile.TemporaryDirectory(prefix="copy-", dir=room) as at:
+            for part in ("src", "specs", "proofs"):
+                if (crate.folder / part).is_dir():
+                    shutil.copytree(crate.folder / part, f"{at}/{part}")
+            for file, text in copy.texts.items():
+                Path(at, file).write_text(text, encoding="utf-8")
+            words = [*self.command(crate), "--incremental", f"{room}/kept"]
+            for it in copy.functions():
+                words += ["--only", it]
+            ran = subprocess.run(
+                words,
+                cwd=at,
+                stdin=subprocess.DEVNULL,
+                stdout=subprocess.PIPE,
+                stderr=subprocess.STDOUT,
+                errors="replace",
+                timeout=LONGEST,
+            )
+            return ran.stdout, ran.returncode
+
+    def tried(self, crate, copies):
+        """The lines to print of the crate's copies, each with whether it tells of a wrong body that was refused."""
+        lines = []
+        with tempfile.TemporaryDirectory(prefix="wrong-bodies-") as room:
+            for copy in copies:
+                try:
+                    lines += verdicts(crate, copy, *self.check(crate, copy, room))
+                except subprocess.TimeoutExpired:
+                    lines.append((False, f"{crate.name}: a check took more than {LONGEST} seconds"))
+        return lines
+
+
+def right_body(checker):
+    """Whether a right body isn't taken for a wrong one."""
+    crate = checker.crates["text_line"]
+    copy = Copy(crate.folder)
+    copy.take(Edit("right_body", RIGHT))
+    found = checker.tried(crate, [copy])
+    if found == [(False, "text_line/right_body: NOT REFUSED: line::Line::as_slice: proved")]:
+        return [(True, "text_line: a right body is not refused")]
+    return [(False, f"text_line: a right body seems wrong: {line}") for _, line in found]
+
+
+def verdicts(crate, copy, output, status):
+    """What a check has found of each wrong body in a copy."""
+    said = dict(re.findall(rf"^fn {crate.name}::(\S+): (.*)$", output, re.M))
+    if status not in (0, 1, 3) or not re.search(r"^only=\d+ proved=\d+$", output, re.M):
+        names = " ".join(it.name for it in copy.edits)
+        begin = "\n".join(output.splitlines()[:8])
+        yield False, f"{crate.name}: no verdict (status {status}) with {names}:\n{begin}"
+        return
+    for edit in copy.edits:
+        for function in edit.refused:
+            verdict = said.get(function, "not among the crate's functions")
+            how = "refused" if is_refused(verdict) else f"NOT REFUSED: {function}: {verdict[:160]}"
+            yield is_refused(verdict), f"{crate.name}/{edit.name}: {how}"
+    for function in said.keys() - {*copy.functions()}:
+        if is_refused(said[function]):
+            yield False, f"{crate.name}: nothing was changed in {function}: {said[function][:160]}"
+
+
+def is_refused(verdict):
+    """Whether a function isn't proved for its own sake, and not only since it calls such a function."""
+    return verdict.startswith("not proved") or "`search` did not prove" in verdict
+
+
+def side_by_side():
+    """How many checks run at once: one for each processor, as far as there is memory."""
+    free = 1024 * int(re.search(r"^MemAvailable: +(\d+)", Path("/proc/meminfo").read_text(encoding="ascii"), re.M)[1])
+    return max(1, min(len(os.sched_getaffinity(0)), free // MEMORY))
+
+
+def main():
+    asked = [it for it in sys.argv[1:] if it != "--alone"]
+    alone = "--alone" in sys.argv
+    rt = shutil.which("rt")
+    if not rt:
+        sys.exit("rt isn't here")
+    checker = Checker(Path(rt).resolve().parent.parent)
+    unknown = [it for it in asked if it not in checker.crates]
+    if unknown:
+        sys.exit(f"crates.txt has no crate {' '.join(unknown)}")
+
+    trials, lines = [], []
+    for crate in checker.crates.values():
+        copies, bad = crate.copies(alone) if not asked or crate.name in asked else ([], [])
+        lines += [(False, it) for it in bad]
+        lacking = [it.name for it in checker.below(crate) if not it.rlib.is_dir()]
+        if copies and lacking:
+            lines.append((False, f"{crate.name}: {lacking[0]} isn't built: ./check and ./kudzuturret build it"))
+        elif copies:
+            trials.append((crate, copies))
+    # Those with most to try first, so that no processor waits for the last.
+    trials.sort(key=lambda it: -sum(len(copy.edits) for copy in it[1]))
+
+    passed = failed = 0
+    with ThreadPoolExecutor(side_by_side()) as pool:
+        right = [] if asked else [pool.submit(right_body, checker)]
+        found = pool.map(lambda it: checker.tried(*it), trials)
+        for told in itertools.chain([lines], (it.result() for it in right), found):
+            for is_well, line in told:
+                print(line, flush=True)
+                passed, failed = passed + is_well, failed + (not is_well)
+    print(f"{passed} passed, {failed} failed")
+    return 0 if passed and not failed else 1
+
+
+if __name__ == "__main__":
+    sys.exit(main())
