@@ -18,8 +18,9 @@ proved. None of them hides another: the proof of a function rests on the contrac
 and the check tells a function that isn't proved from one that only calls such a function. Two in one function go into
 two copies. With --alone each has a copy of its own, which takes hours.
 
-A wrong body is refused if the check doesn't prove its function. It is a failure if that function is proved, if the
-check has no verdict on it, or if a function is refused in which nothing was changed.
+A wrong body is refused if the check doesn't prove its function, and names a goal in it that it can't prove. It is a
+failure if that function is proved, if only its proof file names what isn't there any more, if the check has no verdict
+on it, or if a function is refused in which nothing was changed.
 
 The crates below must be built, as './check' and './kudzuturret' leave them. As many crates are tried side by side as
 there are processors. The last line is 'N passed, M failed'; the status is 0 if nothing failed.
@@ -47,6 +48,11 @@ file: src/line.rt
 old:         let (_, text) = self.bytes.split_at(self.start);
 new:         let (_, text) = (self.bytes).split_at(self.start);
 """
+
+
+FUNCTION = re.compile(r" *(?:pub(?:\(\w+\))? )?(?:const )?(?:unsafe )?fn (\w+)")
+# What is said of a proof file that names something that the edit took away.
+MISSING = re.compile(r"has no field|has no `|is not in scope|was not admitted")
 
 
 class BadEdit(Exception):
@@ -114,6 +120,18 @@ class Copy:
             return False
         self.edits.append(edit)
         return True
+
+    def function_at(self, file, number):
+        """The name of the function at a line of a file, its attributes included."""
+        lines = (self.texts.get(file) or (self.folder / file).read_text(encoding="utf-8")).splitlines()
+        is_before = lines[number - 1].lstrip().startswith("#[")
+        near = lines[number - 1 :] if is_before else reversed(lines[:number])
+        return next((found[1] for line in near if (found := FUNCTION.match(line))), None)
+
+    def unproved(self, output):
+        """The names of the functions with a goal that the check can't prove."""
+        notes = re.findall(r"^note: (src/\S+?):(\d+):\d+: (?:it is not proved|`search` found)", output, re.M)
+        return {self.function_at(file, int(number)) for file, number in notes}
 
 
 class Crate:
@@ -227,11 +245,17 @@ def verdicts(crate, copy, output, status):
         begin = "\n".join(output.splitlines()[:8])
         yield False, f"{crate.name}: no verdict (status {status}) with {names}:\n{begin}"
         return
+    unproved = copy.unproved(output)
     for edit in copy.edits:
         for function in edit.refused:
             verdict = said.get(function, "not among the crate's functions")
-            how = "refused" if is_refused(verdict) else f"NOT REFUSED: {function}: {verdict[:160]}"
-            yield is_refused(verdict), f"{crate.name}/{edit.name}: {how}"
+            is_shown = function.rpartition("::")[2] in unproved or has_wrong_proof(function, output)
+            if is_refused(verdict) and is_shown:
+                yield True, f"{crate.name}/{edit.name}: refused"
+            elif is_refused(verdict):
+                yield False, f"{crate.name}/{edit.name}: only the proof file of {function} misses what was taken away"
+            else:
+                yield False, f"{crate.name}/{edit.name}: NOT REFUSED: {function}: {verdict[:160]}"
     for function in said.keys() - {*copy.functions()}:
         if is_refused(said[function]):
             yield False, f"{crate.name}: nothing was changed in {function}: {said[function][:160]}"
@@ -240,6 +264,13 @@ def verdicts(crate, copy, output, status):
 def is_refused(verdict):
     """Whether a function isn't proved for its own sake, and not only since it calls such a function."""
     return verdict.startswith("not proved") or "`search` did not prove" in verdict
+
+
+def has_wrong_proof(function, output):
+    """Whether a proof by hand is wrong now, and doesn't only name what isn't there any more."""
+    folder = re.escape(f"proofs/{function.replace('::', '/')}/")
+    errors = re.findall(rf"^\S*{folder}\w+\.antt:\d+:\d+: error: (.*)$", output, re.M)
+    return any(not MISSING.search(it) for it in errors)
 
 
 def side_by_side():
