@@ -279,33 +279,31 @@ fn end_of(alloc: Global, bytes: &[u8]) -> Result<u32, Fail> {
 
 /// The only stream of a begin: its serial, how long its media type is, the shift, and its only header.
 fn only_stream(begin: &Begin) -> Option<((u32, usize, u8), &[u8])> {
-    match begin.streams.as_slice() {
-        [stream] => match stream.headers.as_slice() {
-            [header] => Some((
-                (stream.serial, stream.media.len(), stream.shift),
-                header.as_slice(),
-            )),
-            _ => None,
-        },
-        _ => None,
-    }
+    let stream = only(begin.streams.as_slice())?;
+    let header = only(stream.headers.as_slice())?;
+    Some((
+        (stream.serial, stream.media.len(), stream.shift),
+        header.as_slice(),
+    ))
 }
 
 /// The name and the value of the only field of the only stream of a begin.
 fn only_field(begin: &Begin) -> Option<(&[u8], &[u8])> {
-    match begin.streams.as_slice() {
-        [stream] => match stream.fields.as_slice() {
-            [field] => Some((field.name(), field.value())),
-            _ => None,
-        },
-        _ => None,
-    }
+    let stream = only(begin.streams.as_slice())?;
+    let field = only(stream.fields.as_slice())?;
+    Some((field.name(), field.value()))
 }
 
 /// The only packet of a put: its serial, its position and its bytes.
 fn only_entry(put: &Put) -> Option<((u32, u64), &[u8])> {
-    match put.entries.as_slice() {
-        [entry] => Some(((entry.serial, entry.position), entry.packet.as_slice())),
+    let entry = only(put.entries.as_slice())?;
+    Some(((entry.serial, entry.position), entry.packet.as_slice()))
+}
+
+/// The only item of a list.
+fn only<T>(items: &[T]) -> Option<&T> {
+    match items {
+        [item] => Some(item),
         _ => None,
     }
 }
