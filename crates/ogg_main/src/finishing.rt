@@ -1,9 +1,12 @@
 //! The command that writes a file as players like it.
 
 use crate::files::{Reading, flushed, output, read};
+use disk_model::FileDisk;
 use fault_lines::Fault;
+use gate_file::Found;
+use link_index::Index;
 use ogg_finish::{SplitFault, finish_file, finish_link};
-use ogg_page::PageBuffer;
+use ogg_page::{PageBuffer, Window};
 use std::io::Write;
 
 /// How many bytes are written at once.
@@ -32,10 +35,21 @@ fn write_finished<W: Write>(
 ) -> Result<(), SplitFault> {
     let Reading { window, index } = reading;
     match link {
-        Some(link) => match finish_link(window, index, link, marked, out) {
-            Ok(_) => Ok(()),
-            Err(fault) => Err(fault),
-        },
+        Some(link) => write_link(window, index, link, marked, out),
         None => finish_file(window, index, marked, out),
+    }
+}
+
+/// Writes the link, finished.
+fn write_link<W: Write>(
+    window: &mut Window<Found<FileDisk>>,
+    index: &Index,
+    link: u32,
+    marked: &mut PageBuffer,
+    out: &mut W,
+) -> Result<(), SplitFault> {
+    match finish_link(window, index, link, marked, out) {
+        Ok(_) => Ok(()),
+        Err(fault) => Err(fault),
     }
 }

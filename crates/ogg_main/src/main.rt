@@ -7,6 +7,7 @@
 mod files;
 mod finishing;
 mod indexing;
+mod recorders;
 mod salvaging;
 mod server;
 mod streams;

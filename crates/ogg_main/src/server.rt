@@ -1,10 +1,10 @@
 //! The commands that serve a file over HTTP.
 ghost use Rattle.std.specs.Prelude.{◌≡◌, IfOk, IfSome, IsSome};
 
+use crate::recorders::{open_recorder, seal_file};
 use disk_model::{FileDisk, FileMode};
 use fault_lines::Fault;
 use feed_codec::{FeedFault, RunFault};
-use ogg_recorder::Recorder;
 use ogg_serve::Hub;
 use serving::{LiveFeed, Step, live_one, serve_one};
 use std::fs::File;
@@ -115,13 +115,7 @@ fn open_hub(rt: &HostRuntime, file: &str) -> Result<Opened, Fault>
     ensures file { IfOk result (λ opened. IsSome opened.hub.file) }
     ensures none { IfOk result (λ opened. IfSome opened.hub.file (λ recorder. recorder.held ≡ 0)) }
 {
-    let Ok(disk) = FileDisk::open(rt, file, FileMode::ReadWrite) else {
-        return Err(Fault::File);
-    };
-    let recorder = match Recorder::open(rt.alloc(), disk) {
-        Ok(recorder) => recorder,
-        Err((fault, _)) => return Err(Fault::Open(fault)),
-    };
+    let recorder = open_recorder(rt, file, FileMode::ReadWrite)?;
     let sealed = recorder.tail() == 0;
     match Hub::new(rt.alloc(), recorder) {
         Ok(hub) => Ok(Opened { hub, sealed }),
@@ -166,15 +160,7 @@ fn close(hub: Hub<FileDisk>, sealed: bool, met: Option<Fault>) -> Result<(), Fau
         return Err(fault);
     }
     match hub.into_recorder() {
-        Ok(recorder) => {
-            if sealed && !recorder.is_failed() && recorder.held() == 0 {
-                match recorder.seal() {
-                    Ok(_) => {}
-                    Err(_) => return Err(Fault::Seal),
-                }
-            }
-            Ok(())
-        }
-        Err(_disk) => Ok(()),
+        Ok(recorder) if sealed => seal_file(recorder),
+        _ => Ok(()),
     }
 }

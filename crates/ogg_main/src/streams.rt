@@ -1,5 +1,6 @@
 //! The commands that read a feed from standard input.
 
+use crate::recorders::{open_recorder, seal_file};
 use crate::together::{GroupedReplies, Lines, PromptFeed};
 use crate::watching::{Watch, WatchedFeed, WatchedReplies};
 use disk_model::{FileDisk, FileMode};
@@ -57,7 +58,9 @@ pub fn record(
     most: u32,
     strict: bool,
 ) -> Result<(), Fault> {
-    let mut recorder = open_recorder(rt, file, most)?;
+    let mut recorder = open_recorder(rt, file, FileMode::Create)?;
+    // `clap` has checked that `most` lies in this range, and nothing waits yet.
+    recorder.group(most.clamp(1, 1024));
     let watch = Watch::new(strict);
     let tally = record_input(rt, &mut recorder, &watch)?;
     sum_up(rt, tally);
@@ -66,21 +69,6 @@ pub fn record(
     }
     watch.outcome()?;
     if seal { seal_file(recorder) } else { Ok(()) }
-}
-
-/// The recorder of the file, which is made if there is none; `most` commands share a commit.
-fn open_recorder(rt: &HostRuntime, file: &str, most: u32) -> Result<Recorder<FileDisk>, Fault> {
-    let Ok(disk) = FileDisk::open(rt, file, FileMode::Create) else {
-        return Err(Fault::File);
-    };
-    match Recorder::open(rt.alloc(), disk) {
-        Ok(mut recorder) => {
-            // `clap` has checked that `most` lies in this range.
-            recorder.group(most.clamp(1, 1024));
-            Ok(recorder)
-        }
-        Err((fault, _)) => Err(Fault::Open(fault)),
-    }
 }
 
 /// Records the feed on standard input, and writes the replies to standard output.
@@ -99,17 +87,6 @@ fn record_input(
     let mut feed = WatchedFeed::new(input, watch);
     let mut replies = WatchedReplies::new(GroupedReplies::new(&lines), watch);
     Ok(record_feed(rt.alloc(), &mut feed, &mut replies, recorder)?)
-}
-
-/// Seals the file of a recorder that hasn't failed. After a run to the feed's end nothing waits.
-fn seal_file(recorder: Recorder<FileDisk>) -> Result<(), Fault> {
-    if recorder.is_failed() || recorder.held() > 0 {
-        return Ok(());
-    }
-    match recorder.seal() {
-        Ok(_) => Ok(()),
-        Err(_) => Err(Fault::Seal),
-    }
 }
 
 /// Writes the feed of the Ogg bitstream on standard input to standard output, changed as the options ask.

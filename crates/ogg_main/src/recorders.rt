@@ -1,0 +1,34 @@
+//! Files that commands are recorded into: they are opened, and sealed.
+ghost use Rattle.std.specs.Prelude.{◌≡◌, IfOk};
+
+use disk_model::{FileDisk, FileMode};
+use fault_lines::Fault;
+use ogg_recorder::Recorder;
+
+/// Opens a file to record into it. Nothing waits in it.
+pub fn open_recorder(
+    rt: &HostRuntime,
+    file: &str,
+    mode: FileMode,
+) -> Result<Recorder<FileDisk>, Fault>
+    ensures { IfOk result (λ recorder. recorder.held ≡ 0) }
+{
+    let Ok(disk) = FileDisk::open(rt, file, mode) else {
+        return Err(Fault::File);
+    };
+    match Recorder::open(rt.alloc(), disk) {
+        Ok(recorder) => Ok(recorder),
+        Err((fault, _)) => Err(Fault::Open(fault)),
+    }
+}
+
+/// Seals the file, unless its recorder has failed or a command waits.
+pub fn seal_file(recorder: Recorder<FileDisk>) -> Result<(), Fault> {
+    if recorder.is_failed() || recorder.held() > 0 {
+        return Ok(());
+    }
+    match recorder.seal() {
+        Ok(_) => Ok(()),
+        Err(_) => Err(Fault::Seal),
+    }
+}
