@@ -96,17 +96,29 @@ fn listing_of(alloc: Global, index: &Index) -> Result<Vec<u8>, Memory> {
     Ok(text)
 }
 
-/// Page after page gives the listing of the whole file. `rt try --test --fail-alloc N` refuses the `N`th request for
-/// memory.
+/// The index of a file of these pages, to which they are added one by one.
+fn added(alloc: Global, pages: &[PageSpec]) -> Result<Index, Fail> {
+    let mut index = Index::new(alloc);
+    for page in pages {
+        let bytes = file_again(alloc, &[*page])?;
+        add_again(&mut index, &bytes)?;
+    }
+    Ok(index)
+}
+
+/// `rt try --test --fail-alloc N` refuses the `N`th request for memory, here and in the next test.
+#[test]
+fn pages_that_are_added_one_by_one_are_listed(rt: HostRuntime) -> Result<(), Fail> {
+    for &(pages, want) in &LISTINGS {
+        let index = added(rt.alloc(), pages)?;
+        assert!(rt; listing_of(rt.alloc(), &index)?.as_slice() == want.as_bytes());
+    }
+    Ok(())
+}
+
 #[test]
 fn a_file_is_listed_by_its_links_and_streams(rt: HostRuntime) -> Result<(), Fail> {
     for &(pages, want) in &LISTINGS {
-        let mut pieces = Index::new(rt.alloc());
-        for page in pages {
-            let bytes = file_again(rt.alloc(), &[*page])?;
-            add_again(&mut pieces, &bytes)?;
-        }
-        assert!(rt; listing_of(rt.alloc(), &pieces)?.as_slice() == want.as_bytes());
         let bytes = file_again(rt.alloc(), pages)?;
         let index = scanned(rt.alloc(), &bytes)?;
         assert!(rt; listing_of(rt.alloc(), &index)?.as_slice() == want.as_bytes());
