@@ -18,6 +18,9 @@ proved. None of them hides another: the proof of a function rests on the contrac
 and the check tells a function that isn't proved from one that only calls such a function. Two in one function go into
 two copies. With --alone each has a copy of its own, which takes hours.
 
+The functions that aren't changed have a hole for a proof: their contracts are taken as they stand, since 'rt ci' proves
+them. So only the changed functions are proved again.
+
 A wrong body is refused if the check doesn't prove its function, and names a goal in it that it can't prove. It is a
 failure if that function is proved, if only its proof file names what isn't there any more, if the check has no verdict
 on it, or if a function is refused in which nothing was changed.
@@ -50,9 +53,51 @@ new:         let (_, text) = (self.bytes).split_at(self.start);
 """
 
 
-FUNCTION = re.compile(r" *(?:pub(?:\(\w+\))? )?(?:const )?(?:unsafe )?fn (\w+)")
+# The files of a function's proof, and one with a hole.
+PROOF_FILES = ("Invariants.antt", "Answers.antt", "Proof.antt")
+HOLE = """use Rattle.{crate}.proofs.{path}.Statement as stated
+
+pub {name}_spec : {{M : Type 1}} → stated.statement M
+{name}_spec = ?
+"""
+
+
+FUNCTION = re.compile(r"(?:    )?(?:pub(?:\(\w+\))? )?(?:const )?(?:unsafe )?fn (\w+)")
+TYPE = re.compile(r"(?:pub(?:\(\w+\))? )?(?:struct|enum) (\w+)")
+TRAIT = re.compile(r"(?:pub(?:\(\w+\))? )?trait ")
+# A trait, if there is one, what it is of, and the type.
+IMPL = re.compile(r"impl(?:<.*?>)? (?:(\w+)(?:<(\w+)>)?(?:<.*?>)? for )?(\w+)")
 # What is said of a proof file that names something that the edit took away.
 MISSING = re.compile(r"has no field|has no `|is not in scope|was not admitted")
+
+
+def functions_of(sources):
+    """The functions of a crate's sources, which are texts by file: by file, the line and the name of each.
+
+    The names are those that a check prints. A type's methods have the module that declares the type, and those of a
+    trait the module that they stand in.
+    """
+    modules, types = {}, {}
+    for file, text in sources.items():
+        names = file.removeprefix("src/").removesuffix(".rt").split("/")
+        modules[file] = [it for it in names if it not in ("lib", "main")]
+        types |= {found[1]: modules[file] for line in text.splitlines() if (found := TYPE.match(line))}
+    return {file: [*named_functions(text, modules[file], types)] for file, text in sources.items()}
+
+
+def named_functions(text, module, types):
+    """The functions of a source file of this module, each with its line. The modules of the crate's types are given."""
+    outer = module
+    for number, line in enumerate(text.splitlines(), 1):
+        if found := IMPL.match(line):
+            trait, of = (found[1] or "") + (found[2] or ""), found[3]
+            outer = [*(module if trait else types.get(of, module)), of + trait]
+        elif TRAIT.match(line):
+            outer = None
+        elif line.startswith("}"):
+            outer = module
+        elif (found := FUNCTION.match(line)) and outer is not None:
+            yield number, "::".join([*outer, found[1]])
 
 
 class BadEdit(Exception):
@@ -121,12 +166,35 @@ class Copy:
         self.edits.append(edit)
         return True
 
+    def sources(self):
+        """The copy's sources, by file."""
+        files = {it.relative_to(self.folder).as_posix(): it for it in (self.folder / "src").rglob("*.rt")}
+        return {file: self.texts.get(file) or it.read_text(encoding="utf-8") for file, it in files.items()}
+
+    def write(self, at):
+        """Writes the copy, with a hole in place of the proof of each function that isn't changed."""
+        for part in ("src", "specs", "proofs"):
+            if (self.folder / part).is_dir():
+                shutil.copytree(self.folder / part, at / part)
+        for file, text in self.texts.items():
+            (at / file).write_text(text, encoding="utf-8")
+        found = functions_of(self.sources())
+        for function in {name for functions in found.values() for _, name in functions} - {*self.functions()}:
+            names = function.split("::")
+            folder = Path(at, "proofs", *names)
+            folder.mkdir(parents=True, exist_ok=True)
+            for name in PROOF_FILES:
+                (folder / name).unlink(missing_ok=True)
+            hole = HOLE.format(crate=self.folder.name, path=".".join(names), name=names[-1])
+            (folder / "Proof.antt").write_text(hole, encoding="utf-8")
+
     def function_at(self, file, number):
         """The name of the function at a line of a file, its attributes included."""
-        lines = (self.texts.get(file) or (self.folder / file).read_text(encoding="utf-8")).splitlines()
-        is_before = lines[number - 1].lstrip().startswith("#[")
-        near = lines[number - 1 :] if is_before else reversed(lines[:number])
-        return next((found[1] for line in near if (found := FUNCTION.match(line))), None)
+        sources = self.sources()
+        functions = functions_of(sources)[file]
+        if sources[file].splitlines()[number - 1].lstrip().startswith("#["):
+            return next((name for line, name in functions if line >= number), None)
+        return next((name for line, name in reversed(functions) if line <= number), None)
 
     def unproved(self, output):
         """The names of the functions with a goal that the check can't prove."""
@@ -195,12 +263,8 @@ class Checker:
     def check(self, crate, copy, room):
         """What the check of a copy says, and its status. What it proves is kept in the room for the next copy."""
         with tempfile.TemporaryDirectory(prefix="copy-", dir=room) as at:
-            for part in ("src", "specs", "proofs"):
-                if (crate.folder / part).is_dir():
-                    shutil.copytree(crate.folder / part, f"{at}/{part}")
-            for file, text in copy.texts.items():
-                Path(at, file).write_text(text, encoding="utf-8")
-            words = [*self.command(crate), "--incremental", f"{room}/kept"]
+            copy.write(Path(at))
+            words = [*self.command(crate), "--incremental", f"{room}/kept", "--allow-holes"]
             for it in copy.functions():
                 words += ["--only", it]
             ran = subprocess.run(
@@ -232,7 +296,7 @@ def right_body(checker):
     copy = Copy(crate.folder)
     copy.take(Edit("right_body", RIGHT))
     found = checker.tried(crate, [copy])
-    if found == [(False, "text_line/right_body: NOT REFUSED: line::Line::as_slice: proved")]:
+    if found == [(False, "text_line/right_body: NOT REFUSED: line::Line::as_slice: no holes")]:
         return [(True, "text_line: a right body is not refused")]
     return [(False, f"text_line: a right body seems wrong: {line}") for _, line in found]
 
@@ -240,24 +304,23 @@ def right_body(checker):
 def verdicts(crate, copy, output, status):
     """What a check has found of each wrong body in a copy."""
     said = dict(re.findall(rf"^fn {crate.name}::(\S+): (.*)$", output, re.M))
-    if status not in (0, 1, 3) or not re.search(r"^only=\d+ proved=\d+$", output, re.M):
+    if status not in (0, 1, 3) or not re.search(r"^only=\d+ holes=\d+$", output, re.M):
         names = " ".join(it.name for it in copy.edits)
         begin = "\n".join(output.splitlines()[:8])
         yield False, f"{crate.name}: no verdict (status {status}) with {names}:\n{begin}"
         return
-    unproved = copy.unproved(output)
+    shown = copy.unproved(output) | {it for it in said if has_wrong_proof(it, output)}
     for edit in copy.edits:
         for function in edit.refused:
             verdict = said.get(function, "not among the crate's functions")
-            is_shown = function.rpartition("::")[2] in unproved or has_wrong_proof(function, output)
-            if is_refused(verdict) and is_shown:
+            if is_refused(verdict) and function in shown:
                 yield True, f"{crate.name}/{edit.name}: refused"
             elif is_refused(verdict):
                 yield False, f"{crate.name}/{edit.name}: only the proof file of {function} misses what was taken away"
             else:
                 yield False, f"{crate.name}/{edit.name}: NOT REFUSED: {function}: {verdict[:160]}"
-    for function in said.keys() - {*copy.functions()}:
-        if is_refused(said[function]):
+    for function in shown - {*copy.functions()}:
+        if is_refused(said.get(function, "")):
             yield False, f"{crate.name}: nothing was changed in {function}: {said[function][:160]}"
 
 
