@@ -309,13 +309,15 @@ def verdicts(crate, copy, output, status):
         begin = "\n".join(output.splitlines()[:8])
         yield False, f"{crate.name}: no verdict (status {status}) with {names}:\n{begin}"
         return
-    shown = copy.unproved(output) | {it for it in said if has_wrong_proof(it, output)}
+    errors = {it: proof_errors(it, output) for it in said}
+    # An error that names what isn't there any more tells nothing of the contract.
+    shown = copy.unproved(output) | {it for it in said if not all(MISSING.search(error) for error in errors[it])}
     for edit in copy.edits:
         for function in edit.refused:
             verdict = said.get(function, "not among the crate's functions")
             if is_refused(verdict) and function in shown:
                 yield True, f"{crate.name}/{edit.name}: refused"
-            elif is_refused(verdict):
+            elif is_refused(verdict) and errors[function]:
                 yield False, f"{crate.name}/{edit.name}: only the proof file of {function} misses what was taken away"
             else:
                 yield False, f"{crate.name}/{edit.name}: NOT REFUSED: {function}: {verdict[:160]}"
@@ -325,15 +327,14 @@ def verdicts(crate, copy, output, status):
 
 
 def is_refused(verdict):
-    """Whether a function isn't proved for its own sake, and not only since it calls such a function."""
+    """Whether a verdict says that a function isn't proved, and not only that it calls such a function."""
     return verdict.startswith("not proved") or "`search` did not prove" in verdict
 
 
-def has_wrong_proof(function, output):
-    """Whether a proof by hand is wrong now, and doesn't only name what isn't there any more."""
+def proof_errors(function, output):
+    """What the check has against the files of a function's proof."""
     folder = re.escape(f"proofs/{function.replace('::', '/')}/")
-    errors = re.findall(rf"^\S*{folder}\w+\.antt:\d+:\d+: error: (.*)$", output, re.M)
-    return any(not MISSING.search(it) for it in errors)
+    return re.findall(rf"^\S*{folder}\w+\.antt:\d+:\d+: error: (.*)$", output, re.M)
 
 
 def side_by_side():
