@@ -8,7 +8,6 @@ order, which must be taken. The crates below must be built, as './check' and './
 is 'N passed, M failed'; the status is 0 if nothing failed.
 """
 import dataclasses
-import shutil
 import subprocess
 import sys
 import tempfile
@@ -111,10 +110,7 @@ def checked(checker, uses, text):
 
 
 def main():
-    rt = shutil.which("rt")
-    if not rt:
-        sys.exit("rt isn't here")
-    checker = Checker(Path(rt).resolve().parent.parent)
+    checker = Checker.found()
     passed = failed = 0
     for case in CASES:
         lacking = [it for it in case.uses if not checker.crates[it].rlib.is_dir()]

@@ -230,6 +230,14 @@ class Crate:
 class Checker:
     """The toolchain's check, and the crates by name."""
 
+    @staticmethod
+    def found():
+        """The checker of the kit that rt belongs to; without rt the program ends here."""
+        rt = shutil.which("rt")
+        if not rt:
+            sys.exit("rt isn't here")
+        return Checker(Path(rt).resolve().parent.parent)
+
     def __init__(self, kit):
         self.kit = kit
         self.crates = {}
@@ -346,10 +354,7 @@ def side_by_side():
 def main():
     asked = [it for it in sys.argv[1:] if it != "--alone"]
     alone = "--alone" in sys.argv
-    rt = shutil.which("rt")
-    if not rt:
-        sys.exit("rt isn't here")
-    checker = Checker(Path(rt).resolve().parent.parent)
+    checker = Checker.found()
     unknown = [it for it in asked if it not in checker.crates]
     if unknown:
         sys.exit(f"crates.txt has no crate {' '.join(unknown)}")

@@ -1,0 +1,87 @@
+#!/usr/bin/env python3
+"""Runs a command, and tells how many seconds of a processor the checks of each crate took in it.
+
+    bench/by_crate.py COMMAND [WORD ..]
+    bench/by_crate.py taskset -c 0,1 ./check
+
+The checks are the processes of the prover below the command. They are looked at twice a second, so of each the last
+half second at most is missed. The last line has the whole: by the clock, and of a processor with everything else that
+the command did. The status is that of the command. Not part of the tests.
+"""
+import collections
+import os
+import resource
+import subprocess
+import sys
+import threading
+import time
+import uuid
+
+MARK = f"BY_CRATE={uuid.uuid4()}"
+TICKS = os.sysconf("SC_CLK_TCK")
+KINDS = ("proof", "tests", "wrong bodies")
+
+
+def words_of(process):
+    """The words of a process of the prover below the command, or none if it is another process."""
+    with open(f"/proc/{process}/environ", "rb") as it:
+        if MARK.encode() not in it.read().split(b"\0"):
+            return []
+    with open(f"/proc/{process}/cmdline", encoding="utf-8", errors="replace") as it:
+        words = it.read().split("\0")
+    return words if os.path.basename(words[0]) == "rattle" and "--crate-name" in words else []
+
+
+def ticks_of(process):
+    """What the process has used of a processor itself, in ticks, with the system's, and when it began."""
+    with open(f"/proc/{process}/stat", encoding="utf-8", errors="replace") as it:
+        fields = it.read().rpartition(")")[2].split()
+    return int(fields[11]) + int(fields[12]), fields[19]
+
+
+def look(seen):
+    """Notes what each check has used so far."""
+    for process in filter(str.isdigit, os.listdir("/proc")):
+        try:
+            words = words_of(process)
+            if words:
+                ticks, began = ticks_of(process)
+                kind = "wrong bodies" if "--only" in words else "tests" if "--test" in words else "proof"
+                seen[process, began] = words[words.index("--crate-name") + 1], kind, ticks
+        except (OSError, IndexError, ValueError):
+            # It ended meanwhile.
+            continue
+
+
+def main():
+    if len(sys.argv) < 2 or sys.argv[1].startswith("-"):
+        sys.exit(__doc__.strip())
+    began, seen, is_over = time.time(), {}, threading.Event()
+    name, _, value = MARK.partition("=")
+
+    def watch():
+        while not is_over.wait(0.5):
+            look(seen)
+
+    watcher = threading.Thread(target=watch)
+    watcher.start()
+    try:
+        status = subprocess.run(sys.argv[1:], env={**os.environ, name: value}, check=False).returncode
+    finally:
+        is_over.set()
+        watcher.join()
+
+    used = collections.defaultdict(collections.Counter)
+    for crate, kind, ticks in seen.values():
+        used[crate][kind] += ticks / TICKS
+    for crate, by in sorted(used.items(), key=lambda it: -it[1].total()):
+        print(f"{crate}: " + ", ".join(f"{kind} {by[kind]:.0f} s" for kind in KINDS if by[kind]))
+    children = resource.getrusage(resource.RUSAGE_CHILDREN)
+    checks = sum(by.total() for by in used.values())
+    whole = children.ru_utime + children.ru_stime
+    print(f"{time.time() - began:.0f} s by the clock; {whole:.0f} s of a processor, {checks:.0f} s of these in checks")
+    return status
+
+
+if __name__ == "__main__":
+    sys.exit(main())
