@@ -6,3 +6,6 @@ pub mod Room
 pub mod Step
 pub mod InRoom
 pub mod Flags
+pub mod Echoes
+pub mod Pendings
+pub mod Taken

@@ -13,16 +13,16 @@ use Rattle.ogg_page.specs.Laws.BitNumbers.{number-add, number-append, number-bit
 use Rattle.ogg_page.specs.Laws.ByteStep.{left_of, length-left_of}
 
 -- ---- bytes as bits
-length-message_bits : (bytes : List ℕ) → length (message_bits bytes) ≡ 8 * length bytes
+pub length-message_bits : (bytes : List ℕ) → length (message_bits bytes) ≡ 8 * length bytes
 unfolding message_bits
 length-message_bits [] = refl
 length-message_bits (b ∷ bytes) = omega (arith, length-append (bits_of 8 b) (flat_map (bits_of 8) bytes), length-bits_of 8 b, length-message_bits bytes)
 
-joined : (xs ys : List ℕ) → message_bits (xs ++ ys) ≡ message_bits xs ++ message_bits ys
+pub joined : (xs ys : List ℕ) → message_bits (xs ++ ys) ≡ message_bits xs ++ message_bits ys
 unfolding message_bits
 joined xs ys = flat_map-append (bits_of 8) xs ys
 
-zero_bits : (n : ℕ) → message_bits (replicate n 0) ≡ zeros (8 * n)
+pub zero_bits : (n : ℕ) → message_bits (replicate n 0) ≡ zeros (8 * n)
 unfolding message_bits bits_of
 zero_bits zero = refl
 zero_bits (suc n) = ap (λ l. zeros 8 ++ l) (zero_bits n) ∙ replicate-append-replicate 8 (8 * n) false ∙ ap zeros (let e : 8 + 8 * n ≡ 8 * suc n = omega arith in e)
@@ -59,7 +59,7 @@ left_of-front front rest =
     ∙ ap (λ l. add (remainder (length (front ++ zeros r)) padding) l) (remainder-more f r behind ∙ ap (remainder r) (remainder-zeros f (rest ++ zeros 32)))
 
 -- a message in two parts: the first with zeros in the place of the second, and the second
-checksum-apart : (front rest : List ℕ) → checksum_of (front ++ rest) ≡ bit_xor (checksum_of (front ++ replicate (length rest) 0)) (checksum_of rest)
+pub checksum-apart : (front rest : List ℕ) → checksum_of (front ++ rest) ≡ bit_xor (checksum_of (front ++ replicate (length rest) 0)) (checksum_of rest)
 unfolding checksum_of left_of
 checksum-apart front rest =
     let own : List Bool = message_bits front in
@@ -152,7 +152,7 @@ word_bits bits h =
     let small : n < 2 ^ 32 = subst (λ k. n < 2 ^ k) h (number_lt bits) in
     same_number bits (message_bits (to_be_bytes w32 n)) (h ∙ sym (length-message_bits (to_be_bytes w32 n))) (sym (word_number n small))
 
-is_number : (bytes : List ℕ) → checksum_of bytes ≡ number_of (left_of (message_bits bytes))
+pub is_number : (bytes : List ℕ) → checksum_of bytes ≡ number_of (left_of (message_bits bytes))
 unfolding checksum_of left_of
 is_number bytes = refl
 
@@ -163,7 +163,7 @@ pub record IsWord (bytes : List ℕ) (word : ℕ) : Type 0 where
   pub spelled : to_be_bytes w32 word ≡ bytes
 
 -- ---- a checksum is folded into the word that follows it
-checksum-folded : (front bytes rest : List ℕ) (sum word : ℕ) → sum ≡ checksum_of front → IsWord bytes word →
+pub checksum-folded : (front bytes rest : List ℕ) (sum word : ℕ) → sum ≡ checksum_of front → IsWord bytes word →
     checksum_of (front ++ (bytes ++ rest)) ≡ checksum_of (to_be_bytes w32 (bit_xor sum word) ++ rest)
 checksum-folded front bytes rest sum word is four =
     let message : List Bool = message_bits front in
@@ -198,7 +198,7 @@ first_apart : (front bytes rest : List ℕ) (sum word : ℕ) → sum ≡ checksu
 first_apart front bytes rest sum word is four =
     checksum-folded front bytes rest sum word is four ∙ checksum-apart (to_be_bytes w32 (bit_xor sum word)) rest
 
-no_checksum : checksum_of [] ≡ 0
+pub no_checksum : checksum_of [] ≡ 0
 unfolding checksum_of message_bits remainder number_of
 no_checksum = refl
 

@@ -1,5 +1,6 @@
 pub mod Sizes
 pub mod Checksum
+pub mod Pending
 pub mod Numbers
 pub mod Page
 pub mod PageFault

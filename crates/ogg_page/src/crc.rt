@@ -3,7 +3,11 @@ ghost use Rattle.std.specs.Prelude.{◌≡◌, ◌<◌, ◌≤◌, ◌++◌, rep
 ghost use Rattle.std.specs.Int.{to_be_bytes, w32};
 ghost use Rattle.ogg_page.specs.Checksum.{bytes_of, checksum_of, entry_before};
 
+use crate::folding::checksum_by_folding;
 use crate::table::ENTRIES;
+
+/// From this number of bytes on, folding is faster than the tables.
+const MANY: usize = 512;
 
 /// The checksum of the bytes: a cyclic redundancy check of 32 bits with the generator 0x04C11DB7,
 /// most significant bit first, from 0 on (RFC 3533, section 6, field 7).
@@ -15,6 +19,18 @@ pub fn checksum(bytes: &[u8]) -> u32
 
 /// The checksum of some bytes and then these, from the checksum of the bytes before.
 pub fn checksum_on(before: u32, bytes: &[u8]) -> u32
+    ensures { (front : List ℕ) → before ≡ checksum_of front → result ≡ checksum_of (front ++ bytes.now) }
+{
+    match bytes.split_first_chunk::<4>() {
+        Some((first, rest)) if rest.len() >= MANY => {
+            checksum_by_folding(before ^ u32::from_be_bytes(*first), rest)
+        }
+        _ => checksum_by_tables(before, bytes),
+    }
+}
+
+/// The same, sixteen bytes at a time.
+pub(crate) fn checksum_by_tables(before: u32, bytes: &[u8]) -> u32
     ensures { (front : List ℕ) → before ≡ checksum_of front → result ≡ checksum_of (front ++ bytes.now) }
 {
     let mut sum = before;

@@ -19,6 +19,7 @@ mod buffer;
 mod crc;
 mod fault;
 mod finding;
+mod folding;
 mod head;
 mod held;
 mod lacing;
@@ -37,7 +38,7 @@ mod window;
 mod writing;
 
 pub use buffer::PageBuffer;
-pub use crc::checksum;
+pub use crc::{checksum, checksum_on};
 pub use fault::{PageFault, SourceFault, WindowFault, WriteFault};
 pub use head::{CONTINUED, FIRST, LAST, PageHead};
 pub use laws::{
