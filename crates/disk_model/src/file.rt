@@ -1,13 +1,15 @@
 //! A file of the system. That it is honest is a premise: no contract can give it.
-ghost use Rattle.std.specs.Prelude.{◌≡◌, [], IfOk};
+ghost use Rattle.std.specs.Prelude.{◌≡◌, ◌≢◌, [], true, Err, IfOk};
 ghost use Rattle.disk_model.specs.Image.{settled};
 
 use crate::{DiskFault, FileDisk, RawFile};
-use std::fs::{File, OpenOptions};
+use std::alloc::Alloc;
+use std::fs::{self, File, OpenOptions, TryLockError};
 use std::os::unix::fs::FileExt;
 use std::rt::Files;
+use thiserror::Error;
 
-/// How a file is opened. None of them makes it shorter.
+/// How a file is opened. None of them makes it shorter. In a mode that writes, the file is locked while it is open.
 #[derive(Clone, Copy, Debug, PartialEq, Eq)]
 pub enum FileMode {
     /// To read and to write; an empty file is made if there is none.
@@ -18,8 +20,26 @@ pub enum FileMode {
     ReadOnly,
 }
 
+/// Why a file wasn't opened.
+#[derive(Clone, Copy, Debug, PartialEq, Eq, Error)]
+pub enum FileFault {
+    /// Another program has it open in a mode that writes, and so has this one, if it has it open already.
+    #[error("another program writes the file")]
+    Locked,
+    /// It can't be opened or locked, or its folder can't be synced.
+    #[error("the file can't be opened")]
+    Refused,
+}
+
 impl FileMode {
-    ghost use Rattle.disk_model.specs.FileMode.{options_of};
+    ghost use Rattle.disk_model.specs.FileMode.{options_of, writes};
+
+    /// Whether the file may be written.
+    fn writes(self) -> bool
+        ensures { result ≡ writes self }
+    {
+        !matches!(self, FileMode::ReadOnly)
+    }
 
     fn options(self) -> OpenOptions
         ensures { result ≡ options_of self }
@@ -42,19 +62,69 @@ impl FileMode {
 
 impl FileDisk {
     ghost use Rattle.disk_model.specs.FileDisk.{failures_of};
+    ghost use Rattle.disk_model.specs.FileMode.{writes};
 
-    /// Opens the file, which is made only if the mode says so.
-    pub fn open<R: Files<File = File>>(
+    /// Opens the file, as `lock` does.
+    pub fn open<R: Files<File = File> + Alloc>(
         rt: &R,
         path: &str,
         mode: FileMode,
     ) -> Result<FileDisk, DiskFault>
         ensures { IfOk result (λ disk. failures_of disk ≡ 0) }
     {
-        match mode.options().open(rt, path) {
-            Ok(file) => Ok(FileDisk::over(file)),
+        match FileDisk::lock(rt, path, mode) {
+            Ok(disk) => Ok(disk),
             Err(_) => Err(DiskFault),
         }
+    }
+
+    /// Opens the file, which is made only if the mode says so. In a mode that writes it is locked until the disk is
+    /// dropped, so that of the programs that take the lock one writes it. In the mode that makes it, its folder is
+    /// synced, so that its name outlives a stop. After `Locked` nothing was changed; after `Refused` the file may have
+    /// been made, and is empty.
+    pub fn lock<R: Files<File = File> + Alloc>(
+        rt: &R,
+        path: &str,
+        mode: FileMode,
+    ) -> Result<FileDisk, FileFault>
+        ensures failures { IfOk result (λ disk. failures_of disk ≡ 0) }
+        ensures locked { result ≡ Err FileFault.Locked → writes mode ≡ true }
+    {
+        let Ok(file) = mode.options().open(rt, path) else {
+            return Err(FileFault::Refused);
+        };
+        if mode.writes() {
+            lock_file(&file)?;
+        }
+        if mode == FileMode::Create {
+            sync_folder(rt, path)?;
+        }
+        Ok(FileDisk::over(file))
+    }
+}
+
+/// Locks the file for as long as it is open. Other programs are kept out only if they ask for the lock too.
+fn lock_file(file: &File) -> Result<(), FileFault> {
+    match file.try_lock() {
+        Ok(()) => Ok(()),
+        Err(TryLockError::WouldBlock) => Err(FileFault::Locked),
+        Err(TryLockError::Error(_)) => Err(FileFault::Refused),
+    }
+}
+
+/// Syncs the folder that a file lies in, once its path has been followed.
+fn sync_folder<R: Files<File = File> + Alloc>(rt: &R, path: &str) -> Result<(), FileFault>
+    ensures { result ≢ Err FileFault.Locked }
+{
+    let Ok(whole) = fs::canonicalize(rt, path) else {
+        return Err(FileFault::Refused);
+    };
+    let Some(folder) = whole.parent() else {
+        return Err(FileFault::Refused);
+    };
+    match File::open(rt, folder) {
+        Ok(folder) if folder.sync_all().is_ok() => Ok(()),
+        _ => Err(FileFault::Refused),
     }
 }
 

@@ -16,7 +16,7 @@ mod memory;
 mod raw;
 
 pub use disk::{Disk, DiskFault};
-pub use file::FileMode;
+pub use file::{FileFault, FileMode};
 pub use fuse::FuseDisk;
 pub use laws::{
     bounds_have_every_image, calls_keep_images, settled_disk_has_one_image, time_adds_up,
