@@ -1,5 +1,5 @@
 -- The records of a run, whichever way it ended, are answered in turn.
-use Rattle.std.proofs.Common.{◌≡◌, ◌↔◌, inl, inr, ℕ, ◌≤◌, List, [], ◌∷◌, ◌++◌, refl, sym, ap, ◌∙◌, subst, arith, append_assoc, Option, Err}
+use Rattle.std.proofs.Common.{◌≡◌, ◌↔◌, inl, inr, ℕ, ◌≤◌, List, [], ◌∷◌, ◌++◌, refl, sym, ap, ◌∙◌, subst, arith, append_assoc, Option, Err, Bool}
 use Rattle.std.proofs.lemmas.List.{append-nil}
 use Rattle.disk_model.specs.Image.{DiskState}
 use Rattle.feed_codec.specs.declared.fault.RunFault.{RunFault}
@@ -50,12 +50,12 @@ module _ {S : Type 0} (answers : S → Record → Reply → List ℕ → S → T
     run_to outcome start now before after run =
         closed_all run.at now before run.mid after run.records run.closing run.replies run.last (run.run.bytes, run.run.answers_all) run.closed
 
-    stopped : (before mid after : S) (records : List Record) (replies : List Reply) (given : Record) (pages new_pages lines new_lines : Option (List ℕ)) (own : List ℕ) (reply : Reply) (reached : S)
-        (written : StopsAt pages new_pages lines new_lines own reply mid reached after) → All before records replies mid → answers mid given reply own reached
-        → let found : Answered = answered_with records replies given pages new_pages lines new_lines own reply mid reached after written in All before found.records found.replies after
-    stopped before mid after records replies given pages new_pages lines new_lines own reply reached (inl none) all answer =
+    stopped : (before mid after : S) (records : List Record) (replies : List Reply) (given : Record) (waits : Bool) (pages new_pages lines new_lines : Option (List ℕ)) (own : List ℕ) (reply : Reply) (reached : S)
+        (written : StopsAt waits pages new_pages lines new_lines own reply mid reached after) → All before records replies mid → answers mid given reply own reached
+        → let found : Answered = answered_with records replies given waits pages new_pages lines new_lines own reply mid reached after written in All before found.records found.replies after
+    stopped before mid after records replies given waits pages new_pages lines new_lines own reply reached (inl none) all answer =
         subst (λ (s : S). All before records replies s) (sym none.2) all
-    stopped before mid after records replies given pages new_pages lines new_lines own reply reached (inr whole) all answer =
+    stopped before mid after records replies given waits pages new_pages lines new_lines own reply reached (inr whole) all answer =
         subst (λ (s : S). All before (records ++ given ∷ []) (replies ++ reply ∷ []) s) (sym whole.2) (all.0 ++ own, one_more before mid reached records replies all.0 own given reply all.1 answer)
 
     pub ended : (fault : RunFault) (start now : Streams) (before after : S) (run : EndsBy answers held fault start now before after)
@@ -63,7 +63,7 @@ module _ {S : Type 0} (answers : S → Record → Reply → List ℕ → S → T
     ended (Feed fault) start now before after run = run_to (Err (Feed fault)) start now before after run
     ended TooMany start now before after run = run_to (Err TooMany) start now before after run
     ended Write start now before after run =
-        stopped before run.mid after run.records run.replies run.stop.given run.at.pages now.pages run.at.lines now.lines run.stop.own run.stop.reply run.stop.reached run.stop.written
+        stopped before run.mid after run.records run.replies run.stop.given now.waits run.at.pages now.pages run.at.lines now.lines run.stop.own run.stop.reply run.stop.reached run.stop.written
         (run.run.bytes, run.run.answers_all) run.stop.answers_it
 
 -- what holds from each recorder to the next, whether its disk is honest or not

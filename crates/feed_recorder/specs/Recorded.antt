@@ -1,5 +1,5 @@
 -- What a run over a feed has recorded, at each moment and at its end. Ours.
-use Rattle.std.specs.Prelude.{◌≡◌, ℕ, false, Option, List, [], ◌∷◌, ◌++◌}
+use Rattle.std.specs.Prelude.{◌≡◌, ℕ, false, Option, List, [], ◌∷◌, ◌++◌, Bool}
 use Rattle.std.proofs.Common.{inl, inr}
 use Rattle.disk_model.specs.Image.{DiskState}
 use Rattle.disk_model.specs.Clock.{LeavesOnly}
@@ -34,10 +34,10 @@ answered records replies = record { records = records; replies = replies }
 
 -- A writer failed over this record: it counts as answered if it has been run.
 abbrev pub answered_with : {S : Type 0} → List Record → List Reply → Record
-    → (pages new_pages lines new_lines : Option (List ℕ)) (own : List ℕ) (reply : Reply) (before reached after : S)
-    → StopsAt pages new_pages lines new_lines own reply before reached after → Answered
-answered_with records replies given pages new_pages lines new_lines own reply before reached after (inl none) = answered records replies
-answered_with records replies given pages new_pages lines new_lines own reply before reached after (inr whole) =
+    → (waits : Bool) (pages new_pages lines new_lines : Option (List ℕ)) (own : List ℕ) (reply : Reply) (before reached after : S)
+    → StopsAt waits pages new_pages lines new_lines own reply before reached after → Answered
+answered_with records replies given waits pages new_pages lines new_lines own reply before reached after (inl none) = answered records replies
+answered_with records replies given waits pages new_pages lines new_lines own reply before reached after (inr whole) =
     answered (records ++ given ∷ []) (replies ++ reply ∷ [])
 
 module _ {S : Type 0} (answers : S → Record → Reply → List ℕ → S → Type 0) (held : S → ℕ) where
@@ -49,7 +49,7 @@ module _ {S : Type 0} (answers : S → Record → Reply → List ℕ → S → T
   -- the records of a run that a writer stopped
   abbrev pub answered_until : (start now : Streams) (before after : S) → StopsWriting answers held start now before after → Answered
   answered_until start now before after stopped =
-      answered_with stopped.records stopped.replies stopped.stop.given stopped.at.pages now.pages stopped.at.lines now.lines
+      answered_with stopped.records stopped.replies stopped.stop.given now.waits stopped.at.pages now.pages stopped.at.lines now.lines
       stopped.stop.own stopped.stop.reply stopped.mid stopped.stop.reached after stopped.stop.written
 
   -- the records of a run that a fault has ended

@@ -13,4 +13,4 @@ mod laws;
 mod recording;
 
 pub use laws::records_are_steps;
-pub use recording::record_feed;
+pub use recording::{record_feed, record_feed_for};

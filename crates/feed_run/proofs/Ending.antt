@@ -78,7 +78,7 @@ module _ {S : Type 0} (answers : S → Record → Reply → List ℕ → S → T
           mid = mid;
           run = come.has_run;
           few = come.few;
-          leaves = subst (λ n. Leaves one.outcome was.version n old.feed new.feed) come.many one.leaves;
+          leaves = subst (λ n. Leaves one.outcome was.version n new.enough old.feed new.feed) come.many one.leaves;
           closed = inr (one.waits, reply, refl, refl, one.answers_it, one.lines);
           pages = one.pages;
         };
@@ -105,7 +105,7 @@ module _ {S : Type 0} (answers : S → Record → Reply → List ℕ → S → T
         mid = mid;
         run = come.has_run;
         few = come.few;
-        leaves = subst (λ n. Leaves outcome was.version n old.feed new.feed) come.many one.leaves;
+        leaves = subst (λ n. Leaves outcome was.version n new.enough old.feed new.feed) come.many one.leaves;
         closed = inl (one.none, refl, refl, one.same, one.lines);
         pages = one.pages;
       }

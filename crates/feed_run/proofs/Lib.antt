@@ -1,5 +1,6 @@
 pub mod Bounds
 pub mod States
+mod Staying
 pub mod ReadOn
 pub mod Kept
 pub mod Turns

@@ -1,4 +1,7 @@
+pub mod Ahead
 pub mod Answering
 pub mod Counting
 pub mod CountingLaws
+pub mod Refusing
 pub mod Run
+pub mod Together

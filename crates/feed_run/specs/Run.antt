@@ -1,7 +1,7 @@
 -- What a run over a feed has read and written, record by record, at its end, and when it was stopped. Ours.
-use Rattle.std.specs.Prelude.{◌≡◌, ◌≢◌, ◌⊎◌, ◌≤◌, ◌<◌, ◌+◌, ℕ, Option, Some, None, Result, Ok, Err, List, [], ◌∷◌, ◌++◌, length}
+use Rattle.std.specs.Prelude.{◌≡◌, ◌≢◌, ◌⊎◌, ◌≤◌, ◌<◌, ◌+◌, ℕ, Option, Some, None, Result, Ok, Err, List, [], ◌∷◌, ◌++◌, length, Bool, true, false}
 use Rattle.std.specs.List.{flat_map, AllByRecursion}
-use Rattle.std.specs.Io.KnownBytes.{Appends, Consumes}
+use Rattle.std.specs.Io.KnownBytes.{Appends, Consumes, Keeps}
 use Rattle.ogg_page.specs.Output.{WritesPrefix}
 use Rattle.feed_codec.specs.declared.item.Record.{Record}
 use Rattle.feed_codec.specs.declared.item.Record.TheVariants.{Flush}
@@ -24,14 +24,26 @@ use Rattle.feed_run.specs.Counting.{counts_with, IsTally}
 abbrev pub most_records : ℕ
 most_records = 4294967295
 
--- what the reader of the feed and the writers of pages and of reply lines show of their bytes
+-- What the reader of the feed, the writer of pages and the taker of replies show of their bytes; whether what was
+-- written or told may wait with them; and whether the taker of replies wants no further record.
 pub record Streams : Type 0 where
   pub feed : Option (List ℕ)
   pub pages : Option (List ℕ)
   pub lines : Option (List ℕ)
+  pub waits : Bool
+  pub enough : Bool
 
+-- the same of writers, with which nothing waits and which end no run
 abbrev pub streams : Option (List ℕ) → Option (List ℕ) → Option (List ℕ) → Streams
-streams feed pages lines = record { feed = feed; pages = pages; lines = lines }
+streams feed pages lines = record { feed = feed; pages = pages; lines = lines; waits = false; enough = false }
+
+abbrev pub streams_to : Option (List ℕ) → Option (List ℕ) → Option (List ℕ) → Bool → Bool → Streams
+streams_to feed pages lines waits enough = record { feed = feed; pages = pages; lines = lines; waits = waits; enough = enough }
+
+-- Nothing was written or told. If something may wait, it may have gone out.
+abbrev pub Stays : Bool → Option (List ℕ) → Option (List ℕ) → Type 0
+Stays false old new = new ≡ old
+Stays true old new = Keeps old new
 
 -- how a run has ended: at the feed's end, or by a fault
 abbrev pub Outcome : Type 0
@@ -59,28 +71,33 @@ abbrev pub steps_of : RunState → ℕ
 steps_of run = steps_at run.outcome run.records
 
 -- ---- one record
--- Why no further record is run after the first `count`. The feed ends; or it has a fault, which is that of its bytes
--- if the reader didn't fail and memory wasn't refused; or the run has taken as many as it takes, and there is one
--- more.
-abbrev pub Leaves : Outcome → Option Version → ℕ → Option (List ℕ) → Option (List ℕ) → Type 0
-Leaves (Ok _) known count old new = GivesEnd known old new
-Leaves (Err (Feed fault)) known count old new = fault ≢ Read → fault ≢ Memory → HasFault known old fault
-Leaves (Err TooMany) known count old new =
+-- the feed ends; or, if no further record is wanted, nothing was read for one
+abbrev pub EndsFeed : Bool → Option Version → Option (List ℕ) → Option (List ℕ) → Type 0
+EndsFeed false known old new = GivesEnd known old new
+EndsFeed true known old new = GivesEnd known old new ⊎ (new ≡ old)
+
+-- Why no further record is run after the first `count`. The feed ends, or no further record is wanted; or the feed has
+-- a fault, which is that of its bytes if the reader didn't fail and memory wasn't refused; or the run has taken as many
+-- as it takes, and there is one more.
+abbrev pub Leaves : Outcome → Option Version → ℕ → Bool → Option (List ℕ) → Option (List ℕ) → Type 0
+Leaves (Ok _) known count enough old new = EndsFeed enough known old new
+Leaves (Err (Feed fault)) known count enough old new = fault ≢ Read → fault ≢ Memory → HasFault known old fault
+Leaves (Err TooMany) known count enough old new =
     (count ≡ most_records) × (later : Option Version) × (next : Record) × GivesRecord known later old new next
-Leaves (Err Write) known count old new = ⊥
+Leaves (Err Write) known count enough old new = ⊥
 
 -- What comes next in a feed after the first `count` records: a record that was read; or no further record is run.
-abbrev pub Comes : Next → FeedState → FeedState → ℕ → Option (List ℕ) → Option (List ℕ) → Type 0
-Comes (Run given) was now count old new = (count < most_records) × (now.outcome ≡ None) × GivesRecord was.version now.version old new given
-Comes (Close outcome) was now count old new = Leaves outcome was.version count old new
+abbrev pub Comes : Next → FeedState → FeedState → ℕ → Bool → Option (List ℕ) → Option (List ℕ) → Type 0
+Comes (Run given) was now count enough old new = (count < most_records) × (now.outcome ≡ None) × GivesRecord was.version now.version old new given
+Comes (Close outcome) was now count enough old new = Leaves outcome was.version count enough old new
 
 -- A writer failed over a record with these pages and this reply. If it failed at the pages, the record hasn't been
 -- run, and nothing of its line is written. If it failed at the line, all of the pages are written, and the record has
 -- been run.
-abbrev pub StopsAt : {S : Type 0} → Option (List ℕ) → Option (List ℕ) → Option (List ℕ) → Option (List ℕ)
+abbrev pub StopsAt : {S : Type 0} → Bool → Option (List ℕ) → Option (List ℕ) → Option (List ℕ) → Option (List ℕ)
     → List ℕ → Reply → S → S → S → Type 0
-StopsAt pages new_pages lines new_lines own reply before reached after =
-    (WritesPrefix pages new_pages own × (new_lines ≡ lines) × (after ≡ before))
+StopsAt waits pages new_pages lines new_lines own reply before reached after =
+    (WritesPrefix pages new_pages own × Stays waits lines new_lines × (after ≡ before))
     ⊎ (Appends pages new_pages own × WritesPrefix lines new_lines (reply_line reply) × (after ≡ reached))
 
 -- a run that has taken this record too
@@ -104,27 +121,27 @@ module _ {S : Type 0} (answers : S → Record → Reply → List ℕ → S → T
 -- `held`: how many commands wait in a state
 module _ {S : Type 0} (held : S → ℕ) where
   -- the record that is answered next: one that was read; or a flush, if no further record is run and something waits
-  abbrev pub Asks : Option Version → ℕ → Option (List ℕ) → Option (List ℕ) → S → Record → Type 0
-  Asks known count old new before given =
+  abbrev pub Asks : Option Version → ℕ → Bool → Option (List ℕ) → Option (List ℕ) → S → Record → Type 0
+  Asks known count enough old new before given =
       ((count < most_records) × (later : Option Version) × GivesRecord known later old new given)
-      ⊎ ((given ≡ Flush) × (0 < held before) × (outcome : Outcome) × Leaves outcome known count old new)
+      ⊎ ((given ≡ Flush) × (0 < held before) × (outcome : Outcome) × Leaves outcome known count enough old new)
 
   -- No further record is run, nothing waits, and nothing was written.
   pub record EndsOne (outcome : Outcome) (old new : Streams) (known : Option Version) (count : ℕ) (before after : S) : Type 0 where
-    pub leaves : Leaves outcome known count old.feed new.feed
+    pub leaves : Leaves outcome known count new.enough old.feed new.feed
     pub none : held before ≡ 0
     pub same : after ≡ before
-    pub pages : new.pages ≡ old.pages
-    pub lines : new.lines ≡ old.lines
+    pub pages : Stays new.waits old.pages new.pages
+    pub lines : Stays new.waits old.lines new.lines
 
 module _ {S : Type 0} (answers : S → Record → Reply → List ℕ → S → Type 0) (held : S → ℕ) where
   -- No further record is run. What waited was flushed, and the reply's line was written.
   pub record ClosesOne (old new : Streams) (was now : RunState) (before after : S) (reply : Reply) : Type 0 where
     pub outcome : Outcome
-    pub leaves : Leaves outcome was.version was.records old.feed new.feed
+    pub leaves : Leaves outcome was.version was.records new.enough old.feed new.feed
     pub waits : 0 < held before
     pub answers_it : answers before Flush reply [] after
-    pub pages : new.pages ≡ old.pages
+    pub pages : Stays new.waits old.pages new.pages
     pub lines : Appends old.lines new.lines (reply_line reply)
     pub counted : now.counts ≡ counts_with was.counts Flush reply
     pub ended : now.outcome ≡ Some outcome
@@ -140,9 +157,9 @@ module _ {S : Type 0} (answers : S → Record → Reply → List ℕ → S → T
     pub reply : Reply
     pub own : List ℕ
     pub reached : S
-    pub asked : Asks held known count old.feed new.feed before given
+    pub asked : Asks held known count new.enough old.feed new.feed before given
     pub answers_it : answers before given reply own reached
-    pub written : StopsAt old.pages new.pages old.lines new.lines own reply before reached after
+    pub written : StopsAt new.waits old.pages new.pages old.lines new.lines own reply before reached after
 
   -- why one step returned no reply
   abbrev pub StopsBy : RunFault → Streams → Streams → Option Version → ℕ → S → S → Type 0
@@ -170,7 +187,7 @@ module _ {S : Type 0} (answers : S → Record → Reply → List ℕ → S → T
   -- After the last record: if something waits, a flush, and the line of its reply was written; else nothing.
   abbrev pub IsClosed : Streams → Streams → S → S → List Record → List Reply → Type 0
   IsClosed at now before after closing last =
-      ((held before ≡ 0) × (closing ≡ []) × (last ≡ []) × (after ≡ before) × (now.lines ≡ at.lines))
+      ((held before ≡ 0) × (closing ≡ []) × (last ≡ []) × (after ≡ before) × Stays now.waits at.lines now.lines)
       ⊎ ((0 < held before) × (reply : Reply) × (closing ≡ Flush ∷ []) × (last ≡ reply ∷ [])
       × answers before Flush reply [] after × Appends at.lines now.lines (reply_line reply))
 
@@ -185,9 +202,9 @@ module _ {S : Type 0} (answers : S → Record → Reply → List ℕ → S → T
     pub mid : S
     pub run : HasRun answers start at known records replies before mid
     pub few : length records ≤ most_records
-    pub leaves : Leaves outcome known (length records) at.feed now.feed
+    pub leaves : Leaves outcome known (length records) now.enough at.feed now.feed
     pub closed : IsClosed at now mid after closing last
-    pub pages : now.pages ≡ at.pages
+    pub pages : Stays now.waits at.pages now.pages
 
   -- The feed was run to its end, and the tally is the result.
   pub record RunsWhole (start now : Streams) (before after : S) (end : ℕ) (tally : Tally) : Type 0 where

@@ -1,5 +1,5 @@
 //! One record, and its reply.
-ghost use Rattle.std.specs.Prelude.{◌≡◌, ◌≢◌, ◌⊎◌, ◌<◌, ◌≤◌, ◌+◌, ◌^◌, [], ℕ, List, IfOk, IfSome, IfNone, OnErr};
+ghost use Rattle.std.specs.Prelude.{◌≡◌, ◌≢◌, ◌⊎◌, ◌<◌, ◌≤◌, ◌+◌, ◌^◌, [], ℕ, List, IfOk, IfSome, IfNone, OnErr, true};
 ghost use Rattle.std.specs.Io.KnownBytes.{Appends};
 ghost use Rattle.ogg_page.specs.Output.{WritesPrefix};
 ghost use Rattle.ogg_command.specs.Command.{IsCommand};
@@ -12,8 +12,9 @@ ghost use Rattle.feed_codec.specs.declared.item.Record.{Record as RecordOf};
 ghost use Rattle.feed_codec.specs.declared.reply.Reply.{Reply as ReplyOf};
 
 use crate::counting::Counts;
+use crate::replies::Replies;
 use crate::runner::Runner;
-use feed_codec::{Feed, Record, Reply, write_reply};
+use feed_codec::{Feed, Record, Reply};
 use ogg_page::WriteFault;
 use std::io::Write;
 
@@ -39,14 +40,14 @@ pub fn run_record<T: Runner, P: Write>(
     }
 }
 
-/// Has a record that was read run, counts it, and writes the line of the reply.
-pub fn answer<T: Runner, P: Write, W: Write>(
+/// Has a record that was read run, counts it, and tells the reply.
+pub fn answer<T: Runner, P: Write, S: Replies>(
     feed: &mut Feed,
     counts: Counts,
     given: Record,
     runner: &mut T,
     pages: &mut P,
-    replies: &mut W,
+    replies: &mut S,
 ) -> Result<(Reply, Counts), WriteFault>
     requires numbers { (version : VersionOf) × HasRecord version given }
     requires count { T.counted runner.old < 2 ^ 63 }
@@ -56,12 +57,13 @@ pub fn answer<T: Runner, P: Write, W: Write>(
     ensures ok { (before : T.State) → T.is_in before runner.old → IfOk result (λ (reply, now). (own : List ℕ) × (after : T.State)
         × T.answers before given reply own after × T.is_in after runner.new
         × Appends (P.contents pages.old) (P.contents pages.new) own
-        × Appends (W.contents replies.old) (W.contents replies.new) (reply_line reply)) }
+        × Appends (S.lines replies.old) (S.lines replies.new) (reply_line reply)) }
     ensures counts { IfOk result (λ (reply, now). now ≡ counts_with counts given reply) }
     ensures err { (before : T.State) → T.is_in before runner.old → OnErr result (
         (reply : ReplyOf) × (own : List ℕ) × (reached : T.State) × (after : T.State)
         × T.answers before given reply own reached × T.is_in after runner.new
-        × (StopsAt (P.contents pages.old) (P.contents pages.new) (W.contents replies.old) (W.contents replies.new) own reply before reached after)) }
+        × (StopsAt S.waits (P.contents pages.old) (P.contents pages.new) (S.lines replies.old) (S.lines replies.new) own reply before reached after)) }
+    ensures enough { S.enough replies.old ≡ true → S.enough replies.new ≡ true }
     ensures count { T.counted runner.new ≤ T.counted runner.old + 1 }
 {
     let reply = run_record(runner, &given, pages)?;
@@ -69,6 +71,6 @@ pub fn answer<T: Runner, P: Write, W: Write>(
     if let Record::Command(command) = given {
         feed.give_back(command);
     }
-    write_reply(&reply, replies)?;
+    replies.reply(&reply, pages)?;
     Ok((reply, counts))
 }

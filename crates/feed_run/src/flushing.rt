@@ -1,35 +1,43 @@
 //! The flush after the last record.
-ghost use Rattle.std.specs.Prelude.{◌≡◌, ◌<◌, ◌≤◌, ◌+◌, [], IfOk, IfSome, IfNone, OnErr};
+ghost use Rattle.std.specs.Prelude.{◌≡◌, ◌<◌, ◌≤◌, ◌+◌, [], IfOk, IfSome, IfNone, OnErr, true};
 ghost use Rattle.std.specs.Io.KnownBytes.{Appends};
 ghost use Rattle.ogg_page.specs.Output.{WritesPrefix};
 ghost use Rattle.feed_codec.specs.Reply.{reply_line};
+ghost use Rattle.feed_run.specs.Run.{Stays};
 ghost use Rattle.feed_codec.specs.declared.item.Record.{Record as RecordOf};
 ghost use Rattle.feed_codec.specs.declared.reply.Reply.{Reply as ReplyOf};
 
+use crate::replies::Replies;
 use crate::runner::Runner;
-use feed_codec::{Reply, write_reply};
+use feed_codec::Reply;
 use ogg_page::WriteFault;
 use std::io::Write;
 
-/// Flushes what waits, writes the line of the reply, and returns the reply. If nothing waits it does nothing.
-pub fn flush_waiting<T: Runner, W: Write>(
+/// Flushes what waits, tells the reply, and returns it. If nothing waits there is no flush. What waits with the taker
+/// of replies goes out, since the run ends.
+pub fn flush_waiting<T: Runner, P: Write, S: Replies>(
     runner: &mut T,
-    replies: &mut W,
+    pages: &mut P,
+    replies: &mut S,
 ) -> Result<Option<Reply>, WriteFault>
     ensures replied { (before : T.State) → T.is_in before runner.old → IfOk result (λ found. IfSome found (λ reply.
         (0 < T.held_in before) × (after : T.State) × T.answers before RecordOf.Flush reply [] after × T.is_in after runner.new
-        × Appends (W.contents replies.old) (W.contents replies.new) (reply_line reply))) }
+        × Appends (S.lines replies.old) (S.lines replies.new) (reply_line reply))) }
     ensures none { (before : T.State) → T.is_in before runner.old → IfOk result (λ found. IfNone found (
-        (T.held_in before ≡ 0) × (runner.new ≡ runner.old) × (replies.new ≡ replies.old))) }
+        (T.held_in before ≡ 0) × (runner.new ≡ runner.old) × Stays S.waits (S.lines replies.old) (S.lines replies.new))) }
     ensures err { (before : T.State) → T.is_in before runner.old → OnErr result ((0 < T.held_in before) × (reply : ReplyOf) × (after : T.State)
         × T.answers before RecordOf.Flush reply [] after × T.is_in after runner.new
-        × WritesPrefix (W.contents replies.old) (W.contents replies.new) (reply_line reply)) }
+        × WritesPrefix (S.lines replies.old) (S.lines replies.new) (reply_line reply)) }
+    ensures pages { Stays S.waits (P.contents pages.old) (P.contents pages.new) }
+    ensures enough { S.enough replies.old ≡ true → S.enough replies.new ≡ true }
     ensures count { T.counted runner.new ≤ T.counted runner.old + 1 }
 {
     if runner.waiting() == 0 {
+        replies.ready(pages);
         return Ok(None);
     }
     let reply = runner.run_flush();
-    write_reply(&reply, replies)?;
+    replies.reply(&reply, pages)?;
+    replies.ready(pages);
     Ok(Some(reply))
 }

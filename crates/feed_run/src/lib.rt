@@ -9,17 +9,25 @@
 //! `specs/Run.antt`, which says what a run has read and written.
 #![tactic(auto)]
 
+mod ahead;
 mod answering;
+mod batched;
 mod counting;
 mod flushing;
 mod laws;
 mod next;
+mod refusing;
+mod replies;
 mod run;
 mod runner;
 mod whole;
 
+pub use ahead::{Ahead, Buffered, Unknown};
+pub use batched::{Batched, Together};
 pub use counting::Counts;
 pub use laws::runs_go_on;
+pub use refusing::FirstRefusal;
+pub use replies::Replies;
 pub use run::FeedRun;
 pub use runner::Runner;
-pub use whole::run_feed;
+pub use whole::{run_feed, run_feed_for};

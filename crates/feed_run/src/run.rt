@@ -1,11 +1,13 @@
 //! A run over a feed, one record at a time.
 ghost use Rattle.std.specs.Prelude.{◌≡◌, ◌<◌, ◌≤◌, ◌+◌, ◌^◌, ℕ, List, IfOk, IfErr, IfSome, IfNone, None, Some, Ok, Err};
-ghost use Rattle.feed_run.specs.Run.{RunState, streams, Steps, EndsOne, StopsBy, answer_at, most_records, steps_of};
+ghost use Rattle.feed_run.specs.Run.{RunState, streams, streams_to, Steps, EndsOne, StopsBy, answer_at, most_records, steps_of};
 
+use crate::ahead::{Ahead, Unknown};
 use crate::answering::answer;
 use crate::counting::Counts;
 use crate::flushing::flush_waiting;
-use crate::next::{Next, Outcome, answer_at, next_in};
+use crate::next::{Next, Outcome, answer_at, next_for};
+use crate::replies::Replies;
 use crate::runner::Runner;
 use feed_codec::{Feed, Record, Reply, RunFault, Tally};
 use std::alloc::Global;
@@ -86,10 +88,47 @@ impl FeedRun {
             × (steps_of self.new ≡ steps_of self.old + 1))) }
         ensures count { T.counted runner.new ≤ T.counted runner.old + 1 }
     {
+        self.step_for::<Unknown, T, R, P, W>(runner, reader, pages, replies)
+    }
+
+    /// The same with any taker of replies. Before more of the feed may be waited for, and at the run's end, what waits
+    /// with it goes out. If it wants no further record, the run ends as at the end of the feed.
+    pub fn step_for<A: Ahead<R>, T: Runner, R: Read, P: Write, S: Replies>(
+        &mut self,
+        runner: &mut T,
+        reader: &mut R,
+        pages: &mut P,
+        replies: &mut S,
+    ) -> Result<Option<Reply>, RunFault>
+        requires { T.counted runner.old < 2 ^ 63 }
+        ensures replied { (before : T.State) → T.is_in before runner.old → self.old.outcome ≡ None → IfOk result (λ found. IfSome found (λ reply.
+            (after : T.State) × T.is_in after runner.new
+            × Steps T.answers T.held_in (streams_to (R.remaining reader.old) (P.contents pages.old) (S.lines replies.old) S.waits (S.enough replies.old))
+            (streams_to (R.remaining reader.new) (P.contents pages.new) (S.lines replies.new) S.waits (S.enough replies.new)) self.old self.new before after reply)) }
+        ensures end { (before : T.State) → T.is_in before runner.old → self.old.outcome ≡ None → IfOk result (λ found. IfNone found (
+            (after : T.State) × T.is_in after runner.new
+            × EndsOne T.held_in (Ok tt) (streams_to (R.remaining reader.old) (P.contents pages.old) (S.lines replies.old) S.waits (S.enough replies.old))
+            (streams_to (R.remaining reader.new) (P.contents pages.new) (S.lines replies.new) S.waits (S.enough replies.new)) self.old.version self.old.records before after)) }
+        ensures stopped { (before : T.State) → T.is_in before runner.old → self.old.outcome ≡ None → IfErr result (λ fault.
+            (after : T.State) × T.is_in after runner.new
+            × StopsBy T.answers T.held_in fault (streams_to (R.remaining reader.old) (P.contents pages.old) (S.lines replies.old) S.waits (S.enough replies.old))
+            (streams_to (R.remaining reader.new) (P.contents pages.new) (S.lines replies.new) S.waits (S.enough replies.new)) self.old.version self.old.records before after) }
+
+        // The end and each fault stay.
+        ensures ends { IfOk result (λ found. IfNone found ((self.new.outcome ≡ Some (Ok tt)) × (self.new.counts ≡ self.old.counts))) }
+        ensures fails { IfErr result (λ fault. self.new.outcome ≡ Some (Err fault)) }
+        ensures stays { IfSome self.old.outcome (λ outcome. (result ≡ answer_at outcome) × (self.new ≡ self.old)
+            × (runner.new ≡ runner.old) × (reader.new ≡ reader.old) × (pages.new ≡ pages.old) × (replies.new ≡ replies.old)) }
+
+        // A run has an end.
+        ensures moves { IfOk result (λ found. IfSome found (λ reply. (steps_of self.old ≤ most_records)
+            × (steps_of self.new ≡ steps_of self.old + 1))) }
+        ensures count { T.counted runner.new ≤ T.counted runner.old + 1 }
+    {
         if let Some(outcome) = self.outcome {
             return answer_at(outcome);
         }
-        match next_in(&mut self.feed, self.records, reader) {
+        match next_for::<A, R, P, S>(&mut self.feed, self.records, reader, pages, replies) {
             Next::Run(given) => match answer(
                 &mut self.feed,
                 self.counts,
@@ -110,7 +149,7 @@ impl FeedRun {
             },
             Next::Close(outcome) => {
                 self.outcome = Some(outcome);
-                match flush_waiting(runner, replies) {
+                match flush_waiting(runner, pages, replies) {
                     Ok(Some(reply)) => {
                         self.counts = self.counts.with(&Record::Flush, reply);
                         Ok(Some(reply))

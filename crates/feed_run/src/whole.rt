@@ -1,7 +1,9 @@
 //! The run over a whole feed.
 ghost use Rattle.std.specs.Prelude.{◌≡◌, ◌<◌, ◌^◌, IfOk, IfErr};
-ghost use Rattle.feed_run.specs.Run.{streams, RunsWhole, EndsBy};
+ghost use Rattle.feed_run.specs.Run.{streams, streams_to, RunsWhole, EndsBy};
 
+use crate::ahead::{Ahead, Unknown};
+use crate::replies::Replies;
 use crate::run::FeedRun;
 use crate::runner::Runner;
 use feed_codec::{RunFault, Tally};
@@ -30,9 +32,29 @@ pub fn run_feed<T: Runner, R: Read, P: Write, W: Write>(
         × EndsBy T.answers T.held_in fault (streams (R.remaining reader.old) (P.contents pages.old) (W.contents replies.old))
         (streams (R.remaining reader.new) (P.contents pages.new) (W.contents replies.new)) before after) }
 {
+    run_feed_for::<Unknown, T, R, P, W>(alloc, runner, reader, pages, replies)
+}
+
+/// The same with any taker of replies. If it wants no further record, the run ends as at the end of the feed. Before
+/// more of the feed may be waited for, and at the end, what waits with it goes out.
+pub fn run_feed_for<A: Ahead<R>, T: Runner, R: Read, P: Write, S: Replies>(
+    alloc: Global,
+    runner: &mut T,
+    reader: &mut R,
+    pages: &mut P,
+    replies: &mut S,
+) -> Result<Tally, RunFault>
+    requires { T.counted runner.old < 2 ^ 62 }
+    ensures ok { (before : T.State) → T.is_in before runner.old → IfOk result (λ tally. (after : T.State) × T.is_in after runner.new
+        × RunsWhole T.answers T.held_in (streams_to (R.remaining reader.old) (P.contents pages.old) (S.lines replies.old) S.waits (S.enough replies.old))
+        (streams_to (R.remaining reader.new) (P.contents pages.new) (S.lines replies.new) S.waits (S.enough replies.new)) before after (T.end_in after) tally) }
+    ensures err { (before : T.State) → T.is_in before runner.old → IfErr result (λ fault. (after : T.State) × T.is_in after runner.new
+        × EndsBy T.answers T.held_in fault (streams_to (R.remaining reader.old) (P.contents pages.old) (S.lines replies.old) S.waits (S.enough replies.old))
+        (streams_to (R.remaining reader.new) (P.contents pages.new) (S.lines replies.new) S.waits (S.enough replies.new)) before after) }
+{
     let mut run = FeedRun::new(alloc);
     loop {
-        match run.step(runner, reader, pages, replies) {
+        match run.step_for::<A, T, R, P, S>(runner, reader, pages, replies) {
             Ok(Some(_)) => {}
             Ok(None) => return Ok(run.tally(runner.kept_length())),
             Err(fault) => return Err(fault),

@@ -1,17 +1,17 @@
 //! The check of a feed, which writes its replies and makes no page.
 ghost use Rattle.std.specs.Prelude.{◌≡◌, ◌<◌, ◌≤◌, ◌^◌, ◌+◌, None, ℕ, List, IfOk, IfErr};
 ghost use Rattle.chain_rules.specs.Shape.{HasRoom};
-ghost use Rattle.feed_run.specs.Run.{RunsWhole, EndsBy, streams};
+ghost use Rattle.feed_run.specs.Run.{RunsWhole, EndsBy, streams, streams_to};
 ghost use Rattle.multiplexer.specs.Checking.{ChecksRecord};
 ghost use Rattle.multiplexer.specs.Progress.{Progress, Answers, at_start, end_of, nothing_held};
 ghost use Rattle.multiplexer.specs.Reached.{HasReached};
 
 use chain_rules::{Command, Refusal, Shape, refusals_are_of_the_table};
 use feed_codec::{Kept, Reply, RunFault, Tally};
-use feed_run::{Runner, run_feed};
+use feed_run::{Ahead, Replies, Runner, Unknown, run_feed_for};
 use ogg_page::WriteFault;
 use std::alloc::Global;
-use std::io::{self, Read, Write};
+use std::io::{self, Read, Sink, Write};
 
 /// Adds a command to the chain, counts it, and returns the reply. A refusal leaves the chain and the count as they
 /// are. No page is made: `Shape::check` finds how long the command's pages would be.
@@ -113,8 +113,26 @@ pub fn check_feed<R: Read, W: Write>(
         × EndsBy ChecksRecord nothing_held fault (streams (R.remaining reader.old) None (W.contents replies.old))
         (streams (R.remaining reader.new) None (W.contents replies.new)) at_start behind) }
 {
+    check_feed_for::<Unknown, R, W>(alloc, reader, replies)
+}
+
+/// The same with any taker of replies. If it wants no further record, the run ends as at the end of the feed. Before
+/// more of the feed may be waited for, and at the end, what waits with it goes out.
+pub fn check_feed_for<A: Ahead<R>, R: Read, S: Replies>(
+    alloc: Global,
+    reader: &mut R,
+    replies: &mut S,
+) -> Result<Tally, RunFault>
+    ensures ok { IfOk result (λ tally. (behind : Progress)
+        × RunsWhole ChecksRecord nothing_held (streams_to (R.remaining reader.old) None (S.lines replies.old) S.waits (S.enough replies.old))
+        (streams_to (R.remaining reader.new) None (S.lines replies.new) S.waits (S.enough replies.new)) at_start behind (end_of behind) tally) }
+    ensures err { IfErr result (λ fault. (behind : Progress)
+        × EndsBy ChecksRecord nothing_held fault (streams_to (R.remaining reader.old) None (S.lines replies.old) S.waits (S.enough replies.old))
+        (streams_to (R.remaining reader.new) None (S.lines replies.new) S.waits (S.enough replies.new)) at_start behind) }
+{
     let mut checker = Checker::new(alloc);
-    match run_feed(alloc, &mut checker, reader, &mut io::sink(), replies) {
+    let mut none = io::sink();
+    match run_feed_for::<A, Checker, R, Sink, S>(alloc, &mut checker, reader, &mut none, replies) {
         Ok(tally) => Ok(tally),
         Err(fault) => Err(fault),
     }

@@ -8,7 +8,7 @@ ghost use Rattle.feed_codec.specs.declared.item.Record.{Record};
 ghost use Rattle.feed_codec.specs.declared.reply.Reply.{Reply};
 ghost use Rattle.feed_run.specs.Answering.{AnswersAll};
 ghost use Rattle.feed_run.specs.Counting.{commands_in, kept_of};
-ghost use Rattle.feed_run.specs.Run.{IsClosed, Streams};
+ghost use Rattle.feed_run.specs.Run.{IsClosed, Stays, Streams};
 ghost use Rattle.multiplexer.specs.Checking.{ChecksRecord};
 ghost use Rattle.multiplexer.specs.Progress.{Progress, AnswersRecord, at_start, nothing_held};
 
@@ -27,7 +27,7 @@ pub fn run_writes_what_was_kept()
         Holds bytes (after [] (kept_of records replies)) }
     ensures closing { (at now : Streams) (before behind : Progress) (closing : List Record) (last : List Reply) →
         IsClosed AnswersRecord nothing_held at now before behind closing last →
-        (closing ≡ []) × (last ≡ []) × (behind ≡ before) × (now.lines ≡ at.lines) }
+        (closing ≡ []) × (last ≡ []) × (behind ≡ before) × Stays now.waits at.lines now.lines }
 {
     commands_add_their_packets();
 }

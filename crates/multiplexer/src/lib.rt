@@ -14,6 +14,6 @@ mod checking;
 mod laws;
 mod muxing;
 
-pub use checking::check_feed;
+pub use checking::{check_feed, check_feed_for};
 pub use laws::{checks_reply_as_runs_do, run_writes_what_was_kept};
-pub use muxing::mux;
+pub use muxing::{mux, mux_for};

@@ -1,13 +1,13 @@
 //! The run over a whole feed.
 ghost use Rattle.std.specs.Prelude.{◌≡◌, IfOk, IfErr};
-ghost use Rattle.feed_run.specs.Run.{RunsWhole, EndsBy, streams};
+ghost use Rattle.feed_run.specs.Run.{RunsWhole, EndsBy, streams, streams_to};
 ghost use Rattle.multiplexer.specs.Progress.{Progress, AnswersRecord, at_start, end_of, nothing_held};
 ghost use Rattle.multiplexer.specs.Reached.{HasReached};
 
 use crate::answering::answer;
 use chain_rules::{Command, Shape};
 use feed_codec::{Kept, Reply, RunFault, Tally};
-use feed_run::{Runner, run_feed};
+use feed_run::{Ahead, Replies, Runner, Unknown, run_feed_for};
 use ogg_page::WriteFault;
 use std::alloc::Global;
 use std::io::{Read, Write};
@@ -99,8 +99,26 @@ pub fn mux<R: Read, P: Write, W: Write>(
         × EndsBy AnswersRecord nothing_held fault (streams (R.remaining reader.old) (P.contents pages.old) (W.contents replies.old))
         (streams (R.remaining reader.new) (P.contents pages.new) (W.contents replies.new)) at_start behind) }
 {
+    mux_for::<Unknown, R, P, W>(alloc, reader, pages, replies)
+}
+
+/// The same with any taker of replies. If it wants no further record, the run ends as at the end of the feed. Before
+/// more of the feed may be waited for, and at the end, what waits with it goes out.
+pub fn mux_for<A: Ahead<R>, R: Read, P: Write, S: Replies>(
+    alloc: Global,
+    reader: &mut R,
+    pages: &mut P,
+    replies: &mut S,
+) -> Result<Tally, RunFault>
+    ensures ok { IfOk result (λ tally. (behind : Progress)
+        × RunsWhole AnswersRecord nothing_held (streams_to (R.remaining reader.old) (P.contents pages.old) (S.lines replies.old) S.waits (S.enough replies.old))
+        (streams_to (R.remaining reader.new) (P.contents pages.new) (S.lines replies.new) S.waits (S.enough replies.new)) at_start behind (end_of behind) tally) }
+    ensures err { IfErr result (λ fault. (behind : Progress)
+        × EndsBy AnswersRecord nothing_held fault (streams_to (R.remaining reader.old) (P.contents pages.old) (S.lines replies.old) S.waits (S.enough replies.old))
+        (streams_to (R.remaining reader.new) (P.contents pages.new) (S.lines replies.new) S.waits (S.enough replies.new)) at_start behind) }
+{
     let mut multiplexer = Multiplexer::new(alloc);
-    match run_feed(alloc, &mut multiplexer, reader, pages, replies) {
+    match run_feed_for::<A, Multiplexer, R, P, S>(alloc, &mut multiplexer, reader, pages, replies) {
         Ok(tally) => Ok(tally),
         Err(fault) => Err(fault),
     }

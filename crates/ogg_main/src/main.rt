@@ -11,8 +11,6 @@ mod recorders;
 mod salvaging;
 mod server;
 mod streams;
-mod together;
-mod watching;
 mod words;
 
 use crate::words::{Action, action_of, words};

@@ -1,51 +1,46 @@
 //! The commands that read a feed from standard input.
 
+use crate::files::output;
 use crate::recorders::{open_recorder, seal_file};
-use crate::together::{GroupedReplies, Lines, PromptFeed};
-use crate::watching::{Watch, WatchedFeed, WatchedReplies};
-use disk_model::{FileDisk, FileMode};
+use disk_model::FileMode;
 use fault_lines::Fault;
-use feed_codec::{FeedFault, Tally};
+use feed_codec::{FeedFault, RunFault, Tally};
 use feed_maker::{ChangeOptions, make_feed};
-use feed_recorder::record_feed;
-use multiplexer::check_feed;
+use feed_recorder::record_feed_for;
+use feed_run::{Batched, Buffered, FirstRefusal, Together};
+use multiplexer::{check_feed_for, mux_for};
 use ogg_page::write_whole;
-use ogg_recorder::Recorder;
-use std::io::{BufReader, IsTerminal};
+use std::io::{BufReader, IsTerminal, Stdin, Write};
 use text_line::Line;
 
 /// How many bytes of the feed are read at once.
 const AHEAD: usize = 65536;
 
+/// How many bytes of pages are written at once.
+const TOGETHER: usize = 65536;
+
+/// The lines of replies, which may end a run.
+type ReplyLines<W> = FirstRefusal<Batched<W>>;
+
 /// Writes the pages of the feed on standard input to standard output, and the replies to standard error. If `strict`
 /// says so, the feed ends after the first refusal.
 pub fn mux(rt: &HostRuntime, strict: bool) -> Result<(), Fault> {
-    let alloc = rt.alloc();
-    let watch = Watch::new(strict);
-    let Ok(input) = BufReader::with_capacity(alloc, AHEAD, rt.stdin()) else {
-        return Err(Fault::Feed(FeedFault::Memory));
-    };
-    let mut feed = WatchedFeed::new(input, &watch);
-    // The standard streams keep no bytes back, so what is written is out.
-    let mut replies = WatchedReplies::new(rt.stderr(), &watch);
-    let tally = multiplexer::mux(alloc, &mut feed, &mut rt.stdout(), &mut replies)?;
-    sum_up(rt, tally);
-    watch.outcome()
+    let mut feed = input(rt)?;
+    let mut pages = output(rt, TOGETHER)?;
+    let mut replies = reply_lines(rt, rt.stderr(), Together::Ahead, strict)?;
+    let ran = mux_for::<Buffered, _, _, _>(rt.alloc(), &mut feed, &mut pages, &mut replies);
+    sum_up(rt, ended(ran, &replies)?);
+    outcome(&replies)
 }
 
 /// Checks the feed on standard input: writes to standard output the replies that `mux` would write, and makes no page.
 /// If `strict` says so, the feed ends after the first refusal.
 pub fn check(rt: &HostRuntime, strict: bool) -> Result<(), Fault> {
-    let alloc = rt.alloc();
-    let watch = Watch::new(strict);
-    let Ok(input) = BufReader::with_capacity(alloc, AHEAD, rt.stdin()) else {
-        return Err(Fault::Feed(FeedFault::Memory));
-    };
-    let mut feed = WatchedFeed::new(input, &watch);
-    let mut replies = WatchedReplies::new(rt.stdout(), &watch);
-    let tally = check_feed(alloc, &mut feed, &mut replies)?;
-    sum_up(rt, tally);
-    watch.outcome()
+    let mut feed = input(rt)?;
+    let mut replies = reply_lines(rt, rt.stdout(), Together::Ahead, strict)?;
+    let ran = check_feed_for::<Buffered, _, _>(rt.alloc(), &mut feed, &mut replies);
+    sum_up(rt, ended(ran, &replies)?);
+    outcome(&replies)
 }
 
 /// Records the feed on standard input into the file, which is made if there is none, and writes the replies to
@@ -61,32 +56,56 @@ pub fn record(
     let mut recorder = open_recorder(rt, file, FileMode::Create)?;
     // `clap` has checked that `most` lies in this range, and nothing waits yet.
     recorder.group(most.clamp(1, 1024));
-    let watch = Watch::new(strict);
-    let tally = record_input(rt, &mut recorder, &watch)?;
-    sum_up(rt, tally);
+    let mut feed = input(rt)?;
+    let mut replies = reply_lines(rt, rt.stdout(), Together::Groups, strict)?;
+    let ran =
+        record_feed_for::<Buffered, _, _, _>(rt.alloc(), &mut feed, &mut replies, &mut recorder);
+    sum_up(rt, ended(ran, &replies)?);
     if recorder.is_failed() {
         return Err(Fault::Failed);
     }
-    watch.outcome()?;
+    outcome(&replies)?;
     if seal { seal_file(recorder) } else { Ok(()) }
 }
 
-/// Records the feed on standard input, and writes the replies to standard output.
-fn record_input(
+/// Standard input, read ahead.
+fn input(rt: &HostRuntime) -> Result<BufReader<Stdin>, Fault> {
+    match BufReader::with_capacity(rt.alloc(), AHEAD, rt.stdin()) {
+        Ok(input) => Ok(input),
+        Err(_) => Err(Fault::Feed(FeedFault::Memory)),
+    }
+}
+
+/// The lines of replies to this writer. If `strict` says so, the first refusal ends the run.
+fn reply_lines<W: Write + Drop>(
     rt: &HostRuntime,
-    recorder: &mut Recorder<FileDisk>,
-    watch: &Watch,
+    out: W,
+    together: Together,
+    strict: bool,
+) -> Result<ReplyLines<W>, Fault> {
+    match Batched::new(rt.alloc(), out, together) {
+        Ok(lines) => Ok(FirstRefusal::new(lines, strict)),
+        Err(_) => Err(Fault::Memory),
+    }
+}
+
+/// What a run came to. If its last lines, or the pages before them, could not be written, that is its fault.
+fn ended<W: Write + Drop>(
+    ran: Result<Tally, RunFault>,
+    replies: &ReplyLines<W>,
 ) -> Result<Tally, Fault> {
-    let Ok(lines) = Lines::new(rt.alloc(), rt.stdout()) else {
-        return Err(Fault::Memory);
-    };
-    let prompt = PromptFeed::new(rt.stdin(), &lines);
-    let Ok(input) = BufReader::with_capacity(rt.alloc(), AHEAD, prompt) else {
-        return Err(Fault::Feed(FeedFault::Memory));
-    };
-    let mut feed = WatchedFeed::new(input, watch);
-    let mut replies = WatchedReplies::new(GroupedReplies::new(&lines), watch);
-    Ok(record_feed(rt.alloc(), &mut feed, &mut replies, recorder)?)
+    if replies.replies().has_failed() {
+        return Err(Fault::Write);
+    }
+    Ok(ran?)
+}
+
+/// Whether a refusal has ended the run.
+fn outcome<W: Write + Drop>(replies: &ReplyLines<W>) -> Result<(), Fault> {
+    if replies.has_refused() {
+        return Err(Fault::Refused);
+    }
+    Ok(())
 }
 
 /// Writes the feed of the Ogg bitstream on standard input to standard output, changed as the options ask.

@@ -47,7 +47,7 @@ pub use laws::{
 };
 pub use lent::LentPage;
 pub use numbers::{take_fraction, take_i64, take_u8, take_u16, take_u32, take_u64};
-pub use output::write_whole;
+pub use output::{write_counted, write_whole};
 pub use page::Page;
 pub use pages::Pages;
 pub use reading::{read_page, split_known_page, split_page};

@@ -1,5 +1,5 @@
 //! Bytes to a writer.
-ghost use Rattle.std.specs.Prelude.{OnOk, OnErr};
+ghost use Rattle.std.specs.Prelude.{◌≤◌, OnOk, OnErr, IfErr, length, take};
 ghost use Rattle.std.specs.Io.KnownBytes.{Appends};
 ghost use Rattle.ogg_page.specs.Output.{WritesPrefix};
 
@@ -12,15 +12,27 @@ pub fn write_whole<W: Write>(writer: &mut W, text: &[u8]) -> Result<(), WriteFau
     ensures ok { OnOk result (Appends (W.contents writer.old) (W.contents writer.new) text.now) }
     ensures err { OnErr result (WritesPrefix (W.contents writer.old) (W.contents writer.new) text.now) }
 {
+    match write_counted(writer, text) {
+        Ok(()) => Ok(()),
+        Err(_) => Err(WriteFault),
+    }
+}
+
+/// The same, and at a fault it tells how many bytes of the text were written.
+pub fn write_counted<W: Write>(writer: &mut W, text: &[u8]) -> Result<(), usize>
+    ensures ok { OnOk result (Appends (W.contents writer.old) (W.contents writer.new) text.now) }
+    ensures within { IfErr result (λ count. count ≤ length text.now) }
+    ensures err { IfErr result (λ count. Appends (W.contents writer.old) (W.contents writer.new) (take count text.now)) }
+{
     let mut done = 0usize;
     for _ in 0..text.len() {
         if done >= text.len() {
             break;
         }
         match writer.write(&text[done..]) {
-            Ok(0) => return Err(WriteFault),
+            Ok(0) => return Err(done),
             Ok(count) => done += count,
-            Err(_) => return Err(WriteFault),
+            Err(_) => return Err(done),
         }
     }
     Ok(())

@@ -65,11 +65,11 @@ module _ (others : OthersStay) (numbers : NumbersStay) (grow : BytesGrow) where
     has_answered old new was now before after step h =
         all_both before.machine h.mid.machine after.machine (ran old new was now before h.mid h.reply h.ran) (followed (says_failed h.reply) h.reply step h.mid after h.follows)
 
-    stopped : (pages new_pages lines new_lines : Option (List ℕ)) (given : RecordOf) (own : List ℕ) (reply : Reply) (before reached after : Progress D)
-        → StopsAt pages new_pages lines new_lines own reply before reached after
+    stopped : (waits : Bool) (pages new_pages lines new_lines : Option (List ℕ)) (given : RecordOf) (own : List ℕ) (reply : Reply) (before reached after : Progress D)
+        → StopsAt waits pages new_pages lines new_lines own reply before reached after
         → Answers is_honest state moment images_since failures before given reply own reached → KeepsAll before.machine after.machine
-    stopped pages new_pages lines new_lines given own reply before reached after (inl none) a = same_machine before after none.2
-    stopped pages new_pages lines new_lines given own reply before reached after (inr all) a =
+    stopped waits pages new_pages lines new_lines given own reply before reached after (inl none) a = same_machine before after none.2
+    stopped waits pages new_pages lines new_lines given own reply before reached after (inr all) a =
         subst (λ (p : Progress D). KeepsAll before.machine p.machine) (sym all.2) (answered before reached given reply own a)
 
     stops : (fault : RunFault) (old new : Streams) (known : Option Version) (count : ℕ) (before after : Progress D)
@@ -77,7 +77,7 @@ module _ (others : OthersStay) (numbers : NumbersStay) (grow : BytesGrow) where
     stops (Feed fault) old new known count before after s = same_machine before after s.same
     stops TooMany old new known count before after s = same_machine before after s.same
     stops Write old new known count before after s =
-        stopped old.pages new.pages old.lines new.lines s.given s.own s.reply before s.reached after s.written s.answers_it
+        stopped new.waits old.pages new.pages old.lines new.lines s.given s.own s.reply before s.reached after s.written s.answers_it
 
     pub stepped : (old new : Streams) (was now : RunState) (before after : Progress D) (result : Result FeedStep RunFault)
         → HasStepped is_honest state moment images_since failures old new was now before after result → KeepsAll before.machine after.machine

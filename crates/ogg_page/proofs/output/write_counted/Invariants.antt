@@ -1,6 +1,6 @@
 use Rattle.std.proofs.Common.{◌≤◌, length, take}
 use Rattle.std.specs.Io.KnownBytes.{Appends}
-use Rattle.ogg_page.proofs.output.write_whole.Given as goal
+use Rattle.ogg_page.proofs.output.write_counted.Given as goal
 
 -- the first `done` bytes are written, and each turn wrote one or more
 abbrev pub invariant-loop : goal.invariant-loop

@@ -1,5 +1,5 @@
 use Rattle.multiplexer.specs.Progress.{at_start}
-use Rattle.multiplexer.proofs.muxing.mux.Goals as goal
+use Rattle.multiplexer.proofs.muxing.mux_for.Goals as goal
 
 pub returns-in-Ok-clause-ok : goal.returns-in-Ok-clause-ok
 returns-in-Ok-clause-ok g c =

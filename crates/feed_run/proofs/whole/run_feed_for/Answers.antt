@@ -2,7 +2,7 @@ use Rattle.std.proofs.Common.{inl, inr, ap, ◌∙◌, arith}
 use Rattle.feed_run.specs.declared.counting.Counts.{Counts}
 use Rattle.feed_run.specs.Run.{RunState, steps_of}
 use Rattle.feed_run.proofs.Ending.{begins, fault_now, fault_then, gives_end, gives_fault, gives_no_reply, steps_on, whole_now, whole_then}
-use Rattle.feed_run.proofs.whole.run_feed.Goals as goal
+use Rattle.feed_run.proofs.whole.run_feed_for.Goals as goal
 
 pub loop-run-init : goal.loop-run-init
 loop-run-init g c =
@@ -24,7 +24,7 @@ loop-run-preserved g c =
           elim come [
             | inl goes ↦
                 let (after, is_in_after, steps) = replied mid stands goes.not_ended in
-                (after, is_in_after, steps_on g.T.Runner.answers g.T.Runner.held_in _ _ _ c.loop-run.run c.step.new.self before mid after c.in-Ok-Some.field-0-0 goes steps)
+                (after, is_in_after, steps_on g.T.Runner.answers g.T.Runner.held_in _ _ _ c.loop-run.run c.step_for.new.self before mid after c.in-Ok-Some.field-0-0 goes steps)
             | inr ended ↦
                 let same = rw ended.ended at stays in
                 absurd (gives_no_reply ended.outcome c.in-Ok-Some.field-0-0 same.0)
@@ -49,7 +49,7 @@ returns-in-Ok-None-clause-ok g c = λ before is_in.
           )
       | inr ended ↦
           let same = rw ended.ended at stays in
-          let there : g.T.Runner.is_in mid c.step.new.runner = rw same.2 stands in
+          let there : g.T.Runner.is_in mid c.step_for.new.runner = rw same.2 stands in
           let length_is = c.tally.ensures.end ∙ c.kept_length.ensures mid there in
           rw (same.2, same.3, same.4, same.5) (
             mid,

@@ -3,7 +3,7 @@ use Rattle.std.proofs.Math.Seq.{take-add}
 use Rattle.std.proofs.lemmas.List.{take-take}
 use Rattle.std.specs.Io.KnownBytes.{Appends}
 use Rattle.std.proofs.KnownBytes.{Appends-trans}
-use Rattle.ogg_page.proofs.output.write_whole.Goals as goal
+use Rattle.ogg_page.proofs.output.write_counted.Goals as goal
 
 -- a length within a part of a list
 within : (xs : List ℕ) (k n : ℕ) → n ≤ length (take k xs) → (n ≤ k) × (n ≤ length xs)

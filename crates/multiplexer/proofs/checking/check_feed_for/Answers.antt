@@ -1,5 +1,5 @@
 use Rattle.multiplexer.specs.Progress.{at_start}
-use Rattle.multiplexer.proofs.checking.check_feed.Goals as goal
+use Rattle.multiplexer.proofs.checking.check_feed_for.Goals as goal
 
 pub returns-in-Ok-clause-ok : goal.returns-in-Ok-clause-ok
 returns-in-Ok-clause-ok g c =

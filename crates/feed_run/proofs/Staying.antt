@@ -1,0 +1,100 @@
+-- What stays while nothing is written, and what then comes.
+use Rattle.std.proofs.Common.{◌≡◌, ◌++◌, ◌∙◌, ℕ, List, [], Option, Some, None, Bool, true, false, Ok, Err, refl, sym, ap, subst, inl, inr, take, drop, append_assoc, append-nil, take-append-drop, length, arith}
+use Rattle.std.proofs.KnownBytes.{Appends-nil, Keeps-refl, Keeps-trans}
+use Rattle.std.proofs.Math.Seq.{take-length}
+use Rattle.std.specs.Io.KnownBytes.{Appends, Keeps, append_known}
+use Rattle.ogg_page.specs.Output.{WritesPrefix}
+use Rattle.feed_codec.specs.declared.fault.RunFault.TheVariants.{Feed, Write, TooMany}
+use Rattle.feed_codec.specs.declared.version.Version.{Version}
+use Rattle.feed_codec.specs.Feed.{FeedState, GivesEnd}
+use Rattle.feed_run.specs.declared.next.Next.{Next}
+use Rattle.feed_run.specs.declared.next.Next.TheVariants.{Run, Close}
+use Rattle.feed_codec.specs.Reply.{reply_line}
+use Rattle.feed_codec.specs.declared.reply.Reply.{Reply}
+use Rattle.feed_run.specs.Run.{Comes, EndsFeed, Leaves, Outcome, Stays, StopsAt}
+
+pub stays_refl : (waits : Bool) (a : Option (List ℕ)) → Stays waits a a
+stays_refl false a = refl
+stays_refl true a = Keeps-refl a
+
+pub stays_trans : (waits : Bool) (a b c : Option (List ℕ)) → Stays waits a b → Stays waits b c → Stays waits a c
+stays_trans false a b c p q = q ∙ p
+stays_trans true a b c p q = Keeps-trans a b c p q
+
+pub stays_appends : (waits : Bool) (a b c : Option (List ℕ)) (text : List ℕ) → Stays waits a b → Appends b c text → Appends a c text
+stays_appends false a b c text p q = subst (λ x. Appends x c text) p q
+stays_appends true None b c text p q = tt
+stays_appends true (Some x) None c text p q = absurd p
+stays_appends true (Some x) (Some y) None text p q = absurd q
+stays_appends true (Some x) (Some y) (Some z) text p q = q ∙ ap (λ l. l ++ text) p
+
+pub appends_stays : (waits : Bool) (a b c : Option (List ℕ)) (text : List ℕ) → Appends a b text → Stays waits b c → Appends a c text
+appends_stays false a b c text p q = subst (λ x. Appends a x text) (sym q) p
+appends_stays true None b c text p q = tt
+appends_stays true (Some x) None c text p q = absurd p
+appends_stays true (Some x) (Some y) None text p q = absurd q
+appends_stays true (Some x) (Some y) (Some z) text p q = q ∙ p
+
+pub stays_prefix : (waits : Bool) (a b c : Option (List ℕ)) (text : List ℕ) → Stays waits a b → WritesPrefix b c text → WritesPrefix a c text
+stays_prefix waits a b c text p (n, within, q) = (n, within, stays_appends waits a b c _ p q)
+
+-- the end of the feed is one reason among others
+ends_for : (enough : Bool) (known : Option Version) (old new : Option (List ℕ)) → GivesEnd known old new → EndsFeed enough known old new
+ends_for false known old new end = end
+ends_for true known old new end = inl end
+
+pub comes_for : (next : Next) (was now : FeedState) (count : ℕ) (enough : Bool) (old new : Option (List ℕ))
+    → Comes next was now count false old new → Comes next was now count enough old new
+comes_for (Run given) was now count enough old new comes = comes
+comes_for (Close (Ok _)) was now count enough old new comes = ends_for enough was.version old new comes
+comes_for (Close (Err (Feed fault))) was now count enough old new comes = comes
+comes_for (Close (Err TooMany)) was now count enough old new comes = comes
+comes_for (Close (Err Write)) was now count enough old new comes = comes
+
+-- of bytes that wait, these were written, and the others wait
+pub drained : (a b : Option (List ℕ)) (text : List ℕ) (count : ℕ) → Appends a b (take count text)
+    → Keeps (append_known a text) (append_known b (drop count text))
+drained None b text count p = tt
+drained (Some x) None text count p = absurd p
+drained (Some x) (Some y) text count p =
+    ap (λ l. l ++ drop count text) p ∙ append_assoc x (take count text) (drop count text) ∙ ap (λ l. x ++ l) (take-append-drop count text)
+
+pub drained_all : (a b : Option (List ℕ)) (text : List ℕ) → Appends a b text → Keeps (append_known a text) (append_known b [])
+drained_all None b text p = tt
+drained_all (Some x) None text p = absurd p
+drained_all (Some x) (Some y) text p = append-nil y ∙ p
+
+pub stays_none : (waits : Bool) (a b : Option (List ℕ)) → Stays waits a b → Appends a b []
+stays_none waits a b p = stays_appends waits a b b [] p (Appends-nil b)
+
+-- nothing was written before the writers that failed
+pub stops_after : {S : Type 0} (waits : Bool) (p0 p1 p2 l0 l1 l2 : Option (List ℕ)) (own : List ℕ) (reply : Reply) (before reached after : S)
+    → Stays waits p0 p1 → Stays waits l0 l1 → StopsAt waits p1 p2 l1 l2 own reply before reached after
+    → StopsAt waits p0 p2 l0 l2 own reply before reached after
+stops_after waits p0 p1 p2 l0 l1 l2 own reply before reached after p l (inl (written, stays, same)) =
+    inl (stays_prefix waits p0 p1 p2 own p written, stays_trans waits l0 l1 l2 l stays, same)
+stops_after waits p0 p1 p2 l0 l1 l2 own reply before reached after p l (inr (written, told, same)) =
+    inr (stays_appends waits p0 p1 p2 own p written, stays_prefix waits l0 l1 l2 (reply_line reply) l told, same)
+
+-- that no further record is wanted stays so
+ends_still : (enough more : Bool) (known : Option Version) (old new : Option (List ℕ)) → (enough ≡ true → more ≡ true)
+    → EndsFeed enough known old new → EndsFeed more known old new
+ends_still false more known old new stays end = ends_for more known old new end
+ends_still true more known old new stays end = subst (λ b. EndsFeed b known old new) (sym (stays refl)) end
+
+pub leaves_still : (outcome : Outcome) (known : Option Version) (count : ℕ) (enough more : Bool) (old new : Option (List ℕ))
+    → (enough ≡ true → more ≡ true) → Leaves outcome known count enough old new → Leaves outcome known count more old new
+leaves_still (Ok _) known count enough more old new stays leaves = ends_still enough more known old new stays leaves
+leaves_still (Err (Feed fault)) known count enough more old new stays leaves = leaves
+leaves_still (Err TooMany) known count enough more old new stays leaves = leaves
+leaves_still (Err Write) known count enough more old new stays leaves = leaves
+
+-- a line was told, and then what waited was written as far as it went
+pub told_so_far : (a b c : Option (List ℕ)) (one two line : List ℕ) → Keeps a (append_known b one) → two ≡ one ++ line
+    → Keeps (append_known b two) c → WritesPrefix a c line
+told_so_far None b c one two line kept told sent = (0, omega arith, tt)
+told_so_far (Some x) None c one two line kept told sent = absurd kept
+told_so_far (Some x) (Some y) None one two line kept told sent = absurd sent
+told_so_far (Some x) (Some y) (Some z) one two line kept told sent =
+    let whole : z ≡ x ++ line = sent ∙ ap (λ l. y ++ l) told ∙ sym (append_assoc y one line) ∙ ap (λ l. l ++ line) kept in
+    (length line, omega arith, subst (λ l. z ≡ x ++ l) (sym (take-length line)) whole)
