@@ -22,6 +22,9 @@ pub enum Fault {
     /// A file can't be opened.
     #[error("the file can't be opened")]
     File,
+    /// Another program writes the file.
+    #[error("another program writes the file")]
+    Locked,
     /// Memory was refused.
     #[error("memory was refused")]
     Memory,
@@ -92,6 +95,7 @@ fn line_of(fault: Fault) -> Line
 {
     match fault {
         Fault::File => words(b"fault file"),
+        Fault::Locked => words(b"fault locked"),
         Fault::Memory => words(b"fault memory"),
         Fault::Open(fault) => {
             let mut line = open_rest(fault);

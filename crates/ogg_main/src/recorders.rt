@@ -1,11 +1,11 @@
 //! Files that commands are recorded into: they are opened, and sealed.
 ghost use Rattle.std.specs.Prelude.{◌≡◌, IfOk};
 
-use disk_model::{FileDisk, FileMode};
+use disk_model::{FileDisk, FileFault, FileMode};
 use fault_lines::Fault;
 use ogg_recorder::Recorder;
 
-/// Opens a file to record into it. Nothing waits in it.
+/// Opens a file to record into it, and locks it for as long as it is open. Nothing waits in it.
 pub fn open_recorder(
     rt: &HostRuntime,
     file: &str,
@@ -13,8 +13,10 @@ pub fn open_recorder(
 ) -> Result<Recorder<FileDisk>, Fault>
     ensures { IfOk result (λ recorder. recorder.held ≡ 0) }
 {
-    let Ok(disk) = FileDisk::open(rt, file, mode) else {
-        return Err(Fault::File);
+    let disk = match FileDisk::lock(rt, file, mode) {
+        Ok(disk) => disk,
+        Err(FileFault::Locked) => return Err(Fault::Locked),
+        Err(FileFault::Refused) => return Err(Fault::File),
     };
     match Recorder::open(rt.alloc(), disk) {
         Ok(recorder) => Ok(recorder),
