@@ -1,10 +1,10 @@
 -- The chain state after a page that may follow, after another link, and after further pages of the last link.
-use Rattle.std.specs.Prelude.{◌+◌, ◌^◌, ℕ, List, Bool, true, false, not, ◌||◌, nat_lt, if◌then◌else◌, [], ◌∷◌, ◌++◌, map}
+use Rattle.std.specs.Prelude.{◌+◌, ◌-◌, ◌^◌, ℕ, List, Bool, true, false, not, ◌||◌, nat_lt, if◌then◌else◌, [], ◌∷◌, ◌++◌, map}
 use Rattle.ogg_page.specs.Page.{Page, page_size}
 use Rattle.ogg_page.specs.LogicalStream.{is_last}
 use Rattle.link_chain.specs.declared.stream_state.StreamState.{StreamState}
 use Rattle.link_chain.specs.ChainState.{ChainState}
-use Rattle.link_chain.specs.Progress.{change_at}
+use Rattle.link_chain.specs.Progress.{change_at, left_whole}
 use Rattle.link_chain.specs.Taking.{leaves_open}
 
 -- a stream after one more page
@@ -73,3 +73,9 @@ moved_on chain streams bytes = record chain { streams = streams; has_data = true
 -- after pages of one stream of the last link that aren't its first
 abbrev pub moved_by : ChainState → ℕ → (StreamState → StreamState) → ℕ → ChainState
 moved_by chain serial change bytes = moved_on chain (map (change_at serial change) chain.streams) bytes
+
+-- after the unfinished packet of a stream of the last link was dropped: without it its pages have this number of
+-- bytes less
+abbrev pub dropped : ChainState → ℕ → ℕ → ChainState
+dropped chain serial bytes =
+    record chain { streams = map (change_at serial left_whole) chain.streams; length_of = chain.length_of - bytes }

@@ -36,3 +36,7 @@ brought_to serial sequence position streams = map (change_at serial (advanced se
 -- the stream has its last page, and a next one would have this number
 abbrev pub ended_by : ℕ → StreamState → StreamState
 ended_by sequence stream = record stream { next_sequence = sequence; ended = true }
+
+-- the stream's last packet is whole: the unfinished one is dropped
+abbrev pub left_whole : StreamState → StreamState
+left_whole stream = record stream { finished = true }

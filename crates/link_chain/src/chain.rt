@@ -8,7 +8,7 @@ use crate::Memory;
 use crate::chain_fault::ChainFault;
 use crate::serials::Serials;
 use crate::stream_state::StreamState;
-use crate::streams::{end_stream, first_unfinished, is_open};
+use crate::streams::{drop_packet, end_stream, first_unfinished, is_open};
 use crate::taking::{add_serials, broken_by_page, follow, join_link, open_link};
 use ogg_page::{FIXED_SIZE, Page};
 use std::alloc::Global;
@@ -52,7 +52,7 @@ impl Chain {
     ghost use Rattle.link_chain.specs.ChainState.{chain_state_of};
     ghost use Rattle.link_chain.specs.Places.{HaveOwnSerials};
     ghost use Rattle.link_chain.specs.Taking.{fault_of_page, links_with, unfinished_stream, HasRoomFor};
-    ghost use Rattle.link_chain.specs.Followed.{opened, joined, continued, with_link, moved_on, moved_by};
+    ghost use Rattle.link_chain.specs.Followed.{opened, joined, continued, with_link, moved_on, moved_by, dropped};
     ghost use Rattle.link_chain.specs.Progress.{stream_in, next_in, ended_by};
     ghost use Rattle.link_chain.specs.declared.chain_fault.ChainFault.{ChainFault as ChainFaultOf};
 
@@ -229,6 +229,15 @@ impl Chain {
         end_stream(self.streams.as_mut_slice(), serial);
         self.has_data = true;
         self.bytes += FIXED_SIZE as u64;
+    }
+
+    /// Drops the unfinished packet of the stream with this serial, of which its pages have `bytes` bytes. It takes no
+    /// memory.
+    pub fn drop_packet(&mut self, serial: u32, bytes: u64)
+        ensures { self.new.chain ≡ dropped self.old.chain serial bytes }
+    {
+        drop_packet(self.streams.as_mut_slice(), serial);
+        self.bytes = self.bytes.saturating_sub(bytes);
     }
 
     /// The serial of the first stream of the last link, in the order of their first pages, that has

@@ -1,7 +1,7 @@
 //! The streams of a link, searched.
 ghost use Rattle.std.specs.Prelude.{◌≡◌, ◌<◌, ◌+◌, ◌^◌, ℕ, not, map};
 ghost use Rattle.std.specs.List.{list_any, find};
-ghost use Rattle.link_chain.specs.Progress.{stream_in, next_in, change_at, ended_by};
+ghost use Rattle.link_chain.specs.Progress.{stream_in, next_in, change_at, ended_by, left_whole};
 ghost use Rattle.link_chain.specs.declared.stream_state.StreamState.{StreamState as State};
 
 use crate::stream_state::StreamState;
@@ -55,6 +55,28 @@ fn ended(stream: StreamState, serial: u32, sequence: u64) -> StreamState
         StreamState {
             next_sequence: sequence,
             ended: true,
+            ..stream
+        }
+    } else {
+        stream
+    }
+}
+
+/// Drops the unfinished packet of the stream with this serial.
+pub fn drop_packet(streams: &mut [StreamState], serial: u32)
+    ensures { streams.new ≡ map (change_at serial left_whole) streams.old }
+{
+    for stream in streams.iter_mut() {
+        *stream = whole(*stream, serial);
+    }
+}
+
+fn whole(stream: StreamState, serial: u32) -> StreamState
+    ensures { result ≡ change_at serial left_whole stream }
+{
+    if stream.serial == serial {
+        StreamState {
+            finished: true,
             ..stream
         }
     } else {
