@@ -4,13 +4,14 @@ use Rattle.std.specs.List.{AllByRecursion, AllZip, list_any}
 use Rattle.ogg_page.specs.Page.{Page}
 use Rattle.ogg_page.specs.LogicalStream.{HoldsPackets}
 use Rattle.link_chain.specs.ChainState.{ChainState, chain_state_of, last_link, is_open}
+use Rattle.link_chain.specs.Followed.{dropped}
 use Rattle.link_chain.specs.Taking.{links_with}
 use Rattle.link_chain.specs.Links.{AreLinks, pages_with, serials_of, has_ended}
 use Rattle.chain_rules.specs.Recording.{Stream, Recording, HoldsLinks, after}
 use Rattle.ogg_command.specs.declared.command.Command.{Command}
 use Rattle.gathering.specs.Headers.{wanted}
 use Rattle.gathering.specs.Giving.{TakesOn}
-use Rattle.gathering.specs.Kept.{KeptStream, KeptLink, has_some, is_ready}
+use Rattle.gathering.specs.Kept.{KeptStream, KeptLink, has_some, is_ready, rest_of, size_of_rest, without_rest}
 
 pub record Gathered : Type 0 where
   pub chain : ChainState
@@ -74,3 +75,11 @@ pub record GathersPage (page : Page) (old new : Gathered) (more : List Command) 
   pub takes : TakesOn page (is_open old.chain) old.link new.link more
   pub goes_on : (links : List (List Page)) (given : List Command) → HasGathered links old given → CanGoOn old
       → HasGathered (links_with links page) new (given ++ more) × CanGoOn new
+
+-- the unfinished packet of the stream with this serial is dropped
+abbrev pub without_packet : ℕ → Gathered → Gathered
+without_packet serial gathered =
+    record {
+      chain = dropped gathered.chain serial (size_of_rest (rest_of serial gathered.link.streams));
+      link = record gathered.link { streams = map (without_rest serial) gathered.link.streams };
+    }

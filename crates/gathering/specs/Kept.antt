@@ -1,8 +1,9 @@
 -- What is kept of the last link.
-use Rattle.std.specs.Prelude.{◌≡◌, ℕ, ◌+◌, Bool, false, not, ◌||◌, ◌&&◌, nat_eq, nat_lt, if◌then◌else◌, List, [], ◌∷◌, ◌++◌, length, take, drop, sum_by}
+use Rattle.std.specs.Prelude.{◌≡◌, ℕ, ◌+◌, ◌/◌, Bool, false, not, ◌||◌, ◌&&◌, nat_eq, nat_lt, if◌then◌else◌, List, [], ◌∷◌, ◌++◌, length, take, drop, sum_by}
 use Rattle.std.specs.List.{list_any}
 use Rattle.ogg_page.specs.Page.{Page}
 use Rattle.ogg_page.specs.LogicalStream.{is_first, is_last}
+use Rattle.ogg_page.specs.Sizes.{full_value}
 use Rattle.gathering.specs.Limits.{most_kept, longest_packet}
 use Rattle.gathering.specs.Headers.{wanted, lacking}
 use Rattle.gathering.specs.Cutting.{EndIn, first_size}
@@ -86,3 +87,12 @@ is_ready streams = not (list_any is_waiting streams) || nat_lt most_kept (kept_b
 -- longest that there may be.
 abbrev pub is_too_long : KeptLink → Page → Bool
 is_too_long link page = not (is_first page) && nat_lt longest_packet (length (rest_of page.serial link.streams) + first_size page.lacing)
+
+-- ---- an unfinished packet is dropped
+-- the stream with this serial keeps no bytes of a packet that goes on
+abbrev pub without_rest : ℕ → KeptStream → KeptStream
+without_rest serial stream = if nat_eq stream.serial serial then record stream { rest = [] } else stream
+
+-- how many bytes pages have of an unfinished packet: those of its whole segments, and a lacing value for each
+abbrev pub size_of_rest : List ℕ → ℕ
+size_of_rest rest = length rest + length rest / full_value

@@ -1,6 +1,7 @@
 //! Pages become commands, one page after the other.
 ghost use Rattle.std.specs.Prelude.{◌≡◌, ◌≢◌, ◌+◌, ◌<◌, ◌^◌, ◌++◌, [], ℕ, true, false, List, Some, None, OnOk, OnErr, Err};
 ghost use Rattle.ogg_page.specs.Page.{Page as PageValue, page_size};
+ghost use Rattle.link_chain.specs.Followed.{after_page};
 ghost use Rattle.link_chain.specs.Taking.{fault_of_page, unfinished_stream};
 ghost use Rattle.link_chain.specs.declared.chain_fault.ChainFault.{ChainFault as ChainFaultOf};
 ghost use Rattle.ogg_command.specs.declared.command.Command.{Command as CommandOf};
@@ -9,7 +10,7 @@ use crate::fault::GatherFault;
 use crate::link::LastLink;
 use link_chain::{Chain, is_open};
 use ogg_command::{Command, Memory};
-use ogg_page::Page;
+use ogg_page::{Page, SEGMENT};
 use std::alloc::{AllocError, Global};
 use std::marker::Model;
 
@@ -31,7 +32,7 @@ impl Model for Gatherer {
 impl Gatherer {
     ghost use Rattle.gathering.specs.Kept.{is_too_long, waits};
     ghost use Rattle.gathering.specs.Giving.{begin_if};
-    ghost use Rattle.gathering.specs.Gathered.{HasGathered, GathersPage, CanGoOn};
+    ghost use Rattle.gathering.specs.Gathered.{HasGathered, GathersPage, CanGoOn, without_packet};
 
     /// No pages. It takes no memory.
     pub fn new(alloc: Global) -> Gatherer
@@ -61,6 +62,7 @@ impl Gatherer {
             → result ≡ Err GatherFault.PacketTooLong }
         ensures memory { fault_of_page self.old.chain page.now ≡ None → is_too_long self.old.link page.now ≡ false
             → OnErr result (result ≡ Err GatherFault.Memory) }
+        ensures after { OnOk result (self.new.chain ≡ after_page self.old.chain page.now) }
         ensures grows { OnOk result (self.new.chain.length_of ≡ self.old.chain.length_of + page_size page.now) }
         ensures same { OnErr result (result ≢ Err GatherFault.Memory → self.new ≡ self.old) }
         ensures commands { OnErr result (commands.new.items ≡ commands.old.items) }
@@ -87,6 +89,7 @@ impl Gatherer {
         requires long { self.old.chain.length_of + page_size page.now < 2 ^ 63 }
         ensures gathered { OnOk result ((more : List CommandOf) × (commands.new.items ≡ commands.old.items ++ more)
             × GathersPage page.now self.old self.new more) }
+        ensures after { OnOk result (self.new.chain ≡ after_page self.old.chain page.now) }
         ensures grows { OnOk result (self.new.chain.length_of ≡ self.old.chain.length_of + page_size page.now) }
         ensures more { (given : List CommandOf) × (commands.new.items ≡ commands.old.items ++ given) }
         ensures pages { OnErr result (self.new.chain ≡ self.old.chain) }
@@ -98,6 +101,17 @@ impl Gatherer {
             return Err(AllocError);
         }
         Ok(())
+    }
+
+    /// Drops the unfinished packet of the stream with this serial. The pages so far count without it.
+    pub fn drop_packet(&mut self, serial: u32)
+        ensures { self.new ≡ without_packet serial self.old }
+    {
+        let rest = self.link.rest_len(serial);
+        // A page has a lacing value for each whole segment.
+        let bytes = (rest + rest / SEGMENT) as u64;
+        self.chain.drop_packet(serial, bytes);
+        self.link.drop_rest(serial);
     }
 
     /// Appends the commands that still wait: at the end of the input, or at its fault. Take no further page. After
@@ -117,6 +131,20 @@ impl Gatherer {
             return Err(GatherFault::Memory);
         }
         Ok(())
+    }
+
+    /// The chain of the pages so far.
+    pub fn chain(&self) -> &Chain
+        ensures { result.now.chain ≡ self.now.chain }
+    {
+        &self.chain
+    }
+
+    /// Whether a packet is too long with the page.
+    pub fn is_too_long(&self, page: &Page<'_>) -> bool
+        ensures { result ≡ is_too_long self.now.link page.now }
+    {
+        self.link.is_too_long(page)
     }
 
     /// The serial of the first stream of the last link whose last packet is unfinished.

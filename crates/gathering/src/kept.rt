@@ -1,7 +1,7 @@
 //! What is kept of a stream of the last link.
-ghost use Rattle.std.specs.Prelude.{◌≡◌, ◌≤◌, ◌-◌, [], IfOk, sum_by, length};
+ghost use Rattle.std.specs.Prelude.{◌≡◌, ◌≤◌, ◌<◌, ◌-◌, ◌^◌, [], IfOk, sum_by, length};
 ghost use Rattle.std.specs.Option.{SomeIff};
-ghost use Rattle.gathering.specs.Kept.{KeptStream, TakesPage, entered, is_waiting};
+ghost use Rattle.gathering.specs.Kept.{KeptStream, TakesPage, entered, is_waiting, without_rest};
 ghost use Rattle.gathering.specs.Giving.{bare};
 
 use crate::cutting::cut_page;
@@ -55,9 +55,19 @@ impl Kept {
 
     /// How many bytes of the unfinished packet are kept.
     pub fn rest_len(&self) -> usize
-        ensures { result ≡ length self.now.rest }
+        ensures value { result ≡ length self.now.rest }
+        ensures bound { result < 2 ^ 63 }
     {
         self.rest.len()
+    }
+
+    /// Drops the unfinished packet, if the stream has this serial.
+    pub fn drop_rest(&mut self, serial: u32)
+        ensures { self.new ≡ without_rest serial self.old }
+    {
+        if self.serial == serial {
+            self.rest.clear();
+        }
     }
 
     /// Takes a page of the stream, and gives back the packets that end in it and aren't kept as headers.

@@ -1,12 +1,12 @@
 //! What is kept of the last link.
-ghost use Rattle.std.specs.Prelude.{◌≡◌, ◌++◌, ◌∷◌, [], true, false, List, OnOk, OnErr, length};
+ghost use Rattle.std.specs.Prelude.{◌≡◌, ◌<◌, ◌^◌, ◌++◌, ◌∷◌, [], true, false, List, OnOk, OnErr, length, map};
 ghost use Rattle.ogg_command.specs.declared.command.Command.{Command as CommandOf};
 
 use crate::cutting::first_size;
 use crate::giving::{push_begin, push_end, push_ends, push_put, push_serial};
 use crate::kept::Kept;
 use crate::limits::LONGEST_PACKET;
-use crate::streams::{is_ready, rest_len, take_page};
+use crate::streams::{drop_rest, is_ready, rest_len, take_page};
 use ogg_command::{Command, Listed, Memory};
 use ogg_page::Page;
 use std::alloc::Global;
@@ -31,7 +31,7 @@ impl Model for LastLink {
 }
 
 impl LastLink {
-    ghost use Rattle.gathering.specs.Kept.{has_kept, is_too_long, no_link, rest_of, waits};
+    ghost use Rattle.gathering.specs.Kept.{has_kept, is_too_long, no_link, rest_of, waits, without_rest};
     ghost use Rattle.gathering.specs.Giving.{Follows, PassesOn, TakesOn, begin_if, begun_if, begun_link, link_begin, with_first};
 
     /// There is no link yet.
@@ -52,6 +52,21 @@ impl LastLink {
     {
         !page.is_first()
             && rest_len(self.streams.as_slice(), page.serial()) > LONGEST_PACKET - first_size(page)
+    }
+
+    /// How many bytes of an unfinished packet are kept for the stream with this serial.
+    pub fn rest_len(&self, serial: u32) -> usize
+        ensures value { result ≡ length (rest_of serial self.now.streams) }
+        ensures bound { result < 2 ^ 63 }
+    {
+        rest_len(self.streams.as_slice(), serial)
+    }
+
+    /// Drops the unfinished packet of the stream with this serial.
+    pub fn drop_rest(&mut self, serial: u32)
+        ensures { self.new ≡ record self.old { streams = map (without_rest serial) self.old.streams } }
+    {
+        drop_rest(self.streams.as_mut_slice(), serial);
     }
 
     /// Appends the `Begin` and the ends that wait for it. After `Memory` what is kept may be lost.

@@ -1,7 +1,7 @@
 //! What is kept of the last link's streams, searched.
-ghost use Rattle.std.specs.Prelude.{◌≡◌, true, nat_eq, nat_lt, IfOk, length};
+ghost use Rattle.std.specs.Prelude.{◌≡◌, ◌<◌, ◌^◌, true, nat_eq, nat_lt, IfOk, length, map};
 ghost use Rattle.std.specs.List.{list_any, position};
-ghost use Rattle.gathering.specs.Kept.{KeptStream, TakenBy, has_kept, is_ready, is_waiting, kept_bytes, rest_of};
+ghost use Rattle.gathering.specs.Kept.{KeptStream, TakenBy, has_kept, is_ready, is_waiting, kept_bytes, rest_of, without_rest};
 ghost use Rattle.gathering.specs.Limits.{most_kept};
 
 use crate::kept::Kept;
@@ -12,7 +12,8 @@ use std::alloc::Global;
 
 /// How many bytes of an unfinished packet are kept for the stream with this serial.
 pub fn rest_len(streams: &[Kept], serial: u32) -> usize
-    ensures { result ≡ length (rest_of serial streams.now) }
+    ensures value { result ≡ length (rest_of serial streams.now) }
+    ensures bound { result < 2 ^ 63 }
 {
     for stream in streams {
         if stream.serial() == serial {
@@ -20,6 +21,15 @@ pub fn rest_len(streams: &[Kept], serial: u32) -> usize
         }
     }
     0
+}
+
+/// Drops the unfinished packet of the stream with this serial.
+pub fn drop_rest(streams: &mut [Kept], serial: u32)
+    ensures { streams.new ≡ map (without_rest serial) streams.old }
+{
+    for stream in streams.iter_mut() {
+        stream.drop_rest(serial);
+    }
 }
 
 /// The place of the stream with this serial.

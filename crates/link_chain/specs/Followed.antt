@@ -1,9 +1,9 @@
 -- The chain state after a page that may follow, after another link, and after further pages of the last link.
 use Rattle.std.specs.Prelude.{◌+◌, ◌-◌, ◌^◌, ℕ, List, Bool, true, false, not, ◌||◌, nat_lt, if◌then◌else◌, [], ◌∷◌, ◌++◌, map}
 use Rattle.ogg_page.specs.Page.{Page, page_size}
-use Rattle.ogg_page.specs.LogicalStream.{is_last}
+use Rattle.ogg_page.specs.LogicalStream.{is_first, is_last}
 use Rattle.link_chain.specs.declared.stream_state.StreamState.{StreamState}
-use Rattle.link_chain.specs.ChainState.{ChainState}
+use Rattle.link_chain.specs.ChainState.{ChainState, is_open}
 use Rattle.link_chain.specs.Progress.{change_at, left_whole}
 use Rattle.link_chain.specs.Taking.{leaves_open}
 
@@ -79,3 +79,7 @@ moved_by chain serial change bytes = moved_on chain (map (change_at serial chang
 abbrev pub dropped : ChainState → ℕ → ℕ → ChainState
 dropped chain serial bytes =
     record chain { streams = map (change_at serial left_whole) chain.streams; length_of = chain.length_of - bytes }
+
+-- after a page that may follow
+abbrev pub after_page : ChainState → Page → ChainState
+after_page chain page = if is_first page then (if is_open chain then joined chain page else opened chain page) else continued chain page

@@ -52,7 +52,7 @@ impl Chain {
     ghost use Rattle.link_chain.specs.ChainState.{chain_state_of};
     ghost use Rattle.link_chain.specs.Places.{HaveOwnSerials};
     ghost use Rattle.link_chain.specs.Taking.{fault_of_page, links_with, unfinished_stream, HasRoomFor};
-    ghost use Rattle.link_chain.specs.Followed.{opened, joined, continued, with_link, moved_on, moved_by, dropped};
+    ghost use Rattle.link_chain.specs.Followed.{opened, joined, continued, with_link, moved_on, moved_by, dropped, after_page};
     ghost use Rattle.link_chain.specs.Progress.{stream_in, next_in, ended_by};
     ghost use Rattle.link_chain.specs.declared.chain_fault.ChainFault.{ChainFault as ChainFaultOf};
 
@@ -92,6 +92,13 @@ impl Chain {
         self.links
     }
 
+    /// Whether the last link has a page that is no stream's first.
+    pub fn has_data(&self) -> bool
+        ensures { result ≡ self.now.chain.has_data }
+    {
+        self.has_data
+    }
+
     /// How many bytes their pages have.
     pub fn len(&self) -> u64
         ensures value { result ≡ self.now.chain.length_of }
@@ -118,6 +125,7 @@ impl Chain {
         ensures memory { fault_of_page self.old.chain page.now ≡ None → OnErr result ((result ≡ Err ChainFault.Memory) × (HasRoomFor self.old page.now → ⊥)) }
         ensures links { OnOk result ((links : List (List PageValue)) → self.old.chain ≡ chain_state_of links
             → self.new.chain ≡ chain_state_of (links_with links page.now)) }
+        ensures after { OnOk result (self.new.chain ≡ after_page self.old.chain page.now) }
         ensures grows { OnOk result (self.new.chain.length_of ≡ self.old.chain.length_of + page_size page.now) }
         ensures same { OnErr result (self.new.chain ≡ self.old.chain) }
     {

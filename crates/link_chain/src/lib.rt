@@ -29,4 +29,5 @@ pub use places::{place_of, stream_at};
 pub use serials::Serials;
 pub use stream_state::StreamState;
 pub use streams::{is_open, next_sequence, stream_in};
+pub use taking::is_whole_packet;
 pub use walking::{Walk, WalkFault, take_pages};

@@ -35,7 +35,8 @@ fn are_full(values: &[u8]) -> bool
     values.iter().all(|value| *value == FULL_VALUE)
 }
 
-fn is_whole_packet(page: &Page<'_>) -> bool
+/// Whether the page holds exactly one whole packet, as each stream's first page does.
+pub fn is_whole_packet(page: &Page<'_>) -> bool
     ensures { result ≡ is_whole_packet page.now }
 {
     !page.is_continued() && is_one_packet(page.lacing())
