@@ -1,0 +1,7 @@
+mod Ends
+mod Fits
+mod Kept
+mod Open
+mod ReadBack
+mod Taken
+mod Values

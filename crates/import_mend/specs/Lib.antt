@@ -1,0 +1,6 @@
+pub mod Mend
+pub mod Ways
+pub mod Losses
+pub mod Mended
+pub mod Steps
+pub mod Telling

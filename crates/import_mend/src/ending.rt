@@ -1,0 +1,82 @@
+//! Streams that are ended though their last page hasn't come.
+ghost use Rattle.std.specs.Prelude.{◌≡◌, ◌<◌, ◌+◌, ◌^◌, true, false, not, None, Some, Ok, OnOk, IfSome, nat_eq};
+ghost use Rattle.std.specs.List.{find};
+ghost use Rattle.ogg_page.specs.Sizes.{fixed_size};
+ghost use Rattle.link_chain.specs.ChainState.{is_open};
+ghost use Rattle.link_chain.specs.Progress.{stream_in};
+ghost use Rattle.link_chain.specs.declared.stream_state.StreamState.{StreamState as State};
+ghost use Rattle.import_mend.specs.Steps.{after_end};
+
+use crate::Memory;
+use crate::taking::take;
+use crate::writing::write_last;
+use gathering::Gatherer;
+use link_chain::{Chain, MOST_STREAMS, StreamState, is_open};
+use ogg_command::Command;
+use ogg_page::split_known_page;
+
+/// The first of the streams that hasn't ended.
+fn first_unended(streams: &[StreamState]) -> Option<StreamState>
+    ensures { result ≡ find (λ (stream : State). not stream.ended) streams.now }
+{
+    streams.iter().copied().find(|stream| !stream.ended)
+}
+
+/// The first stream of the link that hasn't ended.
+fn first_open(chain: &Chain) -> Option<StreamState>
+    ensures some { IfSome result (λ stream. (stream.ended ≡ false) × (stream_in chain.now.chain.streams stream.serial ≡ Some stream)) }
+    ensures none { result ≡ None → is_open chain.now.chain ≡ false }
+{
+    first_unended(chain.streams())
+}
+
+/// Whether a last page can be given to a stream.
+fn can_end(chain: &Chain, stream: StreamState) -> bool
+    ensures { result ≡ true → (nat_eq chain.now.chain.links 0 ≡ false) × (stream.next_sequence < 2 ^ 32)
+        × (chain.now.chain.length_of + fixed_size < 2 ^ 63) }
+{
+    chain.links() > 0 && stream.next_sequence < 1 << 32 && chain.len() < (1 << 63) - 64
+}
+
+/// Ends a stream of the link by a page without packets. A packet that it leaves unfinished is dropped.
+fn end_stream(
+    room: &mut Vec<u8>,
+    gatherer: &mut Gatherer,
+    stream: StreamState,
+    commands: &mut Vec<Command>,
+) -> Result<(), Memory>
+    requires known { stream_in gatherer.old.chain.streams stream.serial ≡ Some stream }
+    requires unended { stream.ended ≡ false }
+    requires links { nat_eq gatherer.old.chain.links 0 ≡ false }
+    requires number { stream.next_sequence < 2 ^ 32 }
+    requires small { gatherer.old.chain.length_of + fixed_size < 2 ^ 63 }
+    ensures after { OnOk result (gatherer.new.chain ≡ after_end stream gatherer.old) }
+{
+    gatherer.drop_packet(stream.serial);
+    room.clear();
+    let number = stream.next_sequence as u32;
+    write_last(stream.serial, stream.last_position, number, room)?;
+    let (page, _) = split_known_page(room.as_slice());
+    take(gatherer, &page, commands)
+}
+
+/// Ends the streams of the link that haven't ended. False if there is no room for a last page.
+pub fn end_streams(
+    room: &mut Vec<u8>,
+    gatherer: &mut Gatherer,
+    commands: &mut Vec<Command>,
+) -> Result<bool, Memory>
+    ensures { result ≡ Ok true → is_open gatherer.new.chain ≡ false }
+{
+    for _ in 0..MOST_STREAMS {
+        let stream = match first_open(gatherer.chain()) {
+            Some(stream) => stream,
+            None => return Ok(true),
+        };
+        if !can_end(gatherer.chain(), stream) {
+            return Ok(false);
+        }
+        end_stream(room, gatherer, stream, commands)?;
+    }
+    Ok(!is_open(gatherer.chain().streams()))
+}

@@ -1,0 +1,24 @@
+//! Any pages, mended into those of a sound chain of links (RFC 3533, sections 4 to 6).
+//!
+//! Where pages are missing, come twice, or belong to no stream that has begun, a reader of the whole would stop. A
+//! `Mender` leaves out or cuts only what can't be kept, and tells it as a `Mend`. The packets that lie whole in good
+//! pages go on into the commands of a `Gatherer`.
+//!
+//! Start at `specs/Ways.antt`, which says what is done with a page, and at `specs/Mended.antt`, which says what is
+//! left of it.
+#![tactic(auto)]
+
+mod cutting;
+mod ending;
+mod joining;
+mod losses;
+mod mend;
+mod mender;
+mod taking;
+mod telling;
+mod ways;
+mod writing;
+
+pub use mend::Mend;
+pub use mender::Mender;
+pub use ogg_page::Memory;

@@ -1,0 +1,139 @@
+//! Pages of any input, mended one after the other.
+ghost use Rattle.std.specs.Prelude.{◌≡◌, ◌<◌, ℕ, IfOk, true, false, None};
+ghost use Rattle.ogg_page.specs.LogicalStream.{is_first};
+ghost use Rattle.link_chain.specs.Followed.{after_page};
+ghost use Rattle.link_chain.specs.Taking.{fault_of_page};
+ghost use Rattle.import_mend.specs.Losses.{lost_in};
+ghost use Rattle.import_mend.specs.Steps.{Mends, MendsLater, Restarts};
+ghost use Rattle.import_mend.specs.Ways.{most_bytes, way_of};
+ghost use Rattle.import_mend.specs.declared.ways.Way.{Way as WayOf};
+
+use crate::Memory;
+use crate::ending::end_streams;
+use crate::losses::{lost_in, set_lost, set_lost_of};
+use crate::mend::Mend;
+use crate::taking::{follow, take};
+use crate::telling::mend_of;
+use crate::ways::{MOST_BYTES, Way, missing, way_of};
+use gathering::Gatherer;
+use link_chain::{Chain, MOST_STREAMS, is_open, stream_in};
+use ogg_command::Command;
+use ogg_page::Page;
+use std::alloc::Global;
+
+/// What mending the next page depends on, beside the chain of those before: how many pages of each stream were lost.
+/// It has the room in which a page is made.
+#[derive(Drop)]
+pub struct Mender {
+    losses: [u32; MOST_STREAMS],
+    room: Vec<u8>,
+}
+
+impl Mender {
+    /// No page was lost. It takes no memory.
+    pub fn new(alloc: Global) -> Mender {
+        Mender {
+            losses: [0; MOST_STREAMS],
+            room: Vec::new(alloc),
+        }
+    }
+
+    /// Takes a page that begins at `offset` in the input, mended if it has to be, and appends the commands that it
+    /// completes. It returns what was mended, if anything was. `Memory` is the one fault. After it some of the commands
+    /// may have been appended; take no further page.
+    pub fn take_page(
+        &mut self,
+        gatherer: &mut Gatherer,
+        offset: u64,
+        page: &Page<'_>,
+        commands: &mut Vec<Command>,
+    ) -> Result<Option<Mend>, Memory>
+        ensures mends { IfOk result (λ mend. (lost : ℕ) → lost ≡ lost_in self.old.losses gatherer.old.chain.streams page.now.serial →
+            Mends (way_of gatherer.old.chain lost page.now) offset lost page.now gatherer.old gatherer.new mend) }
+    {
+        let serial = page.serial();
+        let lost = lost_in(&self.losses, gatherer.chain().streams(), serial);
+        match way_of(gatherer.chain(), lost, page) {
+            Way::Take if page.is_first() => self.enter(gatherer, page, commands),
+            Way::Take => self.follow(gatherer, offset, lost, page, commands),
+            Way::Restart => self.restart(gatherer, offset, page, commands),
+            Way::Stranger => Ok(Some(Mend::Stranger { offset, serial })),
+            Way::Repeated => Ok(Some(Mend::Repeated { offset, serial })),
+            Way::Misshapen => Ok(Some(Mend::Misshapen { offset, serial })),
+            Way::Full => Ok(Some(Mend::Full { offset, serial })),
+        }
+    }
+
+    /// Takes a stream's first page that may follow.
+    fn enter(
+        &mut self,
+        gatherer: &mut Gatherer,
+        page: &Page<'_>,
+        commands: &mut Vec<Command>,
+    ) -> Result<Option<Mend>, Memory>
+        requires first { is_first page.now ≡ true }
+        requires fits { fault_of_page gatherer.old.chain page.now ≡ None }
+        requires small { gatherer.old.chain.length_of < most_bytes }
+        ensures { IfOk result (λ mend. (gatherer.new.chain ≡ after_page gatherer.old.chain page.now) × (mend ≡ None)) }
+    {
+        let _bytes = page.whole();
+        let streams = gatherer.chain().streams();
+        let place = if is_open(streams) { streams.len() } else { 0 };
+        set_lost(&mut self.losses, place, 0);
+        take(gatherer, page, commands)?;
+        Ok(None)
+    }
+
+    /// Ends the open streams, and takes the first page of a new link, if there is room for all that.
+    fn restart(
+        &mut self,
+        gatherer: &mut Gatherer,
+        offset: u64,
+        page: &Page<'_>,
+        commands: &mut Vec<Command>,
+    ) -> Result<Option<Mend>, Memory>
+        requires { is_first page.now ≡ true }
+        ensures { IfOk result (λ mend. Restarts offset page.now gatherer.new mend) }
+    {
+        let closed = end_streams(&mut self.room, gatherer, commands)?;
+        if !closed || !fits(gatherer.chain(), page) {
+            let serial = page.serial();
+            return Ok(Some(Mend::Full { offset, serial }));
+        }
+        self.enter(gatherer, page, commands)?;
+        Ok(Some(Mend::Restart { offset }))
+    }
+
+    /// Takes a page of an open stream that isn't its first, as it is left.
+    fn follow(
+        &mut self,
+        gatherer: &mut Gatherer,
+        offset: u64,
+        lost: u32,
+        page: &Page<'_>,
+        commands: &mut Vec<Command>,
+    ) -> Result<Option<Mend>, Memory>
+        requires later { is_first page.now ≡ false }
+        requires way { way_of gatherer.old.chain lost page.now ≡ WayOf.Take }
+        ensures { IfOk result (λ mend. MendsLater offset lost page.now gatherer.old gatherer.new mend) }
+    {
+        let streams = gatherer.chain().streams();
+        let Some(stream) = stream_in(streams, page.serial()) else {
+            return Ok(None);
+        };
+        let mend = mend_of(offset, lost, stream, gatherer.is_too_long(page), page);
+        // By the pages that were lost the numbers that come are ahead of those that are given.
+        if let Some(count) = missing(0, stream, page) {
+            set_lost_of(&mut self.losses, streams, page.serial(), count as u32);
+        }
+        follow(&mut self.room, gatherer, lost, stream, page, commands)?;
+        Ok(mend)
+    }
+}
+
+/// Whether a first page may follow, and there is room for it.
+fn fits(chain: &Chain, page: &Page<'_>) -> bool
+    ensures { result ≡ true → (fault_of_page chain.now.chain page.now ≡ None) × (chain.now.chain.length_of < most_bytes) }
+{
+    chain.fault_of(page).is_none() && chain.len() < MOST_BYTES
+}
