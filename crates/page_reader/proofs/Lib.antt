@@ -1,3 +1,4 @@
 pub mod Definite
 pub mod InRoom
 pub mod Run
+mod Passed

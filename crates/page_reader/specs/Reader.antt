@@ -1,5 +1,5 @@
 -- What a page reader lends of bytes that can be read once only. Ours.
-use Rattle.std.specs.Prelude.{◌≡◌, ◌≢◌, ℕ, ◌+◌, ◌-◌, ◌^◌, min, Option, Some, None, Result, Ok, Err, List, [], ◌∷◌, ◌++◌, map, ⊤}
+use Rattle.std.specs.Prelude.{◌≡◌, ◌≢◌, ℕ, ◌+◌, ◌-◌, ◌^◌, ◌<◌, ◌≤◌, min, length, drop, slice_index, Option, Some, None, Result, Ok, Err, List, [], ◌∷◌, ◌++◌, map, ⊤}
 use Rattle.std.specs.Io.KnownBytes.{Consumes, IsAtEnd}
 use Rattle.ogg_page.specs.Page.{IsPage, page_bytes, page_size}
 use Rattle.ogg_page.specs.Reading.{page_at}
@@ -71,6 +71,21 @@ pub record HasAdvanced (old : ReaderState) (from : Option (List ℕ)) (result : 
   pub taken : List ℕ
   pub consumed : Consumes from left taken
   pub gives : Gives (old.unread ++ taken) left old.offset result new.lent new
+
+-- So many bytes are passed over: at none of their places but the first does a page begin, since each begins with the
+-- capture pattern (RFC 3533, section 6).
+pub record IsPassed (bytes : List ℕ) (count : ℕ) : Type 0 where
+  pub some : 0 < count
+  pub inside : count ≤ length bytes
+  pub none : (place : ℕ) → 0 < place → place < count → slice_index bytes place ≢ 0x4F
+
+-- the reader goes on after bytes that are passed over
+pub record PassesOver (old : ReaderState) (count : ℕ) (new : ReaderState) : Type 0 where
+  pub passed : IsPassed old.unread count
+  pub unread_is : new.unread ≡ drop count old.unread
+  pub offset_is : new.offset ≡ min (old.offset + count) (2 ^ 64 - 1)
+  pub lent_is : new.lent ≡ None
+  pub goes_on : new.outcome ≡ None
 
 -- The reader, which has these bytes left, lends these pages, one call after the other. Then it ends with this
 -- result, and is left in this state.

@@ -1,6 +1,7 @@
 //! The next page, read as far as it needs.
-ghost use Rattle.std.specs.Prelude.{◌≡◌, ◌≢◌, ◌<◌, ◌-◌, Err};
+ghost use Rattle.std.specs.Prelude.{◌≡◌, ◌≢◌, ◌<◌, ◌-◌, Err, length};
 ghost use Rattle.ogg_page.specs.Reading.{page_at};
+ghost use Rattle.page_reader.specs.Reader.{IsPassed};
 ghost use Rattle.page_reader.specs.Room.{Finds, IsHeld, held_of};
 ghost use Rattle.ogg_page.specs.Sizes.{longest_page};
 
@@ -8,6 +9,7 @@ use crate::fault::PageReaderFault;
 use crate::filling::read_more;
 use crate::front::{is_short, size_in_front};
 use crate::held::Held;
+use memchr::memchr;
 use ogg_page::{LONGEST_PAGE, PageFault};
 use std::io::Read;
 
@@ -57,4 +59,16 @@ fn read_on<R: Read>(
     }
     // Each turn read a byte, and 65,307 bytes show a page or a fault.
     unreachable!()
+}
+
+/// The next place after the first at which a page may begin: the next first byte of a capture pattern, or the end.
+pub(crate) fn next_place(bytes: &[u8]) -> usize
+    requires { 0 < length bytes.now }
+    ensures { IsPassed bytes.now result }
+{
+    let (_, later) = bytes.split_at(1);
+    match memchr(b'O', later) {
+        Some(place) => place + 1,
+        None => bytes.len(),
+    }
 }

@@ -1,11 +1,12 @@
 //! Pages of a reader, lent one at a time.
-ghost use Rattle.std.specs.Prelude.{◌≡◌, ◌≢◌, [], None, Err, IfOk, IfSome};
+ghost use Rattle.std.specs.Prelude.{◌≡◌, ◌≢◌, [], None, Some, Err, IfOk, IfSome};
 ghost use Rattle.ogg_page.specs.Reading.{page_at};
-ghost use Rattle.page_reader.specs.Reader.{HasAdvanced, started};
+ghost use Rattle.page_reader.specs.Reader.{HasAdvanced, PassesOver, started};
+ghost use Rattle.ogg_page.specs.declared.fault.PageFault.{PageFault as Fault};
 
 use crate::Memory;
 use crate::fault::PageReaderFault;
-use crate::finding::find;
+use crate::finding::{find, next_place};
 use crate::front::known_page;
 use crate::held::{Held, Lent};
 use ogg_page::{LONGEST_PAGE, Page, PageFault};
@@ -91,6 +92,25 @@ impl PageReader {
                 Err(fault)
             }
         }
+    }
+
+    /// After a fault that says that no page begins here: passes over the bytes up to the next place where one may
+    /// begin, and goes on there. It returns how many bytes were passed over; 0 if there was no such fault.
+    pub fn pass_over(&mut self) -> usize
+        ensures passes { (fault : Fault) → self.old.outcome ≡ Some (Err (PageReaderFault.Page fault)) → self.old.unread ≢ []
+            → PassesOver self.old result self.new }
+        ensures stays { result ≡ 0 → self.new ≡ self.old }
+    {
+        match self.outcome {
+            Some(Err(PageReaderFault::Page(_))) if self.held.start < self.held.end => {}
+            _ => return 0,
+        }
+        let count = next_place(&self.room[self.held.start..self.held.end]);
+        self.held.start += count;
+        self.offset = self.offset.saturating_add(count as u64);
+        self.lent = None;
+        self.outcome = None;
+        count
     }
 
     /// The page that is lent, and its offset in the input.
