@@ -7,17 +7,16 @@ use Rattle.std.proofs.lemmas.List.Elements.{filter-append}
 use Rattle.std.proofs.lemmas.Bool.{ne_eqb, cases_eq, cond-true, cond-false, cond_both, and_from}
 use Rattle.ogg_page.specs.Page.{Page, IsPage, bytes_of_pages}
 use Rattle.ogg_page.specs.LogicalStream.{FitsBehind, FlagsFit, is_first}
-use Rattle.ogg_page.specs.StreamLaws.{behind_both}
+use Rattle.ogg_page.specs.StreamLaws.{behind_both, behind_front}
 use Rattle.link_chain.specs.ChainState.{last_position}
 use Rattle.link_chain.specs.Links.{IsLink, AreLinks, AllButLast, pages_with, serials_of, has_stream, has_ended, all_ended}
 use Rattle.link_chain.specs.Recording.{Stream, Recording, HoldsStream, HoldsLink, HoldsLinks}
-use Rattle.link_chain.specs.Laws.Grow.{all_both, all_weaker, all_filter, Own, Unmarked, OpenBehind, own_with, other_with, serials_same, stream_same}
-use Rattle.link_chain.specs.Laws.LastLink.{some_open, some_not}
-use Rattle.link_chain.specs.Laws.Fronts.{behind_at}
+use Rattle.link_chain.specs.Laws.Grow.{all_both, all_true, each_true, all_weaker, all_filter, Own, Unmarked, OpenBehind, own_with, other_with, serials_same, stream_same}
+use Rattle.link_chain.specs.Laws.Fronts.{goes_on}
 use Rattle.ogg_finish.specs.Ended.{EndsFull}
 use Rattle.ogg_finish.specs.Finishing.{end_mark, marked_last, up_to, finished_page, finished_stream, finished_link, finished_links}
 use Rattle.ogg_finish.specs.declared.stream_end.Mark.{Mark}
-use Rattle.ogg_finish.proofs.OneStream.{SameStream, same_stream, marked_first, marked_is_page, behind_front}
+use Rattle.ogg_finish.proofs.OneStream.{SameStream, same_stream, marked_first, marked_is_page}
 
 -- ---- a page, finished
 -- what holds of a page, and of it marked as last, holds of each page that it becomes
@@ -117,27 +116,6 @@ serials_alike link l =
 stream_alike : (link : List Page) (serial : ℕ) → IsLink link → has_stream (finished_link link) serial ≡ has_stream link serial
 stream_alike link serial l = ap (list_any (nat_eq serial)) (serials_alike link l)
 
--- ---- the link goes on while a page of it comes
-goes_on : (before pages : List Page) → Unmarked pages → AllByRecursion (λ page. has_stream before page.serial ≡ true) pages →
-    ((serial : ℕ) → FlagsFit (pages_with serial (before ++ pages))) → OpenBehind before pages
-goes_on before [] later known fits = tt
-goes_on before (page ∷ pages) later known fits =
-    let own : List Page = pages_with page.serial before in
-    let split : pages_with page.serial (before ++ page ∷ pages) ≡ own ++ page ∷ pages_with page.serial pages =
-    filter-append (λ (p : Page). nat_eq p.serial page.serial) before (page ∷ pages)
-    ∙ ap (λ l. own ++ l)
-    (cond-true (nat_eq page.serial page.serial) (page ∷ pages_with page.serial pages) (pages_with page.serial pages) (eq-eqb page.serial page.serial refl)) in
-    let here : FitsBehind own page = behind_at FitsBehind [] (pages_with page.serial (before ++ page ∷ pages)) (fits page.serial) own (pages_with page.serial pages) page split in
-    let open_is : all_ended before ≡ false =
-    some_open (has_ended before) is_first before (some_not (has_ended before) page.serial (serials_of before) known.0 here.last) in
-    let all : (before ++ page ∷ []) ++ pages ≡ before ++ page ∷ pages = append_assoc before (page ∷ []) pages in (
-      λ _. open_is,
-      goes_on (before ++ page ∷ []) pages later.1
-          (all_weaker (λ (p : Page). has_stream before p.serial ≡ true) (λ (p : Page). has_stream (before ++ page ∷ []) p.serial ≡ true)
-          (λ p e. stream_same before (page ∷ []) p.serial (later.0, tt) ∙ e) pages known.1)
-          (λ serial. subst (λ (l : List Page). FlagsFit (pages_with serial l)) (sym all) (fits serial)),
-    )
-
 -- ---- the finished link
 is_link : (link : List Page) → IsLink link → AllByRecursion IsPage link → IsLink (finished_link link)
 is_link link l all =
@@ -201,26 +179,12 @@ held_link link streams l all h =
     (zip_weaker (HoldsStream link) (HoldsStream (finished_link link)) (λ serial stream hs. held_stream link serial stream l all hs) (serials_of link) streams h)
 
 -- ---- links
-all_true : {X : Type 0} (test : X → Bool) (xs : List X) → list_all test xs ≡ true → AllByRecursion (λ x. test x ≡ true) xs
-all_true test [] e = tt
-all_true test (x ∷ xs) e =
-    let parts : (test x ≡ true) × (list_all test xs ≡ true) = both (test x) (list_all test xs) e in
-    (parts.0, all_true test xs parts.1)
-  where
-    both : (a b : Bool) → (a && b) ≡ true → (a ≡ true) × (b ≡ true)
-    both true b e = (refl, e)
-    both false b e = cc
-
-true_all : {X : Type 0} (test : X → Bool) (xs : List X) → AllByRecursion (λ x. test x ≡ true) xs → list_all test xs ≡ true
-true_all test [] h = refl
-true_all test (x ∷ xs) h = and_from (test x) (list_all test xs) h.0 (true_all test xs h.1)
-
 still_ended : (link : List Page) → IsLink link → AllByRecursion IsPage link → all_ended link ≡ true → all_ended (finished_link link) ≡ true
 still_ended link l all e =
-    true_all (λ (p : Page). has_ended (finished_link link) p.serial) (finished_link link)
+    all_true (λ (p : Page). has_ended (finished_link link) p.serial) (finished_link link)
     (all_weaker (λ (p : Page). has_ended link p.serial ≡ true) (λ (p : Page). has_ended (finished_link link) p.serial ≡ true)
     (λ p h. ended_alike link p.serial l all ∙ h) (finished_link link)
-    (each_of (λ (p : Page). has_ended link p.serial ≡ true) link link (λ p h _. h) (all_true (λ (p : Page). has_ended link p.serial) link e)))
+    (each_of (λ (p : Page). has_ended link p.serial ≡ true) link link (λ p h _. h) (each_true (λ (p : Page). has_ended link p.serial) link e)))
 
 are_all_pages : (links : List (List Page)) → AllByRecursion (AllByRecursion IsPage) links → AllByRecursion (AllByRecursion IsPage) (finished_links links)
 are_all_pages [] all = tt

@@ -8,7 +8,7 @@ use Rattle.std.proofs.lemmas.Bool.{ne_eqb, eqb-true, eqb-false, lt-ltb, ltb-true
 use Rattle.ogg_page.specs.Page.{Page, IsPage}
 use Rattle.ogg_page.specs.Lacing.{ends_open}
 use Rattle.ogg_page.specs.LogicalStream.{FitsBehind, EachBehind, FlagsFit, joined_lacing, joined_bodies, number_behind, is_first, is_last, is_continued}
-use Rattle.ogg_page.specs.StreamLaws.{behind_both, last_closes}
+use Rattle.ogg_page.specs.StreamLaws.{behind_both, behind_front, behind_back, last_closes, number_push}
 use Rattle.link_chain.specs.ChainState.{last_position}
 use Rattle.link_chain.specs.Laws.LastLink.{all_split}
 use Rattle.link_chain.specs.Laws.Fronts.{behind_at, push_not_nil}
@@ -63,13 +63,6 @@ marked_is_page page p = record {
 }
 
 -- ---- the numbers go up
-number_push : (before : List Page) (page : Page) → number_behind (before ++ page ∷ []) ≡ page.sequence + 1
-number_push before page = from before 0
-  where
-    from : (pages : List Page) (found : ℕ) → fold (λ found (p : Page). p.sequence + 1) found (pages ++ page ∷ []) ≡ page.sequence + 1
-    from [] found = refl
-    from (p ∷ pages) found = from pages (p.sequence + 1)
-
 at_least : (before front : List Page) (page : Page) (behind : List Page) → EachBehind FitsBehind before (front ++ page ∷ behind) → before ≢ [] →
     number_behind before ≤ page.sequence
 at_least before [] page behind h some = omega (arith, h.0.sequence some)
@@ -157,15 +150,6 @@ pub record SameStream (old new : List Page) : Type 0 where
   pub ended : list_any is_last new ≡ list_any is_last old
   pub position : last_position new ≡ last_position old
   pub ends : list_any is_last old ≡ true → EndsFull old new
-
-pub behind_front : (R : List Page → Page → Type 0) (before xs ys : List Page) → EachBehind R before (xs ++ ys) → EachBehind R before xs
-behind_front R before [] ys h = tt
-behind_front R before (x ∷ xs) ys h = (h.0, behind_front R (before ++ x ∷ []) xs ys h.1)
-
-behind_back : (R : List Page → Page → Type 0) (before xs ys : List Page) → EachBehind R before (xs ++ ys) → EachBehind R (before ++ xs) ys
-behind_back R before [] ys h = subst (λ (l : List Page). EachBehind R l ys) (sym (append-nil before)) h
-behind_back R before (x ∷ xs) ys h =
-    subst (λ (l : List Page). EachBehind R l ys) (append_assoc before (x ∷ []) xs) (behind_back R (before ++ x ∷ []) xs ys h.1)
 
 none_changed : (own : List Page) → flat_map (finished_page None) own ≡ own
 none_changed [] = refl

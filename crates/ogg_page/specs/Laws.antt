@@ -9,3 +9,5 @@ pub mod PageBytes
 pub mod Sight
 pub mod Walk
 pub mod Found
+pub mod HeadBytes
+pub mod Halves

@@ -3,6 +3,7 @@ pub mod Checksum
 pub mod Pending
 pub mod Numbers
 pub mod Page
+pub mod Head
 pub mod PageFault
 pub mod Lacing
 pub mod LogicalStream

@@ -6,11 +6,12 @@ use Rattle.std.specs.List.{flat_map, concat, list_any}
 use Rattle.std.proofs.lemmas.List.{append-nil, get_or-append-add}
 use Rattle.std.proofs.lemmas.List.Concat.{flat_map-append}
 use Rattle.std.proofs.lemmas.List.Folds.{list_any-append}
+use Rattle.std.proofs.lemmas.List.Sums.{fold_push}
 use Rattle.std.proofs.lemmas.Bool.{ne_eqb, false≢true}
 use Rattle.ogg_page.specs.Page.{Page}
 use Rattle.ogg_page.specs.Lacing.{lace, lacing_of, ends_open}
 use Rattle.ogg_page.specs.Laws.Prefixes.{same_fronts}
-use Rattle.ogg_page.specs.LogicalStream.{HoldsPackets, FitsBehind, EachBehind, joined_lacing, joined_bodies, is_last}
+use Rattle.ogg_page.specs.LogicalStream.{HoldsPackets, FitsBehind, EachBehind, joined_lacing, joined_bodies, number_behind, is_last}
 
 pub false_is_not_true : (b : Bool) {A : Type 0} → b ≡ false → b ≡ true → A
 false_is_not_true b e f = cc
@@ -21,6 +22,19 @@ pub behind_both : (R : List Page → Page → Type 0) (before xs ys : List Page)
 behind_both R before [] ys a b = rw append-nil at b
 behind_both R before (x ∷ xs) ys a b =
     (a.0, behind_both R (before ++ x ∷ []) xs ys a.1 (subst (λ (l : List Page). EachBehind R l ys) (sym (append_assoc before (x ∷ []) xs)) b))
+
+pub behind_front : (R : List Page → Page → Type 0) (before xs ys : List Page) → EachBehind R before (xs ++ ys) → EachBehind R before xs
+behind_front R before [] ys h = tt
+behind_front R before (x ∷ xs) ys h = (h.0, behind_front R (before ++ x ∷ []) xs ys h.1)
+
+pub behind_back : (R : List Page → Page → Type 0) (before xs ys : List Page) → EachBehind R before (xs ++ ys) → EachBehind R (before ++ xs) ys
+behind_back R before [] ys h = subst (λ (l : List Page). EachBehind R l ys) (sym (append-nil before)) h
+behind_back R before (x ∷ xs) ys h =
+    subst (λ (l : List Page). EachBehind R l ys) (append_assoc before (x ∷ []) xs) (behind_back R (before ++ x ∷ []) xs ys h.1)
+
+-- the number after a page is one more than the page's
+pub number_push : (before : List Page) (page : Page) → number_behind (before ++ page ∷ []) ≡ page.sequence + 1
+number_push before page = fold_push (λ (found : ℕ) (p : Page). p.sequence + 1) 0 before page
 
 -- ---- unfinished packets
 pub ends_open-at : (xs : List ℕ) (y : ℕ) (ys : List ℕ) → ends_open (xs ++ y ∷ ys) ≡ ends_open (y ∷ ys)
@@ -80,7 +94,8 @@ same_values (suc a) (suc b) u v x y hu hv e =
     let rest = same_values a b u v x y hu hv tail in
     (ap suc rest.0, rest.1, rest.2)
 
-same_lacing : (p q x y : List ℕ) → lace p ++ x ≡ lace q ++ y → (length p ≡ length q) × (x ≡ y)
+-- of two equal lists of lacing values, the first packets have one length, and the same values follow
+pub same_lacing : (p q x y : List ℕ) → lace p ++ x ≡ lace q ++ y → (length p ≡ length q) × (x ≡ y)
 unfolding lacing_of
 same_lacing p q x y e =
     let m : ℕ = length p in
@@ -89,7 +104,7 @@ same_lacing p q x y e =
     (sym (append_assoc (replicate (m / 255) 255) (m % 255 ∷ []) x) ∙ e ∙ append_assoc (replicate (n / 255) 255) (n % 255 ∷ []) y) in
     (omega (arith, same.0, same.1), same.2)
 
-some_values : (p x : List ℕ) → [] ≢ lace p ++ x
+pub some_values : (p x : List ℕ) → [] ≢ lace p ++ x
 unfolding lacing_of
 some_values p x e =
     absurd (omega (arith, ap length e, length-append (replicate (length p / 255) 255 ++ length p % 255 ∷ []) x, length-append (replicate (length p / 255) 255) (length p % 255 ∷ [])))

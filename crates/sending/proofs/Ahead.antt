@@ -5,7 +5,7 @@ use Rattle.std.proofs.lemmas.List.{drop-append-le, drop_at}
 use Rattle.ogg_page.specs.Page.{Page, IsPage, page_bytes, bytes_of_pages}
 use Rattle.link_chain.specs.Links.{pages_with}
 use Rattle.sessions.specs.Places.{IsStreamRest}
-use Rattle.sending.specs.Extent.{Stands}
+use Rattle.ogg_page.specs.Head.{Stands}
 use Rattle.sending.specs.Sending.{HasFailed}
 
 first_of : (committed : List ℕ) (serial place skip count : ℕ) (front behind : List ℕ) (pages : List Page) → committed ≡ front ++ (bytes_of_pages pages ++ behind)

@@ -1,6 +1,5 @@
 mod Ahead
 mod Answered
-mod Heads
 mod Joined
 mod Located
 mod Pulled

@@ -4,7 +4,7 @@ use Rattle.std.proofs.lemmas.List.{take-append-le, drop-append-le}
 use Rattle.std.proofs.Math.Seq.{take-append_seam, take-append-add, take-add}
 use Rattle.ogg_page.specs.Page.{Page, page_bytes}
 use Rattle.sessions.specs.Places.{part_at, IsStreamRest}
-use Rattle.sending.specs.Extent.{Stands}
+use Rattle.ogg_page.specs.Head.{Stands}
 use Rattle.sending.specs.Walking.{IsGivenOf, IsPulled}
 use Rattle.sending.specs.declared.walking.StreamLeft.{StreamLeft}
 

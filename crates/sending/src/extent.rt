@@ -4,7 +4,8 @@ ghost use Rattle.ogg_page.specs.Page.{Page};
 ghost use Rattle.ogg_page.specs.Window.{KeepsSource};
 ghost use Rattle.sending.specs.Sending.{HasFailed};
 ghost use Rattle.sending.specs.declared.extent.Extent.{Extent as ExtentOf};
-ghost use Rattle.sending.specs.Extent.{Stands, extent_of, head_size};
+ghost use Rattle.ogg_page.specs.Head.{Stands, head_size};
+ghost use Rattle.sending.specs.Extent.{extent_of};
 ghost use Rattle.ogg_page.specs.Sizes.{most_values, full_value};
 
 use ogg_page::{FIXED_SIZE, MOST_VALUES, PageSource, SourceFault, take_u32};

@@ -7,7 +7,8 @@ ghost use Rattle.ogg_page.specs.Page.{Page};
 ghost use Rattle.ogg_page.specs.Window.{KeepsSource};
 ghost use Rattle.ogg_page.specs.Source.{HasCause};
 ghost use Rattle.sessions.specs.Places.{IsStreamRest, part_at};
-ghost use Rattle.sending.specs.Extent.{Stands, extent_of};
+ghost use Rattle.ogg_page.specs.Head.{Stands};
+ghost use Rattle.sending.specs.Extent.{extent_of};
 ghost use Rattle.sending.specs.Sending.{HasFailed};
 ghost use Rattle.sending.specs.Walking.{IsFurther, IsGivenOf, IsOver, IsPulled};
 

@@ -7,10 +7,10 @@ use Rattle.std.proofs.lemmas.List.Elements.{filter-append}
 use Rattle.std.proofs.lemmas.Bool.{cond-true, ne_eqb, eqb-false, or_from}
 use Rattle.ogg_page.specs.Page.{Page}
 use Rattle.ogg_page.specs.LogicalStream.{FitsBehind, EachBehind, FlagsFit, is_first}
-use Rattle.ogg_page.specs.StreamLaws.{false_is_not_true}
-use Rattle.link_chain.specs.Links.{IsLink, pages_with, serials_of, has_stream, all_ended}
-use Rattle.link_chain.specs.Laws.Grow.{all_weaker, serials_same}
-use Rattle.link_chain.specs.Laws.LastLink.{all_split}
+use Rattle.ogg_page.specs.StreamLaws.{behind_front, false_is_not_true}
+use Rattle.link_chain.specs.Links.{IsLink, pages_with, serials_of, has_stream, has_ended, all_ended}
+use Rattle.link_chain.specs.Laws.Grow.{Unmarked, OpenBehind, all_weaker, serials_same, stream_same}
+use Rattle.link_chain.specs.Laws.LastLink.{all_split, some_open, some_not}
 use Rattle.link_chain.specs.Laws.PageState.{serials_both}
 
 -- ---- each after those before it
@@ -62,10 +62,6 @@ two_splits (x ∷ front) rest (y ∷ a) b e =
     ]
 
 -- ---- fronts
-behind_front : (R : List Page → Page → Type 0) (before xs ys : List Page) → EachBehind R before (xs ++ ys) → EachBehind R before xs
-behind_front R before [] ys h = tt
-behind_front R before (x ∷ xs) ys h = (h.0, behind_front R (before ++ x ∷ []) xs ys h.1)
-
 distinct_front : (xs ys : List ℕ) → IsDistinct nat_eq (xs ++ ys) → IsDistinct nat_eq xs
 unfolding IsDistinct
 distinct_front [] ys d = tt
@@ -182,3 +178,24 @@ later_behind front page back later l =
     at (m ∷ middle) longer left =
         let marked : is_first m ≡ true = (all_split (λ (p : Page). is_first p ≡ true) front (m ∷ middle) (subst (AllByRecursion (λ (p : Page). is_first p ≡ true)) longer l.marked)).1.0 in
         false_is_not_true (is_first page) later (ap is_first (parts_of page m back (middle ++ l.others) left).0 ∙ marked)
+
+-- ---- the link goes on while a page of it comes
+pub goes_on : (before pages : List Page) → Unmarked pages → AllByRecursion (λ page. has_stream before page.serial ≡ true) pages →
+    ((serial : ℕ) → FlagsFit (pages_with serial (before ++ pages))) → OpenBehind before pages
+goes_on before [] later known fits = tt
+goes_on before (page ∷ pages) later known fits =
+    let own : List Page = pages_with page.serial before in
+    let split : pages_with page.serial (before ++ page ∷ pages) ≡ own ++ page ∷ pages_with page.serial pages =
+    filter-append (λ (p : Page). nat_eq p.serial page.serial) before (page ∷ pages)
+    ∙ ap (λ l. own ++ l)
+    (cond-true (nat_eq page.serial page.serial) (page ∷ pages_with page.serial pages) (pages_with page.serial pages) (eq-eqb page.serial page.serial refl)) in
+    let here : FitsBehind own page = behind_at FitsBehind [] (pages_with page.serial (before ++ page ∷ pages)) (fits page.serial) own (pages_with page.serial pages) page split in
+    let open_is : all_ended before ≡ false =
+    some_open (has_ended before) is_first before (some_not (has_ended before) page.serial (serials_of before) known.0 here.last) in
+    let all : (before ++ page ∷ []) ++ pages ≡ before ++ page ∷ pages = append_assoc before (page ∷ []) pages in (
+      λ _. open_is,
+      goes_on (before ++ page ∷ []) pages later.1
+          (all_weaker (λ (p : Page). has_stream before p.serial ≡ true) (λ (p : Page). has_stream (before ++ page ∷ []) p.serial ≡ true)
+          (λ p e. stream_same before (page ∷ []) p.serial (later.0, tt) ∙ e) pages known.1)
+          (λ serial. subst (λ (l : List Page). FlagsFit (pages_with serial l)) (sym all) (fits serial)),
+    )

@@ -34,6 +34,20 @@ pub any_none : {X : Type 0} (test : X → Bool) (xs : List X) → AllByRecursion
 any_none test [] h = refl
 any_none test (x ∷ xs) h = or_from (test x) (list_any test xs) h.0 (any_none test xs h.1)
 
+pub all_true : {X : Type 0} (test : X → Bool) (xs : List X) → AllByRecursion (λ x. test x ≡ true) xs → list_all test xs ≡ true
+all_true test [] h = refl
+all_true test (x ∷ xs) h = ap (λ b. b && list_all test xs) h.0 ∙ all_true test xs h.1
+
+pub each_true : {X : Type 0} (test : X → Bool) (xs : List X) → list_all test xs ≡ true → AllByRecursion (λ x. test x ≡ true) xs
+each_true test [] e = tt
+each_true test (x ∷ xs) e =
+    let parts : (test x ≡ true) × (list_all test xs ≡ true) = both (test x) (list_all test xs) e in
+    (parts.0, each_true test xs parts.1)
+  where
+    both : (a b : Bool) → (a && b) ≡ true → (a ≡ true) × (b ≡ true)
+    both true b e = (refl, e)
+    both false b e = cc
+
 pub all_filter : {X : Type 0} (P : X → Type 0) (test : X → Bool) (xs : List X) → AllByRecursion P xs → AllByRecursion P (filter test xs)
 all_filter P test [] h = tt
 all_filter P test (x ∷ xs) h =

@@ -4,7 +4,7 @@ use Rattle.std.specs.Prelude.{nat_eq, nat_lt, ◌||◌, ◌&&◌, not, is_none}
 use Rattle.std.specs.List.{AllByRecursion, filter, list_any, list_all, find, fold, flat_map}
 use Rattle.std.specs.Option.{option_map_or}
 use Rattle.std.proofs.lemmas.List.{append-nil}
-use Rattle.std.proofs.lemmas.Bool.{eqb-true, ne_eqb, cases_eq, cases_Bool, cond-true, cond-false, cond_both, ltb-true, or_parts, or_left, or_right, and_from}
+use Rattle.std.proofs.lemmas.Bool.{eqb-true, ne_eqb, cases_eq, cases_Bool, cond-true, cond-false, cond_both, ltb-true, or_parts, or_left, or_right}
 use Rattle.ogg_page.specs.Page.{Page, IsPage, bytes_of_pages, page_bytes}
 use Rattle.ogg_page.specs.LogicalStream.{number_behind, is_first}
 use Rattle.link_chain.specs.declared.stream_state.StreamState.{StreamState}
@@ -12,7 +12,7 @@ use Rattle.link_chain.specs.Links.{IsLink, AreLinks, AllButLast, pages_with, wit
 use Rattle.link_chain.specs.Recording.{Stream, Recording, HoldsLink, HoldsLinks, change_last}
 use Rattle.link_chain.specs.ChainState.{chain_state_of, state_of, last_link, last_position, is_open}
 use Rattle.link_chain.specs.Progress.{stream_in, next_in}
-use Rattle.link_chain.specs.Laws.Grow.{all_both, all_weaker, filter_all, serials_same}
+use Rattle.link_chain.specs.Laws.Grow.{all_both, all_true, all_weaker, filter_all, serials_same}
 
 pub all_split : {X : Type 0} (P : X → Type 0) (xs ys : List X) → AllByRecursion P (xs ++ ys) → AllByRecursion P xs × AllByRecursion P ys
 all_split P [] ys h = (tt, h)
@@ -195,10 +195,6 @@ ended_serial ended (x ∷ xs) e serial there =
       | inl same ↦ ap ended same ∙ not_not (ended x) parts.0
       | inr other ↦ ended_serial ended xs parts.1 serial (sym (ap (λ b. b || list_any (nat_eq serial) xs) (ne_eqb serial x other)) ∙ there)
     ]
-
-all_true : (test : Page → Bool) (pages : List Page) → AllByRecursion (λ (p : Page). test p ≡ true) pages → list_all test pages ≡ true
-all_true test [] h = refl
-all_true test (page ∷ pages) h = and_from (test page) (list_all test pages) h.0 (all_true test pages h.1)
 
 first_known : (pages : List Page) → AllByRecursion (λ (p : Page). is_first p ≡ true) pages → AllByRecursion (λ (p : Page). has_stream pages p.serial ≡ true) pages
 first_known pages h =

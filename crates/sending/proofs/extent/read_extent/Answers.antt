@@ -1,6 +1,6 @@
 use Rattle.std.proofs.Common.{◌≡◌, ◌-◌, Some, None, length, take, drop, min, sym, ◌∙◌, ap, arith}
 use Rattle.sending.specs.Extent.{extent_of}
-use Rattle.sending.proofs.Heads.{head_fits, lies_inside}
+use Rattle.ogg_page.specs.Laws.HeadBytes.{head_fits, lies_inside}
 use Rattle.sending.proofs.extent.read_extent.Goals as goal
 
 pub returns-then-place-end-clause-cause : goal.returns-then-place-end-clause-cause

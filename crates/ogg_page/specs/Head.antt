@@ -1,0 +1,19 @@
+-- The head of a page that stands in front of bytes (RFC 3533, section 6).
+use Rattle.std.specs.Prelude.{◌≡◌, ℕ, ◌+◌, List, ◌++◌, length}
+use Rattle.ogg_page.specs.Checksum.{checksum_of}
+use Rattle.ogg_page.specs.Page.{Page, IsPage, bytes_with, page_bytes}
+use Rattle.ogg_page.specs.Sizes.{fixed_size}
+
+-- the bytes begin with those of the page
+pub record Stands (bytes : List ℕ) (page : Page) : Type 0 where
+  pub is_page : IsPage page
+  pub tail : List ℕ
+  pub spelled : bytes ≡ page_bytes page ++ tail
+
+-- the fixed part, and a byte for each lacing value
+abbrev pub head_size : Page → ℕ
+head_size page = fixed_size + length page.lacing
+
+-- the checksum that stands in the page's bytes
+abbrev pub checksum_in : Page → ℕ
+checksum_in page = checksum_of (bytes_with 0 page)
