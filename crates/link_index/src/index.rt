@@ -9,7 +9,7 @@ use crate::fault::IndexFault;
 use crate::info::{LinkInfo, StreamInfo};
 use crate::listing::append_listing;
 use crate::rows::{Row, continue_link, join_link, open_link, streams_of};
-use link_chain::{Chain, ChainFault, is_open};
+use link_chain::{Chain, ChainFault, StreamState, is_open};
 use ogg_page::{Page, split_page};
 use std::alloc::Global;
 use std::marker::Model;
@@ -42,6 +42,7 @@ impl Model for Index {
 impl Index {
     ghost use Rattle.std.specs.Prelude.{Ok, Err, Option, slice_get};
     ghost use Rattle.std.specs.Option.{option_map};
+    ghost use Rattle.link_chain.specs.ChainState.{chain_state_of};
     ghost use Rattle.link_chain.specs.Taking.{fault_of_page, links_with, HasRoomFor};
     ghost use Rattle.link_chain.specs.declared.chain_fault.ChainFault.{ChainFault as ChainFaultOf};
     ghost use Rattle.link_index.specs.Adding.{AddsPages, IndexState, IsIndexOf};
@@ -139,6 +140,14 @@ impl Index {
             open_link(&mut self.rows, &mut self.streams, start, page);
         }
         Ok(())
+    }
+
+    /// The streams of the last link as its pages leave them, in the order of their first pages.
+    pub fn last_streams(&self) -> &[StreamState]
+        ensures value { result.now ≡ self.now.chain.chain.streams }
+        ensures last { (links : List (List PageValue)) → IsIndexOf links self.now → result.now ≡ (chain_state_of links).streams }
+    {
+        self.chain.streams()
     }
 
     /// The offset up to which the file's bytes were added.
