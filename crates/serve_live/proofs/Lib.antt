@@ -1,0 +1,17 @@
+mod Packets
+mod OneStream
+mod OneLink
+mod Chain
+mod Linear
+mod Commands
+mod NewHead
+mod Pulled
+mod NextPage
+mod Live
+mod Passing
+mod Hearing
+mod Beginning
+mod Noted
+mod Places
+mod Growing
+mod Forgetting

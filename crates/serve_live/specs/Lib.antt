@@ -1,0 +1,15 @@
+pub mod Boundaries
+pub mod Commands
+pub mod Gaps
+pub mod Heads
+pub mod Heard
+pub mod Hearing
+pub mod Joined
+pub mod Joining
+pub mod Listening
+pub mod Live
+pub mod Noting
+pub mod Places
+pub mod JoinFault
+pub mod Pulling
+pub mod Renumbering

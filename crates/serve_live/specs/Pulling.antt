@@ -1,0 +1,46 @@
+-- How far a pull has come among the pages since the moment of joining. Ours.
+use Rattle.std.specs.Prelude.{◌≡◌, ℕ, ◌+◌, ◌-◌, ◌≤◌, Bool, ◌||◌, ◌++◌, min, if◌then◌else◌, List, [], length, take, drop}
+use Rattle.std.specs.List.{AllByRecursion, list_any}
+use Rattle.ogg_page.specs.Page.{Page, IsPage, bytes_of_pages}
+use Rattle.ogg_page.specs.LogicalStream.{is_first}
+use Rattle.serve_live.specs.Listening.{ArePagesLeft, ListenerState}
+use Rattle.serve_live.specs.declared.gaps.StreamGap.{StreamGap}
+use Rattle.serve_live.specs.declared.pages.PageLeft.{PageLeft}
+
+-- the streams' gaps that count: none once another link has begun
+abbrev pub gaps_from : List StreamGap → Bool → List StreamGap
+gaps_from gaps anew = if anew then [] else gaps
+
+abbrev pub gaps_kept : List StreamGap → PageLeft → List StreamGap
+gaps_kept gaps left = gaps_from gaps left.anew
+
+-- the first bytes of the rest are in the buffer, and this is left
+pub record ArePulled (committed rest : List ℕ) (gaps : List StreamGap) (left : PageLeft) (given : ℕ) (buffer : List ℕ) : Type 0 where
+  pub some : given ≤ length rest
+  pub taken : take given buffer ≡ take given rest
+  pub left_is : ArePagesLeft committed (gaps_kept gaps left) left.place left.skip (drop given rest)
+
+-- The first bytes of a text and of the pages behind it are in the buffer, as many as go in, and this is left.
+pub record GivesBehind (committed : List ℕ) (gaps : List StreamGap) (text pages : List ℕ) (size : ℕ) (buffer : List ℕ) (told heard : ℕ) (after : PageLeft) : Type 0 where
+  pub told_is : told ≡ min (length text) size
+  pub count : told + heard ≡ min (length (text ++ pages)) size
+  pub given : take (told + heard) buffer ≡ take size (text ++ pages)
+  pub rest : drop size (text ++ pages) ≡ drop told text ++ drop (size - told) pages
+  pub left : ArePagesLeft committed (gaps_kept gaps after) after.place after.skip (drop (size - told) pages)
+
+-- Between these two places stand the pages that were heard whole; if another link has begun with one of them, pages are
+-- heard as they are from then on.
+pub record HasPassed (committed : List ℕ) (left after : PageLeft) : Type 0 where
+  pub passed : List Page
+  pub are_pages : AllByRecursion IsPage passed
+  pub between : drop left.place committed ≡ bytes_of_pages passed ++ drop after.place committed
+  pub place : after.place ≡ left.place + length (bytes_of_pages passed)
+  pub anew : after.anew ≡ (left.anew || list_any is_first passed)
+
+-- the same of a listener
+pub record HasMoved (committed : List ℕ) (old new : ListenerState) : Type 0 where
+  pub passed : List Page
+  pub are_pages : AllByRecursion IsPage passed
+  pub between : drop old.place committed ≡ bytes_of_pages passed ++ drop new.place committed
+  pub place : new.place ≡ old.place + length (bytes_of_pages passed)
+  pub gaps : new.gaps ≡ gaps_from old.gaps (list_any is_first passed)

@@ -1,0 +1,139 @@
+//! What always holds of what a listener hears.
+ghost use Rattle.std.specs.Prelude.{◌≡◌, ◌++◌, [], ◌∷◌, ◌<◌, ◌^◌, ℕ, List, bit_xor, length, take, true};
+ghost use Rattle.std.specs.List.{AllByRecursion};
+ghost use Rattle.byteorder.specs.Endian.{little_bytes};
+ghost use Rattle.ogg_page.specs.Page.{Page, IsPage, bytes_of_pages, page_bytes, page_size};
+ghost use Rattle.link_chain.specs.Links.{AreLinks, IsLink, flattened};
+ghost use Rattle.link_chain.specs.Recording.{Stream, Recording, HoldsLink, HoldsLinks};
+ghost use Rattle.link_chain.specs.ChainState.{chain_state_of, is_open};
+ghost use Rattle.ogg_command.specs.Command.{IsCommand};
+ghost use Rattle.ogg_command.specs.declared.command.Begin.{Begin as BeginOf};
+ghost use Rattle.ogg_command.specs.declared.command.Command.{Command as CommandOf};
+ghost use Rattle.ogg_command.specs.declared.command.Command.TheVariants.{Begin as BeginCommand};
+ghost use Rattle.chain_rules.specs.Commands.{AreKept, bytes_of_commands, links_behind};
+ghost use Rattle.serve_live.specs.Commands.{AreHeard, NoneBegins};
+ghost use Rattle.serve_live.specs.Places.{IsPlaceIn};
+ghost use Rattle.serve_live.specs.declared.listener.JoinPlace.{JoinPlace as JoinPlaceOf};
+ghost use Rattle.serve_live.specs.Heard.{heard, heard_bytes, heard_link};
+ghost use Rattle.serve_live.specs.Joining.{AreLater, IsJoined, heard_streams};
+ghost use Rattle.serve_live.specs.Listening.{Gives, IsLeft, ListenerState};
+ghost use Rattle.serve_live.specs.Hearing.{IsHearing};
+ghost use Rattle.serve_live.specs.Joined.{IsNew, IsNewAt};
+ghost use Rattle.serve_live.specs.Pulling.{HasMoved};
+ghost use Rattle.serve_live.specs.Live.{IsLive, IsMomentOf, Moment};
+ghost use Rattle.serve_live.specs.Renumbering.{renumbered, checksum_change, front_of, back_of};
+ghost use Rattle.ogg_page.specs.Head.{checksum_in};
+
+use chain_rules::commands_add_their_packets;
+
+/// What is heard of links, one of which was joined, is a chain of links again: the joined link without what was
+/// passed, and the links after it as they are.
+pub fn what_is_heard_is_a_chain()
+    ensures links { (bytes : List ℕ) (before further : List (List Page)) (begin passed later : List Page)
+        → AreLinks bytes (before ++ (begin ++ (passed ++ later)) ∷ further) → IsJoined begin passed → AreLater later →
+        AreLinks (heard_bytes begin passed (later ++ flattened further)) (heard_link begin passed later ∷ further) }
+    // If no link was open, the links that begin later are heard as they are.
+    ensures waits { (bytes : List ℕ) (before further : List (List Page)) → AreLinks bytes (before ++ further)
+        → AreLinks (heard_bytes [] [] (flattened further)) further }
+    // The same up to any of the pages that are heard.
+    ensures fronts { (bytes : List ℕ) (before further : List (List Page)) (begin passed later front rest : List Page)
+        → AreLinks bytes (before ++ (begin ++ (passed ++ later)) ∷ further) → IsJoined begin passed → AreLater later →
+        heard begin passed (later ++ flattened further) ≡ front ++ rest →
+        (links : List (List Page)) × AreLinks (bytes_of_pages front) links }
+    // Each stream holds the packets with which it began, and those since the listener joined.
+    ensures holds { (bytes : List ℕ) (before further : List (List Page)) (begin passed later : List Page)
+        (begun joined now : List Stream) (more : Recording)
+        → AreLinks bytes (before ++ (begin ++ (passed ++ later)) ∷ further) → IsJoined begin passed → AreLater later →
+        HoldsLink begin begun → HoldsLink (begin ++ passed) joined → HoldsLink (begin ++ (passed ++ later)) now →
+        HoldsLinks further more →
+        HoldsLinks (heard_link begin passed later ∷ further) (heard_streams begun joined now ∷ more) }
+{}
+
+/// What a listener hears that joined at any moment is a chain of links, whatever was committed since; and so it is up to
+/// any of its pages.
+pub fn what_is_live_is_a_chain()
+    ensures whole { (front committed more bytes : List ℕ) (moment : Moment) (links : List (List Page)) → IsMomentOf front moment
+        → committed ≡ front ++ more → AreLinks committed links → IsLive moment committed bytes
+        → (heard : List (List Page)) × AreLinks bytes heard }
+    ensures fronts { (front committed more bytes : List ℕ) (moment : Moment) (links : List (List Page)) (pages rest : List Page)
+        → IsMomentOf front moment → committed ≡ front ++ more → AreLinks committed links → IsLive moment committed bytes
+        → AllByRecursion IsPage (pages ++ rest) → bytes ≡ bytes_of_pages (pages ++ rest)
+        → (heard : List (List Page)) × AreLinks (bytes_of_pages pages) heard }
+{}
+
+/// What is heard of a recording that grows by commands: a chain of links, whose first link holds what its Begin held
+/// and the packets since the listener joined.
+pub fn commands_are_heard()
+    ensures { (bytes : List ℕ) (links : List (List Page)) (recording : Recording) (begin : BeginOf)
+        (passed since : List CommandOf)
+        → AllByRecursion IsCommand (BeginCommand begin ∷ passed) → AllByRecursion IsCommand since
+        → AreLinks bytes links → HoldsLinks links recording
+        → AreKept links (BeginCommand begin ∷ passed) → NoneBegins passed
+        → is_open (chain_state_of (links_behind links (BeginCommand begin ∷ passed))) ≡ true
+        → AreKept (links_behind links (BeginCommand begin ∷ passed)) since
+        → AreHeard links recording begin passed since }
+{
+    commands_add_their_packets();
+}
+
+/// Commands make the places where a listener may join: a link that a `Begin` began may be joined after any of its
+/// commands that leaves it open, as long as no other `Begin` has followed.
+pub fn commands_make_places()
+    ensures { (bytes : List ℕ) (links : List (List Page)) (recording : Recording) (begin : BeginOf)
+        (passed since : List CommandOf) (place : JoinPlaceOf)
+        → AllByRecursion IsCommand (BeginCommand begin ∷ passed) → AreLinks bytes links → HoldsLinks links recording
+        → AreKept links (BeginCommand begin ∷ passed) → NoneBegins passed → NoneBegins since
+        → is_open (chain_state_of (links_behind links (BeginCommand begin ∷ passed))) ≡ true
+        → place.begin ≡ length bytes
+        → place.begun ≡ length (bytes ++ bytes_of_commands links (BeginCommand begin ∷ []))
+        → place.boundary ≡ length (bytes ++ bytes_of_commands links (BeginCommand begin ∷ passed))
+        → (moment : Moment) × IsPlaceIn (links_behind (links_behind links (BeginCommand begin ∷ passed)) since) moment place }
+{
+    commands_add_their_packets();
+}
+
+/// What was heard stays, and more follows it as more is committed.
+pub fn more_is_heard_as_more_is_committed()
+    ensures { (begin passed after more : List Page)
+        → (rest : List Page) × (heard begin passed (after ++ more) ≡ heard begin passed after ++ rest) }
+{}
+
+/// What a session gets that joined at one moment is one list of bytes, whatever is committed by now; and these bytes
+/// stay in front of those that it gets once more is committed. The same holds of what a listener has still to hear.
+pub fn sessions_hear_what_is_committed()
+    ensures once { (moment : Moment) (committed bytes others : List ℕ) → IsLive moment committed bytes
+        → IsLive moment committed others → bytes ≡ others }
+    ensures grows { (moment : Moment) (committed bytes : List ℕ) (more : List Page) → IsLive moment committed bytes
+        → AllByRecursion IsPage more → (new : List ℕ) × IsLive moment (committed ++ bytes_of_pages more) (bytes ++ new) }
+    ensures left { (committed : List ℕ) (listener : ListenerState) (rest : List ℕ) (more : List Page)
+        → IsLeft committed listener rest → AllByRecursion IsPage more
+        → (new : List ℕ) × IsLeft (committed ++ bytes_of_pages more) listener (rest ++ new) }
+{}
+
+/// A listener that joined at a moment goes on hearing what it should: while more is committed, and by each pull, as
+/// `Listener::pull` says it. So at any time what it was given is the front of what is heard of the bytes committed by
+/// then.
+pub fn listeners_hear_what_they_should()
+    ensures begins { (committed : List ℕ) (moment : Moment) (listener : ListenerState) → IsMomentOf committed moment
+        → IsNewAt moment listener → IsHearing moment committed listener [] }
+    // The same of one that joins while no link is open.
+    ensures waits { (committed : List ℕ) (listener : ListenerState) → IsNew (length committed) 0 (length committed) [] listener
+        → IsHearing (record { place = length committed; begin = []; passed = [] }) committed listener [] }
+    ensures grows { (moment : Moment) (committed : List ℕ) (listener : ListenerState) (given : List ℕ) (more : List Page)
+        → IsHearing moment committed listener given → AllByRecursion IsPage more
+        → IsHearing moment (committed ++ bytes_of_pages more) listener given }
+    ensures pulls { (moment : Moment) (committed : List ℕ) (old new : ListenerState) (given : List ℕ) (size count : ℕ)
+        (buffer : List ℕ) (hearing : IsHearing moment committed old given)
+        → Gives committed hearing.rest size buffer count new → HasMoved committed old new
+        → IsHearing moment committed new (given ++ take count buffer) }
+{}
+
+/// A page with another number has the bytes that it had, but for the number and the checksum; and the new checksum
+/// follows from the old one, the two numbers and the page's size, so that no other byte need be read.
+pub fn renumbering_is_exact()
+    ensures old { (page : Page) → page_bytes page
+        ≡ front_of page ++ (little_bytes 4 page.sequence ++ (little_bytes 4 (checksum_in page) ++ back_of page)) }
+    ensures new { (number : ℕ) (page : Page) → IsPage page → number < 2 ^ 32 → page_bytes (renumbered number page)
+        ≡ front_of page ++ (little_bytes 4 number ++ (little_bytes 4 (bit_xor (checksum_in page)
+        (checksum_change page.sequence number (page_size page))) ++ back_of page)) }
+{}

@@ -1,0 +1,187 @@
+//! A buffer is filled with the pages since the moment of joining, as they are heard.
+ghost use Rattle.std.specs.Prelude.{◌≡◌, ◌⊎◌, ◌||◌, ◌+◌, ◌-◌, ◌^◌, ◌<◌, ◌≤◌, ℕ, List, ◌++◌, length, take, drop, min, IfOk, IsErr, OnOk};
+ghost use Rattle.ogg_page.specs.Source.{HasCause};
+ghost use Rattle.ogg_page.specs.Window.{KeepsSource};
+ghost use Rattle.serve_live.specs.Listening.{HasFailed, part_at};
+ghost use Rattle.serve_live.specs.Pulling.{ArePulled, HasPassed, gaps_from};
+
+use crate::gaps::StreamGap;
+use crate::heads::{HeardHead, read_head};
+use ogg_page::{PageSource, SourceFault};
+
+/// The page that is heard next stands at the place, and `skip` of its bytes were heard. Once another link has begun
+/// (`anew`), pages are heard as they are.
+#[derive(Clone, Copy, Debug, PartialEq, Eq)]
+pub struct PageLeft {
+    pub place: u64,
+    pub skip: u64,
+    pub anew: bool,
+}
+
+/// What is left after this many more bytes of the page.
+fn left_after(left: PageLeft, begins: bool, size: u64, count: u64) -> PageLeft
+    requires inside { left.skip + count ≤ size }
+    requires end { left.place + size < 2 ^ 64 }
+    ensures within { left.skip + count < size
+        → (result.place ≡ left.place) × (result.skip ≡ left.skip + count) × (result.anew ≡ left.anew) }
+    ensures behind { left.skip + count ≡ size
+        → (result.place ≡ left.place + size) × (result.skip ≡ 0) × (result.anew ≡ (left.anew || begins)) }
+{
+    if left.skip + count < size {
+        return PageLeft {
+            place: left.place,
+            skip: left.skip + count,
+            anew: left.anew,
+        };
+    }
+    PageLeft {
+        place: left.place + size,
+        skip: 0,
+        anew: left.anew || begins,
+    }
+}
+
+/// Copies bytes into the buffer after those that were given, as many as go in, and returns how many these are.
+fn copy_on(bytes: &[u8], given: usize, buffer: &mut [u8]) -> usize
+    requires room { given ≤ length buffer.old }
+    ensures count { result ≡ min (length bytes.now) (length buffer.old - given) }
+    ensures copied { buffer.new ≡ take given buffer.old ++ (take result bytes.now ++ drop (given + result) buffer.old) }
+{
+    let (_, free) = buffer.split_at_mut(given);
+    let count = bytes.len().min(free.len());
+    let (front, _) = free.split_at_mut(count);
+    front.copy_from_slice(&bytes[..count]);
+    count
+}
+
+/// Reads `count` bytes at the place into the buffer, after those that were given.
+fn read_on<S: PageSource>(
+    source: &mut S,
+    place: u64,
+    count: usize,
+    given: usize,
+    buffer: &mut [u8],
+) -> Result<(), SourceFault>
+    requires inside { place + count ≤ S.size source.old }
+    requires room { given + count ≤ length buffer.old }
+    ensures read { OnOk result (S.is_honest source.old
+        → buffer.new ≡ take given buffer.old ++ (part_at place count (S.bytes source.old) ++ drop (given + count) buffer.old)) }
+    ensures cause { HasCause (S.failures source.old) (S.failures source.new) result }
+    ensures source { KeepsSource S.bytes S.is_honest S.size S.only_reads source.old source.new }
+{
+    let (_, free) = buffer.split_at_mut(given);
+    let (front, _) = free.split_at_mut(count);
+    source.read_at(place, front)
+}
+
+/// Gives bytes of a head that is kept, from the skipped ones on, as many as go in, and returns how many these are.
+fn give_head(head: &HeardHead, skip: u64, given: usize, buffer: &mut [u8]) -> usize
+    requires skip { skip < head.now.len }
+    requires len { head.now.len ≤ 282 }
+    requires room { given < length buffer.old }
+    ensures some { (0 < result) × (skip + result ≤ head.now.len) × (given + result ≤ length buffer.old) }
+    ensures copied { buffer.new ≡ take given buffer.old
+        ++ (part_at skip result (take head.now.len head.now.bytes) ++ drop (given + result) buffer.old) }
+{
+    let (own, _) = head.bytes.split_at(head.len);
+    let (_, behind) = own.split_at(skip as usize);
+    copy_on(behind, given, buffer)
+}
+
+/// The gaps that count: none once another link has begun.
+fn kept_gaps<'a>(gaps: &'a [StreamGap], anew: bool) -> &'a [StreamGap]
+    ensures { result.now ≡ gaps_from gaps.now anew }
+{
+    if anew { &[] } else { gaps }
+}
+
+/// Gives what goes in of the page at the place: bytes of its head, or of its body. It returns the count of all bytes
+/// that were given, and what is left then.
+fn pull_page<S: PageSource>(
+    source: &mut S,
+    gaps: &[StreamGap],
+    left: PageLeft,
+    given: usize,
+    buffer: &mut [u8],
+) -> Result<(usize, PageLeft), SourceFault>
+    requires room { given < length buffer.old }
+    ensures pulled { (committed more rest : List ℕ) → S.is_honest source.old → S.bytes source.old ≡ committed ++ more
+        → left.place < length committed → ArePulled committed rest gaps.now left given buffer.old
+        → IfOk result (λ p. ArePulled committed rest gaps.now p.1 p.0 buffer.new) }
+    ensures passes { (committed more rest : List ℕ) → S.is_honest source.old → S.bytes source.old ≡ committed ++ more
+        → left.place < length committed → ArePulled committed rest gaps.now left given buffer.old
+        → IfOk result (λ p. HasPassed committed left p.1) }
+    ensures cause { (committed more rest : List ℕ) → S.is_honest source.old → S.bytes source.old ≡ committed ++ more
+        → left.place < length committed → ArePulled committed rest gaps.now left given buffer.old → IsErr result
+        → HasFailed (S.failures source.old) (S.failures source.new) }
+    ensures further { IfOk result (λ p. (given < p.0) × (p.0 ≤ length buffer.old)) }
+    ensures later { S.failures source.old ≤ S.failures source.new }
+    ensures source { KeepsSource S.bytes S.is_honest S.size S.only_reads source.old source.new }
+{
+    let kept = kept_gaps(gaps, left.anew);
+    match read_head(source, left.place, kept) {
+        Ok(head) => {
+            if left.skip >= head.size {
+                return Err(SourceFault);
+            }
+            if left.skip < head.len as u64 {
+                let count = give_head(&head, left.skip, given, buffer);
+                let after = left_after(left, head.begins, head.size, count as u64);
+                return Ok((given + count, after));
+            }
+            let room = (buffer.len() - given) as u64;
+            let count = (head.size - left.skip).min(room);
+            match read_on(
+                source,
+                left.place + left.skip,
+                count as usize,
+                given,
+                buffer,
+            ) {
+                Ok(()) => {
+                    let after = left_after(left, head.begins, head.size, count);
+                    Ok((given + count as usize, after))
+                }
+                Err(fault) => Err(fault),
+            }
+        }
+        Err(fault) => Err(fault),
+    }
+}
+
+/// Fills the buffer with what is heard of the pages up to the end, as far as either goes. It returns how many bytes
+/// these are, and what is left then.
+pub fn pull_pages<S: PageSource>(
+    source: &mut S,
+    end: u64,
+    gaps: &[StreamGap],
+    start: PageLeft,
+    buffer: &mut [u8],
+) -> Result<(usize, PageLeft), SourceFault>
+    ensures pulled { (committed more rest : List ℕ) → S.is_honest source.old → S.bytes source.old ≡ committed ++ more
+        → length committed ≡ end → ArePulled committed rest gaps.now start 0 buffer.old
+        → IfOk result (λ p. ArePulled committed rest gaps.now p.1 p.0 buffer.new
+        × ((p.0 ≡ length buffer.old) ⊎ (p.0 ≡ length rest))) }
+    ensures passes { (committed more rest : List ℕ) → S.is_honest source.old → S.bytes source.old ≡ committed ++ more
+        → length committed ≡ end → ArePulled committed rest gaps.now start 0 buffer.old
+        → IfOk result (λ p. HasPassed committed start p.1) }
+    ensures cause { (committed more rest : List ℕ) → S.is_honest source.old → S.bytes source.old ≡ committed ++ more
+        → length committed ≡ end → ArePulled committed rest gaps.now start 0 buffer.old → IsErr result
+        → HasFailed (S.failures source.old) (S.failures source.new) × (0 < min (length rest) (length buffer.old)) }
+    ensures within { IfOk result (λ p. p.0 ≤ length buffer.old) }
+    ensures later { S.failures source.old ≤ S.failures source.new }
+    ensures source { KeepsSource S.bytes S.is_honest S.size S.only_reads source.old source.new }
+{
+    let mut given = 0;
+    let mut left = start;
+    'pages: while given < buffer.len() && left.place < end {
+        match pull_page(source, gaps, left, given, buffer) {
+            Ok((count, after)) => {
+                given = count;
+                left = after;
+            }
+            Err(fault) => return Err(fault),
+        }
+    }
+    Ok((given, left))
+}
