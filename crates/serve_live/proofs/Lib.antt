@@ -15,3 +15,4 @@ mod Noted
 mod Places
 mod Growing
 mod Forgetting
+mod Kept

@@ -1,5 +1,5 @@
 -- The boundaries between commands at which a listener may join the open link. Ours.
-use Rattle.std.specs.Prelude.{ℕ, ◌-◌, Bool, false, nat_le, if◌then◌else◌, Option, Some, None, List, [], ◌∷◌, ◌++◌}
+use Rattle.std.specs.Prelude.{ℕ, ◌+◌, ◌-◌, ◌≤◌, ⊤, Bool, false, nat_le, if◌then◌else◌, Option, Some, None, List, [], ◌∷◌, ◌++◌}
 use Rattle.circular_buffer.specs.Buffer.{keep_last}
 use Rattle.serve_live.specs.declared.listener.JoinPlace.{JoinPlace}
 
@@ -60,3 +60,17 @@ place_to_join boundaries = place_at boundaries.begin boundaries.begun boundaries
 abbrev pub newest : ℕ → ℕ → List ℕ → ℕ
 newest end given [] = given
 newest end given (place ∷ places) = newest end (if nat_le ahead (end - place) then place else given) places
+
+-- the state once these boundaries were told, one after the other
+abbrev pub gone_on_by : List ℕ → BoundariesState → BoundariesState
+gone_on_by [] old = old
+gone_on_by (end ∷ ends) old = gone_on_by ends (gone_on end old)
+
+-- each stands at least as many bytes after the one before as the shortest page has
+abbrev pub AreSpaced : ℕ → List ℕ → Type 0
+AreSpaced place [] = ⊤
+AreSpaced place (next ∷ places) = (place + 27 ≤ next) × AreSpaced next places
+
+abbrev pub last_of : ℕ → List ℕ → ℕ
+last_of place [] = place
+last_of place (next ∷ places) = last_of next places

@@ -23,7 +23,8 @@ noted part [] stream = stream
 noted part (page ∷ pages) stream = noted part pages (stream_with part (facts_of page) stream)
 
 -- These pages are still to be noted, and then all are.
-pub record HasLeft (bytes : List ℕ) (part : LinkPart) (all : List JoinedStream) (rest : List ℕ) (end place : ℕ) (now : List JoinedStream) : Type 0 where
+pub record HasLeft (bytes : List ℕ) (part : LinkPart) (all : List JoinedStream) (rest : List ℕ) (end place : ℕ)
+    (now : List JoinedStream) : Type 0 where
   pub pages : List Page
   pub are_pages : AllByRecursion IsPage pages
   pub stand : drop place bytes ≡ bytes_of_pages pages ++ rest
@@ -33,5 +34,6 @@ pub record HasLeft (bytes : List ℕ) (part : LinkPart) (all : List JoinedStream
 -- Of the pages that were to be noted from the start on, those from the place on are left.
 abbrev pub AreLeft : List ℕ → LinkPart → ℕ → List JoinedStream → ℕ → ℕ → List JoinedStream → Type 0
 AreLeft bytes part start old end place now =
-    (pages : List Page) (rest : List ℕ) → AllByRecursion IsPage pages → drop start bytes ≡ bytes_of_pages pages ++ rest → start + length (bytes_of_pages pages) ≡ end
+    (pages : List Page) (rest : List ℕ) → AllByRecursion IsPage pages → drop start bytes ≡ bytes_of_pages pages ++ rest
+    → start + length (bytes_of_pages pages) ≡ end
     → HasLeft bytes part (map (noted part pages) old) rest end place now

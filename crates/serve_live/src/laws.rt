@@ -1,5 +1,5 @@
 //! What always holds of what a listener hears.
-ghost use Rattle.std.specs.Prelude.{◌≡◌, ◌++◌, [], ◌∷◌, ◌<◌, ◌^◌, ℕ, List, bit_xor, length, take, true};
+ghost use Rattle.std.specs.Prelude.{◌≡◌, ◌++◌, [], ◌∷◌, ◌<◌, ◌^◌, ℕ, List, bit_xor, length, take, true, Some};
 ghost use Rattle.std.specs.List.{AllByRecursion};
 ghost use Rattle.byteorder.specs.Endian.{little_bytes};
 ghost use Rattle.ogg_page.specs.Page.{Page, IsPage, bytes_of_pages, page_bytes, page_size};
@@ -11,6 +11,7 @@ ghost use Rattle.ogg_command.specs.declared.command.Begin.{Begin as BeginOf};
 ghost use Rattle.ogg_command.specs.declared.command.Command.{Command as CommandOf};
 ghost use Rattle.ogg_command.specs.declared.command.Command.TheVariants.{Begin as BeginCommand};
 ghost use Rattle.chain_rules.specs.Commands.{AreKept, bytes_of_commands, links_behind};
+ghost use Rattle.serve_live.specs.Boundaries.{AreSpaced, begun_at, gone_on_by, last_of, newest, place_to_join};
 ghost use Rattle.serve_live.specs.Commands.{AreHeard, NoneBegins};
 ghost use Rattle.serve_live.specs.Places.{IsPlaceIn};
 ghost use Rattle.serve_live.specs.declared.listener.JoinPlace.{JoinPlace as JoinPlaceOf};
@@ -91,6 +92,14 @@ pub fn commands_make_places()
 {
     commands_add_their_packets();
 }
+
+/// If each boundary stands at least a page after the one before, the one that is lent is the newest after which `AHEAD`
+/// bytes are committed, or the end of the link's beginning: no boundary that may be needed is forgotten.
+pub fn the_newest_boundary_is_kept()
+    ensures { (begin begun : ℕ) (ends : List ℕ) → AreSpaced begun ends
+        → place_to_join (gone_on_by ends (begun_at begin begun))
+        ≡ Some (record { begin = begin; begun = begun; boundary = newest (last_of begun ends) begun ends }) }
+{}
 
 /// What was heard stays, and more follows it as more is committed.
 pub fn more_is_heard_as_more_is_committed()

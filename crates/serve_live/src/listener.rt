@@ -1,7 +1,6 @@
 //! A listener: what it has still to hear.
 ghost use Rattle.std.specs.Prelude.{◌≡◌, ◌≤◌, ◌<◌, ◌-◌, ℕ, List, [], ◌∷◌, ◌++◌, Err, length, map, min, IfOk, IsErr, OnErr, OnOk};
-ghost use Rattle.ogg_page.specs.Page.{bytes_of_pages};
-ghost use Rattle.ogg_page.specs.Page.{Page};
+ghost use Rattle.ogg_page.specs.Page.{Page, bytes_of_pages};
 ghost use Rattle.link_chain.specs.ChainState.{chain_state_of};
 ghost use Rattle.link_chain.specs.Links.{AreLinks};
 ghost use Rattle.serve_live.specs.Hearing.{IsHearing};
