@@ -1,16 +1,17 @@
 -- What is noted of a link's pages says of its streams what the moment does.
-use Rattle.std.proofs.Common.{◌≡◌, ◌≢◌, ℕ, ◌+◌, ◌-◌, ◌≤◌, ◌^◌, Bool, true, false, List, [], ◌∷◌, ◌++◌, length, drop, map, min, refl, sym, ◌∙◌, ap, subst, arith, append_assoc, inl, inr, eq-eqb, length-append, drop-drop}
+use Rattle.std.proofs.Common.{◌≡◌, ◌≢◌, ℕ, ◌+◌, ◌-◌, ◌≤◌, ◌^◌, Bool, true, false, List, [], ◌∷◌, ◌++◌, length, drop, take, map, min, refl, sym, ◌∙◌, ap, subst, arith, append_assoc, inl, inr, eq-eqb, length-append, drop-drop}
 use Rattle.std.specs.Prelude.{nat_eq, nat_lt, not, ◌&&◌, ◌||◌}
 use Rattle.std.specs.List.{AllByRecursion, flat_map, list_any, fold}
 use Rattle.std.proofs.lemmas.List.{append-nil, drop_at, drop-append-le}
 use Rattle.std.proofs.lemmas.List.Concat.{flat_map-append}
 use Rattle.std.proofs.lemmas.Bool.{cases_Bool, cases_eq, cond-true, cond-false, ne_eqb}
+use Rattle.std.proofs.Math.Seq.{take-append_seam}
 use Rattle.ogg_page.specs.Page.{Page, IsPage, bytes_of_pages}
 use Rattle.ogg_page.specs.PageLaws.{bytes_both}
 use Rattle.ogg_page.specs.LogicalStream.{FitsBehind, EachBehind, FlagsFit, number_behind, is_first, is_last}
 use Rattle.ogg_page.specs.StreamLaws.{behind_back, number_push}
 use Rattle.link_chain.specs.ChainState.{chain_state_of, last_link, last_position, state_of}
-use Rattle.link_chain.specs.Links.{AreLinks, IsLink, pages_with, serials_of, has_stream}
+use Rattle.link_chain.specs.Links.{AllButLast, AreLinks, IsLink, all_ended, pages_with, serials_of, has_stream}
 use Rattle.link_chain.specs.Laws.Fronts.{front_is_link, push_not_nil}
 use Rattle.link_chain.specs.Laws.LastLink.{all_split}
 use Rattle.link_chain.specs.Laws.Grow.{all_both, all_weaker, stream_some, serials_same}
@@ -23,7 +24,7 @@ use Rattle.serve_live.specs.Listening.{ListenerState}
 use Rattle.serve_live.specs.Places.{IsPlaceIn}
 use Rattle.serve_live.specs.declared.listener.JoinPlace.{JoinPlace}
 use Rattle.serve_live.specs.Joining.{AreLater}
-use Rattle.serve_live.specs.Live.{Moment}
+use Rattle.serve_live.specs.Live.{IsMomentOf, Moment}
 use Rattle.serve_live.specs.Noting.{noted, stream_by}
 use Rattle.serve_live.specs.declared.gaps.StreamGap.{StreamGap}
 use Rattle.serve_live.specs.declared.joined.JoinedStream.{JoinedStream}
@@ -362,3 +363,49 @@ begin_pages committed links moment place l at =
 pub since_pages : (committed : List ℕ) (links : List (List Page)) (moment : Moment) (place : JoinPlace) → AreLinks committed links → (at : IsPlaceIn links moment place) → AllByRecursion IsPage at.since
 since_pages committed links moment place l at =
     (all_split IsPage moment.passed at.since (all_split IsPage moment.begin (moment.passed ++ at.since) (stand_at committed links moment place l at).are_pages).1).1
+
+-- ---- the moment
+other_last : (P : List Page → Type 0) (before : List (List Page)) (link other : List Page) → AllButLast P (before ++ link ∷ []) → AllButLast P (before ++ other ∷ [])
+other_last P [] link other h = tt
+other_last P (b ∷ []) link other h = (h.0, tt)
+other_last P (b ∷ c ∷ before) link other h = (h.0, other_last P (c ∷ before) link other h.1)
+
+pub moment_at : (committed : List ℕ) (links : List (List Page)) (moment : Moment) (place : JoinPlace) → AreLinks committed links → IsPlaceIn links moment place →
+    IsMomentOf (take place.boundary committed) moment
+moment_at committed links moment place l at =
+    let begin : List Page = moment.begin in
+    let link : List Page = begin ++ (moment.passed ++ at.since) in
+    let until : List Page = begin ++ moment.passed in
+    let front : List ℕ = flat_map bytes_of_pages at.before in
+    let same : until ++ at.since ≡ link = append_assoc begin moment.passed at.since in
+    let are : AreLinks committed (at.before ++ link ∷ []) = subst (λ (x : List (List Page)). AreLinks committed x) at.split l in
+    let pages = all_split (AllByRecursion IsPage) at.before (link ∷ []) are.pages in
+    let each = all_split IsLink at.before (link ∷ []) are.each in
+    let bytes : List ℕ = front ++ bytes_of_pages until in
+    let own : flat_map bytes_of_pages (at.before ++ until ∷ []) ≡ bytes =
+    flat_map-append bytes_of_pages at.before (until ∷ []) ∙ ap (λ x. front ++ x) (append-nil (bytes_of_pages until)) in
+    let all : committed ≡ bytes ++ bytes_of_pages at.since =
+    are.spelled ∙ flat_map-append bytes_of_pages at.before (link ∷ []) ∙ ap (λ x. front ++ x) (append-nil (bytes_of_pages link))
+    ∙ ap (λ x. front ++ x) (ap bytes_of_pages (sym same) ∙ bytes_both until at.since) ∙ sym (append_assoc front (bytes_of_pages until) (bytes_of_pages at.since)) in
+    let size : place.boundary ≡ length bytes =
+    (let n = length-append front (bytes_of_pages until) in
+    let m : length (bytes_of_pages until) ≡ length (bytes_of_pages begin) + length (bytes_of_pages moment.passed) =
+    ap length (bytes_both begin moment.passed) ∙ length-append (bytes_of_pages begin) (bytes_of_pages moment.passed) in
+    omega (arith, n, m, at.begin_is, at.begun_is, at.boundary_is)) in
+    let is : take place.boundary committed ≡ bytes =
+    ap (λ n. take n committed) size ∙ ap (take (length bytes)) all ∙ take-append_seam bytes (bytes_of_pages at.since) in
+    let few : length (at.before ++ link ∷ []) ≤ 65536 = are.few in
+    subst (λ b. IsMomentOf b moment) (sym is)
+    (record {
+      links = at.before ++ until ∷ [];
+      are_links = record {
+        spelled = sym own;
+        pages = all_both (AllByRecursion IsPage) at.before (until ∷ []) pages.0 ((all_split IsPage until at.since (subst (AllByRecursion IsPage) (sym same) pages.1.0)).0, tt);
+        few = omega (arith, few, length-append at.before (link ∷ []), length-append at.before (until ∷ []));
+        each = all_both IsLink at.before (until ∷ []) each.0
+            (front_is_link until at.since (joined_some begin moment.passed at.joined) (subst IsLink (sym same) each.1.0), tt);
+        ended = other_last (λ x. all_ended x ≡ true) at.before link until are.ended;
+      };
+      place = at.moment_is ∙ size;
+      last = inl (record { before = at.before; split = refl; joined = at.joined });
+    })

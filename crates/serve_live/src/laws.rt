@@ -77,6 +77,12 @@ pub fn commands_are_heard()
     commands_add_their_packets();
 }
 
+/// The place where a listener joins is a moment: that at which the bytes up to the boundary were committed.
+pub fn places_are_moments()
+    ensures { (committed : List ℕ) (links : List (List Page)) (moment : Moment) (place : JoinPlaceOf) → AreLinks committed links
+        → IsPlaceIn links moment place → IsMomentOf (take place.boundary committed) moment }
+{}
+
 /// Commands make the places where a listener may join: a link that a `Begin` began may be joined after any of its
 /// commands that leaves it open, as long as no other `Begin` has followed.
 pub fn commands_make_places()
