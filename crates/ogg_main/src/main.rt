@@ -11,12 +11,13 @@ mod recorders;
 mod salvaging;
 mod server;
 mod streams;
-mod words;
 
-use crate::words::{Action, action_of, words};
-use clap::Error;
+use command_line::{Action, Error, Skeletons, action_of, not_text};
 use fault_lines::{Fault, write_fault};
+use feed_maker::{ChangeOptions, Skeletons as SkeletonsOf};
+use std::alloc::AllocError;
 use std::process::ExitCode;
+use std::{env, io};
 
 fn main(rt: HostRuntime) -> ExitCode {
     let words = match words(&rt) {
@@ -36,6 +37,16 @@ fn main(rt: HostRuntime) -> ExitCode {
     }
 }
 
+/// The words of the command line. An error is the text to show in their place.
+fn words(rt: &HostRuntime) -> Result<Vec<String>, Error> {
+    match env::args(rt) {
+        Ok(words) => Ok(words.collect(rt.alloc())?),
+        Err(error) if error.kind() == io::ErrorKind::OutOfMemory => Err(Error::from(AllocError)),
+        // Nothing else reads these words.
+        Err(_) => Err(not_text(rt.alloc())?),
+    }
+}
+
 /// Shows a text in place of the work.
 fn show(rt: &HostRuntime, error: &Error) -> ExitCode {
     let _ = rt.eprint(error);
@@ -45,7 +56,10 @@ fn show(rt: &HostRuntime, error: &Error) -> ExitCode {
 /// Does what the command line asks for.
 fn run(rt: &HostRuntime, action: Action<'_>) -> Result<(), Fault> {
     match action {
-        Action::Feed { options } => streams::feed(rt, options),
+        Action::Feed {
+            renumber,
+            skeletons,
+        } => streams::feed(rt, changes(renumber, skeletons)),
         Action::Mux { strict } => streams::mux(rt, strict),
         Action::Check { strict } => streams::check(rt, strict),
         Action::Record {
@@ -70,5 +84,17 @@ fn run(rt: &HostRuntime, action: Action<'_>) -> Result<(), Fault> {
             count,
             most,
         } => server::live(rt, file, address, feed, count, most),
+    }
+}
+
+/// The changes that are asked for, as they are made.
+fn changes(renumber: bool, skeletons: Skeletons) -> ChangeOptions {
+    ChangeOptions {
+        renumber,
+        skeletons: match skeletons {
+            Skeletons::Kept => SkeletonsOf::Kept,
+            Skeletons::LeftOut => SkeletonsOf::LeftOut,
+            Skeletons::Made(serial) => SkeletonsOf::Made(serial),
+        },
     }
 }

@@ -1,0 +1,19 @@
+-- The numbers of what is asked for. Their bounds are ours.
+use Rattle.std.specs.Prelude.{◌≤◌, ℕ, ⊤}
+use Rattle.command_line.specs.declared.action.Action.{Action}
+use Rattle.command_line.specs.declared.action.Action.TheVariants.{Record, Serve, Live}
+
+-- how many commands may share one commit
+abbrev pub IsGroup : ℕ → Type 0
+IsGroup most = (1 ≤ most) × (most ≤ 1024)
+
+-- how many connections may be served
+abbrev pub IsCount : ℕ → Type 0
+IsCount count = (1 ≤ count) × (count ≤ 65536)
+
+-- each number lies within its bounds
+abbrev pub IsInBounds : Action → Type 0
+IsInBounds (Record file seal most strict) = IsGroup most
+IsInBounds (Serve file address count) = IsCount count
+IsInBounds (Live file address feed count most) = IsCount count × IsGroup most
+IsInBounds _ = ⊤

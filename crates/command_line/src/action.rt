@@ -1,0 +1,71 @@
+//! What the words ask for.
+
+/// What the command line asks for.
+#[derive(Clone, Copy)]
+pub enum Action<'a> {
+    /// The feed of the Ogg bitstream on standard input; with `renumber` its streams get serials that are free.
+    Feed {
+        renumber: bool,
+        skeletons: Skeletons,
+    },
+    /// The pages of the feed on standard input, with `strict` up to the first refusal.
+    Mux {
+        strict: bool,
+    },
+    /// Only the replies that the feed on standard input gets, with `strict` up to the first refusal.
+    Check {
+        strict: bool,
+    },
+    /// The feed on standard input into the file, `most` commands to a commit, with `strict` up to the first refusal.
+    /// The file is sealed at the end if `seal` says so.
+    Record {
+        file: &'a str,
+        seal: bool,
+        most: u32,
+        strict: bool,
+    },
+    /// The listing of the file.
+    Links {
+        file: &'a str,
+    },
+    /// A link's pages out of the file, or those of one of its streams.
+    Split {
+        file: &'a str,
+        link: u32,
+        serial: Option<u32>,
+    },
+    /// A link of the file as players like it, or all of its links.
+    Finish {
+        file: &'a str,
+        link: Option<u32>,
+    },
+    /// Where the file has good pages.
+    Salvage {
+        file: &'a str,
+    },
+    /// The file for this many connections to the address.
+    Serve {
+        file: &'a str,
+        address: &'a str,
+        count: u32,
+    },
+    /// The same, while a feed is recorded into the file, `most` commands to a commit.
+    Live {
+        file: &'a str,
+        address: &'a str,
+        feed: &'a str,
+        count: u32,
+        most: u32,
+    },
+}
+
+/// What becomes of the Skeletons of a feed.
+#[derive(Clone, Copy)]
+pub enum Skeletons {
+    /// Those of the input stay.
+    Kept,
+    /// Those of the input are left out.
+    LeftOut,
+    /// Each link gets one that is made anew, of this serial or the next one that is free.
+    Made(u32),
+}

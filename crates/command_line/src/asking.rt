@@ -1,0 +1,171 @@
+//! The action that words ask for.
+ghost use Rattle.std.specs.Prelude.{◌≤◌, IfOk, IfSome};
+ghost use Rattle.command_line.specs.Action.{IsCount, IsGroup, IsInBounds};
+
+use crate::action::{Action, Skeletons};
+use crate::building::program;
+use crate::rows::{Bounds, COUNTS, GROUPS};
+use clap::error::ErrorKind;
+use clap::{ArgMatches, Error};
+use std::alloc::{AllocError, Global};
+
+/// What the words ask for; the first is the program's own name. An error is the text to show in place of it: help, the
+/// version, or what is wrong with the words.
+pub fn action_of<'a>(alloc: Global, words: &'a [String]) -> Result<Action<'a>, Error>
+    ensures { IfOk result IsInBounds }
+{
+    let matches = program(alloc)?.try_get_matches_from(words)?;
+    match matches.subcommand() {
+        Some((name, words)) => match asked(name, words) {
+            Some(action) => Ok(action),
+            None => Err(refusal(alloc, "the words ask for nothing")?),
+        },
+        // `clap` has checked that there is a subcommand, that it is one of these, and that it has its words.
+        None => Err(refusal(alloc, "the words ask for nothing")?),
+    }
+}
+
+/// What is said of words that are no text.
+pub fn not_text(alloc: Global) -> Result<Error, AllocError> {
+    refusal(alloc, "an argument isn't text in UTF-8")
+}
+
+/// An error that `clap` didn't find, in the form of `clap`'s own errors.
+fn refusal(alloc: Global, message: &str) -> Result<Error, AllocError> {
+    program(alloc)?.error(ErrorKind::InvalidValue, message)
+}
+
+/// What a subcommand with these words asks for.
+fn asked<'a>(name: &str, words: &ArgMatches<'a>) -> Option<Action<'a>>
+    ensures { IfSome result IsInBounds }
+{
+    match name {
+        "feed" => Some(feed_of(words)),
+        "mux" => Some(mux_of(words)),
+        "record" => record_of(words),
+        "links" => links_of(words),
+        "split" => split_of(words),
+        "finish" => finish_of(words),
+        "salvage" => salvage_of(words),
+        "serve" => serve_of(words),
+        "live" => live_of(words),
+        _ => None,
+    }
+}
+
+/// How many commands share one commit.
+fn group_of(words: &ArgMatches<'_>) -> Option<u32>
+    ensures { IfSome result IsGroup }
+{
+    number_of(words, "group", GROUPS)
+}
+
+/// How many connections are served.
+fn count_of(words: &ArgMatches<'_>) -> Option<u32>
+    ensures { IfSome result IsCount }
+{
+    number_of(words, "COUNT", COUNTS)
+}
+
+/// A number, if it is there and within the bounds. `clap` has refused every other.
+fn number_of(words: &ArgMatches<'_>, name: &str, bounds: Bounds) -> Option<u32>
+    ensures { IfSome result (λ number. (bounds.least ≤ number) × (number ≤ bounds.most)) }
+{
+    match words.get_one::<u32>(name) {
+        Some(number) if bounds.least <= number && number <= bounds.most => Some(number),
+        _ => None,
+    }
+}
+
+fn feed_of<'a>(words: &ArgMatches<'a>) -> Action<'a>
+    ensures { IsInBounds result }
+{
+    let skeletons = match words.get_one::<u32>("skeleton") {
+        Some(serial) => Skeletons::Made(serial),
+        None if words.get_flag("no-skeleton") => Skeletons::LeftOut,
+        None => Skeletons::Kept,
+    };
+    Action::Feed {
+        renumber: words.get_flag("renumber"),
+        skeletons,
+    }
+}
+
+fn mux_of<'a>(words: &ArgMatches<'a>) -> Action<'a>
+    ensures { IsInBounds result }
+{
+    let strict = words.get_flag("strict");
+    if words.get_flag("check") {
+        Action::Check { strict }
+    } else {
+        Action::Mux { strict }
+    }
+}
+
+fn record_of<'a>(words: &ArgMatches<'a>) -> Option<Action<'a>>
+    ensures { IfSome result IsInBounds }
+{
+    Some(Action::Record {
+        file: words.get_str("FILE")?,
+        seal: words.get_flag("seal"),
+        most: group_of(words)?,
+        strict: words.get_flag("strict"),
+    })
+}
+
+fn links_of<'a>(words: &ArgMatches<'a>) -> Option<Action<'a>>
+    ensures { IfSome result IsInBounds }
+{
+    Some(Action::Links {
+        file: words.get_str("FILE")?,
+    })
+}
+
+fn split_of<'a>(words: &ArgMatches<'a>) -> Option<Action<'a>>
+    ensures { IfSome result IsInBounds }
+{
+    Some(Action::Split {
+        file: words.get_str("FILE")?,
+        link: words.get_one::<u32>("LINK")?,
+        serial: words.get_one::<u32>("SERIAL"),
+    })
+}
+
+fn finish_of<'a>(words: &ArgMatches<'a>) -> Option<Action<'a>>
+    ensures { IfSome result IsInBounds }
+{
+    Some(Action::Finish {
+        file: words.get_str("FILE")?,
+        link: words.get_one::<u32>("LINK"),
+    })
+}
+
+fn salvage_of<'a>(words: &ArgMatches<'a>) -> Option<Action<'a>>
+    ensures { IfSome result IsInBounds }
+{
+    Some(Action::Salvage {
+        file: words.get_str("FILE")?,
+    })
+}
+
+fn serve_of<'a>(words: &ArgMatches<'a>) -> Option<Action<'a>>
+    ensures { IfSome result IsInBounds }
+{
+    Some(Action::Serve {
+        file: words.get_str("FILE")?,
+        address: words.get_str("ADDR")?,
+        count: count_of(words)?,
+    })
+}
+
+fn live_of<'a>(words: &ArgMatches<'a>) -> Option<Action<'a>>
+    ensures { IfSome result IsInBounds }
+{
+    Some(Action::Live {
+        file: words.get_str("FILE")?,
+        address: words.get_str("ADDR")?,
+        feed: words.get_str("FEED")?,
+        count: count_of(words)?,
+        most: group_of(words)?,
+    })
+}

@@ -1,0 +1,351 @@
+//! What the command line can ask for: a row for each subcommand and for each of its arguments, with their help.
+
+use crate::rows::{ANY, Argument, COUNTS, GROUPS, Kind, Program, Subcommand};
+
+/// The program itself.
+pub(crate) static PROGRAM: Program = Program {
+    name: "kudzuturret",
+    version: "0.1.0",
+    about: "Records packets into Ogg files as they come (RFC 3533)",
+    help: "\
+From an encoder to an archive to a player:
+
+  ffmpeg -i INPUT -f ogg - | kudzuturret feed | kudzuturret record radio.ogg
+  kudzuturret finish radio.ogg > radio-to-play.ogg
+  kudzuturret serve radio.ogg 127.0.0.1:8000 10
+
+Between them packets come as a feed: records that begin streams, put packets into them and end them.
+docs/FORMATS.md describes it, and examples/ has some:
+
+  kudzuturret mux < examples/hello.feed > hello.ogg
+
+Status: 0 done; 1 a fault, whose line `fault ..` is the last on standard error; 2 help, the version,
+or a command line that can't be read.
+",
+};
+
+/// The subcommands, as help lists them.
+pub(crate) fn subcommands() -> [&'static Subcommand; 9] {
+    [
+        &FEED, &MUX, &RECORD, &LINKS, &SPLIT, &FINISH, &SALVAGE, &SERVE, &LIVE,
+    ]
+}
+
+/// The file of a subcommand that only reads it.
+const READ_FILE: Argument = Argument {
+    name: "FILE",
+    kind: Kind::Text,
+    help: "The file, which is only read",
+};
+
+/// Whether a refusal ends the run.
+const STRICT: Argument = Argument {
+    name: "strict",
+    kind: Kind::Flag,
+    help: "The first refusal ends the run, with status 1",
+};
+
+/// How many commands share one commit.
+const GROUP: Argument = Argument {
+    name: "group",
+    kind: Kind::Valued {
+        value: "MOST",
+        bounds: GROUPS,
+        default: Some("1"),
+    },
+    help: "How many commands share one commit, 1 to 1024",
+};
+
+/// The address that is listened to.
+const ADDRESS: Argument = Argument {
+    name: "ADDR",
+    kind: Kind::Text,
+    help: "The address and the port to listen to, as 127.0.0.1:8000",
+};
+
+/// How many connections are served.
+const COUNT: Argument = Argument {
+    name: "COUNT",
+    kind: Kind::Number(COUNTS),
+    help: "How many connections are served before the program ends, 1 to 65536",
+};
+
+static FEED: Subcommand = Subcommand {
+    name: "feed",
+    about: "Makes a feed of the Ogg stream on standard input, as an encoder writes it",
+    arguments: &[
+        Argument {
+            name: "skeleton",
+            kind: Kind::Valued {
+                value: "SERIAL",
+                bounds: ANY,
+                default: None,
+            },
+            help: "Begins each link with a Skeleton made anew, of this serial or the next one that is free",
+        },
+        Argument {
+            name: "no-skeleton",
+            kind: Kind::FlagWithout("skeleton"),
+            help: "Leaves out the Skeletons of the input",
+        },
+        Argument {
+            name: "renumber",
+            kind: Kind::Flag,
+            help: "Gives a stream another serial if an earlier link of the input has its serial",
+        },
+    ],
+    help: "\
+The feed goes to standard output, page by page: a page's packets are out as soon as the page is
+complete, so an encoder's output is recorded while it is made:
+
+  ffmpeg -i INPUT -f ogg - | kudzuturret feed | kudzuturret record radio.ogg
+  kudzuturret feed < song.ogg | kudzuturret mux > again.ogg
+
+A link begins once the headers of all its streams have come; Vorbis, Theora, Opus, FLAC and Speex are
+known, and of another codec the first packet is the header. Chains go on link by link. Each packet gets
+the position of the page that it ends in.
+
+A Skeleton in the input, which describes the streams of its link, stays packet by packet as it is.
+`--no-skeleton` leaves it out. `--skeleton SERIAL` has each link begin with one that is made anew: it
+says what the link's own Skeleton says, and of a link without one each stream's media type, rate and
+preroll, as the stream's first packet tells them.
+
+  kudzuturret feed --skeleton 4000000000 < song.ogg | kudzuturret mux > described.ogg
+
+A file has each serial once, so of two copies of a file, or of an encoder that takes the same serial each
+time, the second link would be refused. With `--renumber` its streams get serials that are free:
+
+  cat song.ogg song.ogg | kudzuturret feed --renumber | kudzuturret record twice.ogg
+
+What can't be taken ends the feed by a fault with its offset, after everything before it is out:
+
+  fault make 1 Page OFFSET CODE NAME       no good page begins at this byte
+  fault make 2 Chain OFFSET CODE NAME      the page there doesn't belong after those before it
+  fault make 3 PacketTooLong OFFSET        a packet has more than 8,388,608 bytes
+  fault make 4 Unfinished OFFSET SERIAL    the input ends within a packet of this stream
+",
+};
+
+static MUX: Subcommand = Subcommand {
+    name: "mux",
+    about: "Writes the pages of the feed on standard input",
+    arguments: &[
+        Argument {
+            name: "check",
+            kind: Kind::Flag,
+            help: "Writes no pages, and the replies to standard output",
+        },
+        STRICT,
+    ],
+    help: "\
+The pages go to standard output, and for each command a line of reply to standard error:
+
+  kept COUNT END       its pages are written; COUNT commands were kept so far, and the pages
+                       of all have END bytes together
+  refused CODE NAME    it breaks a rule, and nothing of it is written; the feed goes on
+
+Each command's pages and then its reply are out before the next record is read. Refusals are no
+fault: the status is 0 if the feed came to its end. With `--strict` the first one ends the run, by the
+line `fault refused` and status 1. If standard error is a terminal, a line at the end tells how many
+commands there were, and how many of them were kept and refused.
+",
+};
+
+static RECORD: Subcommand = Subcommand {
+    name: "record",
+    about: "Records the feed on standard input into a file that survives a stop at any moment",
+    arguments: &[
+        Argument {
+            name: "FILE",
+            kind: Kind::Text,
+            help: "The file; it is made if there is none, and continued if there is one",
+        },
+        Argument {
+            name: "seal",
+            kind: Kind::Flag,
+            help: "At the end, if no fault came, cuts the file to its pages",
+        },
+        GROUP,
+        STRICT,
+    ],
+    help: "\
+For each command a line of reply goes to standard output:
+
+  kept COUNT END       it is on the disk, and with it all that waited: COUNT commands since the
+                       file was opened, and its pages have END bytes together
+  held COUNT           it waits for the others of its group; a flush, or the feed's end, keeps it too
+  refused CODE NAME    it breaks a rule, and nothing of it is recorded; the feed goes on
+  refused 21 Disk      the disk failed; every command after it is refused as `1 Failed`, and the next
+                       `record` finds what was kept, without the last group or with all of it
+
+Refusals are no fault: the status is 0 if the feed came to its end. With `--strict` the first one ends
+the run: what waits is kept, then come the line `fault refused` and status 1, and the file isn't sealed.
+If standard error is a terminal, a line at the end tells how many commands there were, and how many of
+them were kept and refused.
+
+Whatever stops the program or the machine, the next `record` of the same file finds all that was
+kept, and goes on from there:
+
+  kudzuturret record radio.ogg < first.feed
+  kudzuturret record radio.ogg --seal < second.feed
+
+A file that isn't sealed has one byte 00 after its pages, and after a stop maybe a longer tail.
+Players pass over both; `--seal` cuts them off.
+",
+};
+
+static LINKS: Subcommand = Subcommand {
+    name: "links",
+    about: "Lists the links of a file and their streams",
+    arguments: &[READ_FILE],
+    help: "\
+The listing goes to standard output. Lengths and offsets are in bytes:
+
+  committed END                       how far the file's pages go; a tail after them isn't counted
+  link NUMBER START LENGTH STREAMS    a link, counted from 0, and how many streams it has
+  stream SERIAL BYTES PAGES ended     one of its streams; `open` if it has no last page yet
+
+A file that is being recorded, or that a stop left with a tail, is listed up to its last command
+that was kept:
+
+  kudzuturret links radio.ogg
+",
+};
+
+static SPLIT: Subcommand = Subcommand {
+    name: "split",
+    about: "Writes the pages of a link, or of one of its streams",
+    arguments: &[
+        READ_FILE,
+        Argument {
+            name: "LINK",
+            kind: Kind::Number(ANY),
+            help: "The link's number, counted from 0, as `links` lists it",
+        },
+        Argument {
+            name: "SERIAL",
+            kind: Kind::MaybeNumber(ANY),
+            help: "The serial of one of its streams; without it the whole link is written",
+        },
+    ],
+    help: "\
+The pages go to standard output, byte for byte as they stand in the file, so what is written is an
+Ogg file of one link, or of one stream:
+
+  kudzuturret links radio.ogg
+  kudzuturret split radio.ogg 0 > first.ogg
+  kudzuturret split radio.ogg 0 1 > first-stream-1.ogg
+
+A file that is being recorded, or that a stop left with a tail, is split up to its last command that
+was kept.
+",
+};
+
+static FINISH: Subcommand = Subcommand {
+    name: "finish",
+    about: "Writes a file, or one of its links, as players like it",
+    arguments: &[
+        READ_FILE,
+        Argument {
+            name: "LINK",
+            kind: Kind::MaybeNumber(ANY),
+            help: "The link's number, counted from 0, as `links` lists it; without it all links are written",
+        },
+    ],
+    help: "\
+`end` marks a stream's last page by one page more, without packets, which some players take for a few
+samples too many or too few. What goes to standard output has the mark on the last page with a packet,
+and such a page after it is gone; the streams and their packets are the same:
+
+  kudzuturret finish radio.ogg > radio-to-play.ogg
+  kudzuturret finish radio.ogg 0 > first-to-play.ogg
+
+A stream that hasn't ended stays as it is, and so does one whose end another program told by a
+position on a page without packets. A file that is being recorded, or that a stop left with a tail, is
+written up to its last command that was kept.
+",
+};
+
+static SALVAGE: Subcommand = Subcommand {
+    name: "salvage",
+    about: "Lists the good pages of a damaged file",
+    arguments: &[READ_FILE],
+    help: "\
+For each page whose checksum is right a line goes to standard output, its offset and its length in
+bytes; pages of a tail are listed too:
+
+  OFFSET LENGTH
+
+From the front on, the first place at which a good page begins is listed, and the search goes on
+after that page. So a page that is copied out by its line is whole:
+
+  kudzuturret salvage broken.ogg
+  tail -c +$((OFFSET + 1)) broken.ogg | head -c LENGTH
+",
+};
+
+static SERVE: Subcommand = Subcommand {
+    name: "serve",
+    about: "Serves a file over HTTP: all of it, its links, single streams and ranges of bytes",
+    arguments: &[
+        Argument {
+            name: "FILE",
+            kind: Kind::Text,
+            help: "The file; a tail after its pages is closed",
+        },
+        ADDRESS,
+        COUNT,
+    ],
+    help: "\
+What a browser or a player can fetch:
+
+  /                      the listing, as `links` writes it
+  /all                   all pages of the file
+  /link/NUMBER           a link, counted from 0
+  /link/NUMBER/SERIAL    one of its streams
+
+For example:
+
+  kudzuturret serve radio.ogg 127.0.0.1:8000 100
+  ffplay http://127.0.0.1:8000/all
+
+GET and HEAD are answered (HTTP/1.1), with one range of bytes if the request asks for one, and the
+connection is closed after its answer. One connection is served after the other: a client that
+neither sends nor takes a byte for 30 seconds is left, so that the next one gets its turn. There is no
+encryption and no list of who may read.
+
+At the end the file is cut to its pages if it had no tail at first and no fault came.
+",
+};
+
+static LIVE: Subcommand = Subcommand {
+    name: "live",
+    about: "Serves a file over HTTP, and records a feed into it meanwhile",
+    arguments: &[
+        Argument {
+            name: "FILE",
+            kind: Kind::Text,
+            help: "The file, which is there already; a tail after its pages is closed",
+        },
+        ADDRESS,
+        Argument {
+            name: "FEED",
+            kind: Kind::Text,
+            help: "The feed that is recorded into the file",
+        },
+        COUNT,
+        GROUP,
+    ],
+    help: "\
+One record of the feed is run before each piece of 4,096 bytes that is sent, and the rest of the feed
+after the last connection. The lines of replies go to standard output, as those of `record`:
+
+  kudzuturret mux < examples/hello.feed > show.ogg
+  kudzuturret live show.ogg 127.0.0.1:8000 more.feed 100
+
+An answer is what the file had committed when its request was complete: the next request gets what
+was recorded since then. What can be fetched is told by `kudzuturret serve --help`.
+
+If the disk fails the file is opened again, and the sessions stay; if that fails too the program ends.
+",
+};
