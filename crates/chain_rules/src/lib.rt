@@ -25,7 +25,8 @@ pub use laws::{
     refusals_are_of_the_table,
 };
 pub use link_chain::{
-    Chain, ChainFault, StreamState, links_left_whole_hold_a_recording, pages_in_turn_are_links,
+    Chain, ChainFault, Serials, StreamState, links_left_whole_hold_a_recording,
+    pages_in_turn_are_links,
 };
 pub use ogg_command::{Begin, Command, Entry, Listed, NewStream, Put, Refusal, SkeletonHead};
 pub use ogg_page::Memory;

@@ -7,7 +7,7 @@ use crate::accepting::{add_put, has_more_pages, streams_of};
 use crate::begin::stream_count;
 use crate::checks::{check_begin, check_end, check_put};
 use command_pages::{CommandPages, lay_command, size_of_begin};
-use link_chain::{Chain, ChainFault};
+use link_chain::{Chain, ChainFault, Serials, StreamState};
 use ogg_command::{Begin, Command, Put, Refusal};
 use ogg_page::Page;
 use std::alloc::Global;
@@ -58,6 +58,20 @@ impl Shape {
         ensures { result ≡ self.now.chain.length_of }
     {
         self.chain.len()
+    }
+
+    /// The streams of the last link, in the order of their first pages.
+    pub fn streams(&self) -> &[StreamState]
+        ensures { result.now ≡ self.now.chain.streams }
+    {
+        self.chain.streams()
+    }
+
+    /// The serials of all streams of all links.
+    pub fn serials(&self) -> &Serials
+        ensures { result.now.listed ≡ self.now.chain.serials }
+    {
+        self.chain.serials()
     }
 
     /// The size in bytes of the pages that a command would add, or why it is refused: the first reason in the order

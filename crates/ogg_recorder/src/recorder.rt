@@ -20,7 +20,7 @@ ghost use Rattle.ogg_recorder.specs.Taking.{HoldsChain, IsBrokenAt, IsUnfinished
 ghost use Rattle.ogg_recorder.specs.Recorder.{RecorderState, IsRecorder, IsIn, recorder_state, over_disk, committed};
 
 use crate::opening::{FoundChain, find_chain};
-use chain_rules::Shape;
+use chain_rules::{Serials, Shape, StreamState};
 use disk_model::{Disk, DiskFault};
 use gate_file::{GateFile, OpenFault};
 use history::disks_stand_in_their_world;
@@ -158,6 +158,20 @@ impl<D: Disk> Recorder<D> {
         ensures { result ≡ self.now.held }
     {
         self.held
+    }
+
+    /// The streams of the last link, in the order of their first pages; what waits has been added to it.
+    pub fn streams(&self) -> &[StreamState]
+        ensures { result.now ≡ self.now.chain.streams }
+    {
+        self.shape.streams()
+    }
+
+    /// The serials of all streams of the file, those that wait included.
+    pub fn serials(&self) -> &Serials
+        ensures { result.now.listed ≡ self.now.chain.serials }
+    {
+        self.shape.serials()
     }
 
     /// Whether the disk has failed.
