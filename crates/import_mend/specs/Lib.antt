@@ -1,5 +1,6 @@
 pub mod Mend
 pub mod Ways
+pub mod ImportFault
 pub mod Losses
 pub mod Mended
 pub mod Steps

@@ -2,7 +2,8 @@
 //!
 //! Where pages are missing, come twice, or belong to no stream that has begun, a reader of the whole would stop. A
 //! `Mender` leaves out or cuts only what can't be kept, and tells it as a `Mend`. The packets that lie whole in good
-//! pages go on into the commands of a `Gatherer`.
+//! pages go on into the commands of a `Gatherer`. An `Import` does all of it: it finds the good pages in what a reader
+//! gives, mends them, and ends what is open at the end.
 //!
 //! Start at `specs/Ways.antt`, which says what is done with a page, and at `specs/Mended.antt`, which says what is
 //! left of it.
@@ -10,6 +11,8 @@
 
 mod cutting;
 mod ending;
+mod fault;
+mod import;
 mod joining;
 mod losses;
 mod mend;
@@ -19,6 +22,8 @@ mod telling;
 mod ways;
 mod writing;
 
+pub use fault::ImportFault;
+pub use import::{Import, Step};
 pub use mend::Mend;
 pub use mender::Mender;
 pub use ogg_page::Memory;

@@ -3,6 +3,7 @@ ghost use Rattle.std.specs.Prelude.{◌≡◌, ◌<◌, ℕ, IfOk, true, false, 
 ghost use Rattle.ogg_page.specs.LogicalStream.{is_first};
 ghost use Rattle.link_chain.specs.Followed.{after_page};
 ghost use Rattle.link_chain.specs.Taking.{fault_of_page};
+ghost use Rattle.gathering.specs.Kept.{waits};
 ghost use Rattle.import_mend.specs.Losses.{lost_in};
 ghost use Rattle.import_mend.specs.Steps.{Mends, MendsLater, Restarts};
 ghost use Rattle.import_mend.specs.Ways.{most_bytes, way_of};
@@ -19,7 +20,7 @@ use gathering::Gatherer;
 use link_chain::{Chain, MOST_STREAMS, is_open, stream_in};
 use ogg_command::Command;
 use ogg_page::Page;
-use std::alloc::Global;
+use std::alloc::{AllocError, Global};
 
 /// What mending the next page depends on, beside the chain of those before: how many pages of each stream were lost.
 /// It has the room in which a page is made.
@@ -62,6 +63,24 @@ impl Mender {
             Way::Misshapen => Ok(Some(Mend::Misshapen { offset, serial })),
             Way::Full => Ok(Some(Mend::Full { offset, serial })),
         }
+    }
+
+    /// Ends the open streams, and appends the commands that still wait: at the end of the input, which is at `offset`.
+    /// It returns what was mended. After `Memory` some of the commands may have been appended. Take no further page.
+    pub fn end(
+        &mut self,
+        gatherer: &mut Gatherer,
+        offset: u64,
+        commands: &mut Vec<Command>,
+    ) -> Result<Option<Mend>, Memory>
+        ensures { IfOk result (λ mend. waits gatherer.new.link ≡ false) }
+    {
+        let unfinished = gatherer.unfinished();
+        end_streams(&mut self.room, gatherer, commands)?;
+        if let Err(_) = gatherer.end(commands) {
+            return Err(AllocError);
+        }
+        Ok(unfinished.map(|serial| Mend::Unfinished { offset, serial }))
     }
 
     /// Takes a stream's first page that may follow.

@@ -1,0 +1,131 @@
+//! Any bytes into the commands of a sound chain, one page after the other.
+ghost use Rattle.std.specs.Prelude.{◌≡◌, ◌<◌, ℕ, IfOk, true, Some, None};
+ghost use Rattle.ogg_page.specs.Page.{Page as PageValue, IsPage};
+ghost use Rattle.import_mend.specs.Losses.{lost_in};
+ghost use Rattle.import_mend.specs.Steps.{Mends};
+ghost use Rattle.import_mend.specs.Ways.{way_of};
+ghost use Rattle.import_mend.specs.declared.mend.Mend.{Mend as MendOf};
+
+use crate::Memory;
+use crate::fault::ImportFault;
+use crate::mend::Mend;
+use crate::mender::Mender;
+use gathering::Gatherer;
+use ogg_command::Command;
+use page_reader::{PageReader, PageReaderFault};
+use std::alloc::Global;
+use std::io::Read;
+use std::mem;
+
+/// What was done with a page, or at the end of the input.
+#[derive(Clone, Copy, Debug, PartialEq, Eq)]
+pub struct Step {
+    /// Whether there was a page. If not, the input has ended.
+    pub is_page: bool,
+    /// The bytes before it that are of no page, if there are any.
+    pub junk: Option<Mend>,
+    /// What was mended of the page.
+    pub mend: Option<Mend>,
+}
+
+/// Bytes of any input, as they become commands: the memory of one page, and what the commands of the next pages depend
+/// on.
+#[derive(Drop)]
+pub struct Import {
+    pages: PageReader,
+    mender: Mender,
+    gatherer: Gatherer,
+    // how many bytes before the next page are of no page
+    junk: u64,
+}
+
+impl Import {
+    /// Makes the memory of one page.
+    pub fn new(alloc: Global) -> Result<Import, Memory> {
+        let pages = PageReader::new(alloc)?;
+        Ok(Import {
+            pages,
+            mender: Mender::new(alloc),
+            gatherer: Gatherer::new(alloc),
+            junk: 0,
+        })
+    }
+
+    /// Reads up to the next page, as far as that needs, and appends the commands that it completes. After `Read` call
+    /// `finish`. After `Memory` some of the commands may have been appended; take no further step.
+    pub fn next<R: Read>(
+        &mut self,
+        reader: &mut R,
+        commands: &mut Vec<Command>,
+    ) -> Result<Step, ImportFault>
+        ensures { IfOk result (λ step. step.is_page ≡ true → (offset : ℕ) × (page : PageValue) × IsPage page
+            × Mends (way_of self.old.gatherer.chain (lost_in self.old.mender.losses self.old.gatherer.chain.streams page.serial) page) offset
+            (lost_in self.old.mender.losses self.old.gatherer.chain.streams page.serial) page self.old.gatherer self.new.gatherer step.mend) }
+    {
+        find_page(&mut self.pages, reader, &mut self.junk)?;
+        let junk = take_junk(&self.pages, &mut self.junk);
+        match self.pages.lent() {
+            Some((offset, page)) => {
+                let _bytes = page.whole();
+                let mend = self
+                    .mender
+                    .take_page(&mut self.gatherer, offset, &page, commands)?;
+                Ok(Step {
+                    is_page: true,
+                    junk,
+                    mend,
+                })
+            }
+            None => Ok(Step {
+                is_page: false,
+                junk,
+                mend: None,
+            }),
+        }
+    }
+
+    /// Ends the open streams, and appends the commands that still wait: at the end of the input, or after `Read`. It
+    /// returns what was mended. Take no further step. After `Memory` some of the commands may have been appended.
+    pub fn finish(&mut self, commands: &mut Vec<Command>) -> Result<Option<Mend>, Memory> {
+        let offset = self.pages.offset();
+        self.mender.end(&mut self.gatherer, offset, commands)
+    }
+}
+
+/// Reads up to the next page, or to the end of the input. The bytes that are passed over are counted.
+fn find_page<R: Read>(
+    pages: &mut PageReader,
+    reader: &mut R,
+    junk: &mut u64,
+) -> Result<(), ImportFault> {
+    for _ in 0..u64::MAX {
+        match pages.advance(reader) {
+            Ok(()) => return Ok(()),
+            Err(PageReaderFault::Read) => return Err(ImportFault::Read),
+            Err(PageReaderFault::Page(_)) => {
+                *junk = junk.saturating_add(pages.pass_over() as u64);
+            }
+        }
+    }
+    Ok(())
+}
+
+/// What is told of the bytes before the page that was found. They count as told.
+fn take_junk(pages: &PageReader, junk: &mut u64) -> Option<Mend>
+    ensures none { junk.old ≡ 0 → result ≡ None }
+    ensures some { 0 < junk.old → (offset : ℕ) × (result ≡ Some (MendOf.Junk offset junk.old)) }
+    ensures told { junk.new ≡ 0 }
+{
+    let bytes = mem::take(junk);
+    if bytes == 0 {
+        return None;
+    }
+    let end = match pages.lent() {
+        Some((offset, _)) => offset,
+        None => pages.offset(),
+    };
+    Some(Mend::Junk {
+        offset: end.saturating_sub(bytes),
+        bytes,
+    })
+}
