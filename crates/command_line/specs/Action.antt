@@ -13,7 +13,7 @@ IsCount count = (1 ≤ count) × (count ≤ 65536)
 
 -- each number lies within its bounds
 abbrev pub IsInBounds : Action → Type 0
-IsInBounds (Record file seal most strict) = IsGroup most
+IsInBounds (Record file end_open seal most strict) = IsGroup most
 IsInBounds (Serve file address count) = IsCount count
 IsInBounds (Live file address feed count most) = IsCount count × IsGroup most
 IsInBounds _ = ⊤

@@ -10,7 +10,7 @@ pub(crate) static PROGRAM: Program = Program {
     help: "\
 From an encoder to an archive to a player:
 
-  ffmpeg -i INPUT -f ogg - | kudzuturret feed | kudzuturret record radio.ogg
+  ffmpeg -i INPUT -f ogg - | kudzuturret feed | kudzuturret record radio.ogg --end-open
   kudzuturret finish radio.ogg > radio-to-play.ogg
   kudzuturret serve radio.ogg 127.0.0.1:8000 10
 
@@ -98,7 +98,7 @@ static FEED: Subcommand = Subcommand {
 The feed goes to standard output, page by page: a page's packets are out as soon as the page is
 complete, so an encoder's output is recorded while it is made:
 
-  ffmpeg -i INPUT -f ogg - | kudzuturret feed | kudzuturret record radio.ogg
+  ffmpeg -i INPUT -f ogg - | kudzuturret feed | kudzuturret record radio.ogg --end-open
   kudzuturret feed < song.ogg | kudzuturret mux > again.ogg
 
 A link begins once the headers of all its streams have come; Vorbis, Theora, Opus, FLAC and Speex are
@@ -161,6 +161,11 @@ static RECORD: Subcommand = Subcommand {
             help: "The file; it is made if there is none, and continued if there is one",
         },
         Argument {
+            name: "end-open",
+            kind: Kind::Flag,
+            help: "First ends the streams that an earlier run has left open",
+        },
+        Argument {
             name: "seal",
             kind: Kind::Flag,
             help: "At the end, if no fault came, cuts the file to its pages",
@@ -188,6 +193,10 @@ kept, and goes on from there:
 
   kudzuturret record radio.ogg < first.feed
   kudzuturret record radio.ogg --seal < second.feed
+
+A stop in the middle of a link leaves its streams open, and a link can begin only after those before it
+have ended. If the next feed begins a link, as each run of an encoder does, `--end-open` ends these
+streams first. Each end is a command, whose reply comes before those of the feed.
 
 A file that isn't sealed has one byte 00 after its pages, and after a stop maybe a longer tail.
 Players pass over both; `--seal` cuts them off.

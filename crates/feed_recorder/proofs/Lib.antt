@@ -1,4 +1,5 @@
 pub mod Bytes
 pub mod Ended
+pub mod EndsInTurn
 pub mod Steps
 pub mod World

@@ -9,8 +9,10 @@
 //! `specs/Running.antt` of ogg_recorder says how each record is answered.
 #![tactic(auto)]
 
+mod ending;
 mod laws;
 mod recording;
 
+pub use ending::end_open_streams;
 pub use laws::records_are_steps;
 pub use recording::{record_feed, record_feed_for};

@@ -64,10 +64,14 @@ fn run(rt: &HostRuntime, action: Action<'_>) -> Result<(), Fault> {
         Action::Check { strict } => streams::check(rt, strict),
         Action::Record {
             file,
+            end_open,
             seal,
             most,
             strict,
-        } => streams::record(rt, file, seal, most, strict),
+        } => {
+            let ends = streams::Ends { end_open, seal };
+            streams::record(rt, file, ends, most, strict)
+        }
         Action::Links { file } => files::links(rt, file),
         Action::Split { file, link, serial } => files::split(rt, file, link, serial),
         Action::Finish { file, link } => finishing::finish(rt, file, link),

@@ -6,7 +6,7 @@ use disk_model::FileMode;
 use fault_lines::Fault;
 use feed_codec::{FeedFault, RunFault, Tally};
 use feed_maker::{ChangeOptions, make_feed};
-use feed_recorder::record_feed_for;
+use feed_recorder::{end_open_streams, record_feed_for};
 use feed_run::{Batched, Buffered, FirstRefusal, Together};
 use multiplexer::{check_feed_for, mux_for};
 use ogg_page::write_whole;
@@ -43,13 +43,21 @@ pub fn check(rt: &HostRuntime, strict: bool) -> Result<(), Fault> {
     outcome(&replies)
 }
 
+/// What is done to a file before and after a feed is recorded into it.
+#[derive(Clone, Copy)]
+pub struct Ends {
+    /// The streams that an earlier run left open are ended first.
+    pub end_open: bool,
+    /// After the feed's end the file is cut to its pages; after a fault it isn't.
+    pub seal: bool,
+}
+
 /// Records the feed on standard input into the file, which is made if there is none, and writes the replies to
-/// standard output. `most` commands share a commit. If `strict` says so, the feed ends after the first refusal. At the
-/// feed's end the file is sealed if `seal` says so; after a fault it isn't.
+/// standard output. `most` commands share a commit. If `strict` says so, the feed ends after the first refusal.
 pub fn record(
     rt: &HostRuntime,
     file: &str,
-    seal: bool,
+    ends: Ends,
     most: u32,
     strict: bool,
 ) -> Result<(), Fault> {
@@ -58,14 +66,25 @@ pub fn record(
     recorder.group(most.clamp(1, 1024));
     let mut feed = input(rt)?;
     let mut replies = reply_lines(rt, rt.stdout(), Together::Groups, strict)?;
-    let ran =
-        record_feed_for::<Buffered, _, _, _>(rt.alloc(), &mut feed, &mut replies, &mut recorder);
+    if ends.end_open && end_open_streams(&mut recorder, &mut replies).is_err() {
+        return Err(Fault::Write);
+    }
+    let ran = record_feed_for::<Buffered, _, _, _>(
+        rt.alloc(),
+        &mut feed,
+        &mut replies,
+        &mut recorder,
+    );
     sum_up(rt, ended(ran, &replies)?);
     if recorder.is_failed() {
         return Err(Fault::Failed);
     }
     outcome(&replies)?;
-    if seal { seal_file(recorder) } else { Ok(()) }
+    if ends.seal {
+        seal_file(recorder)
+    } else {
+        Ok(())
+    }
 }
 
 /// Standard input, read ahead.
