@@ -1,12 +1,14 @@
 #!/usr/bin/env python3
 """Runs a command, and tells how many seconds of a processor the checks of each crate took in it.
 
-    bench/by_crate.py COMMAND [WORD ..]
+    bench/by_crate.py [--save FILE] COMMAND [WORD ..]
     bench/by_crate.py taskset -c 0,1 ./check
+    bench/by_crate.py --save tools/seconds.txt ./kudzuturret --version
 
 The checks are the processes of the prover below the command. They are looked at twice a second, so of each the last
 half second at most is missed. The last line has the whole: by the clock, and of a processor with everything else that
-the command did. The status is that of the command. Not part of the tests.
+the command did. With --save a file has the seconds of the proofs, a line for each crate, as tools/build.py reads them;
+nothing that these proofs stand on may be kept from before. The status is that of the command. Not part of the tests.
 """
 import collections
 import os
@@ -54,7 +56,10 @@ def look(seen):
 
 
 def main():
-    if len(sys.argv) < 2 or sys.argv[1].startswith("-"):
+    words, file = sys.argv[1:], None
+    if words[:1] == ["--save"]:
+        file, words = words[1] if len(words) > 1 else None, words[2:]
+    if not words or words[0].startswith("-"):
         sys.exit(__doc__.strip())
     began, seen, is_over = time.time(), {}, threading.Event()
     name, _, value = MARK.partition("=")
@@ -66,7 +71,7 @@ def main():
     watcher = threading.Thread(target=watch)
     watcher.start()
     try:
-        status = subprocess.run(sys.argv[1:], env={**os.environ, name: value}, check=False).returncode
+        status = subprocess.run(words, env={**os.environ, name: value}, check=False).returncode
     finally:
         is_over.set()
         watcher.join()
@@ -76,6 +81,9 @@ def main():
         used[crate][kind] += ticks / TICKS
     for crate, by in sorted(used.items(), key=lambda it: -it[1].total()):
         print(f"{crate}: " + ", ".join(f"{kind} {by[kind]:.0f} s" for kind in KINDS if by[kind]))
+    if file:
+        with open(file, "w", encoding="utf-8") as it:
+            it.writelines(f"{crate} {by['proof']:.0f}\n" for crate, by in sorted(used.items()) if by["proof"])
     children = resource.getrusage(resource.RUSAGE_CHILDREN)
     checks = sum(by.total() for by in used.values())
     whole = children.ru_utime + children.ru_stime
