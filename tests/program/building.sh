@@ -1,0 +1,91 @@
+#!/usr/bin/env bash
+# The launcher builds each crate once, after those that it uses and beside others, goes on after an interruption, and
+# waits for another build. A small tree is built by a stand-in for rt, which proves nothing and takes half a second.
+. "$(dirname "$0")/common.bash"
+
+tree=$work/tree
+mkdir -p "$tree/tools" "$work/bin"
+cp "$top/kudzuturret" "$tree"
+cp "$top/tools/build.py" "$tree/tools"
+cat >"$tree/crates.txt" <<'END'
+# Two chains that share the lowest crate, and one crate that the program doesn't use.
+low: byteorder
+left: low
+right: low itoa
+top: left
+ogg_main: top right
+apart: low
+END
+printf '%s 1\n' low left right top ogg_main >"$tree/tools/seconds.txt"
+for name in low left right top ogg_main apart; do
+    mkdir -p "$tree/crates/$name/src"
+    echo "text of $name" >"$tree/crates/$name/src/lib.rt"
+done
+cat >"$work/bin/rt" <<'END'
+#!/usr/bin/env bash
+# In a crate's folder, where the libraries below must lie: makes its own, or the program.
+name=${PWD##*/}
+for other in $(sed -n "s/^$name: *//p" ../../crates.txt); do
+    [ ! -d "../$other" ] || [ -f "../$other/out/rlib/stamp" ] || { echo "$other isn't built"; exit 1; }
+done
+case $1 in
+lib)
+    [ ! -f out/rlib/stamp ] || exit 0
+    echo "begins $name" >>"$LOG"
+    sleep "${PAUSE:-0.5}"
+    ! grep -q wrong src/lib.rt || { echo "$name is wrong"; exit 1; }
+    mkdir -p out/rlib && touch out/rlib/stamp
+    echo "ends $name" >>"$LOG"
+    echo logic=proved
+    ;;
+run)
+    printf '#!/bin/sh\necho "ran $*"\n' >out/ogg_main
+    chmod +x out/ogg_main
+    echo "kudzuturret 0.0.0" >&2
+    exit 2
+    ;;
+esac
+END
+chmod +x "$work/bin/rt"
+export PATH=$work/bin:$PATH LOG=$work/log
+
+launch() { timeout 60 "$tree/kudzuturret" "$@" >"$work/out" 2>"$work/err" </dev/null; }
+
+launch links FILE
+check "a first start: status $?" [ $? -eq 0 ]
+check "it builds and runs" is_text "$work/out" 'ran links FILE\n'
+check "each crate of the program is built once" \
+    [ "$(sed -n 's/^begins //p' "$LOG" | sort | tr '\n' ' ')" = "left low right top " ]
+check "low comes first" [ "$(head -n 2 "$LOG" | tr '\n' ' ')" = "begins low ends low " ]
+[ "$(nproc)" -lt 2 ] || check "left and right are built side by side" \
+    [ "$(sed -n '3,4s/ .*//p' "$LOG" | tr '\n' ' ')" = "begins begins " ]
+check "it tells of each crate" [ "$(grep -c 'crate [1-4] of 5 is proved: .*; about .* to go$' "$work/err")" -eq 4 ]
+check "no room is left" [ ! -e "$tree/crates/ogg_main/out/rooms" ]
+
+launch links FILE
+check "a second start builds nothing" is_text "$work/err" ''
+
+rm -r "$tree"/crates/*/out "$LOG"
+PAUSE=5 "$tree/kudzuturret" links >"$work/out" 2>"$work/err" </dev/null &
+pid=$!
+for _ in $(seq 200); do ! grep -q 'begins left' "$LOG" 2>/dev/null || break; sleep 0.05; done
+timeout 60 "$tree/kudzuturret" links >"$work/other" 2>"$work/waits" </dev/null &
+other=$!
+for _ in $(seq 100); do ! grep -q waiting "$work/waits" || break; sleep 0.05; done
+kill -TERM "$pid"
+wait "$pid"
+check "interrupted: status $?" [ $? -eq 3 ]
+check "interrupted: it says so" grep -q 'interrupted; what is proved stays' "$work/err"
+wait "$other"
+check "the start that waited: status $?" [ $? -eq 0 ]
+check "the start that waited goes on and runs" is_text "$work/other" 'ran links\n'
+check "what was built before stays" [ "$(grep -c 'begins low' "$LOG")" -eq 1 ]
+
+echo "wrong" >>"$tree/crates/left/src/lib.rt"
+rm -r "$tree/crates/left/out" "$tree/crates/ogg_main/out"
+launch links
+check "a crate that isn't proved: status $?" [ $? -eq 3 ]
+check "a crate that isn't proved: its log is shown" grep -qx 'left is wrong' "$work/err"
+check "a crate that isn't proved: nothing runs" is_text "$work/out" ''
+
+finish
