@@ -5,6 +5,7 @@ ghost use Rattle.disk_model.specs.Image.{settled};
 use crate::{DiskFault, FileDisk, RawFile};
 use std::alloc::Alloc;
 use std::fs::{self, File, OpenOptions, TryLockError};
+use std::io::{self, ErrorKind};
 use std::os::unix::fs::FileExt;
 use std::rt::Files;
 use thiserror::Error;
@@ -29,6 +30,9 @@ pub enum FileFault {
     /// It can't be opened or locked, or its folder can't be synced.
     #[error("the file can't be opened")]
     Refused,
+    /// Memory was refused.
+    #[error("memory was refused")]
+    Memory,
 }
 
 impl FileMode {
@@ -80,8 +84,8 @@ impl FileDisk {
 
     /// Opens the file, which is made only if the mode says so. In a mode that writes it is locked until the disk is
     /// dropped, so that of the programs that take the lock one writes it. In the mode that makes it, its folder is
-    /// synced, so that its name outlives a stop. After `Locked` nothing was changed; after `Refused` the file may have
-    /// been made, and is empty.
+    /// synced, so that its name outlives a stop. After `Locked` nothing was changed; after `Refused` and `Memory` the
+    /// file may have been made, and is empty.
     pub fn lock<R: Files<File = File> + Alloc>(
         rt: &R,
         path: &str,
@@ -90,8 +94,9 @@ impl FileDisk {
         ensures failures { IfOk result (λ disk. failures_of disk ≡ 0) }
         ensures locked { result ≡ Err FileFault.Locked → writes mode ≡ true }
     {
-        let Ok(file) = mode.options().open(rt, path) else {
-            return Err(FileFault::Refused);
+        let file = match mode.options().open(rt, path) {
+            Ok(file) => file,
+            Err(error) => return Err(fault_of(&error)),
         };
         if mode.writes() {
             lock_file(&file)?;
@@ -112,12 +117,24 @@ fn lock_file(file: &File) -> Result<(), FileFault> {
     }
 }
 
+/// Why a file wasn't opened, if not for a lock.
+fn fault_of(error: &io::Error) -> FileFault
+    ensures { result ≢ FileFault.Locked }
+{
+    if error.kind() == ErrorKind::OutOfMemory {
+        FileFault::Memory
+    } else {
+        FileFault::Refused
+    }
+}
+
 /// Syncs the folder that a file lies in, once its path has been followed.
 fn sync_folder<R: Files<File = File> + Alloc>(rt: &R, path: &str) -> Result<(), FileFault>
     ensures { result ≢ Err FileFault.Locked }
 {
-    let Ok(whole) = fs::canonicalize(rt, path) else {
-        return Err(FileFault::Refused);
+    let whole = match fs::canonicalize(rt, path) {
+        Ok(whole) => whole,
+        Err(error) => return Err(fault_of(&error)),
     };
     let Some(folder) = whole.parent() else {
         return Err(FileFault::Refused);

@@ -17,6 +17,7 @@ pub fn open_recorder(
         Ok(disk) => disk,
         Err(FileFault::Locked) => return Err(Fault::Locked),
         Err(FileFault::Refused) => return Err(Fault::File),
+        Err(FileFault::Memory) => return Err(Fault::Memory),
     };
     match Recorder::open(rt.alloc(), disk) {
         Ok(recorder) => Ok(recorder),
