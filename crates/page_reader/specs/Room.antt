@@ -15,9 +15,9 @@ abbrev pub held_of : List ℕ → Held → List ℕ
 held_of room held = take (held.end - held.start) (drop held.start room)
 
 pub record IsHeld (room : List ℕ) (held : Held) : Type 0 where
-  pub whole : length room ≡ longest_page
+  pub whole : longest_page ≤ length room
   pub ordered : held.start ≤ held.end
-  pub fits : held.end ≤ longest_page
+  pub fits : held.end ≤ length room
 
 -- one read added this number of bytes to those that were held; the number is 0 only at the end of the input
 pub record ReadsMore (before : List ℕ) (from : Option (List ℕ)) (count : ℕ) (now : List ℕ) (left : Option (List ℕ)) : Type 0 where
@@ -52,4 +52,4 @@ lent_of room (Some lent) = Some (lent.offset, fields_at (lent_bytes room lent))
 abbrev pub IsLent : List ℕ → Option Lent → Type 0
 IsLent room None = ⊤
 IsLent room (Some lent) =
-    (lent.start ≤ lent.end) × (lent.end ≤ longest_page) × (page_at (lent_bytes room lent) ≡ Ok (fields_at (lent_bytes room lent)))
+    (lent.start ≤ lent.end) × (lent.end ≤ length room) × (page_at (lent_bytes room lent) ≡ Ok (fields_at (lent_bytes room lent)))

@@ -1,12 +1,11 @@
 //! Bytes of the reader into the room.
-ghost use Rattle.std.specs.Prelude.{◌≡◌, ◌<◌, ◌-◌, IfOk, OnErr};
+ghost use Rattle.std.specs.Prelude.{◌≡◌, ◌<◌, ◌-◌, IfOk, OnErr, length};
 ghost use Rattle.std.specs.Io.KnownBytes.{Keeps};
 ghost use Rattle.page_reader.specs.Room.{IsHeld, ReadsMore, held_of};
 ghost use Rattle.ogg_page.specs.Sizes.{longest_page};
 
 use crate::fault::PageReaderFault;
 use crate::held::Held;
-use ogg_page::LONGEST_PAGE;
 use std::io::Read;
 
 /// Moves what is held to the front of the room if no byte after it is free. What is held then is the beginning of one
@@ -15,10 +14,11 @@ fn make_room(room: &mut [u8], held: &mut Held)
     requires held { IsHeld room.old held.old }
     requires part { held.old.end - held.old.start < longest_page }
     ensures held { IsHeld room.new held.new }
-    ensures free { held.new.end < longest_page }
+    ensures size { length room.new ≡ length room.old }
+    ensures free { held.new.end < length room.new }
     ensures same { held_of room.new held.new ≡ held_of room.old held.old }
 {
-    if held.end == LONGEST_PAGE {
+    if held.end == room.len() {
         room.copy_within(held.start..held.end, 0);
         *held = Held {
             start: 0,
@@ -34,8 +34,9 @@ fn read_behind<R: Read>(
     held: &mut Held,
 ) -> Result<usize, PageReaderFault>
     requires held { IsHeld room.old held.old }
-    requires free { held.old.end < longest_page }
+    requires free { held.old.end < length room.old }
     ensures held { IsHeld room.new held.new }
+    ensures size { length room.new ≡ length room.old }
     ensures ok { IfOk result (λ count. ReadsMore (held_of room.old held.old) (R.remaining reader.old) count
         (held_of room.new held.new) (R.remaining reader.new)) }
     ensures err { OnErr result ((result ≡ Err PageReaderFault.Read) × (held_of room.new held.new ≡ held_of room.old held.old)
@@ -60,6 +61,7 @@ pub(crate) fn read_more<R: Read>(
     requires held { IsHeld room.old held.old }
     requires part { held.old.end - held.old.start < longest_page }
     ensures held { IsHeld room.new held.new }
+    ensures size { length room.new ≡ length room.old }
     ensures ok { IfOk result (λ count. ReadsMore (held_of room.old held.old) (R.remaining reader.old) count
         (held_of room.new held.new) (R.remaining reader.new)) }
     ensures err { OnErr result ((result ≡ Err PageReaderFault.Read) × (held_of room.new held.new ≡ held_of room.old held.old)

@@ -1,5 +1,5 @@
 //! Pages of a reader, lent one at a time.
-ghost use Rattle.std.specs.Prelude.{◌≡◌, ◌≢◌, [], None, Some, Err, IfOk, IfSome};
+ghost use Rattle.std.specs.Prelude.{◌≡◌, ◌≢◌, [], None, Some, Err, IfOk, IfSome, true, false};
 ghost use Rattle.ogg_page.specs.Reading.{page_at};
 ghost use Rattle.page_reader.specs.Reader.{HasAdvanced, PassesOver, started};
 ghost use Rattle.ogg_page.specs.declared.fault.PageFault.{PageFault as Fault};
@@ -7,7 +7,7 @@ ghost use Rattle.ogg_page.specs.declared.fault.PageFault.{PageFault as Fault};
 use crate::Memory;
 use crate::fault::PageReaderFault;
 use crate::finding::{find, next_place};
-use crate::front::known_page;
+use crate::front::{known_page, wants_more};
 use crate::held::{Held, Lent};
 use ogg_page::{LONGEST_PAGE, Page, PageFault};
 use std::alloc::Global;
@@ -43,12 +43,21 @@ impl Model for PageReader {
 }
 
 impl PageReader {
-    /// Makes the room, of 65,307 bytes. No other call takes memory.
+    /// Makes the room for one page, of 65,307 bytes. No other call takes memory.
     pub fn new(alloc: Global) -> Result<PageReader, Memory>
         ensures { IfOk result (λ reader. reader ≡ started) }
     {
-        let mut room = Vec::with_capacity(alloc, LONGEST_PAGE)?;
-        room.resize(LONGEST_PAGE, 0)?;
+        PageReader::with_room(alloc, LONGEST_PAGE)
+    }
+
+    /// Makes a room of so many bytes, at least for one page. The more room there is the more pages one read can give.
+    /// No other call takes memory.
+    pub fn with_room(alloc: Global, size: usize) -> Result<PageReader, Memory>
+        ensures { IfOk result (λ reader. reader ≡ started) }
+    {
+        let size = size.max(LONGEST_PAGE);
+        let mut room = Vec::with_capacity(alloc, size)?;
+        room.resize(size, 0)?;
         Ok(PageReader {
             room,
             held: Held { start: 0, end: 0 },
@@ -92,6 +101,14 @@ impl PageReader {
                 Err(fault)
             }
         }
+    }
+
+    /// Whether `advance` has to read before it can tell what comes next: a page, a fault or the end.
+    pub fn waits(&self) -> bool
+        ensures yes { result ≡ true → page_at self.now.unread ≡ Err PageFault.Short }
+        ensures no { result ≡ false → page_at self.now.unread ≢ Err PageFault.Short }
+    {
+        wants_more(&self.room[self.held.start..self.held.end])
     }
 
     /// After a fault that says that no page begins here: passes over the bytes up to the next place where one may
