@@ -49,6 +49,13 @@ impl Serials {
         self.known.contains(serial)
     }
 
+    /// The serials, in the order of their streams' first pages.
+    pub fn as_slice(&self) -> &[u32]
+        ensures { result.now ≡ self.now.listed }
+    {
+        &self.listed
+    }
+
     /// Makes room for this number of further serials.
     pub fn reserve(&mut self, additional: usize) -> Result<(), Memory>
         ensures same { self.new.listed ≡ self.old.listed }
