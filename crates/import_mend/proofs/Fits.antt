@@ -103,7 +103,7 @@ broken_length true serial gathered = omega arith
 broken_length false serial gathered = omega arith
 
 -- ---- lacing values of whole packets
-some_whole : (values : List ℕ) → ends_some values ≡ true → whole_values values ≢ 0
+pub some_whole : (values : List ℕ) → ends_some values ≡ true → whole_values values ≢ 0
 some_whole [] e f = cc
 some_whole (value ∷ values) e f =
     absurd (omega (arith, sym (cond-true (ends_some (value ∷ values)) (suc (whole_values values)) 0 e) ∙ f))
@@ -116,7 +116,7 @@ whole_fits (value ∷ values) = by_case (ends_some (value ∷ values)) (whole_va
     by_case true n le = omega (arith, le)
     by_case false n le = omega arith
 
-whole_length : (values : List ℕ) → length (take (whole_values values) values) ≡ whole_values values
+pub whole_length : (values : List ℕ) → length (take (whole_values values) values) ≡ whole_values values
 whole_length values = length-take-le (whole_values values) values (whole_fits values)
 
 -- they end with one that isn't full
@@ -135,7 +135,7 @@ last_is_small value values some none =
     or_nothing true e = refl
     or_nothing false e = e
 
-closed_end : (values : List ℕ) → ends_open (take (whole_values values) values) ≡ false
+pub closed_end : (values : List ℕ) → ends_open (take (whole_values values) values) ≡ false
 closed_end [] = refl
 closed_end (value ∷ values) =
     elim (cases_Bool (ends_some (value ∷ values))) [

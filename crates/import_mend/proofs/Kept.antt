@@ -16,7 +16,7 @@ all_parts P n xs all = all_split P (take n xs) (drop n xs) (subst (AllByRecursio
 parted : (n : ℕ) (xs : List ℕ) → sum (take n xs) + sum (drop n xs) ≡ sum xs
 parted n xs = sum_by-take-drop (λ x. x) xs n
 
-front_fits : (n : ℕ) (page : Page) → IsPage page → sum (take n page.lacing) ≤ length page.body
+pub front_fits : (n : ℕ) (page : Page) → IsPage page → sum (take n page.lacing) ≤ length page.body
 front_fits n page is = omega (arith, parted n page.lacing, is.whole)
 
 less : (n : ℕ) (xs : List ℕ) → (length (take n xs) ≤ length xs) × (length (drop n xs) ≤ length xs)

@@ -1,7 +1,13 @@
+mod Alike
+mod Cuts
+mod Dropped
 mod Ends
 mod Fits
+mod Held
 mod Kept
+mod Lacings
 mod Open
 mod ReadBack
+mod Sound
 mod Taken
 mod Values

@@ -1,13 +1,13 @@
 -- The first stream that hasn't ended.
-use Rattle.std.proofs.Common.{◌≡◌, Bool, true, false, List, [], ◌∷◌, Option, Some, None, refl, sym, ◌∙◌, ap, inl, inr}
-use Rattle.std.specs.Prelude.{not, IfSome, ◌||◌}
-use Rattle.std.specs.List.{find, list_any, position_or_len}
-use Rattle.std.proofs.lemmas.Bool.{cases_Bool, cond-true, cond-false}
+use Rattle.std.proofs.Common.{◌≡◌, ℕ, Bool, true, false, List, [], ◌∷◌, Option, Some, None, map, cond, refl, sym, ◌∙◌, ap, subst, inl, inr}
+use Rattle.std.specs.Prelude.{nat_eq, not, IfSome, ◌||◌}
+use Rattle.std.specs.List.{AllByRecursion, IsDistinct, filter, find, list_any, position_or_len}
+use Rattle.std.proofs.lemmas.Bool.{cases_Bool, cond-true, cond-false, eq-eqb}
 use Rattle.std.proofs.lemmas.List.Folds.{find_at}
 use Rattle.link_chain.specs.declared.stream_state.StreamState.{StreamState}
 use Rattle.link_chain.specs.Places.{HaveOwnSerials}
-use Rattle.link_chain.specs.Progress.{stream_in}
-use Rattle.link_chain.specs.Laws.OwnSerials.{found_there}
+use Rattle.link_chain.specs.Progress.{change_at, stream_in}
+use Rattle.link_chain.specs.Laws.OwnSerials.{found_there, lacking_stay}
 
 abbrev unended : StreamState → Bool
 unended stream = not stream.ended
@@ -48,3 +48,56 @@ none_open (x ∷ xs) e =
   where
     some_none : Some x ≡ None → ⊥
     some_none e = cc
+
+-- ---- the first open stream is ended
+same_some : {a b : StreamState} → Some a ≡ Some b → a ≡ b
+same_some e = cc
+
+none_left : (x : StreamState) (xs : List StreamState) → unended x ≡ false → filter unended (x ∷ xs) ≡ filter unended xs
+none_left x xs e = cond-false (unended x) (x ∷ filter unended xs) (filter unended xs) e
+
+one_left : (x : StreamState) (xs : List StreamState) → unended x ≡ true → filter unended (x ∷ xs) ≡ x ∷ filter unended xs
+one_left x xs e = cond-true (unended x) (x ∷ filter unended xs) (filter unended xs) e
+
+-- the others stay as they were
+pub ends_first : (change : StreamState → StreamState) → ((s : StreamState) → s.ended ≡ true → (change s).ended ≡ true) → (streams : List StreamState) (stream : StreamState) → HaveOwnSerials streams
+    → (change stream).ended ≡ true → find unended streams ≡ Some stream →
+    filter unended streams ≡ stream ∷ filter unended (map (change_at stream.serial change) streams)
+unfolding IsDistinct
+ends_first change keeps [] stream own ends e = cc
+ends_first change keeps (x ∷ xs) stream own ends e =
+    let x' : StreamState = change_at stream.serial change x in
+    let xs' : List StreamState = map (change_at stream.serial change) xs in
+    elim (cases_Bool (unended x)) [
+      | inl here ↦
+          (let is : x ≡ stream = same_some (sym (cond-true (unended x) (Some x) (find unended xs) here) ∙ e) in
+          let changed : x' ≡ change x = cond-true (nat_eq x.serial stream.serial) (change x) x (eq-eqb x.serial stream.serial (ap (λ (s : StreamState). s.serial) is)) in
+          let closed : unended x' ≡ false = ap unended changed ∙ ap (λ (s : StreamState). unended (change s)) is ∙ ap not ends in
+          let rest : xs' ≡ xs = ap (λ (s : StreamState). map (change_at s.serial change) xs) (sym is) ∙ lacking_stay x.serial change xs own.0 in
+          one_left x xs here ∙ ap (λ s. s ∷ filter unended xs) is ∙ ap (λ l. stream ∷ filter unended l) (sym rest) ∙ ap (λ l. stream ∷ l) (sym (none_left x' xs' closed)))
+      | inr gone ↦
+          (let was : x.ended ≡ true = not_false x.ended gone in
+          let closed : unended x' ≡ false = ap not (stays (nat_eq x.serial stream.serial) was) in
+          none_left x xs gone
+          ∙ ends_first change keeps xs stream own.1 ends (sym (cond-false (unended x) (Some x) (find unended xs) gone) ∙ e)
+          ∙ ap (λ l. stream ∷ l) (sym (none_left x' xs' closed)))
+    ]
+  where
+    not_false : (b : Bool) → not b ≡ false → b ≡ true
+    not_false true e = refl
+    not_false false e = cc
+
+    stays : (b : Bool) → x.ended ≡ true → (cond b (change x) x).ended ≡ true
+    stays true was = keeps x was
+    stays false was = was
+
+-- if none is open, none is left to end
+pub none_unended : (streams : List StreamState) → list_any unended streams ≡ false → filter unended streams ≡ []
+none_unended [] e = refl
+none_unended (x ∷ xs) e =
+    let parts : (unended x ≡ false) × (list_any unended xs ≡ false) = or_none (unended x) (list_any unended xs) e in
+    none_left x xs parts.0 ∙ none_unended xs parts.1
+  where
+    or_none : (a b : Bool) → (a || b) ≡ false → (a ≡ false) × (b ≡ false)
+    or_none true b e = cc
+    or_none false b e = (refl, e)

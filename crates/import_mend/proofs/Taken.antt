@@ -20,10 +20,10 @@ pub if_taken : (b : Bool) (x y : Way) → (x ≡ Take → ⊥) → cond b x y �
 if_taken true x y other e = absurd (other e)
 if_taken false x y other e = (refl, e)
 
-full : Full ≡ Take → ⊥
+pub full : Full ≡ Take → ⊥
 full e = cc
 
-stranger : Stranger ≡ Take → ⊥
+pub stranger : Stranger ≡ Take → ⊥
 stranger e = cc
 
 repeated : Repeated ≡ Take → ⊥

@@ -4,4 +4,7 @@ pub mod ImportFault
 pub mod Losses
 pub mod Mended
 pub mod Steps
+pub mod Gives
+pub mod Cut
+pub mod Whole
 pub mod Telling

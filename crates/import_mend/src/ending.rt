@@ -1,11 +1,14 @@
 //! Streams that are ended though their last page hasn't come.
-ghost use Rattle.std.specs.Prelude.{◌≡◌, ◌<◌, ◌+◌, ◌^◌, true, false, not, None, Some, Ok, OnOk, IfSome, nat_eq};
+ghost use Rattle.std.specs.Prelude.{◌≡◌, ◌<◌, ◌+◌, ◌++◌, ◌^◌, true, false, not, None, Some, Ok, OnOk, IfSome, List, nat_eq};
 ghost use Rattle.std.specs.List.{find};
 ghost use Rattle.ogg_page.specs.Sizes.{fixed_size};
 ghost use Rattle.link_chain.specs.ChainState.{is_open};
+ghost use Rattle.link_chain.specs.Places.{HaveOwnSerials};
 ghost use Rattle.link_chain.specs.Progress.{stream_in};
 ghost use Rattle.link_chain.specs.declared.stream_state.StreamState.{StreamState as State};
+ghost use Rattle.import_mend.specs.Gives.{EndsStream, EndsStreams, is_unended};
 ghost use Rattle.import_mend.specs.Steps.{after_end};
+ghost use Rattle.ogg_command.specs.declared.command.Command.{Command as CommandOf};
 
 use crate::Memory;
 use crate::taking::take;
@@ -26,6 +29,8 @@ fn first_unended(streams: &[StreamState]) -> Option<StreamState>
 fn first_open(chain: &Chain) -> Option<StreamState>
     ensures some { IfSome result (λ stream. (stream.ended ≡ false) × (stream_in chain.now.chain.streams stream.serial ≡ Some stream)) }
     ensures none { result ≡ None → is_open chain.now.chain ≡ false }
+    ensures first { result ≡ find is_unended chain.now.chain.streams }
+    ensures own { HaveOwnSerials chain.now.chain.streams }
 {
     first_unended(chain.streams())
 }
@@ -51,6 +56,8 @@ fn end_stream(
     requires number { stream.next_sequence < 2 ^ 32 }
     requires small { gatherer.old.chain.length_of + fixed_size < 2 ^ 63 }
     ensures after { OnOk result (gatherer.new.chain ≡ after_end stream gatherer.old) }
+    ensures gives { OnOk result ((more : List CommandOf) × (commands.new.items ≡ commands.old.items ++ more)
+        × EndsStream stream gatherer.old gatherer.new more) }
 {
     gatherer.drop_packet(stream.serial);
     room.clear();
@@ -66,7 +73,9 @@ pub fn end_streams(
     gatherer: &mut Gatherer,
     commands: &mut Vec<Command>,
 ) -> Result<bool, Memory>
-    ensures { result ≡ Ok true → is_open gatherer.new.chain ≡ false }
+    ensures closed { result ≡ Ok true → is_open gatherer.new.chain ≡ false }
+    ensures gives { OnOk result ((more : List CommandOf) × (commands.new.items ≡ commands.old.items ++ more)
+        × EndsStreams gatherer.old gatherer.new more) }
 {
     for _ in 0..MOST_STREAMS {
         let stream = match first_open(gatherer.chain()) {

@@ -1,10 +1,14 @@
 //! Any bytes into the commands of a sound chain, one page after the other.
-ghost use Rattle.std.specs.Prelude.{◌≡◌, ◌<◌, ℕ, IfOk, true, Some, None};
+ghost use Rattle.std.specs.Prelude.{◌≡◌, ◌<◌, ◌++◌, ℕ, List, IfOk, true, false, Some, None};
 ghost use Rattle.ogg_page.specs.Page.{Page as PageValue, IsPage};
+ghost use Rattle.import_mend.specs.Gives.{Gives, GivesEnd, mend_at_end, mending};
 ghost use Rattle.import_mend.specs.Losses.{lost_in};
 ghost use Rattle.import_mend.specs.Steps.{Mends};
 ghost use Rattle.import_mend.specs.Ways.{way_of};
+ghost use Rattle.import_mend.specs.Whole.{IsStart};
+ghost use Rattle.page_reader.specs.Reader.{started};
 ghost use Rattle.import_mend.specs.declared.mend.Mend.{Mend as MendOf};
+ghost use Rattle.ogg_command.specs.declared.command.Command.{Command as CommandOf};
 
 use crate::Memory;
 use crate::fault::ImportFault;
@@ -41,7 +45,11 @@ pub struct Import {
 
 impl Import {
     /// Makes the memory of one page.
-    pub fn new(alloc: Global) -> Result<Import, Memory> {
+    pub fn new(alloc: Global) -> Result<Import, Memory>
+        ensures start { IfOk result (λ import. IsStart (mending import.mender.losses import.gatherer)) }
+        ensures pages { IfOk result (λ import. import.pages ≡ started) }
+        ensures junk { IfOk result (λ import. import.junk ≡ 0) }
+    {
         let pages = PageReader::new(alloc)?;
         Ok(Import {
             pages,
@@ -58,9 +66,16 @@ impl Import {
         reader: &mut R,
         commands: &mut Vec<Command>,
     ) -> Result<Step, ImportFault>
-        ensures { IfOk result (λ step. step.is_page ≡ true → (offset : ℕ) × (page : PageValue) × IsPage page
+        ensures mends { IfOk result (λ step. step.is_page ≡ true → (offset : ℕ) × (page : PageValue) × IsPage page
+            × (self.new.pages.lent ≡ Some (offset, page))
             × Mends (way_of self.old.gatherer.chain (lost_in self.old.mender.losses self.old.gatherer.chain.streams page.serial) page) offset
-            (lost_in self.old.mender.losses self.old.gatherer.chain.streams page.serial) page self.old.gatherer self.new.gatherer step.mend) }
+            (lost_in self.old.mender.losses self.old.gatherer.chain.streams page.serial) page self.old.gatherer self.new.gatherer step.mend
+            × (more : List CommandOf) × (commands.new.items ≡ commands.old.items ++ more)
+            × Gives (way_of self.old.gatherer.chain (lost_in self.old.mender.losses self.old.gatherer.chain.streams page.serial) page) offset
+            (lost_in self.old.mender.losses self.old.gatherer.chain.streams page.serial) page
+            (mending self.old.mender.losses self.old.gatherer) (mending self.new.mender.losses self.new.gatherer) step.mend more) }
+        ensures ends { IfOk result (λ step. step.is_page ≡ false → (commands.new.items ≡ commands.old.items) × (self.new.gatherer ≡ self.old.gatherer)
+            × (self.new.mender.losses ≡ self.old.mender.losses) × (step.mend ≡ None) × (self.new.pages.lent ≡ None)) }
     {
         find_page(&mut self.pages, reader, &mut self.junk)?;
         let junk = take_junk(&self.pages, &mut self.junk);
@@ -86,7 +101,11 @@ impl Import {
 
     /// Ends the open streams, and appends the commands that still wait: at the end of the input, or after `Read`. It
     /// returns what was mended. Take no further step. After `Memory` some of the commands may have been appended.
-    pub fn finish(&mut self, commands: &mut Vec<Command>) -> Result<Option<Mend>, Memory> {
+    pub fn finish(&mut self, commands: &mut Vec<Command>) -> Result<Option<Mend>, Memory>
+        ensures gives { IfOk result (λ mend. (more : List CommandOf) × (commands.new.items ≡ commands.old.items ++ more)
+            × GivesEnd self.old.gatherer self.new.gatherer more) }
+        ensures told { IfOk result (λ mend. mend ≡ mend_at_end self.old.pages.offset self.old.gatherer.chain) }
+    {
         let offset = self.pages.offset();
         self.mender.end(&mut self.gatherer, offset, commands)
     }

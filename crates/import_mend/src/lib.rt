@@ -14,6 +14,7 @@ mod ending;
 mod fault;
 mod import;
 mod joining;
+mod laws;
 mod losses;
 mod mend;
 mod mender;
@@ -24,6 +25,9 @@ mod writing;
 
 pub use fault::ImportFault;
 pub use import::{Import, Step};
+pub use laws::{
+    a_packet_is_dropped_from_the_links, commands_hold_sound_links, sound_bitstreams_are_not_changed,
+};
 pub use mend::Mend;
 pub use mender::Mender;
 pub use ogg_page::Memory;

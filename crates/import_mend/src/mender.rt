@@ -1,13 +1,16 @@
 //! Pages of any input, mended one after the other.
-ghost use Rattle.std.specs.Prelude.{◌≡◌, ◌<◌, ℕ, IfOk, true, false, None};
+ghost use Rattle.std.specs.Prelude.{◌≡◌, ◌<◌, ◌++◌, ℕ, List, IfOk, true, false, None};
 ghost use Rattle.ogg_page.specs.LogicalStream.{is_first};
 ghost use Rattle.link_chain.specs.Followed.{after_page};
 ghost use Rattle.link_chain.specs.Taking.{fault_of_page};
 ghost use Rattle.gathering.specs.Kept.{waits};
+ghost use Rattle.import_mend.specs.Gives.{Gives, GivesEnd, GathersFirst, GathersLater, GathersRestart, mend_at_end, mending};
 ghost use Rattle.import_mend.specs.Losses.{lost_in};
 ghost use Rattle.import_mend.specs.Steps.{Mends, MendsLater, Restarts};
 ghost use Rattle.import_mend.specs.Ways.{most_bytes, way_of};
+ghost use Rattle.import_mend.specs.Whole.{LostNone};
 ghost use Rattle.import_mend.specs.declared.ways.Way.{Way as WayOf};
+ghost use Rattle.ogg_command.specs.declared.command.Command.{Command as CommandOf};
 
 use crate::Memory;
 use crate::ending::end_streams;
@@ -15,7 +18,7 @@ use crate::losses::{lost_in, set_lost, set_lost_of};
 use crate::mend::Mend;
 use crate::taking::{follow, take};
 use crate::telling::mend_of;
-use crate::ways::{MOST_BYTES, Way, missing, way_of};
+use crate::ways::{MOST_BYTES, Way, way_of};
 use gathering::Gatherer;
 use link_chain::{Chain, MOST_STREAMS, is_open, stream_in};
 use ogg_command::Command;
@@ -32,7 +35,9 @@ pub struct Mender {
 
 impl Mender {
     /// No page was lost. It takes no memory.
-    pub fn new(alloc: Global) -> Mender {
+    pub fn new(alloc: Global) -> Mender
+        ensures { LostNone result.losses }
+    {
         Mender {
             losses: [0; MOST_STREAMS],
             room: Vec::new(alloc),
@@ -51,6 +56,10 @@ impl Mender {
     ) -> Result<Option<Mend>, Memory>
         ensures mends { IfOk result (λ mend. (lost : ℕ) → lost ≡ lost_in self.old.losses gatherer.old.chain.streams page.now.serial →
             Mends (way_of gatherer.old.chain lost page.now) offset lost page.now gatherer.old gatherer.new mend) }
+        ensures gives { IfOk result (λ mend. (lost : ℕ) → lost ≡ lost_in self.old.losses gatherer.old.chain.streams page.now.serial →
+            (more : List CommandOf) × (commands.new.items ≡ commands.old.items ++ more)
+            × Gives (way_of gatherer.old.chain lost page.now) offset lost page.now (mending self.old.losses gatherer.old)
+            (mending self.new.losses gatherer.new) mend more) }
     {
         let serial = page.serial();
         let lost = lost_in(&self.losses, gatherer.chain().streams(), serial);
@@ -73,7 +82,10 @@ impl Mender {
         offset: u64,
         commands: &mut Vec<Command>,
     ) -> Result<Option<Mend>, Memory>
-        ensures { IfOk result (λ mend. waits gatherer.new.link ≡ false) }
+        ensures waits { IfOk result (λ mend. waits gatherer.new.link ≡ false) }
+        ensures gives { IfOk result (λ mend. (more : List CommandOf) × (commands.new.items ≡ commands.old.items ++ more)
+            × GivesEnd gatherer.old gatherer.new more) }
+        ensures told { IfOk result (λ mend. mend ≡ mend_at_end offset gatherer.old.chain) }
     {
         let unfinished = gatherer.unfinished();
         end_streams(&mut self.room, gatherer, commands)?;
@@ -93,7 +105,9 @@ impl Mender {
         requires first { is_first page.now ≡ true }
         requires fits { fault_of_page gatherer.old.chain page.now ≡ None }
         requires small { gatherer.old.chain.length_of < most_bytes }
-        ensures { IfOk result (λ mend. (gatherer.new.chain ≡ after_page gatherer.old.chain page.now) × (mend ≡ None)) }
+        ensures after { IfOk result (λ mend. (gatherer.new.chain ≡ after_page gatherer.old.chain page.now) × (mend ≡ None)) }
+        ensures gives { IfOk result (λ mend. (more : List CommandOf) × (commands.new.items ≡ commands.old.items ++ more)
+            × GathersFirst page.now (mending self.old.losses gatherer.old) (mending self.new.losses gatherer.new) more) }
     {
         let _bytes = page.whole();
         let streams = gatherer.chain().streams();
@@ -112,7 +126,9 @@ impl Mender {
         commands: &mut Vec<Command>,
     ) -> Result<Option<Mend>, Memory>
         requires { is_first page.now ≡ true }
-        ensures { IfOk result (λ mend. Restarts offset page.now gatherer.new mend) }
+        ensures restarts { IfOk result (λ mend. Restarts offset page.now gatherer.new mend) }
+        ensures gives { IfOk result (λ mend. (more : List CommandOf) × (commands.new.items ≡ commands.old.items ++ more)
+            × GathersRestart offset page.now (mending self.old.losses gatherer.old) (mending self.new.losses gatherer.new) mend more) }
     {
         let closed = end_streams(&mut self.room, gatherer, commands)?;
         if !closed || !fits(gatherer.chain(), page) {
@@ -134,7 +150,9 @@ impl Mender {
     ) -> Result<Option<Mend>, Memory>
         requires later { is_first page.now ≡ false }
         requires way { way_of gatherer.old.chain lost page.now ≡ WayOf.Take }
-        ensures { IfOk result (λ mend. MendsLater offset lost page.now gatherer.old gatherer.new mend) }
+        ensures mends { IfOk result (λ mend. MendsLater offset lost page.now gatherer.old gatherer.new mend) }
+        ensures gives { IfOk result (λ mend. (more : List CommandOf) × (commands.new.items ≡ commands.old.items ++ more)
+            × GathersLater lost page.now (mending self.old.losses gatherer.old) (mending self.new.losses gatherer.new) more) }
     {
         let streams = gatherer.chain().streams();
         let Some(stream) = stream_in(streams, page.serial()) else {
@@ -142,9 +160,8 @@ impl Mender {
         };
         let mend = mend_of(offset, lost, stream, gatherer.is_too_long(page), page);
         // By the pages that were lost the numbers that come are ahead of those that are given.
-        if let Some(count) = missing(0, stream, page) {
-            set_lost_of(&mut self.losses, streams, page.serial(), count as u32);
-        }
+        let count = u64::from(page.sequence()).saturating_sub(stream.next_sequence);
+        set_lost_of(&mut self.losses, streams, page.serial(), count as u32);
         follow(&mut self.room, gatherer, lost, stream, page, commands)?;
         Ok(mend)
     }

@@ -1,14 +1,17 @@
 //! Pages that are taken, as they are left.
-ghost use Rattle.std.specs.Prelude.{◌≡◌, ◌<◌, ◌+◌, ◌^◌, true, false, None, Some, OnOk};
+ghost use Rattle.std.specs.Prelude.{◌≡◌, ◌<◌, ◌+◌, ◌++◌, ◌^◌, true, false, None, Some, List, OnOk};
 ghost use Rattle.ogg_page.specs.Page.{page_size};
 ghost use Rattle.ogg_page.specs.LogicalStream.{is_first};
 ghost use Rattle.link_chain.specs.Followed.{after_page};
 ghost use Rattle.link_chain.specs.Progress.{stream_in};
 ghost use Rattle.link_chain.specs.Taking.{fault_of_page};
+ghost use Rattle.gathering.specs.Gathered.{GathersPage};
 ghost use Rattle.gathering.specs.Kept.{is_too_long};
-ghost use Rattle.import_mend.specs.Mended.{left_whole, mended};
+ghost use Rattle.import_mend.specs.Gives.{GathersLeft};
+ghost use Rattle.import_mend.specs.Mended.{is_joined, left_whole, mended};
 ghost use Rattle.import_mend.specs.Steps.{after_later, broken_off};
 ghost use Rattle.import_mend.specs.Ways.{way_of};
+ghost use Rattle.ogg_command.specs.declared.command.Command.{Command as CommandOf};
 
 use crate::Memory;
 use crate::cutting::whole_values;
@@ -31,6 +34,8 @@ pub fn take(
     requires short { is_too_long gatherer.old.link page.now ≡ false }
     requires small { gatherer.old.chain.length_of + page_size page.now < 2 ^ 63 }
     ensures after { OnOk result (gatherer.new.chain ≡ after_page gatherer.old.chain page.now) }
+    ensures gives { OnOk result ((more : List CommandOf) × (commands.new.items ≡ commands.old.items ++ more)
+        × GathersPage page.now gatherer.old gatherer.new more) }
 {
     match gatherer.take_page(page, commands) {
         Ok(()) => Ok(()),
@@ -52,6 +57,8 @@ fn take_mended(
     requires short { is_too_long gatherer.old.link (mended joined number page.now) ≡ false }
     requires small { gatherer.old.chain.length_of + page_size (mended joined number page.now) < 2 ^ 63 }
     ensures after { OnOk result (gatherer.new.chain ≡ after_page gatherer.old.chain (mended joined number page.now)) }
+    ensures gives { OnOk result ((more : List CommandOf) × (commands.new.items ≡ commands.old.items ++ more)
+        × GathersPage (mended joined number page.now) gatherer.old gatherer.new more) }
 {
     let _bytes = page.whole();
     room.clear();
@@ -90,6 +97,8 @@ pub fn follow(
     requires known { stream_in gatherer.old.chain.streams page.now.serial ≡ Some stream }
     requires way { way_of gatherer.old.chain lost page.now ≡ Way.Take }
     ensures after { OnOk result (gatherer.new.chain ≡ after_later lost stream page.now gatherer.old) }
+    ensures gives { OnOk result ((more : List CommandOf) × (commands.new.items ≡ commands.old.items ++ more)
+        × GathersLeft (is_joined lost stream (is_too_long gatherer.old.link page.now) page.now) stream.next_sequence page.now gatherer.old gatherer.new more) }
 {
     let _bytes = page.whole();
     let joined = is_joined(lost, stream, gatherer.is_too_long(page), page);

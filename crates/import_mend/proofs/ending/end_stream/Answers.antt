@@ -1,9 +1,10 @@
-use Rattle.std.proofs.Common.{◌≡◌, ◌++◌, [], ◌∙◌, ap, subst, arith}
+use Rattle.std.proofs.Common.{◌≡◌, List, ◌++◌, [], ◌∙◌, ap, subst, arith}
 use Rattle.std.specs.Prelude.{OnOk}
 use Rattle.ogg_page.specs.Page.{Page, IsPage, page_bytes, page_size}
 use Rattle.link_chain.specs.Followed.{after_page}
 use Rattle.link_chain.specs.Taking.{fault_of_page}
-use Rattle.gathering.specs.Gathered.{Gathered, without_packet}
+use Rattle.ogg_command.specs.declared.command.Command.{Command}
+use Rattle.gathering.specs.Gathered.{Gathered, GathersPage, without_packet}
 use Rattle.gathering.specs.Kept.{is_too_long}
 use Rattle.import_mend.specs.Mended.{end_page}
 use Rattle.import_mend.proofs.Ends.{end_fits, end_is_short}
@@ -65,4 +66,10 @@ returns c =
     record {
       after = subst (λ (h : Gathered). OnOk c.take.result (c.take.new.gatherer.chain ≡ after_page h.chain page)) c.drop_packet.ensures
           (subst (λ (p : Page). OnOk c.take.result (c.take.new.gatherer.chain ≡ after_page c.drop_packet.new.self.chain p)) same c.take.ensures.after);
+      gives = subst
+          (λ (h : Gathered). OnOk c.take.result ((more : List Command) × (c.take.new.commands.items ≡ c.args.commands.now.items ++ more) × GathersPage page h c.take.new.gatherer more))
+          c.drop_packet.ensures
+          (subst
+          (λ (p : Page). OnOk c.take.result ((more : List Command) × (c.take.new.commands.items ≡ c.args.commands.now.items ++ more) × GathersPage p c.drop_packet.new.self c.take.new.gatherer more))
+          same c.take.ensures.gives);
     }

@@ -1,8 +1,11 @@
-use Rattle.std.proofs.Common.{◌≡◌, Bool, true, sym, ◌∙◌, ap, arith}
+use Rattle.std.proofs.Common.{◌≡◌, ℕ, Bool, true, List, ◌++◌, sym, ◌∙◌, ap, subst, arith}
+use Rattle.std.specs.Prelude.{OnOk}
 use Rattle.ogg_page.specs.Page.{Page, IsPage}
 use Rattle.ogg_page.specs.PageLaws.{page_fits}
 use Rattle.link_chain.specs.Taking.{fault_of_page}
-use Rattle.gathering.specs.Gathered.{Gathered}
+use Rattle.ogg_command.specs.declared.command.Command.{Command}
+use Rattle.gathering.specs.Gathered.{Gathered, GathersPage}
+use Rattle.import_mend.specs.Gives.{GathersLeft}
 use Rattle.gathering.specs.Kept.{is_too_long}
 use Rattle.import_mend.specs.Mended.{is_joined, mended}
 use Rattle.import_mend.specs.Steps.{broken_off}
@@ -66,3 +69,14 @@ take_mended-requires-clause-small c =
       broken_length joined page.serial g,
       page_fits (mended joined c.args.stream.next_sequence page) left,
     )
+
+pub returns-then-is_left_whole-clause-gives : goal.returns-then-is_left_whole-clause-gives
+returns-then-is_left_whole-clause-gives c =
+    let g : Gathered = c.args.gatherer.now in
+    let page : Page = c.args.page.now in
+    let n : ℕ = c.args.stream.next_sequence in
+    let joined : is_joined c.args.lost c.args.stream (is_too_long g.link page) page ≡ true =
+    ap (λ b. is_joined c.args.lost c.args.stream b page) (sym c.is_too_long.ensures) ∙ sym c.is_joined-joined.ensures ∙ c.if-joined.true in
+    let same : mended true n page ≡ page = unchanged c.args.lost c.args.stream (is_too_long g.link page) page joined c.if-lost-eq0.true (c.is_left_whole.ensures c.if-is_left_whole.true) in
+    subst (λ (b : Bool). OnOk c.take.result ((more : List Command) × (c.take.new.commands.items ≡ c.args.commands.now.items ++ more) × GathersLeft b n page g c.take.new.gatherer more)) (sym joined)
+    (subst (λ (p : Page). OnOk c.take.result ((more : List Command) × (c.take.new.commands.items ≡ c.args.commands.now.items ++ more) × GathersPage p g c.take.new.gatherer more)) (sym same) c.take.ensures.gives)

@@ -1,8 +1,10 @@
-use Rattle.std.proofs.Common.{◌≡◌, ◌<◌, ◌+◌, ◌^◌, ◌++◌, [], sym, ◌∙◌, ap, subst, arith}
+use Rattle.std.proofs.Common.{◌≡◌, ◌<◌, ◌+◌, ◌^◌, List, ◌++◌, [], sym, ◌∙◌, ap, subst, arith}
 use Rattle.std.specs.Prelude.{OnOk}
 use Rattle.ogg_page.specs.Page.{Page, IsPage, page_bytes, page_size}
 use Rattle.link_chain.specs.Followed.{after_page}
 use Rattle.link_chain.specs.Taking.{fault_of_page}
+use Rattle.ogg_command.specs.declared.command.Command.{Command}
+use Rattle.gathering.specs.Gathered.{GathersPage}
 use Rattle.gathering.specs.Kept.{is_too_long}
 use Rattle.import_mend.specs.Mended.{mended}
 use Rattle.import_mend.proofs.Kept.{mended_is_page}
@@ -55,4 +57,9 @@ returns c =
     written c.clear.new.self.items c.write_mended.new.out.items c.as_slice.result.now page c.clear.ensures.items c.in_ok-write_mended.ensures c.as_slice.ensures.value in
     let same : c.split_known_page-left.result.0 ≡ page =
     same_page c.as_slice.result.now c.split_known_page-left.result.1.now page c.split_known_page-left.result.0 is bytes c.split_known_page-left.ensures in
-    record { after = subst (λ (p : Page). OnOk c.take.result (c.take.new.gatherer.chain ≡ after_page c.args.gatherer.now.chain p)) same c.take.ensures.after }
+    record {
+      after = subst (λ (p : Page). OnOk c.take.result (c.take.new.gatherer.chain ≡ after_page c.args.gatherer.now.chain p)) same c.take.ensures.after;
+      gives = subst
+          (λ (p : Page). OnOk c.take.result ((more : List Command) × (c.take.new.commands.items ≡ c.args.commands.now.items ++ more) × GathersPage p c.args.gatherer.now c.take.new.gatherer more))
+          same c.take.ensures.gives;
+    }

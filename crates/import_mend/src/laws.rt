@@ -1,0 +1,48 @@
+//! What always holds of pages that are mended, over a whole input.
+ghost use Rattle.std.specs.Prelude.{◌≡◌, ◌++◌, [], ℕ, None, List, Option};
+ghost use Rattle.std.specs.List.{AllByRecursion};
+ghost use Rattle.ogg_page.specs.Page.{Page, IsPage, bytes_of_pages};
+ghost use Rattle.ogg_page.specs.Window.{LentAt};
+ghost use Rattle.link_chain.specs.Links.{AreLinks};
+ghost use Rattle.ogg_command.specs.declared.command.Command.{Command};
+ghost use Rattle.gathering.specs.Gathered.{Gathered, HasGathered, without_packet};
+ghost use Rattle.import_mend.specs.Cut.{cut_links};
+ghost use Rattle.import_mend.specs.Gives.{GivesEnd, GivesRest, Mending, open_streams};
+ghost use Rattle.import_mend.specs.Ways.{way_of};
+ghost use Rattle.import_mend.specs.Whole.{AreWithin, Becomes, GathersPages, HasMended, IsStart, TakesPage, TakesPages, lost_of, pages_of};
+ghost use Rattle.import_mend.specs.declared.mend.Mend.{Mend};
+
+/// If the unfinished packet of a stream is dropped, the commands given so far hold what the links hold whose last one
+/// is cut back: its pages without that packet are a link too.
+pub fn a_packet_is_dropped_from_the_links()
+    ensures { (serial : ℕ) (links : List (List Page)) (gathered : Gathered) (given : List Command) → HasGathered links gathered given
+        → HasGathered (cut_links serial links) (without_packet serial gathered) given }
+{}
+
+/// The commands given hold what a sound chain of links holds, at any time. The pages of these links are those of the
+/// input as they are mended, and pages that end streams.
+pub fn commands_hold_sound_links()
+    ensures page { (offset : ℕ) (page : Page) (old new : Mending) (mend : Option Mend) (more given : List Command) (links : List (List Page))
+        → TakesPage offset page old new mend more → HasMended links old.gathered given
+        → (now : List (List Page)) × Becomes (way_of old.gathered.chain (lost_of old page) page) (lost_of old page) page old.gathered links now
+        × HasMended now new.gathered (given ++ more) }
+    ensures pages { (pages : List LentAt) (start new : Mending) (mends : List (Option Mend)) (given : List Command)
+        → IsStart start → TakesPages pages start new mends given → (links : List (List Page)) × HasMended links new.gathered given }
+    ensures end { (links : List (List Page)) (old new : Gathered) (given more : List Command) → GivesEnd old new more → HasMended links old given
+        → (now : List (List Page)) × HasGathered now new (given ++ more) }
+{}
+
+/// Of a sound bitstream nothing is changed: no mend is told, and each page is gathered as it came. If all its streams
+/// have ended, its end gives only what waited.
+pub fn sound_bitstreams_are_not_changed()
+    ensures told { (pages : List LentAt) (start new : Mending) (mends : List (Option Mend)) (given : List Command) (links : List (List Page))
+        → AllByRecursion IsPage (pages_of pages) → AreLinks (bytes_of_pages (pages_of pages)) links → AreWithin [] pages → IsStart start
+        → TakesPages pages start new mends given → AllByRecursion (λ mend. mend ≡ None) mends }
+    ensures gathers { (pages : List LentAt) (start new : Mending) (mends : List (Option Mend)) (given : List Command) (links : List (List Page))
+        → AllByRecursion IsPage (pages_of pages) → AreLinks (bytes_of_pages (pages_of pages)) links → AreWithin [] pages → IsStart start
+        → TakesPages pages start new mends given → GathersPages pages start.gathered new.gathered given }
+    ensures holds { (pages : List LentAt) (start new : Mending) (mends : List (Option Mend)) (given : List Command) (links : List (List Page))
+        → AllByRecursion IsPage (pages_of pages) → AreLinks (bytes_of_pages (pages_of pages)) links → AreWithin [] pages → IsStart start
+        → TakesPages pages start new mends given → HasGathered links new.gathered given }
+    ensures end { (old new : Gathered) (more : List Command) → open_streams old.chain ≡ [] → GivesEnd old new more → GivesRest old new more }
+{}
