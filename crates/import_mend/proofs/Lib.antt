@@ -2,6 +2,7 @@ mod Alike
 mod Cuts
 mod Dropped
 mod Ends
+mod Finding
 mod Fits
 mod Held
 mod Kept

@@ -7,4 +7,5 @@ pub mod Steps
 pub mod Gives
 pub mod Cut
 pub mod Whole
+pub mod Found
 pub mod Telling

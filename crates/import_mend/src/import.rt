@@ -1,13 +1,13 @@
 //! Any bytes into the commands of a sound chain, one page after the other.
-ghost use Rattle.std.specs.Prelude.{◌≡◌, ◌<◌, ◌++◌, ℕ, List, IfOk, true, false, Some, None};
+ghost use Rattle.std.specs.Prelude.{◌≡◌, ◌++◌, ℕ, List, IfOk, OnOk, OnErr, Ok, Err, true, false, Some, None};
 ghost use Rattle.ogg_page.specs.Page.{Page as PageValue, IsPage};
+ghost use Rattle.import_mend.specs.Found.{FindsNext, junk_before, offset_found};
 ghost use Rattle.import_mend.specs.Gives.{Gives, GivesEnd, mend_at_end, mending};
 ghost use Rattle.import_mend.specs.Losses.{lost_in};
 ghost use Rattle.import_mend.specs.Steps.{Mends};
 ghost use Rattle.import_mend.specs.Ways.{way_of};
 ghost use Rattle.import_mend.specs.Whole.{IsStart};
 ghost use Rattle.page_reader.specs.Reader.{started};
-ghost use Rattle.import_mend.specs.declared.mend.Mend.{Mend as MendOf};
 ghost use Rattle.ogg_command.specs.declared.command.Command.{Command as CommandOf};
 
 use crate::Memory;
@@ -74,6 +74,12 @@ impl Import {
             × Gives (way_of self.old.gatherer.chain (lost_in self.old.mender.losses self.old.gatherer.chain.streams page.serial) page) offset
             (lost_in self.old.mender.losses self.old.gatherer.chain.streams page.serial) page
             (mending self.old.mender.losses self.old.gatherer) (mending self.new.mender.losses self.new.gatherer) step.mend more) }
+        ensures finds { IfOk result (λ step. self.old.pages.outcome ≡ None → (junk : ℕ)
+            × FindsNext self.old.pages (R.remaining reader.old) (Ok tt) self.new.pages (R.remaining reader.new) self.old.junk junk
+            × (step.junk ≡ junk_before (offset_found self.new.pages.lent self.new.pages.offset) junk) × (self.new.junk ≡ 0)) }
+        ensures reads { OnErr result (result ≡ Err ImportFault.Read → (commands.new.items ≡ commands.old.items)
+            × (self.new.gatherer ≡ self.old.gatherer) × (self.new.mender.losses ≡ self.old.mender.losses) × (self.old.pages.outcome ≡ None
+            → FindsNext self.old.pages (R.remaining reader.old) (Err PageReaderFault.Read) self.new.pages (R.remaining reader.new) self.old.junk self.new.junk)) }
         ensures ends { IfOk result (λ step. step.is_page ≡ false → (commands.new.items ≡ commands.old.items) × (self.new.gatherer ≡ self.old.gatherer)
             × (self.new.mender.losses ≡ self.old.mender.losses) × (step.mend ≡ None) × (self.new.pages.lent ≡ None)) }
     {
@@ -116,7 +122,12 @@ fn find_page<R: Read>(
     pages: &mut PageReader,
     reader: &mut R,
     junk: &mut u64,
-) -> Result<(), ImportFault> {
+) -> Result<(), ImportFault>
+    ensures ok { OnOk result (pages.old.outcome ≡ None
+        → FindsNext pages.old (R.remaining reader.old) (Ok tt) pages.new (R.remaining reader.new) junk.old junk.new) }
+    ensures err { OnErr result ((result ≡ Err ImportFault.Read) × (pages.old.outcome ≡ None
+        → FindsNext pages.old (R.remaining reader.old) (Err PageReaderFault.Read) pages.new (R.remaining reader.new) junk.old junk.new)) }
+{
     for _ in 0..u64::MAX {
         match pages.advance(reader) {
             Ok(()) => return Ok(()),
@@ -131,8 +142,7 @@ fn find_page<R: Read>(
 
 /// What is told of the bytes before the page that was found. They count as told.
 fn take_junk(pages: &PageReader, junk: &mut u64) -> Option<Mend>
-    ensures none { junk.old ≡ 0 → result ≡ None }
-    ensures some { 0 < junk.old → (offset : ℕ) × (result ≡ Some (MendOf.Junk offset junk.old)) }
+    ensures junk { result ≡ junk_before (offset_found pages.now.lent pages.now.offset) junk.old }
     ensures told { junk.new ≡ 0 }
 {
     let bytes = mem::take(junk);
