@@ -4,6 +4,7 @@ mod Dropped
 mod Ends
 mod Finding
 mod Fits
+mod Good
 mod Held
 mod Kept
 mod Lacings

@@ -1,5 +1,5 @@
 //! What always holds of pages that are mended, over a whole input.
-ghost use Rattle.std.specs.Prelude.{◌≡◌, ◌++◌, [], ℕ, None, List, Option};
+ghost use Rattle.std.specs.Prelude.{◌≡◌, ◌+◌, ◌-◌, ◌<◌, ◌^◌, ◌++◌, [], ℕ, Some, None, Ok, List, Option, length};
 ghost use Rattle.std.specs.List.{AllByRecursion};
 ghost use Rattle.ogg_page.specs.Page.{Page, IsPage, bytes_of_pages};
 ghost use Rattle.ogg_page.specs.Window.{LentAt};
@@ -7,10 +7,12 @@ ghost use Rattle.link_chain.specs.Links.{AreLinks};
 ghost use Rattle.ogg_command.specs.declared.command.Command.{Command};
 ghost use Rattle.gathering.specs.Gathered.{Gathered, HasGathered, without_packet};
 ghost use Rattle.import_mend.specs.Cut.{cut_links};
+ghost use Rattle.import_mend.specs.Found.{AreGoodPages, FindsNext, FindsPages, HoldsNone};
 ghost use Rattle.import_mend.specs.Gives.{GivesEnd, GivesRest, Mending, open_streams};
 ghost use Rattle.import_mend.specs.Ways.{way_of};
 ghost use Rattle.import_mend.specs.Whole.{AreWithin, Becomes, GathersPages, HasMended, IsStart, TakesPage, TakesPages, lost_of, pages_of};
 ghost use Rattle.import_mend.specs.declared.mend.Mend.{Mend};
+ghost use Rattle.page_reader.specs.Reader.{ReaderState};
 
 /// If the unfinished packet of a stream is dropped, the commands given so far hold what the links hold whose last one
 /// is cut back: its pages without that packet are a link too.
@@ -45,4 +47,18 @@ pub fn sound_bitstreams_are_not_changed()
         → AllByRecursion IsPage (pages_of pages) → AreLinks (bytes_of_pages (pages_of pages)) links → AreWithin [] pages → IsStart start
         → TakesPages pages start new mends given → HasGathered links new.gathered given }
     ensures end { (old new : Gathered) (more : List Command) → open_streams old.chain ≡ [] → GivesEnd old new more → GivesRest old new more }
+{}
+
+/// The pages that are found are the good pages of the bytes, one after the other, and at the end no page is left in
+/// them, however the reads cut them. The same bytes have one list of good pages.
+pub fn pages_found_are_the_good_pages()
+    ensures pages { (pages : List LentAt) (old : ReaderState) (bytes : List ℕ) (new : ReaderState) (left : Option (List ℕ))
+        → old.offset + length (old.unread ++ bytes) < 2 ^ 64 - 1 → FindsPages old (Some bytes) pages new left
+        → (rest : List ℕ) × (left ≡ Some rest) × AreGoodPages old.offset (old.unread ++ bytes) pages (new.unread ++ rest)
+        × (new.offset + length (new.unread ++ rest) < 2 ^ 64 - 1) }
+    ensures end { (old : ReaderState) (bytes : List ℕ) (new : ReaderState) (left : Option (List ℕ)) (before now : ℕ)
+        → old.offset + length (old.unread ++ bytes) < 2 ^ 64 - 1 → FindsNext old (Some bytes) (Ok tt) new left before now → new.lent ≡ None
+        → HoldsNone (old.unread ++ bytes) }
+    ensures one { (offset : ℕ) (bytes : List ℕ) (pages others : List LentAt) (rest left : List ℕ)
+        → AreGoodPages offset bytes pages rest → HoldsNone rest → AreGoodPages offset bytes others left → HoldsNone left → pages ≡ others }
 {}
