@@ -140,7 +140,7 @@ cut_bodies (page ∷ pages) all =
     ]
 
 -- ---- the packets
-lacing_bytes : (pages : List Page) → AllByRecursion IsPage pages → AllByRecursion IsByte (joined_lacing pages)
+pub lacing_bytes : (pages : List Page) → AllByRecursion IsPage pages → AllByRecursion IsByte (joined_lacing pages)
 lacing_bytes [] all = tt
 lacing_bytes (page ∷ pages) all = all_both IsByte page.lacing (joined_lacing pages) all.0.lacing (lacing_bytes pages all.1)
 

@@ -16,7 +16,7 @@ use Rattle.link_chain.specs.Progress.{change_at}
 use Rattle.link_chain.specs.Laws.StateBehind.{map-map, map-same}
 use Rattle.ogg_page.specs.Page.{Page}
 use Rattle.ogg_command.specs.declared.command.Command.{Command}
-use Rattle.import_mend.specs.Gives.{EndsEach, EndsStream, EndsStreams, is_unended, open_streams}
+use Rattle.import_mend.specs.Gives.{EndsEach, EndsOne, EndsStreams, is_unended, open_streams}
 use Rattle.import_mend.specs.Steps.{after_end}
 use Rattle.import_mend.proofs.Open.{ends_first, none_unended}
 use Rattle.import_mend.proofs.Fits.{later_fits, broken_known, no_rest, same_number}
@@ -32,13 +32,13 @@ end_is_short stream g =
     le-ltb 8388608 (length (rest_of stream.serial (without_packet stream.serial g).link.streams) + 0) (omega (arith, ap length (no_rest stream.serial g.link.streams)))
 
 -- ---- one stream after the other
-pub ends_more : (streams : List StreamState) (stream : StreamState) (old next new : Gathered) (more own : List Command) → EndsEach streams old next more → EndsStream stream next new own →
+pub ends_more : (streams : List StreamState) (stream : StreamState) (old next new : Gathered) (more own : List Command) → EndsEach streams old next more → EndsOne stream next new own →
     EndsEach (streams ++ stream ∷ []) old new (more ++ own)
 ends_more [] stream old next new more own e one = (
   new,
   own,
   [],
-  subst (λ (g : Gathered). EndsStream stream g new own) e.0 one,
+  subst (λ (g : Gathered). EndsOne stream g new own) e.0 one,
   (refl, refl),
   ap (λ l. l ++ own) e.1 ∙ sym (append-nil own),
 )
@@ -83,7 +83,7 @@ pub ends_none : (g : Gathered) → EndsStreams g g []
 ends_none g = record { ended = []; each = (refl, refl); open_ones = refl }
 
 -- one more is ended
-pub ends_one : (stream : StreamState) (old next new : Gathered) (more own : List Command) → EndsStreams old next more → EndsStream stream next new own
+pub ends_one : (stream : StreamState) (old next new : Gathered) (more own : List Command) → EndsStreams old next more → EndsOne stream next new own
     → open_streams next.chain ≡ stream ∷ open_streams new.chain → EndsStreams old new (more ++ own)
 ends_one stream old next new more own e one less = record {
   ended = e.ended ++ stream ∷ [];

@@ -50,13 +50,13 @@ each_ended [] links old new given more e h =
     (subst (λ (l : List Command). HasMended links old l) (sym (ap (λ l. given ++ l) e.1 ∙ append-nil given)) h)
 each_ended (stream ∷ streams) links old new given more (next, own, others, one, each, all) h =
     let dropped : HasMended (cut_links stream.serial links) (without_packet stream.serial old) given = dropped_goes_on stream.serial links old given h in
-    let ended : HasMended (links_with (cut_links stream.serial links) (end_page stream.next_sequence stream)) next (given ++ own) = one.goes_on (cut_links stream.serial links) given dropped.0 dropped.1 in
+    let ended : HasMended (links_with (cut_links stream.serial links) (end_page stream.next_sequence stream)) next (given ++ own) = one.gathers.goes_on (cut_links stream.serial links) given dropped.0 dropped.1 in
     subst (λ (l : List Command). HasMended (links_ended (stream ∷ streams) links) new l) (append_assoc given own others ∙ ap (λ l. given ++ l) (sym all))
     (each_ended streams (links_with (cut_links stream.serial links) (end_page stream.next_sequence stream)) next new (given ++ own) others each ended)
 
 -- ---- any page
 -- a page that isn't its stream's first is taken only if its stream is there
-known_later : (chain : ChainState) (lost : ℕ) (page : Page) → is_first page ≡ false → way_of chain lost page ≡ Take → (stream : StreamState) × (stream_in chain.streams page.serial ≡ Some stream)
+pub known_later : (chain : ChainState) (lost : ℕ) (page : Page) → is_first page ≡ false → way_of chain lost page ≡ Take → (stream : StreamState) × (stream_in chain.streams page.serial ≡ Some stream)
 known_later chain lost page later way = at (stream_in chain.streams page.serial) refl
   where
     at : (o : Option StreamState) → stream_in chain.streams page.serial ≡ o → (stream : StreamState) × (stream_in chain.streams page.serial ≡ Some stream)
@@ -149,7 +149,7 @@ record IsSound (links : List (List Page)) (page : Page) : Type 0 where
   within : IsWithin links page
 
 -- how many bytes are kept of a packet
-rest_size : (serial : ℕ) (links : List (List Page)) (g : Gathered) (given : List Command) → HasGathered links g given →
+pub rest_size : (serial : ℕ) (links : List (List Page)) (g : Gathered) (given : List Command) → HasGathered links g given →
     length (rest_of serial g.link.streams) ≡ unfinished_size (joined_lacing (pages_with serial (last_link links)))
 rest_size serial links g given h =
     let pages : List Page = last_link links in

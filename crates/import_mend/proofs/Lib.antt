@@ -7,9 +7,15 @@ mod Fits
 mod Good
 mod Held
 mod Kept
+mod Kepts
 mod Lacings
+mod Lost
 mod Open
+mod Origins
+mod Parts
 mod ReadBack
+mod Runs
 mod Sound
+mod Sources
 mod Taken
 mod Values

@@ -26,7 +26,7 @@ full e = cc
 pub stranger : Stranger ≡ Take → ⊥
 stranger e = cc
 
-repeated : Repeated ≡ Take → ⊥
+pub repeated : Repeated ≡ Take → ⊥
 repeated e = cc
 
 pub number_left : (page : Page) (n : ℕ) → leaves_number page n ≡ true → n < 2 ^ 32

@@ -5,7 +5,8 @@ use Rattle.std.specs.Option.{option_map}
 use Rattle.ogg_page.specs.Page.{Page}
 use Rattle.ogg_page.specs.LogicalStream.{is_first}
 use Rattle.link_chain.specs.declared.stream_state.StreamState.{StreamState}
-use Rattle.link_chain.specs.ChainState.{ChainState}
+use Rattle.link_chain.specs.ChainState.{ChainState, is_open}
+use Rattle.link_chain.specs.Followed.{after_page}
 use Rattle.link_chain.specs.Progress.{stream_in}
 use Rattle.link_chain.specs.Taking.{unfinished_stream}
 use Rattle.ogg_command.specs.declared.command.Command.{Command}
@@ -14,7 +15,7 @@ use Rattle.gathering.specs.Giving.{begin_if}
 use Rattle.gathering.specs.Kept.{is_too_long, waits}
 use Rattle.import_mend.specs.Losses.{with_lost, with_new}
 use Rattle.import_mend.specs.Mended.{end_page, is_joined, mended}
-use Rattle.import_mend.specs.Steps.{broken_off}
+use Rattle.import_mend.specs.Steps.{after_end, broken_off}
 use Rattle.import_mend.specs.declared.mend.Mend.{Mend}
 use Rattle.import_mend.specs.declared.mend.Mend.TheVariants.{Restart as RestartOf, Full as FullOf, Unfinished}
 use Rattle.import_mend.specs.declared.ways.Way.{Way}
@@ -41,11 +42,17 @@ open_streams chain = filter is_unended chain.streams
 abbrev pub EndsStream : StreamState → Gathered → Gathered → List Command → Type 0
 EndsStream stream old new more = GathersPage (end_page stream.next_sequence stream) (without_packet stream.serial old) new more
 
+-- one of the open streams is ended
+pub record EndsOne (stream : StreamState) (old new : Gathered) (more : List Command) : Type 0 where
+  pub known : stream_in old.chain.streams stream.serial ≡ Some stream
+  pub gathers : EndsStream stream old new more
+  pub after : new.chain ≡ after_end stream old
+
 -- the same of each of these streams, in turn
 abbrev pub EndsEach : List StreamState → Gathered → Gathered → List Command → Type 0
 EndsEach [] old new more = (new ≡ old) × (more ≡ [])
 EndsEach (stream ∷ streams) old new more =
-    (next : Gathered) × (own : List Command) × (others : List Command) × EndsStream stream old next own × EndsEach streams next new others
+    (next : Gathered) × (own : List Command) × (others : List Command) × EndsOne stream old next own × EndsEach streams next new others
     × (more ≡ own ++ others)
 
 -- Of the open streams the first ones are ended, and the others stay open.
@@ -75,6 +82,8 @@ pub record BeginsAgain (page : Page) (old new : Mending) (more : List Command) :
   pub ends : List Command
   pub own : List Command
   pub each : EndsEach (open_streams old.gathered.chain) old.gathered closed ends
+  pub shut : is_open closed.chain ≡ false
+  pub after : new.gathered.chain ≡ after_page closed.chain page
   pub begins : GathersPage page closed new.gathered own
   pub all : more ≡ ends ++ own
   pub losses : new.losses ≡ with_new old.losses closed.chain

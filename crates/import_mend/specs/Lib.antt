@@ -8,4 +8,5 @@ pub mod Gives
 pub mod Cut
 pub mod Whole
 pub mod Found
+pub mod Origin
 pub mod Telling

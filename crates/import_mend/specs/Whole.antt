@@ -6,6 +6,7 @@ use Rattle.ogg_page.specs.Sizes.{full_value}
 use Rattle.ogg_page.specs.Window.{LentAt}
 use Rattle.link_chain.specs.declared.stream_state.StreamState.{StreamState}
 use Rattle.link_chain.specs.ChainState.{chain_state_of, last_link}
+use Rattle.link_chain.specs.Limits.{most_streams}
 use Rattle.link_chain.specs.Links.{pages_with}
 use Rattle.link_chain.specs.Progress.{stream_in}
 use Rattle.link_chain.specs.Taking.{links_with}
@@ -49,6 +50,7 @@ LostNone losses = (place : ℕ) → slice_index losses place ≡ 0
 -- before the first page
 pub record IsStart (state : Mending) : Type 0 where
   pub losses : LostNone state.losses
+  pub count : length state.losses ≡ most_streams
   pub gathered : HasGathered [] state.gathered []
   pub goes_on : CanGoOn state.gathered
 

@@ -9,6 +9,7 @@ ghost use Rattle.gathering.specs.Gathered.{Gathered, HasGathered, without_packet
 ghost use Rattle.import_mend.specs.Cut.{cut_links};
 ghost use Rattle.import_mend.specs.Found.{AreGoodPages, FindsNext, FindsPages, HoldsNone};
 ghost use Rattle.import_mend.specs.Gives.{GivesEnd, GivesRest, Mending, open_streams};
+ghost use Rattle.import_mend.specs.Origin.{CommandFrom};
 ghost use Rattle.import_mend.specs.Ways.{way_of};
 ghost use Rattle.import_mend.specs.Whole.{AreWithin, Becomes, GathersPages, HasMended, IsStart, TakesPage, TakesPages, lost_of, pages_of};
 ghost use Rattle.import_mend.specs.declared.mend.Mend.{Mend};
@@ -61,4 +62,15 @@ pub fn pages_found_are_the_good_pages()
         → HoldsNone (old.unread ++ bytes) }
     ensures one { (offset : ℕ) (bytes : List ℕ) (pages others : List LentAt) (rest left : List ℕ)
         → AreGoodPages offset bytes pages rest → HoldsNone rest → AreGoodPages offset bytes others left → HoldsNone left → pages ≡ others }
+{}
+
+/// Each packet of the commands that are given lies whole in pages of the input that follow each other, and ends in the
+/// last of them, whose position it has.
+pub fn packets_come_from_the_input()
+    ensures pages { (pages : List LentAt) (start new : Mending) (mends : List (Option Mend)) (given : List Command)
+        → AllByRecursion IsPage (pages_of pages) → IsStart start → TakesPages pages start new mends given
+        → AllByRecursion (CommandFrom (pages_of pages)) given }
+    ensures end { (pages : List LentAt) (start new : Mending) (mends : List (Option Mend)) (last : Gathered) (given more : List Command)
+        → AllByRecursion IsPage (pages_of pages) → IsStart start → TakesPages pages start new mends given → GivesEnd new.gathered last more
+        → AllByRecursion (CommandFrom (pages_of pages)) (given ++ more) }
 {}

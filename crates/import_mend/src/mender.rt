@@ -1,7 +1,8 @@
 //! Pages of any input, mended one after the other.
-ghost use Rattle.std.specs.Prelude.{◌≡◌, ◌<◌, ◌++◌, ℕ, List, IfOk, true, false, None};
+ghost use Rattle.std.specs.Prelude.{◌≡◌, ◌<◌, ◌++◌, ℕ, List, IfOk, true, false, None, length};
 ghost use Rattle.ogg_page.specs.LogicalStream.{is_first};
 ghost use Rattle.link_chain.specs.Followed.{after_page};
+ghost use Rattle.link_chain.specs.Limits.{most_streams};
 ghost use Rattle.link_chain.specs.Taking.{fault_of_page};
 ghost use Rattle.gathering.specs.Kept.{waits};
 ghost use Rattle.import_mend.specs.Gives.{Gives, GivesEnd, GathersFirst, GathersLater, GathersRestart, mend_at_end, mending};
@@ -36,7 +37,8 @@ pub struct Mender {
 impl Mender {
     /// No page was lost. It takes no memory.
     pub fn new(alloc: Global) -> Mender
-        ensures { LostNone result.losses }
+        ensures none_lost { LostNone result.losses }
+        ensures count { length result.losses ≡ most_streams }
     {
         Mender {
             losses: [0; MOST_STREAMS],

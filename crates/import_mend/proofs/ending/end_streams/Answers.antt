@@ -2,6 +2,7 @@ use Rattle.std.proofs.Common.{◌≡◌, ◌++◌, ◌∷◌, List, sym, ◌∙�
 use Rattle.std.specs.List.{find}
 use Rattle.link_chain.specs.ChainState.{ChainState}
 use Rattle.link_chain.specs.Places.{HaveOwnSerials}
+use Rattle.link_chain.specs.Progress.{stream_in}
 use Rattle.link_chain.specs.declared.stream_state.StreamState.{StreamState}
 use Rattle.ogg_command.specs.declared.command.Command.{Command}
 use Rattle.gathering.specs.Gathered.{Gathered}
@@ -21,5 +22,11 @@ loop-preserved c =
     (ap (λ (s : ChainState). find is_unended s.streams) (sym c.chain.ensures) ∙ sym c.in-Some.ensures.first) c.in_ok-end_stream.ensures.after in (
       more ++ own,
       items ∙ ap (λ (l : List Command). l ++ own) all ∙ append_assoc c.args.commands.now.items more own,
-      ends_one stream c.args.gatherer.now old new more own ended one less,
+      ends_one stream c.args.gatherer.now old new more own ended
+          (record {
+            known = ap (λ (s : ChainState). stream_in s.streams stream.serial) (sym c.chain.ensures) ∙ c.in-Some.ensures.some.1;
+            gathers = one;
+            after = c.in_ok-end_stream.ensures.after;
+          })
+          less,
     )
