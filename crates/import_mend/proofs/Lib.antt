@@ -10,10 +10,12 @@ mod Kept
 mod Kepts
 mod Lacings
 mod Lost
+mod Numbers
 mod Open
 mod Origins
 mod Parts
 mod ReadBack
+mod Rooms
 mod Runs
 mod Sound
 mod Sources

@@ -9,4 +9,5 @@ pub mod Cut
 pub mod Whole
 pub mod Found
 pub mod Origin
+pub mod Room
 pub mod Telling

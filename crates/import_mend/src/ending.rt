@@ -1,5 +1,5 @@
 //! Streams that are ended though their last page hasn't come.
-ghost use Rattle.std.specs.Prelude.{◌≡◌, ◌<◌, ◌+◌, ◌++◌, ◌^◌, true, false, not, None, Some, Ok, OnOk, IfSome, List, nat_eq};
+ghost use Rattle.std.specs.Prelude.{◌≡◌, ◌<◌, ◌+◌, ◌-◌, ◌++◌, ◌^◌, true, false, not, None, Some, Ok, OnOk, IfSome, List, nat_eq};
 ghost use Rattle.std.specs.List.{find};
 ghost use Rattle.ogg_page.specs.Sizes.{fixed_size};
 ghost use Rattle.link_chain.specs.ChainState.{is_open};
@@ -7,6 +7,7 @@ ghost use Rattle.link_chain.specs.Places.{HaveOwnSerials};
 ghost use Rattle.link_chain.specs.Progress.{stream_in};
 ghost use Rattle.link_chain.specs.declared.stream_state.StreamState.{StreamState as State};
 ghost use Rattle.import_mend.specs.Gives.{EndsStream, EndsStreams, is_unended};
+ghost use Rattle.import_mend.specs.Room.{HasRoom};
 ghost use Rattle.import_mend.specs.Steps.{after_end};
 ghost use Rattle.ogg_command.specs.declared.command.Command.{Command as CommandOf};
 
@@ -14,7 +15,7 @@ use crate::Memory;
 use crate::taking::take;
 use crate::writing::write_last;
 use gathering::Gatherer;
-use link_chain::{Chain, MOST_STREAMS, StreamState, is_open};
+use link_chain::{Chain, StreamState, is_open};
 use ogg_command::Command;
 use ogg_page::split_known_page;
 
@@ -37,8 +38,10 @@ fn first_open(chain: &Chain) -> Option<StreamState>
 
 /// Whether a last page can be given to a stream.
 fn can_end(chain: &Chain, stream: StreamState) -> bool
-    ensures { result ≡ true → (nat_eq chain.now.chain.links 0 ≡ false) × (stream.next_sequence < 2 ^ 32)
+    ensures fits { result ≡ true → (nat_eq chain.now.chain.links 0 ≡ false) × (stream.next_sequence < 2 ^ 32)
         × (chain.now.chain.length_of + fixed_size < 2 ^ 63) }
+    ensures each { nat_eq chain.now.chain.links 0 ≡ false → stream.next_sequence < 2 ^ 32 → chain.now.chain.length_of < 2 ^ 63 - 64
+        → result ≡ true }
 {
     chain.links() > 0 && stream.next_sequence < 1 << 32 && chain.len() < (1 << 63) - 64
 }
@@ -76,8 +79,10 @@ pub fn end_streams(
     ensures closed { result ≡ Ok true → is_open gatherer.new.chain ≡ false }
     ensures gives { OnOk result ((more : List CommandOf) × (commands.new.items ≡ commands.old.items ++ more)
         × EndsStreams gatherer.old gatherer.new more) }
+    ensures all { HasRoom gatherer.old.chain → OnOk result (is_open gatherer.new.chain ≡ false) }
 {
-    for _ in 0..MOST_STREAMS {
+    let count = gatherer.chain().streams().len();
+    for _ in 0..count {
         let stream = match first_open(gatherer.chain()) {
             Some(stream) => stream,
             None => return Ok(true),

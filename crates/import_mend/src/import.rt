@@ -1,9 +1,11 @@
 //! Any bytes into the commands of a sound chain, one page after the other.
 ghost use Rattle.std.specs.Prelude.{◌≡◌, ◌++◌, ℕ, List, IfOk, OnOk, OnErr, Ok, Err, true, false, Some, None};
 ghost use Rattle.ogg_page.specs.Page.{Page as PageValue, IsPage};
+ghost use Rattle.link_chain.specs.ChainState.{is_open};
 ghost use Rattle.import_mend.specs.Found.{FindsNext, junk_before, offset_found};
 ghost use Rattle.import_mend.specs.Gives.{Gives, GivesEnd, mend_at_end, mending};
 ghost use Rattle.import_mend.specs.Losses.{lost_in};
+ghost use Rattle.import_mend.specs.Room.{HasRoom};
 ghost use Rattle.import_mend.specs.Steps.{Mends};
 ghost use Rattle.import_mend.specs.Ways.{way_of};
 ghost use Rattle.import_mend.specs.Whole.{IsStart};
@@ -111,6 +113,7 @@ impl Import {
         ensures gives { IfOk result (λ mend. (more : List CommandOf) × (commands.new.items ≡ commands.old.items ++ more)
             × GivesEnd self.old.gatherer self.new.gatherer more) }
         ensures told { IfOk result (λ mend. mend ≡ mend_at_end self.old.pages.offset self.old.gatherer.chain) }
+        ensures ended { HasRoom self.old.gatherer.chain → IfOk result (λ mend. is_open self.new.gatherer.chain ≡ false) }
     {
         let offset = self.pages.offset();
         self.mender.end(&mut self.gatherer, offset, commands)

@@ -10,6 +10,7 @@ ghost use Rattle.import_mend.specs.Cut.{cut_links};
 ghost use Rattle.import_mend.specs.Found.{AreGoodPages, FindsNext, FindsPages, HoldsNone};
 ghost use Rattle.import_mend.specs.Gives.{GivesEnd, GivesRest, Mending, open_streams};
 ghost use Rattle.import_mend.specs.Origin.{CommandFrom};
+ghost use Rattle.import_mend.specs.Room.{HasRoom};
 ghost use Rattle.import_mend.specs.Ways.{way_of};
 ghost use Rattle.import_mend.specs.Whole.{AreWithin, Becomes, GathersPages, HasMended, IsStart, TakesPage, TakesPages, lost_of, pages_of};
 ghost use Rattle.import_mend.specs.declared.mend.Mend.{Mend};
@@ -73,4 +74,10 @@ pub fn packets_come_from_the_input()
     ensures end { (pages : List LentAt) (start new : Mending) (mends : List (Option Mend)) (last : Gathered) (given more : List Command)
         → AllByRecursion IsPage (pages_of pages) → IsStart start → TakesPages pages start new mends given → GivesEnd new.gathered last more
         → AllByRecursion (CommandFrom (pages_of pages)) (given ++ more) }
+{}
+
+/// After any pages each open stream can be ended, as `Mender::end` and `Import::finish` then do.
+pub fn open_streams_can_be_ended()
+    ensures { (pages : List LentAt) (start new : Mending) (mends : List (Option Mend)) (given : List Command)
+        → AllByRecursion IsPage (pages_of pages) → IsStart start → TakesPages pages start new mends given → HasRoom new.gathered.chain }
 {}

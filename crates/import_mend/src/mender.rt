@@ -1,12 +1,14 @@
 //! Pages of any input, mended one after the other.
 ghost use Rattle.std.specs.Prelude.{◌≡◌, ◌<◌, ◌++◌, ℕ, List, IfOk, true, false, None, length};
 ghost use Rattle.ogg_page.specs.LogicalStream.{is_first};
+ghost use Rattle.link_chain.specs.ChainState.{is_open};
 ghost use Rattle.link_chain.specs.Followed.{after_page};
 ghost use Rattle.link_chain.specs.Limits.{most_streams};
 ghost use Rattle.link_chain.specs.Taking.{fault_of_page};
 ghost use Rattle.gathering.specs.Kept.{waits};
 ghost use Rattle.import_mend.specs.Gives.{Gives, GivesEnd, GathersFirst, GathersLater, GathersRestart, mend_at_end, mending};
 ghost use Rattle.import_mend.specs.Losses.{lost_in};
+ghost use Rattle.import_mend.specs.Room.{HasRoom};
 ghost use Rattle.import_mend.specs.Steps.{Mends, MendsLater, Restarts};
 ghost use Rattle.import_mend.specs.Ways.{most_bytes, way_of};
 ghost use Rattle.import_mend.specs.Whole.{LostNone};
@@ -88,6 +90,7 @@ impl Mender {
         ensures gives { IfOk result (λ mend. (more : List CommandOf) × (commands.new.items ≡ commands.old.items ++ more)
             × GivesEnd gatherer.old gatherer.new more) }
         ensures told { IfOk result (λ mend. mend ≡ mend_at_end offset gatherer.old.chain) }
+        ensures ended { HasRoom gatherer.old.chain → IfOk result (λ mend. is_open gatherer.new.chain ≡ false) }
     {
         let unfinished = gatherer.unfinished();
         end_streams(&mut self.room, gatherer, commands)?;
