@@ -3,12 +3,9 @@ ghost use Rattle.std.specs.Prelude.{◌≡◌, ◌++◌, ℕ, List, IfOk, OnOk, 
 ghost use Rattle.ogg_page.specs.Page.{Page as PageValue, IsPage};
 ghost use Rattle.link_chain.specs.ChainState.{is_open};
 ghost use Rattle.import_mend.specs.Found.{FindsNext, junk_before, offset_found};
-ghost use Rattle.import_mend.specs.Gives.{Gives, GivesEnd, mend_at_end, mending};
-ghost use Rattle.import_mend.specs.Losses.{lost_in};
+ghost use Rattle.import_mend.specs.Gives.{GivesEnd, mend_at_end, mending};
 ghost use Rattle.import_mend.specs.Room.{HasRoom};
-ghost use Rattle.import_mend.specs.Steps.{Mends};
-ghost use Rattle.import_mend.specs.Ways.{way_of};
-ghost use Rattle.import_mend.specs.Whole.{IsStart};
+ghost use Rattle.import_mend.specs.Whole.{IsStart, TakesPage};
 ghost use Rattle.page_reader.specs.Reader.{started};
 ghost use Rattle.ogg_command.specs.declared.command.Command.{Command as CommandOf};
 
@@ -69,21 +66,19 @@ impl Import {
         commands: &mut Vec<Command>,
     ) -> Result<Step, ImportFault>
         ensures mends { IfOk result (λ step. step.is_page ≡ true → (offset : ℕ) × (page : PageValue) × IsPage page
-            × (self.new.pages.lent ≡ Some (offset, page))
-            × Mends (way_of self.old.gatherer.chain (lost_in self.old.mender.losses self.old.gatherer.chain.streams page.serial) page) offset
-            (lost_in self.old.mender.losses self.old.gatherer.chain.streams page.serial) page self.old.gatherer self.new.gatherer step.mend
-            × (more : List CommandOf) × (commands.new.items ≡ commands.old.items ++ more)
-            × Gives (way_of self.old.gatherer.chain (lost_in self.old.mender.losses self.old.gatherer.chain.streams page.serial) page) offset
-            (lost_in self.old.mender.losses self.old.gatherer.chain.streams page.serial) page
-            (mending self.old.mender.losses self.old.gatherer) (mending self.new.mender.losses self.new.gatherer) step.mend more) }
+            × (self.new.pages.lent ≡ Some (offset, page)) × (more : List CommandOf) × (commands.new.items ≡ commands.old.items ++ more)
+            × TakesPage offset page (mending self.old.mender.losses self.old.gatherer) (mending self.new.mender.losses self.new.gatherer)
+            step.mend more) }
         ensures finds { IfOk result (λ step. self.old.pages.outcome ≡ None → (junk : ℕ)
             × FindsNext self.old.pages (R.remaining reader.old) (Ok tt) self.new.pages (R.remaining reader.new) self.old.junk junk
             × (step.junk ≡ junk_before (offset_found self.new.pages.lent self.new.pages.offset) junk) × (self.new.junk ≡ 0)) }
         ensures reads { OnErr result (result ≡ Err ImportFault.Read → (commands.new.items ≡ commands.old.items)
-            × (self.new.gatherer ≡ self.old.gatherer) × (self.new.mender.losses ≡ self.old.mender.losses) × (self.old.pages.outcome ≡ None
-            → FindsNext self.old.pages (R.remaining reader.old) (Err PageReaderFault.Read) self.new.pages (R.remaining reader.new) self.old.junk self.new.junk)) }
-        ensures ends { IfOk result (λ step. step.is_page ≡ false → (commands.new.items ≡ commands.old.items) × (self.new.gatherer ≡ self.old.gatherer)
-            × (self.new.mender.losses ≡ self.old.mender.losses) × (step.mend ≡ None) × (self.new.pages.lent ≡ None)) }
+            × (self.new.gatherer ≡ self.old.gatherer) × (self.new.mender.losses ≡ self.old.mender.losses)
+            × (self.old.pages.outcome ≡ None → FindsNext self.old.pages (R.remaining reader.old) (Err PageReaderFault.Read) self.new.pages
+            (R.remaining reader.new) self.old.junk self.new.junk)) }
+        ensures ends { IfOk result (λ step. step.is_page ≡ false → (commands.new.items ≡ commands.old.items)
+            × (self.new.gatherer ≡ self.old.gatherer) × (self.new.mender.losses ≡ self.old.mender.losses)
+            × (step.mend ≡ None) × (self.new.pages.lent ≡ None)) }
     {
         find_page(&mut self.pages, reader, &mut self.junk)?;
         let junk = take_junk(&self.pages, &mut self.junk);

@@ -26,29 +26,34 @@ pub fn a_packet_is_dropped_from_the_links()
 /// The commands given hold what a sound chain of links holds, at any time. The pages of these links are those of the
 /// input as they are mended, and pages that end streams.
 pub fn commands_hold_sound_links()
-    ensures page { (offset : ℕ) (page : Page) (old new : Mending) (mend : Option Mend) (more given : List Command) (links : List (List Page))
-        → TakesPage offset page old new mend more → HasMended links old.gathered given
-        → (now : List (List Page)) × Becomes (way_of old.gathered.chain (lost_of old page) page) (lost_of old page) page old.gathered links now
+    ensures page { (offset : ℕ) (page : Page) (old new : Mending) (mend : Option Mend) (more given : List Command)
+        (links : List (List Page)) → TakesPage offset page old new mend more → HasMended links old.gathered given
+        → (now : List (List Page))
+        × Becomes (way_of old.gathered.chain (lost_of old page) page) (lost_of old page) page old.gathered links now
         × HasMended now new.gathered (given ++ more) }
     ensures pages { (pages : List LentAt) (start new : Mending) (mends : List (Option Mend)) (given : List Command)
         → IsStart start → TakesPages pages start new mends given → (links : List (List Page)) × HasMended links new.gathered given }
-    ensures end { (links : List (List Page)) (old new : Gathered) (given more : List Command) → GivesEnd old new more → HasMended links old given
-        → (now : List (List Page)) × HasGathered now new (given ++ more) }
+    ensures end { (links : List (List Page)) (old new : Gathered) (given more : List Command)
+        → GivesEnd old new more → HasMended links old given → (now : List (List Page)) × HasGathered now new (given ++ more) }
 {}
 
 /// Of a sound bitstream nothing is changed: no mend is told, and each page is gathered as it came. If all its streams
 /// have ended, its end gives only what waited.
 pub fn sound_bitstreams_are_not_changed()
-    ensures told { (pages : List LentAt) (start new : Mending) (mends : List (Option Mend)) (given : List Command) (links : List (List Page))
-        → AllByRecursion IsPage (pages_of pages) → AreLinks (bytes_of_pages (pages_of pages)) links → AreWithin [] pages → IsStart start
+    ensures told { (pages : List LentAt) (start new : Mending) (mends : List (Option Mend)) (given : List Command)
+        (links : List (List Page)) → AllByRecursion IsPage (pages_of pages) → AreLinks (bytes_of_pages (pages_of pages)) links
+        → AreWithin [] pages → IsStart start
         → TakesPages pages start new mends given → AllByRecursion (λ mend. mend ≡ None) mends }
-    ensures gathers { (pages : List LentAt) (start new : Mending) (mends : List (Option Mend)) (given : List Command) (links : List (List Page))
-        → AllByRecursion IsPage (pages_of pages) → AreLinks (bytes_of_pages (pages_of pages)) links → AreWithin [] pages → IsStart start
+    ensures gathers { (pages : List LentAt) (start new : Mending) (mends : List (Option Mend)) (given : List Command)
+        (links : List (List Page)) → AllByRecursion IsPage (pages_of pages) → AreLinks (bytes_of_pages (pages_of pages)) links
+        → AreWithin [] pages → IsStart start
         → TakesPages pages start new mends given → GathersPages pages start.gathered new.gathered given }
-    ensures holds { (pages : List LentAt) (start new : Mending) (mends : List (Option Mend)) (given : List Command) (links : List (List Page))
-        → AllByRecursion IsPage (pages_of pages) → AreLinks (bytes_of_pages (pages_of pages)) links → AreWithin [] pages → IsStart start
+    ensures holds { (pages : List LentAt) (start new : Mending) (mends : List (Option Mend)) (given : List Command)
+        (links : List (List Page)) → AllByRecursion IsPage (pages_of pages) → AreLinks (bytes_of_pages (pages_of pages)) links
+        → AreWithin [] pages → IsStart start
         → TakesPages pages start new mends given → HasGathered links new.gathered given }
-    ensures end { (old new : Gathered) (more : List Command) → open_streams old.chain ≡ [] → GivesEnd old new more → GivesRest old new more }
+    ensures end { (old new : Gathered) (more : List Command) → open_streams old.chain ≡ [] → GivesEnd old new more
+        → GivesRest old new more }
 {}
 
 /// The pages that are found are the good pages of the bytes, one after the other, and at the end no page is left in

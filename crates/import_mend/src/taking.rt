@@ -98,7 +98,8 @@ pub fn follow(
     requires way { way_of gatherer.old.chain lost page.now ≡ Way.Take }
     ensures after { OnOk result (gatherer.new.chain ≡ after_later lost stream page.now gatherer.old) }
     ensures gives { OnOk result ((more : List CommandOf) × (commands.new.items ≡ commands.old.items ++ more)
-        × GathersLeft (is_joined lost stream (is_too_long gatherer.old.link page.now) page.now) stream.next_sequence page.now gatherer.old gatherer.new more) }
+        × GathersLeft (is_joined lost stream (is_too_long gatherer.old.link page.now) page.now) stream.next_sequence page.now
+        gatherer.old gatherer.new more) }
 {
     let _bytes = page.whole();
     let joined = is_joined(lost, stream, gatherer.is_too_long(page), page);
