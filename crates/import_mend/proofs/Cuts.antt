@@ -1,15 +1,15 @@
 -- The pages of a stream without its unfinished packet.
-use Rattle.std.proofs.Common.{◌≡◌, ◌≢◌, ℕ, zero, suc, ◌+◌, ◌-◌, ◌*◌, ◌/◌, ◌%◌, ◌≤◌, ◌<◌, Bool, true, false, cond, List, [], ◌∷◌, ◌++◌, length, take, replicate, refl, sym, ◌∙◌, ap, subst, arith, inl, inr, append-nil, append_assoc, length-append}
-use Rattle.std.specs.Prelude.{nat_eq, nat_lt, not, ◌||◌, ◌&&◌, sum, IsTrue}
-use Rattle.std.specs.List.{AllByRecursion, AllZip, concat, flat_map, list_any}
+use Rattle.std.proofs.Common.{◌≡◌, ◌≢◌, ℕ, zero, suc, ◌+◌, ◌-◌, ◌/◌, ◌%◌, ◌<◌, Bool, true, false, cond, List, [], ◌∷◌, ◌++◌, length, take, replicate, refl, sym, ◌∙◌, ap, subst, arith, inl, inr, append-nil, length-append}
+use Rattle.std.specs.Prelude.{nat_eq, not, ◌||◌, ◌&&◌, sum, IsTrue}
+use Rattle.std.specs.List.{AllByRecursion, concat, flat_map}
 use Rattle.std.proofs.lemmas.Bool.{cases_Bool, cond-true, cond-false, eqb-true, ne_eqb, and_parts, false≢true}
-use Rattle.std.proofs.lemmas.List.{take-append-le, length-take-le}
+use Rattle.std.proofs.lemmas.List.{take-append-le}
 use Rattle.std.proofs.lemmas.List.Concat.{flat_map-append}
 use Rattle.std.proofs.lemmas.List.Sums.{sum_by-append}
 use Rattle.std.proofs.Math.Seq.{take-append_seam, take-append-add, take-length}
 use Rattle.ogg_page.specs.Page.{Page, IsPage, IsByte}
 use Rattle.ogg_page.specs.Lacing.{ends_open, lace}
-use Rattle.ogg_page.specs.LogicalStream.{EachBehind, FitsBehind, HoldsPackets, is_continued, is_first, is_last, joined_bodies, joined_lacing, number_behind}
+use Rattle.ogg_page.specs.LogicalStream.{EachBehind, FitsBehind, HoldsPackets, is_continued, is_last, joined_bodies, joined_lacing}
 use Rattle.ogg_page.specs.StreamLaws.{ends_open-at, ends_open-lace, ends_open-laces, some_values}
 use Rattle.link_chain.specs.Laws.Grow.{all_both}
 use Rattle.link_chain.specs.Laws.LastLink.{all_split}

@@ -1,27 +1,26 @@
 -- The links without the unfinished packet of a stream of the last one.
-use Rattle.std.proofs.Common.{◌≡◌, ◌≢◌, ℕ, zero, suc, ◌+◌, ◌-◌, ◌*◌, ◌/◌, ◌≤◌, ◌<◌, Bool, true, false, cond, List, [], ◌∷◌, ◌++◌, length, map, refl, sym, ◌∙◌, ap, subst, arith, inl, inr, length-append}
-use Rattle.std.specs.Prelude.{nat_eq, nat_lt, not, ◌||◌, ◌&&◌, sum_by}
-use Rattle.std.specs.List.{AllByRecursion, AllZip, filter, flat_map, list_any}
-use Rattle.std.proofs.lemmas.Bool.{cases_Bool, cases_eq, cond-true, cond-false, eq-eqb, ne_eqb, eqb-true}
+use Rattle.std.proofs.Common.{◌≡◌, ◌≢◌, ℕ, ◌+◌, ◌-◌, ◌≤◌, Bool, true, false, cond, List, [], ◌∷◌, ◌++◌, length, map, refl, sym, ◌∙◌, ap, subst, arith, inl, inr, length-append}
+use Rattle.std.specs.Prelude.{nat_eq, nat_lt, not, ◌||◌, sum_by}
+use Rattle.std.specs.List.{AllByRecursion, AllZip, flat_map, list_any}
+use Rattle.std.proofs.lemmas.Bool.{cases_Bool, cases_eq, cond-true, cond-false, eq-eqb, ne_eqb}
 use Rattle.std.proofs.lemmas.List.{length-map}
 use Rattle.std.proofs.lemmas.List.Sums.{sum_by-cons}
 use Rattle.ogg_page.specs.Page.{Page, IsPage, bytes_of_pages, page_size}
 use Rattle.ogg_page.specs.Lacing.{ends_open}
-use Rattle.ogg_page.specs.LogicalStream.{FitsBehind, FlagsFit, HoldsPackets, is_first, is_last, joined_bodies, joined_lacing, number_behind}
-use Rattle.link_chain.specs.declared.stream_state.StreamState.{StreamState}
+use Rattle.ogg_page.specs.LogicalStream.{FlagsFit, HoldsPackets, is_first, is_last, joined_bodies, joined_lacing, number_behind}
 use Rattle.link_chain.specs.ChainState.{ChainState, chain_state_of, last_link, last_position, state_of}
 use Rattle.link_chain.specs.Followed.{dropped}
 use Rattle.link_chain.specs.Links.{AllButLast, AreLinks, IsLink, all_ended, has_ended, has_stream, pages_with, serials_of}
 use Rattle.link_chain.specs.Progress.{change_at, left_whole}
 use Rattle.link_chain.specs.Size.{size_of_pages}
 use Rattle.link_chain.specs.Laws.Grow.{all_filter}
-use Rattle.link_chain.specs.Laws.LastLink.{any_map, last_is_link}
+use Rattle.link_chain.specs.Laws.LastLink.{last_is_link}
 use Rattle.link_chain.specs.Laws.StateBehind.{chain_of, map-map, map-same, size_of_links, state}
 use Rattle.link_chain.specs.Laws.TakenLinks.{without}
 use Rattle.chain_rules.specs.Recording.{Stream}
 use Rattle.ogg_command.specs.declared.command.Command.{Command}
-use Rattle.gathering.specs.Gathered.{AreWanted, CanGoOn, Gathered, HasGathered, HoldsSoFar, KeepsUp, Waits, before_last, held_back, without_packet}
-use Rattle.gathering.specs.Kept.{KeptLink, KeptStream, has_some, is_ready, is_waiting, kept_bytes, rest_of, size_of_rest, without_rest}
+use Rattle.gathering.specs.Gathered.{AreWanted, Gathered, HasGathered, HoldsSoFar, KeepsUp, Waits, before_last, held_back, without_packet}
+use Rattle.gathering.specs.Kept.{KeptLink, KeptStream, is_ready, is_waiting, kept_bytes, rest_of, size_of_rest, without_rest}
 use Rattle.import_mend.specs.Cut.{cut_back, cut_before, cut_links, cut_pages}
 use Rattle.import_mend.proofs.Alike.{Alike, AreAlike, any_alike, ended_alike, itself, link_alike, number_alike, position_alike, serials_alike, with_alike}
 use Rattle.import_mend.proofs.Cuts.{before_alike, before_is_page, cut_closed, cut_fits, cut_holds, less_bodies, less_lacing}

@@ -1,5 +1,5 @@
 -- A stream is ended by a page without packets.
-use Rattle.std.proofs.Common.{◌≡◌, ℕ, ◌+◌, Bool, cond, true, false, List, [], ◌∷◌, ◌++◌, Some, None, map, refl, sym, ◌∙◌, ap, subst, arith, append_assoc, append-nil}
+use Rattle.std.proofs.Common.{◌≡◌, ℕ, ◌+◌, Bool, cond, true, false, List, [], ◌∷◌, ◌++◌, Some, None, refl, sym, ◌∙◌, ap, subst, arith, append_assoc, append-nil}
 use Rattle.std.specs.Prelude.{nat_eq, length, ◌||◌}
 use Rattle.std.specs.List.{filter, find}
 use Rattle.link_chain.specs.declared.stream_state.StreamState.{StreamState}
@@ -14,7 +14,6 @@ use Rattle.link_chain.specs.Followed.{followed}
 use Rattle.link_chain.specs.Places.{HaveOwnSerials}
 use Rattle.link_chain.specs.Progress.{change_at}
 use Rattle.link_chain.specs.Laws.StateBehind.{map-map, map-same}
-use Rattle.ogg_page.specs.Page.{Page}
 use Rattle.ogg_command.specs.declared.command.Command.{Command}
 use Rattle.import_mend.specs.Gives.{EndsEach, EndsOne, EndsStreams, is_unended, open_streams}
 use Rattle.import_mend.specs.Steps.{after_end}

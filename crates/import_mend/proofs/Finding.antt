@@ -1,10 +1,10 @@
 -- Bytes of no page are passed over, up to the next page.
-use Rattle.std.proofs.Common.{◌≡◌, ◌≢◌, ℕ, zero, suc, ◌+◌, ◌-◌, ◌^◌, ◌≤◌, ◌<◌, List, [], ◌∷◌, ◌++◌, length, drop, Option, Some, None, Result, Ok, Err, refl, sym, ◌∙◌, ap, subst, arith, inl, inr, append_assoc, append-nil, length-append}
+use Rattle.std.proofs.Common.{◌≡◌, ◌≢◌, ℕ, ◌+◌, ◌-◌, ◌^◌, ◌≤◌, ◌<◌, List, [], ◌∷◌, ◌++◌, Option, Some, None, Result, Err, refl, sym, ◌∙◌, subst, arith, inl, inr}
 use Rattle.std.specs.Prelude.{min, sum}
 use Rattle.std.proofs.lemmas.List.Sums.{sum_by-append, sum_by-cons}
-use Rattle.page_reader.specs.Reader.{HasAdvanced, GivesFault, IsFaultOf, IsPassed, PassesOver, ReaderState}
+use Rattle.page_reader.specs.Reader.{HasAdvanced, GivesFault, PassesOver, ReaderState}
 use Rattle.page_reader.specs.declared.fault.PageReaderFault.{PageReaderFault}
-use Rattle.page_reader.specs.declared.fault.PageReaderFault.TheVariants.{Page as PageOf, Read as ReadOf}
+use Rattle.page_reader.specs.declared.fault.PageReaderFault.TheVariants.{Page as PageOf}
 use Rattle.ogg_page.specs.declared.fault.PageFault.{PageFault}
 use Rattle.import_mend.specs.Found.{FindsNext, PassesAll, PassesOne}
 

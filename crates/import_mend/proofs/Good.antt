@@ -1,7 +1,6 @@
 -- The pages that are found are the good pages of the input.
-use Rattle.std.proofs.Common.{◌≡◌, ◌≢◌, ℕ, zero, suc, ◌+◌, ◌-◌, ◌^◌, ◌≤◌, ◌<◌, Bool, true, false, List, [], ◌∷◌, ◌++◌, length, drop, Option, Some, None, Result, Ok, Err, refl, sym, ◌∙◌, ap, subst, arith, inl, inr, append_assoc, append-nil, length-append, length-drop}
-use Rattle.std.specs.Prelude.{min, nat_lt, slice_index, sum}
-use Rattle.std.specs.Io.KnownBytes.{Consumes, IsAtEnd}
+use Rattle.std.proofs.Common.{◌≡◌, ℕ, zero, suc, ◌+◌, ◌-◌, ◌^◌, ◌≤◌, ◌<◌, List, [], ◌∷◌, ◌++◌, length, drop, Option, Some, None, Ok, Err, refl, sym, ◌∙◌, ap, subst, arith, inl, inr, append_assoc, append-nil, length-append, length-drop}
+use Rattle.std.specs.Prelude.{nat_lt, slice_index, sum}
 use Rattle.std.proofs.lemmas.Bool.{cases_Bool, ltb-true, ltb-false}
 use Rattle.std.proofs.lemmas.List.{drop-append-le, drop-drop, get_or-drop, get_or_append_left}
 use Rattle.std.proofs.lemmas.List.Sums.{sum_by-cons}
@@ -12,8 +11,7 @@ use Rattle.ogg_page.specs.ReadingLaws.{fault_is_no_page}
 use Rattle.ogg_page.specs.Window.{LentAt}
 use Rattle.ogg_page.specs.declared.fault.PageFault.{PageFault}
 use Rattle.ogg_page.specs.declared.fault.PageFault.TheVariants.{Short, Pattern, Version, Checksum}
-use Rattle.page_reader.specs.Reader.{Gives, GivesEnd, GivesFault, GivesPage, HasAdvanced, IsFaultOf, IsPassed, PassesOver, ReaderState}
-use Rattle.page_reader.specs.declared.fault.PageReaderFault.{PageReaderFault}
+use Rattle.page_reader.specs.Reader.{Gives, GivesEnd, GivesFault, GivesPage, HasAdvanced, IsFaultOf, IsPassed, ReaderState}
 use Rattle.page_reader.specs.declared.fault.PageReaderFault.TheVariants.{Page as PageOf}
 use Rattle.import_mend.specs.Found.{AreGoodPages, FindsNext, FindsPages, HoldsNone, NoneBefore, PassesAll, PassesOne, StandsAt}
 

@@ -1,8 +1,8 @@
 -- The commands given hold what the mended pages hold.
-use Rattle.std.proofs.Common.{◌≡◌, ◌≢◌, ◌⊎◌, ℕ, ◌+◌, ◌-◌, ◌*◌, ◌^◌, ◌≤◌, ◌<◌, Bool, true, false, cond, List, [], ◌∷◌, ◌++◌, length, take, Option, Some, None, refl, sym, ◌∙◌, ap, subst, arith, inl, inr, append_assoc, append-nil}
+use Rattle.std.proofs.Common.{◌≡◌, ℕ, ◌+◌, ◌^◌, Bool, true, false, cond, List, [], ◌∷◌, ◌++◌, length, Option, Some, None, refl, sym, ◌∙◌, ap, subst, arith, inl, inr, append_assoc, append-nil}
 use Rattle.std.specs.Prelude.{nat_eq, nat_lt, nat_le, not, ◌&&◌}
 use Rattle.std.specs.List.{AllByRecursion, list_any}
-use Rattle.std.proofs.lemmas.Bool.{cases_Bool, cond-true, cond-false, le-ltb, false≢true}
+use Rattle.std.proofs.lemmas.Bool.{cases_Bool, cond-false, le-ltb, false≢true}
 use Rattle.std.proofs.lemmas.List.{length-take-le}
 use Rattle.ogg_page.specs.Page.{Page, IsPage, bytes_of_pages}
 use Rattle.ogg_page.specs.LogicalStream.{is_first, joined_lacing}
@@ -16,12 +16,12 @@ use Rattle.link_chain.specs.Taking.{AreTaken, fault_of_page, links_with}
 use Rattle.link_chain.specs.Laws.Grow.{all_filter}
 use Rattle.ogg_command.specs.declared.command.Command.{Command}
 use Rattle.gathering.specs.Cutting.{first_size}
-use Rattle.gathering.specs.Gathered.{CanGoOn, Gathered, GathersPage, HasGathered, without_packet}
+use Rattle.gathering.specs.Gathered.{Gathered, HasGathered, without_packet}
 use Rattle.gathering.specs.Kept.{is_too_long, rest_of}
-use Rattle.import_mend.specs.Cut.{cut_links, cut_pages}
+use Rattle.import_mend.specs.Cut.{cut_links}
 use Rattle.import_mend.specs.Gives.{BeginsAgain, EndsEach, EndsStreams, Gives, GivesEnd, GivesRest, Mending, open_streams}
-use Rattle.import_mend.specs.Mended.{end_page, is_joined, mended, whole_values}
-use Rattle.import_mend.specs.Steps.{Mends, broken_off}
+use Rattle.import_mend.specs.Mended.{end_page, is_joined, whole_values}
+use Rattle.import_mend.specs.Steps.{broken_off}
 use Rattle.import_mend.specs.Ways.{way_of, way_of_first, way_of_known}
 use Rattle.import_mend.specs.Whole.{AreWithin, Becomes, GathersPages, HasMended, IsStart, IsWithin, LostNone, TakesPage, TakesPages, broken_links, links_ended, links_later, lost_of, pages_of, unfinished_size}
 use Rattle.import_mend.specs.declared.mend.Mend.{Mend}

@@ -1,6 +1,6 @@
 -- What is kept of the streams of a link, after a page of one of them.
-use Rattle.std.proofs.Common.{◌≡◌, ◌≢◌, ◌⊎◌, ℕ, ◌+◌, ◌-◌, ◌*◌, ◌≤◌, Bool, true, false, cond, List, [], ◌∷◌, ◌++◌, length, map, take, drop, Option, Some, None, refl, sym, ◌∙◌, ap, subst, arith, inl, inr, take-append-drop}
-use Rattle.std.specs.Prelude.{nat_eq, not, ◌||◌, ◌&&◌}
+use Rattle.std.proofs.Common.{◌≡◌, ◌⊎◌, ℕ, Bool, true, false, cond, List, [], ◌∷◌, ◌++◌, map, take, drop, Some, None, refl, sym, ◌∙◌, ap, subst, inl, inr, take-append-drop}
+use Rattle.std.specs.Prelude.{nat_eq, ◌||◌}
 use Rattle.std.specs.List.{AllByRecursion, IsDistinct, list_any}
 use Rattle.std.proofs.lemmas.Bool.{cases_Bool, cases_eq, cond-true, cond-false, eq-eqb, ne_eqb, eqb-false}
 use Rattle.ogg_page.specs.Page.{Page}
@@ -13,8 +13,8 @@ use Rattle.ogg_command.specs.declared.command.Command.{Command}
 use Rattle.ogg_command.specs.declared.command.Command.TheVariants.{Begin as BeginOf, Put as PutOf, End as EndOf}
 use Rattle.ogg_command.specs.declared.command.Entry.{Entry}
 use Rattle.ogg_command.specs.declared.command.NewStream.{NewStream}
-use Rattle.ogg_feed.specs.Commands.{end_of, entry_of, put_of}
-use Rattle.gathering.specs.Giving.{Follows, bare, begin_if, begins_now, begun_if, begun_link, link_begin, marked, new_stream, page_end}
+use Rattle.ogg_feed.specs.Commands.{entry_of, put_of}
+use Rattle.gathering.specs.Giving.{Follows, bare, begin_if, begins_now, begun_if, link_begin, marked, new_stream, page_end}
 use Rattle.gathering.specs.Kept.{KeptLink, KeptStream, TakenBy, TakesPage, ends_by, has_kept, rest_of, room_of, without_rest}
 use Rattle.import_mend.specs.Origin.{CommandFrom, ComesFrom, HeaderFrom, KeptFrom}
 use Rattle.import_mend.proofs.Runs.{comes_more}

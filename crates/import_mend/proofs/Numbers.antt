@@ -1,10 +1,10 @@
 -- Each page leaves room for the pages that end the open streams.
-use Rattle.std.proofs.Common.{◌≡◌, ℕ, ◌+◌, ◌-◌, ◌*◌, ◌^◌, ◌≤◌, ◌<◌, Bool, true, false, cond, List, [], ◌∷◌, ◌++◌, length, map, Option, Some, None, refl, sym, ◌∙◌, ap, subst, arith, inl, inr, length-append}
+use Rattle.std.proofs.Common.{◌≡◌, ℕ, ◌+◌, ◌-◌, ◌*◌, ◌^◌, ◌≤◌, ◌<◌, Bool, true, false, cond, List, [], ◌∷◌, ◌++◌, length, map, Option, Some, refl, sym, ◌∙◌, ap, subst, arith, inl, inr, length-append}
 use Rattle.std.specs.Prelude.{nat_eq, nat_lt, nat_le, not, ◌||◌, ◌&&◌}
-use Rattle.std.specs.List.{AllByRecursion, list_any}
+use Rattle.std.specs.List.{AllByRecursion}
 use Rattle.std.proofs.lemmas.Bool.{cases_Bool, cond-true, cond-false, leb-false, ltb-true, or_parts, ne_eqb, false≢true}
 use Rattle.std.proofs.lemmas.List.{length-map}
-use Rattle.ogg_page.specs.Page.{Page, IsPage, page_size}
+use Rattle.ogg_page.specs.Page.{Page, IsPage}
 use Rattle.ogg_page.specs.PageLaws.{page_fits}
 use Rattle.ogg_page.specs.LogicalStream.{is_first, is_last}
 use Rattle.ogg_page.specs.Window.{LentAt}
@@ -12,13 +12,13 @@ use Rattle.link_chain.specs.declared.stream_state.StreamState.{StreamState}
 use Rattle.link_chain.specs.ChainState.{ChainState, chain_state_of, is_open}
 use Rattle.link_chain.specs.Followed.{after_page, continued, entered, followed, joined as joined_chain, opened}
 use Rattle.link_chain.specs.Progress.{change_at, stream_in, left_whole as whole_stream}
-use Rattle.link_chain.specs.Taking.{fault_of_page, is_whole_packet}
+use Rattle.link_chain.specs.Taking.{is_whole_packet}
 use Rattle.link_chain.specs.Laws.Grow.{all_both}
 use Rattle.link_chain.specs.Laws.PageRules.{joining_kept}
 use Rattle.ogg_command.specs.declared.command.Command.{Command}
 use Rattle.gathering.specs.Gathered.{Gathered}
 use Rattle.gathering.specs.Kept.{is_too_long}
-use Rattle.import_mend.specs.Gives.{BeginsAgain, EndsEach, EndsStreams, Gives, Mending, is_unended, open_streams}
+use Rattle.import_mend.specs.Gives.{BeginsAgain, EndsEach, EndsStreams, Gives, Mending, open_streams}
 use Rattle.import_mend.specs.Mended.{end_page, is_joined, mended}
 use Rattle.import_mend.specs.Room.{HasNumber, HasRoom}
 use Rattle.import_mend.specs.Steps.{Mends, after_end, after_later, broken_off}

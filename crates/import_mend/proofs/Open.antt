@@ -1,7 +1,7 @@
 -- The first stream that hasn't ended.
-use Rattle.std.proofs.Common.{◌≡◌, ℕ, Bool, true, false, List, [], ◌∷◌, Option, Some, None, map, cond, refl, sym, ◌∙◌, ap, subst, inl, inr}
+use Rattle.std.proofs.Common.{◌≡◌, Bool, true, false, List, [], ◌∷◌, Option, Some, None, map, cond, refl, sym, ◌∙◌, ap, inl, inr}
 use Rattle.std.specs.Prelude.{nat_eq, not, IfSome, ◌||◌}
-use Rattle.std.specs.List.{AllByRecursion, IsDistinct, filter, find, list_any, position_or_len}
+use Rattle.std.specs.List.{IsDistinct, filter, find, list_any, position_or_len}
 use Rattle.std.proofs.lemmas.Bool.{cases_Bool, cond-true, cond-false, eq-eqb}
 use Rattle.std.proofs.lemmas.List.Folds.{find_at}
 use Rattle.link_chain.specs.declared.stream_state.StreamState.{StreamState}

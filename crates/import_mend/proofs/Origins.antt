@@ -1,50 +1,44 @@
 -- Where what is kept and given comes from, after one more page.
-use Rattle.std.proofs.Common.{◌≡◌, ◌≢◌, ◌⊎◌, ℕ, ◌+◌, ◌-◌, ◌*◌, ◌^◌, ◌≤◌, ◌<◌, Bool, true, false, cond, List, [], ◌∷◌, ◌++◌, length, map, take, sum, Option, Some, None, refl, sym, ◌∙◌, ap, subst, arith, inl, inr, append_assoc, append-nil}
-use Rattle.std.specs.Prelude.{nat_eq, nat_lt, nat_le, not, is_none, is_some, ◌||◌, ◌&&◌, slice_set}
+use Rattle.std.proofs.Common.{◌≡◌, ◌≢◌, ℕ, ◌+◌, ◌-◌, ◌*◌, ◌^◌, ◌≤◌, Bool, true, false, cond, List, [], ◌∷◌, ◌++◌, length, map, Option, Some, None, refl, sym, ◌∙◌, ap, subst, arith, inl, inr}
+use Rattle.std.specs.Prelude.{nat_eq, nat_lt, nat_le, not, is_none, ◌&&◌}
 use Rattle.std.specs.List.{AllByRecursion, IsDistinct, list_any}
-use Rattle.std.proofs.lemmas.Bool.{cases_Bool, cases_eq, cond-true, cond-false, eqb-true, leb-false, ltb-false, ltb-true, ne_eqb, or_parts, and_parts, false≢true}
+use Rattle.std.proofs.lemmas.Bool.{cases_Bool, cases_eq, cond-false, eqb-true, ltb-false, or_parts, false≢true}
 use Rattle.std.proofs.lemmas.List.{length-map, length-set}
-use Rattle.std.proofs.lemmas.List.Sums.{sum_by-cons}
 use Rattle.ogg_page.specs.Page.{Page, IsPage}
-use Rattle.ogg_page.specs.Lacing.{ends_open, lace, lacing_of}
+use Rattle.ogg_page.specs.Lacing.{ends_open}
 use Rattle.ogg_page.specs.LogicalStream.{is_continued, is_first, is_last, joined_lacing}
-use Rattle.ogg_page.specs.StreamLaws.{ends_open-lace}
-use Rattle.ogg_page.specs.Window.{LentAt}
 use Rattle.link_chain.specs.declared.stream_state.StreamState.{StreamState}
 use Rattle.link_chain.specs.ChainState.{ChainState, chain_state_of, is_open, last_link, state_of}
-use Rattle.link_chain.specs.Followed.{after_page, continued, entered, followed, joined as joined_chain, opened}
+use Rattle.link_chain.specs.Followed.{continued, followed, joined as joined_chain, opened}
 use Rattle.link_chain.specs.Links.{has_stream, pages_with}
 use Rattle.link_chain.specs.Progress.{change_at, stream_in, left_whole as whole_stream}
-use Rattle.link_chain.specs.Taking.{is_one_packet, is_whole_packet, leaves_open}
+use Rattle.link_chain.specs.Taking.{leaves_open}
 use Rattle.link_chain.specs.Laws.Grow.{all_both, all_filter, all_weaker}
-use Rattle.link_chain.specs.Laws.LastLink.{known_stream, last_is_link, not_false}
+use Rattle.link_chain.specs.Laws.LastLink.{known_stream, last_is_link}
 use Rattle.link_chain.specs.Laws.OwnSerials.{serial_in, serials_stay}
-use Rattle.link_chain.specs.Laws.PageRules.{joining_kept, opening_kept}
-use Rattle.link_chain.specs.Laws.TakenLinks.{more_lacing, one_lacing}
 use Rattle.ogg_command.specs.declared.command.Command.{Command}
 use Rattle.gathering.specs.Cutting.{CutsInto}
-use Rattle.gathering.specs.Gathered.{Gathered, GathersPage, HasGathered, without_packet}
-use Rattle.gathering.specs.Giving.{Follows, TakesOn, begin_if, with_first}
-use Rattle.gathering.specs.Kept.{KeptLink, KeptStream, entered as kept_entered, has_kept, is_too_long, no_link, rest_of, waits, without_rest}
-use Rattle.import_mend.specs.Gives.{BeginsAgain, EndsEach, EndsOne, EndsStreams, GathersLeft, Gives, Mending, mending, open_streams}
-use Rattle.import_mend.specs.Losses.{lost_at, lost_in, place_in, with_lost, with_lost_at, with_new}
-use Rattle.import_mend.specs.Mended.{behind_rest, end_page, ends_some, front_values, is_cut, is_joined, mended, without_values}
-use Rattle.import_mend.specs.Origin.{CommandFrom, ComesFrom, HeaderFrom, KeptFrom, Origin, RestFrom}
-use Rattle.import_mend.specs.Steps.{Mends, after_end, after_later, broken_off}
+use Rattle.gathering.specs.Gathered.{Gathered, HasGathered}
+use Rattle.gathering.specs.Giving.{Follows}
+use Rattle.gathering.specs.Kept.{KeptStream, has_kept, is_too_long, rest_of}
+use Rattle.import_mend.specs.Gives.{GathersLeft, Mending}
+use Rattle.import_mend.specs.Losses.{lost_at, lost_in, place_in, with_lost, with_lost_at}
+use Rattle.import_mend.specs.Mended.{behind_rest, ends_some, front_values, is_cut, is_joined, mended, without_values}
+use Rattle.import_mend.specs.Origin.{CommandFrom, ComesFrom, KeptFrom, Origin, RestFrom}
+use Rattle.import_mend.specs.Steps.{after_later, broken_off}
 use Rattle.import_mend.specs.Ways.{is_repeated, leaves_number, number_due, way_of, way_of_first, way_of_known, way_of_later}
-use Rattle.import_mend.specs.Whole.{HasMended, IsStart, TakesPage, TakesPages, broken_links, lost_of}
-use Rattle.import_mend.specs.declared.mend.Mend.{Mend}
+use Rattle.import_mend.specs.Whole.{HasMended, broken_links, lost_of}
 use Rattle.import_mend.specs.declared.ways.Way.{Way}
-use Rattle.import_mend.specs.declared.ways.Way.TheVariants.{Take, Restart, Stranger, Repeated, Misshapen, Full}
+use Rattle.import_mend.specs.declared.ways.Way.TheVariants.{Take, Stranger, Repeated, Full}
 use Rattle.import_mend.proofs.Cuts.{lacing_bytes}
 use Rattle.import_mend.proofs.Dropped.{HoldsRest, absent_pages, find_rest, pages_of_last}
 use Rattle.import_mend.proofs.Fits.{broken_known, broken_stream, found_changed, four_parts, no_rest}
-use Rattle.import_mend.proofs.Held.{broken_goes_on, dropped_goes_on, rest_size}
+use Rattle.import_mend.proofs.Held.{broken_goes_on, rest_size}
 use Rattle.import_mend.proofs.Kept.{either_has, left_has, mended_first, mended_last, mended_serial}
-use Rattle.import_mend.proofs.Kepts.{FollowsFrom, begin_if_from, command_more, follows_from, is_kept, kept_more, other_found, pushed_found, rest_after, rest_before, rest_dropped, serials, without_from}
+use Rattle.import_mend.proofs.Kepts.{FollowsFrom, command_more, follows_from, is_kept, kept_more, other_found, rest_after, rest_before, rest_dropped, serials, without_from}
 use Rattle.import_mend.proofs.Lacings.{whole_closed}
 use Rattle.import_mend.proofs.Lost.{lost_other, lost_own, same_place}
-use Rattle.import_mend.proofs.Parts.{CutHas, PageHas, cut_has, fresh_has, goes_on_has, no_packets, alone}
+use Rattle.import_mend.proofs.Parts.{CutHas, PageHas, cut_has, fresh_has, goes_on_has}
 use Rattle.import_mend.proofs.Runs.{rest_more}
 use Rattle.import_mend.proofs.Taken.{TakenLater, full, if_taken, repeated, stranger, taken_later}
 

@@ -1,18 +1,17 @@
 -- What is left of a page, as a part of it, and the packets in it.
-use Rattle.std.proofs.Common.{◌≡◌, ◌≢◌, ◌⊎◌, ℕ, zero, suc, ◌+◌, ◌-◌, ◌*◌, ◌≤◌, ◌<◌, Bool, true, false, cond, List, [], ◌∷◌, ◌++◌, length, take, drop, replicate, refl, sym, ◌∙◌, ap, subst, arith, inl, inr, append_assoc, append-nil, length-append, take-append-drop}
-use Rattle.std.specs.Prelude.{nat_eq, nat_lt, not, ◌||◌, ◌&&◌, sum}
+use Rattle.std.proofs.Common.{◌≡◌, ◌≢◌, ℕ, suc, ◌+◌, ◌-◌, ◌*◌, ◌<◌, Bool, true, false, cond, List, [], ◌∷◌, ◌++◌, length, take, drop, replicate, refl, sym, ◌∙◌, ap, subst, arith, inl, inr, append_assoc, append-nil, length-append, take-append-drop}
+use Rattle.std.specs.Prelude.{nat_lt, not, ◌||◌, ◌&&◌, sum}
 use Rattle.std.specs.List.{AllByRecursion, concat, flat_map}
-use Rattle.std.proofs.lemmas.Bool.{cases_Bool, cond-true, cond-false, false≢true, and_parts, ltb-true, ne_eqb}
+use Rattle.std.proofs.lemmas.Bool.{cases_Bool, cond-true, cond-false, false≢true, ltb-true, ne_eqb}
 use Rattle.std.proofs.lemmas.List.{length-take-le}
 use Rattle.std.proofs.lemmas.List.Concat.{flat_map-append}
-use Rattle.std.proofs.lemmas.List.Sums.{sum_by-append}
 use Rattle.ogg_page.specs.Page.{Page, IsPage}
 use Rattle.ogg_page.specs.Lacing.{ends_open, lace}
-use Rattle.ogg_page.specs.LogicalStream.{EachBehind, is_continued, is_last, joined_bodies, joined_lacing, number_behind}
+use Rattle.ogg_page.specs.LogicalStream.{is_continued, is_last, joined_bodies, joined_lacing, number_behind}
 use Rattle.ogg_page.specs.StreamLaws.{behind_both, ends_open-at, number_push, some_values}
 use Rattle.gathering.specs.Cutting.{CutsInto}
 use Rattle.import_mend.specs.Mended.{behind_rest, ends_some, front_values, is_cut, left_whole, mended, whole_values, with_values, without_values}
-use Rattle.import_mend.specs.Origin.{AreAmong, BeginsIn, ComesFrom, GoesOn, RestFrom, begins_fresh}
+use Rattle.import_mend.specs.Origin.{BeginsIn, ComesFrom, GoesOn, RestFrom, begins_fresh}
 use Rattle.import_mend.proofs.Kept.{behind_last, front_fits, joined_behind}
 use Rattle.import_mend.proofs.Runs.{all_come, among_push, behind_all, each_comes}
 

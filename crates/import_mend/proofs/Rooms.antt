@@ -1,12 +1,12 @@
 -- The open streams can be ended.
-use Rattle.std.proofs.Common.{◌≡◌, ℕ, ◌+◌, ◌-◌, ◌*◌, ◌^◌, ◌≤◌, ◌<◌, Bool, true, false, cond, List, [], ◌∷◌, ◌++◌, length, map, Some, refl, sym, ◌∙◌, ap, subst, arith, inl, inr}
+use Rattle.std.proofs.Common.{◌≡◌, ℕ, ◌+◌, ◌^◌, ◌≤◌, ◌<◌, Bool, true, false, cond, List, [], ◌∷◌, length, map, Some, refl, sym, ◌∙◌, ap, subst, arith, inl, inr}
 use Rattle.std.specs.Prelude.{nat_eq, not, ◌||◌}
 use Rattle.std.specs.List.{AllByRecursion, filter, find, list_any}
 use Rattle.std.proofs.lemmas.Bool.{cases_Bool, cond-true, cond-false, false≢true}
 use Rattle.link_chain.specs.declared.stream_state.StreamState.{StreamState}
 use Rattle.link_chain.specs.ChainState.{ChainState, is_open}
 use Rattle.link_chain.specs.Followed.{followed}
-use Rattle.link_chain.specs.Progress.{change_at, stream_in, left_whole as whole_stream}
+use Rattle.link_chain.specs.Progress.{change_at, left_whole as whole_stream}
 use Rattle.gathering.specs.Gathered.{Gathered}
 use Rattle.import_mend.specs.Gives.{is_unended, open_streams}
 use Rattle.import_mend.specs.Mended.{end_page}

@@ -1,20 +1,14 @@
 -- Packets in pages of the input that follow each other.
-use Rattle.std.proofs.Common.{◌≡◌, ◌≢◌, ◌⊎◌, ℕ, zero, suc, ◌+◌, ◌-◌, ◌*◌, ◌/◌, ◌%◌, ◌≤◌, ◌<◌, Bool, true, false, cond, List, [], ◌∷◌, ◌++◌, length, take, drop, replicate, refl, sym, ◌∙◌, ap, subst, arith, inl, inr, append_assoc, append-nil, length-append, take-append-drop}
-use Rattle.std.specs.Prelude.{nat_eq, nat_lt, not, ◌||◌, ◌&&◌, sum}
+use Rattle.std.proofs.Common.{◌≡◌, ℕ, zero, suc, ◌+◌, ◌/◌, ◌%◌, ◌≤◌, ◌<◌, true, List, [], ◌∷◌, ◌++◌, length, take, replicate, refl, sym, ◌∙◌, ap, subst, arith, inl, inr, append_assoc, append-nil, length-append}
+use Rattle.std.specs.Prelude.{nat_lt, sum}
 use Rattle.std.specs.List.{AllByRecursion, concat, flat_map}
-use Rattle.std.proofs.lemmas.Bool.{cases_Bool, cond-true, cond-false, false≢true, ltb-true, ltb-false}
-use Rattle.std.proofs.lemmas.List.{length-take-le}
-use Rattle.std.proofs.lemmas.List.Concat.{flat_map-append}
+use Rattle.std.proofs.lemmas.Bool.{cases_Bool, false≢true, ltb-true, ltb-false}
 use Rattle.std.proofs.lemmas.List.Sums.{sum_by-append, sum_by-cons}
 use Rattle.std.proofs.Math.Seq.{take-append_seam}
-use Rattle.ogg_page.specs.Page.{Page, IsPage, IsByte}
+use Rattle.ogg_page.specs.Page.{Page}
 use Rattle.ogg_page.specs.Lacing.{ends_open, lace, lacing_of}
-use Rattle.ogg_page.specs.LogicalStream.{EachBehind, is_continued, is_last, joined_bodies, joined_lacing, number_behind}
-use Rattle.ogg_page.specs.StreamLaws.{behind_both, ends_open-append, ends_open-at, ends_open-lace, number_push, some_values}
-use Rattle.gathering.specs.Cutting.{CutsInto}
-use Rattle.import_mend.specs.Mended.{behind_rest, ends_some, front_values, is_cut, left_whole, mended, whole_values, with_values, without_values}
-use Rattle.import_mend.specs.Origin.{AreAmong, BeginsIn, ComesFrom, GoesOn, RestFrom, begins_fresh}
-use Rattle.import_mend.proofs.Kept.{behind_last, joined_behind}
+use Rattle.ogg_page.specs.StreamLaws.{ends_open-append, ends_open-at, ends_open-lace, some_values}
+use Rattle.import_mend.specs.Origin.{AreAmong, BeginsIn, ComesFrom, RestFrom}
 use Rattle.import_mend.proofs.Lacings.{full_sum}
 
 -- ---- among

@@ -1,25 +1,23 @@
 -- A page of a sound bitstream is taken as it is.
-use Rattle.std.proofs.Common.{◌≡◌, ◌≢◌, ℕ, ◌+◌, ◌-◌, ◌*◌, ◌^◌, ◌≤◌, ◌<◌, Bool, true, false, cond, List, [], ◌∷◌, ◌++◌, length, map, replicate, take, sum, zero, suc, Option, Some, None, refl, sym, ◌∙◌, ap, subst, arith, inl, inr}
+use Rattle.std.proofs.Common.{◌≡◌, ℕ, ◌-◌, ◌^◌, ◌<◌, Bool, true, false, cond, List, [], ◌∷◌, length, replicate, take, sum, zero, suc, Option, Some, None, refl, sym, ◌∙◌, ap, subst, arith, inl, inr}
 use Rattle.std.specs.Prelude.{nat_eq, nat_lt, nat_le, not, ◌||◌, ◌&&◌, is_none, is_some, slice_index, slice_set}
 use Rattle.std.specs.List.{AllByRecursion}
 use Rattle.std.specs.Option.{option_map_or}
 use Rattle.std.proofs.lemmas.Bool.{cases_Bool, cases_eq, cond-true, cond-false, eq-eqb, eqb-true, ne_eqb, le-ltb, lt-leb, ltb-true, ltb-false, and_parts, false≢true}
-use Rattle.std.proofs.lemmas.List.{get_or-set_same, get_or-set_other, get_or_past, length-set, length-take-le}
+use Rattle.std.proofs.lemmas.List.{get_or-set_same, get_or-set_other, get_or_past, length-set}
 use Rattle.std.proofs.Math.Seq.{take-length}
 use Rattle.ogg_page.specs.Page.{Page, IsPage, IsByte}
 use Rattle.ogg_page.specs.Lacing.{ends_open}
-use Rattle.ogg_page.specs.LogicalStream.{is_continued, is_first, is_last, joined_lacing}
+use Rattle.ogg_page.specs.LogicalStream.{is_continued, is_first, is_last}
 use Rattle.link_chain.specs.declared.stream_state.StreamState.{StreamState}
-use Rattle.link_chain.specs.ChainState.{ChainState, chain_state_of, is_open, last_link}
-use Rattle.link_chain.specs.Links.{pages_with}
+use Rattle.link_chain.specs.ChainState.{ChainState, is_open}
 use Rattle.link_chain.specs.Progress.{stream_in}
-use Rattle.link_chain.specs.Rules.{first_broken}
 use Rattle.link_chain.specs.Taking.{fault_of_page, is_whole_packet, joining_rules, later_rules, leaves_open, opening_rules}
 use Rattle.link_chain.specs.Laws.PageRules.{joining_kept, later_kept, opening_kept}
 use Rattle.link_chain.specs.Laws.Rules.{NoneBroken}
 use Rattle.ogg_command.specs.declared.command.Command.{Command}
-use Rattle.gathering.specs.Gathered.{Gathered, GathersPage}
-use Rattle.gathering.specs.Kept.{is_too_long, rest_of}
+use Rattle.gathering.specs.Gathered.{GathersPage}
+use Rattle.gathering.specs.Kept.{is_too_long}
 use Rattle.import_mend.specs.Gives.{Gives, Mending}
 use Rattle.import_mend.specs.Losses.{lost_at, lost_in, place_in, with_lost, with_lost_at}
 use Rattle.import_mend.specs.Mended.{ends_some, is_joined, left_whole, mended, whole_values, with_values}

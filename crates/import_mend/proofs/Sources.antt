@@ -1,13 +1,13 @@
 -- Where what is kept and given comes from, after first pages, ends, and all pages.
-use Rattle.std.proofs.Common.{◌≡◌, ◌≢◌, ◌⊎◌, ℕ, ◌+◌, ◌-◌, ◌*◌, ◌^◌, ◌≤◌, ◌<◌, Bool, true, false, cond, List, [], ◌∷◌, ◌++◌, length, map, sum, Option, Some, None, refl, sym, ◌∙◌, ap, subst, arith, inl, inr, append_assoc, append-nil, length-append, replicate}
-use Rattle.std.specs.Prelude.{nat_eq, nat_lt, nat_le, not, is_some, ◌||◌, ◌&&◌, slice_set}
+use Rattle.std.proofs.Common.{◌≡◌, ℕ, ◌+◌, ◌^◌, ◌<◌, Bool, true, false, cond, List, [], ◌∷◌, ◌++◌, length, map, sum, Option, Some, None, refl, sym, ◌∙◌, ap, subst, arith, inl, inr, append_assoc, append-nil, length-append, replicate}
+use Rattle.std.specs.Prelude.{nat_eq, nat_le, not, ◌||◌}
 use Rattle.std.specs.List.{AllByRecursion}
-use Rattle.std.proofs.lemmas.Bool.{cases_Bool, cases_eq, cond-true, cond-false, eqb-true, leb-false, ltb-true, and_parts, or_parts, false≢true}
+use Rattle.std.proofs.lemmas.Bool.{cases_Bool, cases_eq, cond-true, cond-false, eqb-true, leb-false, ltb-true, and_parts, false≢true}
 use Rattle.std.proofs.lemmas.List.{length-map, length-set}
 use Rattle.std.proofs.lemmas.List.Sums.{sum_by-cons}
 use Rattle.ogg_page.specs.Page.{Page, IsPage}
 use Rattle.ogg_page.specs.Lacing.{ends_open, lace, lacing_of}
-use Rattle.ogg_page.specs.LogicalStream.{is_continued, is_first, is_last}
+use Rattle.ogg_page.specs.LogicalStream.{is_continued, is_first}
 use Rattle.ogg_page.specs.StreamLaws.{ends_open-lace}
 use Rattle.ogg_page.specs.Window.{LentAt}
 use Rattle.link_chain.specs.declared.stream_state.StreamState.{StreamState}
@@ -23,8 +23,8 @@ use Rattle.link_chain.specs.Laws.TakenLinks.{more_lacing, one_lacing}
 use Rattle.ogg_command.specs.declared.command.Command.{Command}
 use Rattle.gathering.specs.Cutting.{CutsInto}
 use Rattle.gathering.specs.Gathered.{Gathered, without_packet}
-use Rattle.gathering.specs.Giving.{Follows, TakesOn, begin_if, with_first}
-use Rattle.gathering.specs.Kept.{KeptLink, KeptStream, entered as kept_entered, no_link, rest_of, waits}
+use Rattle.gathering.specs.Giving.{Follows, TakesOn}
+use Rattle.gathering.specs.Kept.{KeptLink, KeptStream, entered as kept_entered, rest_of, waits}
 use Rattle.import_mend.specs.Cut.{cut_links}
 use Rattle.import_mend.specs.Gives.{BeginsAgain, EndsEach, EndsOne, EndsStreams, Gives, GivesEnd, Mending, mending, open_streams}
 use Rattle.import_mend.specs.Losses.{lost_at, lost_in, with_new}
@@ -42,7 +42,7 @@ use Rattle.import_mend.proofs.Kepts.{FollowsFrom, begin_if_from, follows_from, o
 use Rattle.import_mend.proofs.Lost.{same_place}
 use Rattle.import_mend.proofs.Origins.{Known, commands_more, headers_more, is_known, origin_later, origin_more}
 use Rattle.import_mend.proofs.Parts.{alone, no_packets}
-use Rattle.import_mend.proofs.Runs.{laced_length, rest_more}
+use Rattle.import_mend.proofs.Runs.{laced_length}
 use Rattle.import_mend.proofs.Taken.{first_fits, restarts_first}
 
 some_same : {a b : StreamState} → Some a ≡ Some b → a ≡ b

@@ -1,5 +1,5 @@
 -- How many pages of each stream of the link were lost, in the order of the streams' first pages. Ours.
-use Rattle.std.specs.Prelude.{◌≡◌, ℕ, nat_eq, if◌then◌else◌, length, Option, Some, None, List, slice_index, slice_set}
+use Rattle.std.specs.Prelude.{ℕ, nat_eq, if◌then◌else◌, length, Option, Some, None, List, slice_index, slice_set}
 use Rattle.std.specs.List.{position}
 use Rattle.link_chain.specs.declared.stream_state.StreamState.{StreamState}
 use Rattle.link_chain.specs.ChainState.{ChainState, is_open}

@@ -1,5 +1,5 @@
 -- Room for the pages that end the open streams. Ours.
-use Rattle.std.specs.Prelude.{◌≡◌, ℕ, ◌+◌, ◌*◌, ◌≤◌, ◌<◌, ◌^◌, true, false, nat_eq, List, length}
+use Rattle.std.specs.Prelude.{◌≡◌, ℕ, ◌+◌, ◌*◌, ◌≤◌, ◌<◌, ◌^◌, true, false, nat_eq, length}
 use Rattle.std.specs.List.{AllByRecursion}
 use Rattle.ogg_page.specs.Sizes.{fixed_size}
 use Rattle.link_chain.specs.declared.stream_state.StreamState.{StreamState}

@@ -1,6 +1,5 @@
-use Rattle.std.proofs.Common.{Err, ap, subst}
+use Rattle.std.proofs.Common.{Err, subst}
 use Rattle.page_reader.specs.Reader.{HasAdvanced}
-use Rattle.page_reader.specs.declared.fault.PageReaderFault.TheVariants.{Page}
 use Rattle.import_mend.proofs.Finding.{none_passed, one_passed}
 use Rattle.import_mend.proofs.import.find_page.Goals as goal
 

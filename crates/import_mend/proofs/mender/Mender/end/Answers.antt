@@ -1,4 +1,4 @@
-use Rattle.std.proofs.Common.{◌≡◌, ◌++◌, List, refl, ◌∙◌, ap, append_assoc}
+use Rattle.std.proofs.Common.{◌++◌, List, refl, ◌∙◌, ap, append_assoc}
 use Rattle.ogg_command.specs.declared.command.Command.{Command}
 use Rattle.gathering.specs.Gathered.{Gathered}
 use Rattle.gathering.specs.Giving.{begin_if}
