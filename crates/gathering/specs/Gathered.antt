@@ -10,7 +10,7 @@ use Rattle.link_chain.specs.Links.{AreLinks, pages_with, serials_of, has_ended}
 use Rattle.chain_rules.specs.Recording.{Stream, Recording, HoldsLinks, after}
 use Rattle.ogg_command.specs.declared.command.Command.{Command}
 use Rattle.gathering.specs.Headers.{wanted}
-use Rattle.gathering.specs.Giving.{TakesOn}
+use Rattle.gathering.specs.Giving.{IsPlain, TakesOn}
 use Rattle.gathering.specs.Kept.{KeptStream, KeptLink, has_some, is_ready, rest_of, size_of_rest, without_rest}
 
 pub record Gathered : Type 0 where
@@ -70,9 +70,11 @@ pub record HasGathered (links : List (List Page)) (gathered : Gathered) (given :
 abbrev pub CanGoOn : Gathered → Type 0
 CanGoOn gathered = gathered.link.begun ≡ true → gathered.chain.has_data ≡ true
 
--- The page completes these commands, and with them the promise holds of the links with the page.
+-- The page completes these commands, and with them the promise holds of the links with the page. No link is begun with
+-- a Skeleton.
 pub record GathersPage (page : Page) (old new : Gathered) (more : List Command) : Type 0 where
   pub takes : TakesOn page (is_open old.chain) old.link new.link more
+  pub plain : (links : List (List Page)) (given : List Command) → HasGathered links old given → AllByRecursion IsPlain more
   pub goes_on : (links : List (List Page)) (given : List Command) → HasGathered links old given → CanGoOn old
       → HasGathered (links_with links page) new (given ++ more) × CanGoOn new
 

@@ -14,6 +14,7 @@ mod Numbers
 mod Open
 mod Origins
 mod Parts
+mod Plain
 mod ReadBack
 mod Rooms
 mod Runs

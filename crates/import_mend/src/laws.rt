@@ -5,6 +5,7 @@ ghost use Rattle.ogg_page.specs.Page.{Page, IsPage, bytes_of_pages};
 ghost use Rattle.ogg_page.specs.Window.{LentAt};
 ghost use Rattle.link_chain.specs.Links.{AreLinks};
 ghost use Rattle.ogg_command.specs.declared.command.Command.{Command};
+ghost use Rattle.gathering.specs.Giving.{IsPlain};
 ghost use Rattle.gathering.specs.Gathered.{Gathered, HasGathered, without_packet};
 ghost use Rattle.import_mend.specs.Cut.{cut_links};
 ghost use Rattle.import_mend.specs.Found.{AreGoodPages, FindsNext, FindsPages, HoldsNone};
@@ -15,6 +16,8 @@ ghost use Rattle.import_mend.specs.Ways.{way_of};
 ghost use Rattle.import_mend.specs.Whole.{AreWithin, Becomes, GathersPages, HasMended, IsStart, TakesPage, TakesPages, lost_of, pages_of};
 ghost use Rattle.import_mend.specs.declared.mend.Mend.{Mend};
 ghost use Rattle.page_reader.specs.Reader.{ReaderState};
+
+use gathering::links_are_begun_without_a_skeleton;
 
 /// If the unfinished packet of a stream is dropped, the commands given so far hold what the links hold whose last one
 /// is cut back: its pages without that packet are a link too.
@@ -86,3 +89,13 @@ pub fn open_streams_can_be_ended()
     ensures { (pages : List LentAt) (start new : Mending) (mends : List (Option Mend)) (given : List Command)
         → AllByRecursion IsPage (pages_of pages) → IsStart start → TakesPages pages start new mends given → HasRoom new.gathered.chain }
 {}
+
+/// No link is begun with a Skeleton: one of the input is a stream of its link as the others are.
+pub fn commands_begin_links_without_a_skeleton()
+    ensures pages { (pages : List LentAt) (start new : Mending) (mends : List (Option Mend)) (given : List Command)
+        → IsStart start → TakesPages pages start new mends given → AllByRecursion IsPlain given }
+    ensures end { (links : List (List Page)) (old new : Gathered) (given more : List Command) → GivesEnd old new more → HasMended links old given
+        → AllByRecursion IsPlain more }
+{
+    links_are_begun_without_a_skeleton();
+}

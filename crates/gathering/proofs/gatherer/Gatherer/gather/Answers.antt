@@ -6,6 +6,7 @@ use Rattle.gathering.specs.Kept.{KeptLink}
 use Rattle.gathering.specs.Giving.{TakesOn}
 use Rattle.gathering.specs.Gathered.{Gathered}
 use Rattle.gathering.proofs.Gathering.{takes}
+use Rattle.gathering.proofs.Plain.{plain_page}
 use Rattle.gathering.proofs.gatherer.Gatherer.gather.Goals as goal
 
 takes_on : (page : Page) (seen : Gathered) (now : Gathered) (open' : Bool) (new : KeptLink) (more : List Command) → seen ≡ now → open' ≡ is_open seen.chain → TakesOn page open' seen.link new more →
@@ -24,6 +25,7 @@ returns-clause-gathered c =
       t.1,
       record {
         takes = on;
+        plain = λ links given h. plain_page links c.args.self.now given c.args.page.now c.take_page.new.self t.0 c.requires.fits h on;
         goes_on = λ links given h goes_on.
             takes links c.args.self.now given c.args.page.now c.take_page.new.self c.take_page-2.new.self.chain t.0 c.whole-bytes.ensures.is_page c.requires.fits h goes_on on
             (c.in_default.ensures.links links (ap (λ (g : Gathered). g.chain) c.self.view_is ∙ h.chain));
