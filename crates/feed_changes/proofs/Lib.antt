@@ -5,3 +5,4 @@ pub mod Lists
 pub mod Links
 pub mod Begins
 pub mod Steps
+pub mod Own

@@ -164,24 +164,24 @@ from_push options earlier (l ∷ recording) (m ∷ now) link more (q, r) p = (
       (subst (λ e. IsChangedLink options e link more) (sym (append_assoc earlier (serials m) (flat_map serials now))) p),
 )
 
-pub up_to_changed : (state : ChangeState) (recording now : Recording) → IsUpTo state recording now
-    → ChangedFrom state.options [] recording now
-up_to_changed state recording now by =
-    subst (λ r. ChangedFrom state.options [] r now) (sym by.recording_is)
-    (subst (ChangedFrom state.options [] (by.links ++ by.link ∷ [])) (sym by.now_is)
-    (from_push state.options [] by.links by.links_now by.link by.link_now by.changed
-    (link_changed state (flat_map serials by.links_now) by.link by.link_now by.last)))
+pub up_to_changed : (taken : List ℕ) (state : ChangeState) (recording now : Recording) → IsUpTo taken state recording now
+    → ChangedFrom state.options taken recording now
+up_to_changed taken state recording now by =
+    subst (λ r. ChangedFrom state.options taken r now) (sym by.recording_is)
+    (subst (ChangedFrom state.options taken (by.links ++ by.link ∷ [])) (sym by.now_is)
+    (from_push state.options taken by.links by.links_now by.link by.link_now by.changed
+    (link_changed state (taken ++ flat_map serials by.links_now) by.link by.link_now by.last)))
 
-none_changed : (options : ChangeOptions) (recording now : Recording) → AreNone recording now → ChangedFrom options [] recording now
-none_changed options recording now (a, b) = subst (λ r. ChangedFrom options [] r now) (sym a) (subst (ChangedFrom options [] []) (sym b) tt)
+none_changed : (taken : List ℕ) (options : ChangeOptions) (recording now : Recording) → AreNone recording now → ChangedFrom options taken recording now
+none_changed taken options recording now (a, b) = subst (λ r. ChangedFrom options taken r now) (sym a) (subst (ChangedFrom options taken []) (sym b) tt)
 
-pub followed_changed : (state : ChangeState) (recording now : Recording) → IsFollowed state recording now
-    → ChangedFrom state.options [] recording now
-followed_changed state recording now by = pick by.up_to
+pub followed_changed : (taken : List ℕ) (state : ChangeState) (recording now : Recording) → IsFollowed taken state recording now
+    → ChangedFrom state.options taken recording now
+followed_changed taken state recording now by = pick by.up_to
   where
-    pick : AreNone recording now ⊎ IsUpTo state recording now → ChangedFrom state.options [] recording now
-    pick (inl none) = none_changed state.options recording now none
-    pick (inr up) = up_to_changed state recording now up
+    pick : AreNone recording now ⊎ IsUpTo taken state recording now → ChangedFrom state.options taken recording now
+    pick (inl none) = none_changed taken state.options recording now none
+    pick (inr up) = up_to_changed taken state recording now up
 
 -- ---- a change of the last link
 last_changes : (change : List Stream → List Stream) (links : Recording) (link : List Stream)
@@ -202,18 +202,18 @@ all_serials change same [] = refl
 all_serials change same (l ∷ []) = ap (λ s. s ++ []) (same l)
 all_serials change same (l ∷ k ∷ recording) = ap (λ s. serials l ++ s) (all_serials change same (k ∷ recording))
 
-pub change_step : (state : ChangeState) (change now_change : List Stream → List Stream) (recording now : Recording)
+pub change_step : (taken : List ℕ) (state : ChangeState) (change now_change : List Stream → List Stream) (recording now : Recording)
     → ((link : List Stream) → serials (now_change link) ≡ serials link)
     → ((earlier : List ℕ) (link link_now : List Stream) → IsUnderNames state earlier link link_now
     → IsUnderNames state earlier (change link) (now_change link_now))
-    → IsFollowed state recording now → IsFollowed state (change_last change recording) (change_last now_change now)
-change_step state change now_change recording now same step by = record {
+    → IsFollowed taken state recording now → IsFollowed taken state (change_last change recording) (change_last now_change now)
+change_step taken state change now_change recording now same step by = record {
   up_to = pick by.up_to;
-  given = by.given ∙ sym (all_serials now_change same now);
+  given = by.given ∙ ap (λ l. taken ++ l) (sym (all_serials now_change same now));
 }
   where
-    pick : AreNone recording now ⊎ IsUpTo state recording now
-        → AreNone (change_last change recording) (change_last now_change now) ⊎ IsUpTo state (change_last change recording)
+    pick : AreNone recording now ⊎ IsUpTo taken state recording now
+        → AreNone (change_last change recording) (change_last now_change now) ⊎ IsUpTo taken state (change_last change recording)
         (change_last now_change now)
     pick (inl (a, b)) = inl (ap (change_last change) a, ap (change_last now_change) b)
     pick (inr up) = inr (record {
@@ -222,27 +222,28 @@ change_step state change now_change recording now same step by = record {
       changed = up.changed;
       link = change up.link;
       link_now = now_change up.link_now;
-      last = step (flat_map serials up.links_now) up.link up.link_now up.last;
+      last = step (taken ++ flat_map serials up.links_now) up.link up.link_now up.last;
       recording_is = ap (change_last change) up.recording_is ∙ last_changes change up.links up.link;
       now_is = ap (change_last now_change) up.now_is ∙ last_changes now_change up.links_now up.link_now;
     })
 
 -- ---- a new link
-pub begin_step : (old new : ChangeState) (recording now : Recording) (link link_now : List Stream) → IsFollowed old recording now
+pub begin_step : (taken : List ℕ) (old new : ChangeState) (recording now : Recording) (link link_now : List Stream) → IsFollowed taken old recording now
     → new.options ≡ old.options
-    → IsUnderNames new (flat_map serials now) link link_now → new.given ≡ old.given ++ serials link_now
-    → IsFollowed new (recording ++ link ∷ []) (now ++ link_now ∷ [])
-begin_step old new recording now link link_now by same last given = record {
+    → IsUnderNames new (taken ++ flat_map serials now) link link_now → new.given ≡ old.given ++ serials link_now
+    → IsFollowed taken new (recording ++ link ∷ []) (now ++ link_now ∷ [])
+begin_step taken old new recording now link link_now by same last given = record {
   up_to = inr (record {
     links = recording;
     links_now = now;
-    changed = subst (λ o. ChangedFrom o [] recording now) (sym same) (followed_changed old recording now by);
+    changed = subst (λ o. ChangedFrom o taken recording now) (sym same) (followed_changed taken old recording now by);
     link = link;
     link_now = link_now;
     last = last;
     recording_is = refl;
     now_is = refl;
   });
-  given = given ∙ ap (λ l. l ++ serials link_now) by.given ∙ ap (λ l. flat_map serials now ++ l) (sym (append-nil (serials link_now)))
-      ∙ sym (flat_map-append serials now (link_now ∷ []));
+  given = given ∙ ap (λ l. l ++ serials link_now) by.given ∙ append_assoc taken (flat_map serials now) (serials link_now)
+      ∙ ap (λ l. taken ++ l) (ap (λ l. flat_map serials now ++ l) (sym (append-nil (serials link_now)))
+      ∙ sym (flat_map-append serials now (link_now ∷ [])));
 }

@@ -25,7 +25,7 @@ use Rattle.feed_changes.specs.Links.{IsBefore, IsMadeFor, the_others, those}
 use Rattle.feed_changes.specs.Said.{IsSaidBy}
 use Rattle.feed_changes.specs.Skeletons.{BeginThose, BeginsThose, HasHead, IsBegunAs, SaysSo, begin_of, begins_of, headers_of, is_skeleton}
 use Rattle.feed_changes.specs.Skeletons.{left_out, made_for, said_in, staying}
-use Rattle.feed_changes.specs.Changed.{ChangeState, FollowsIf, HasChanged, IsChangedIf, IsFollowed, IsNoName, IsPlain, IsUnderNames}
+use Rattle.feed_changes.specs.Changed.{ChangeState, FollowsIf, HasChangedBeside, IsChangedIf, IsFollowed, IsNoName, IsPlain, IsUnderNames}
 use Rattle.feed_changes.specs.Changed.{stream_under}
 use Rattle.feed_changes.specs.Steps.{Begins, BeginsAs, BeginsDescribed, BeginsPlain, Names, end_of, option_list, put_of}
 use Rattle.feed_changes.proofs.Names.{all_push, or_right}
@@ -42,26 +42,26 @@ after_push : (commands : List Command) (command : Command) → after [] (command
 after_push commands command = fold-append add [] commands (command ∷ [])
 
 -- ---- if something is changed
-followed_of : (b : Bool) (state : ChangeState) (recording now : Recording) → b ≡ false → FollowsIf b state recording now
-    → IsFollowed state recording now
-followed_of true state recording now e f = clash refl e
-followed_of false state recording now e f = f
+followed_of : (taken : List ℕ) (b : Bool) (state : ChangeState) (recording now : Recording) → b ≡ false → FollowsIf b taken state recording now
+    → IsFollowed taken state recording now
+followed_of taken true state recording now e f = clash refl e
+followed_of taken false state recording now e f = f
 
-pub by_of : (state : ChangeState) (commands given : List Command) → is_none state.options ≡ false → HasChanged state commands given
-    → IsFollowed state (after [] commands) (after [] given)
-by_of state commands given e h = followed_of (is_none state.options) state (after [] commands) (after [] given) e h.follows
+pub by_of : (taken : List ℕ) (state : ChangeState) (commands given : List Command) → is_none state.options ≡ false → HasChangedBeside taken state commands given
+    → IsFollowed taken state (after [] commands) (after [] given)
+by_of taken state commands given e h = followed_of taken (is_none state.options) state (after [] commands) (after [] given) e h.follows
 
-pub of_by : (state : ChangeState) (commands given : List Command) → is_none state.options ≡ false → BeginThose state.options commands given
+pub of_by : (taken : List ℕ) (state : ChangeState) (commands given : List Command) → is_none state.options ≡ false → BeginThose state.options commands given
     → AllByRecursion (IsBegunAs state.options) given
-    → IsFollowed state (after [] commands) (after [] given) → HasChanged state commands given
-of_by state commands given e stay begun by =
+    → IsFollowed taken state (after [] commands) (after [] given) → HasChangedBeside taken state commands given
+of_by taken state commands given e stay begun by =
     let recording : Recording = after [] commands in
     let now : Recording = after [] given in
     record {
-      changed = subst (λ b. IsChangedIf b state.options recording now) (sym e) (followed_changed state recording now by);
+      changed = subst (λ b. IsChangedIf b taken state.options recording now) (sym e) (followed_changed taken state recording now by);
       stay = stay;
       begun = begun;
-      follows = subst (λ b. FollowsIf b state recording now) (sym e) by;
+      follows = subst (λ b. FollowsIf b taken state recording now) (sym e) by;
     }
 
 -- ---- which streams begin
@@ -156,39 +156,39 @@ under_new old state new streams earlier before link_now by given options names m
     (subst (λ e. AreNames (avoided old.options.renumber e) state.names) given by.names)
     by.named made apart is))
 
-begin_as : (old new : ChangeState) (begin : Begin) (now : Command) (link_now : List Stream) (commands given : List Command)
+begin_as : (taken : List ℕ) (old new : ChangeState) (begin : Begin) (now : Command) (link_now : List Stream) (commands given : List Command)
     → is_none old.options ≡ false → begin.skeleton ≡ None
-    → HasChanged old commands given → new.options ≡ old.options → new.given ≡ old.given ++ serials link_now
+    → HasChangedBeside taken old commands given → new.options ≡ old.options → new.given ≡ old.given ++ serials link_now
     → ((recording : Recording) → add recording now ≡ recording ++ link_now ∷ [])
-    → IsUnderNames new (flat_map serials (after [] given)) (map begun begin.streams) link_now → (begin_now : Begin)
+    → IsUnderNames new (taken ++ flat_map serials (after [] given)) (map begun begin.streams) link_now → (begin_now : Begin)
     → now ≡ BeginOf begin_now → BeginsThose old.options begin begin_now
-    → IsBegunAs old.options now → HasChanged new (commands ++ BeginOf begin ∷ []) (given ++ now ∷ [])
-begin_as old new begin now link_now commands given is plain h same given_is added under begin_now now_is those begun_as =
-    of_by new (commands ++ BeginOf begin ∷ []) (given ++ now ∷ []) (ap is_none same ∙ is)
+    → IsBegunAs old.options now → HasChangedBeside taken new (commands ++ BeginOf begin ∷ []) (given ++ now ∷ [])
+begin_as taken old new begin now link_now commands given is plain h same given_is added under begin_now now_is those begun_as =
+    of_by taken new (commands ++ BeginOf begin ∷ []) (given ++ now ∷ []) (ap is_none same ∙ is)
     (subst (λ o. BeginThose o (commands ++ BeginOf begin ∷ []) (given ++ now ∷ [])) (sym same)
     (stay_push old.options commands given (BeginOf begin) now begin begin_now refl (ap begin_of now_is) h.stay those))
     (subst (λ o. AllByRecursion (IsBegunAs o) (given ++ now ∷ [])) (sym same) (all_push (IsBegunAs old.options) given now h.begun begun_as))
-    (subst (λ r. IsFollowed new r (after [] (given ++ now ∷ [])))
+    (subst (λ r. IsFollowed taken new r (after [] (given ++ now ∷ [])))
     (ap (λ s. after [] commands ++ begun_link s begin.streams ∷ []) (sym plain) ∙ sym (after_push commands (BeginOf begin)))
-    (subst (IsFollowed new (after [] commands ++ map begun begin.streams ∷ [])) (sym (added (after [] given)) ∙ sym (after_push given now))
-    (begin_step old new (after [] commands) (after [] given) (map begun begin.streams) link_now
-    (by_of old commands given is h) same under given_is)))
+    (subst (IsFollowed taken new (after [] commands ++ map begun begin.streams ∷ [])) (sym (added (after [] given)) ∙ sym (after_push given now))
+    (begin_step taken old new (after [] commands) (after [] given) (map begun begin.streams) link_now
+    (by_of taken old commands given is h) same under given_is)))
 
-plain_changed : (old state new : ChangeState) (begin : Begin) (now : Command) (commands given : List Command)
+plain_changed : (taken : List ℕ) (old state new : ChangeState) (begin : Begin) (now : Command) (commands given : List Command)
     → is_none old.options ≡ false → begin.skeleton ≡ None
-    → HasChanged old commands given → Names old state (staying old.options.skeletons begin.streams)
+    → HasChangedBeside taken old commands given → Names old state (staying old.options.skeletons begin.streams)
     → made_for old.options.skeletons (staying old.options.skeletons begin.streams) ≡ None
     → BeginsPlain state new begin.skeleton (staying old.options.skeletons begin.streams) now
-    → HasChanged new (commands ++ BeginOf begin ∷ []) (given ++ now ∷ [])
-plain_changed old state new begin now commands given is plain h by none b =
+    → HasChangedBeside taken new (commands ++ BeginOf begin ∷ []) (given ++ now ∷ [])
+plain_changed taken old state new begin now commands given is plain h by none b =
     let skeletons : Skeletons = old.options.skeletons in
     let stay : List NewStream = staying skeletons begin.streams in
     let streams : List NewStream = map (stream_named state.names) stay in
-    let followed : IsFollowed old (after [] commands) (after [] given) = by_of old commands given is h in
-    begin_as old new begin now (map begun streams) commands given is plain h (b.options ∙ by.options)
+    let followed : IsFollowed taken old (after [] commands) (after [] given) = by_of taken old commands given is h in
+    begin_as taken old new begin now (map begun streams) commands given is plain h (b.options ∙ by.options)
     (b.given ∙ ap (λ l. l ++ serials_of streams) by.given ∙ ap (λ l. old.given ++ l) (sym (begun_serials streams)))
     (λ recording. ap (add recording) b.now_is ∙ ap (λ s. recording ++ begun_link s streams ∷ []) plain)
-    (under_new old state new begin.streams (flat_map serials (after [] given)) []
+    (under_new old state new begin.streams (taken ++ flat_map serials (after [] given)) []
     (map begun streams) by followed.given b.options b.names tt tt refl)
     (record { skeleton = begin.skeleton; streams = streams }) b.now_is
     (record {
@@ -246,16 +246,16 @@ is_before (Made first) streams from left stay earlier serials skeleton e made =
     by true f = absurd (none f)
     by false f = value f
 
-made_changed : (old state new : ChangeState) (begin : Begin) (now : Command) (commands given : List Command) (from : ℕ)
+made_changed : (taken : List ℕ) (old state new : ChangeState) (begin : Begin) (now : Command) (commands given : List Command) (from : ℕ)
     → is_none old.options ≡ false → begin.skeleton ≡ None
-    → HasChanged old commands given → Names old state (staying old.options.skeletons begin.streams)
+    → HasChangedBeside taken old commands given → Names old state (staying old.options.skeletons begin.streams)
     → made_for old.options.skeletons (staying old.options.skeletons begin.streams) ≡ Some from
     → BeginsDescribed from (said_in old.options.skeletons begin.streams) state new (staying old.options.skeletons begin.streams) now
-    → HasChanged new (commands ++ BeginOf begin ∷ []) (given ++ now ∷ [])
-made_changed old state new begin now commands given from is plain h by some b =
+    → HasChangedBeside taken new (commands ++ BeginOf begin ∷ []) (given ++ now ∷ [])
+made_changed taken old state new begin now commands given from is plain h by some b =
     let skeletons : Skeletons = old.options.skeletons in
-    let followed : IsFollowed old (after [] commands) (after [] given) = by_of old commands given is h in
-    let earlier : List ℕ = flat_map serials (after [] given) in
+    let followed : IsFollowed taken old (after [] commands) (after [] given) = by_of taken old commands given is h in
+    let earlier : List ℕ = taken ++ flat_map serials (after [] given) in
     let stay : List NewStream = staying skeletons begin.streams in
     let said : List (List ℕ) = said_in skeletons begin.streams in
     let left : List Stream = map begun (left_out skeletons begin.streams) in
@@ -288,7 +288,7 @@ made_changed old state new begin now commands given from is plain h by some b =
       are_begun = are_begun stay;
       says = says;
     } in
-    begin_as old new begin now (skeleton ∷ map begun more) commands given is plain h (b.options ∙ by.options)
+    begin_as taken old new begin now (skeleton ∷ map begun more) commands given is plain h (b.options ∙ by.options)
     (b.given ∙ ap (λ l. l ++ b.head.serial ∷ serials_of more) by.given
     ∙ ap (λ l. old.given ++ b.head.serial ∷ l) (sym (begun_serials more)))
     (λ recording. ap (add recording) b.now_is)
@@ -305,18 +305,18 @@ made_changed old state new begin now commands given from is plain h by some b =
           (record { said = said; streams = stay; is = says }),
     ))
 
-pub begin_changed : (old new : ChangeState) (begin : Begin) (now : Command) (commands given : List Command) → is_none old.options ≡ false
+pub begin_changed : (taken : List ℕ) (old new : ChangeState) (begin : Begin) (now : Command) (commands given : List Command) → is_none old.options ≡ false
     → begin.skeleton ≡ None
-    → Begins old new begin now → HasChanged old commands given → HasChanged new (commands ++ BeginOf begin ∷ []) (given ++ now ∷ [])
-begin_changed old new begin now commands given is plain b h =
+    → Begins old new begin now → HasChangedBeside taken old commands given → HasChangedBeside taken new (commands ++ BeginOf begin ∷ []) (given ++ now ∷ [])
+begin_changed taken old new begin now commands given is plain b h =
     by (made_for old.options.skeletons (staying old.options.skeletons begin.streams)) refl b.begins
   where
     by : (o : Option ℕ) → made_for old.options.skeletons (staying old.options.skeletons begin.streams) ≡ o
         → BeginsAs o (said_in old.options.skeletons begin.streams) b.state new begin.skeleton
         (staying old.options.skeletons begin.streams) now
-        → HasChanged new (commands ++ BeginOf begin ∷ []) (given ++ now ∷ [])
-    by None e begins = plain_changed old b.state new begin now commands given is plain h b.named e begins
-    by (Some from) e begins = made_changed old b.state new begin now commands given from is plain h b.named e begins
+        → HasChangedBeside taken new (commands ++ BeginOf begin ∷ []) (given ++ now ∷ [])
+    by None e begins = plain_changed taken old b.state new begin now commands given is plain h b.named e begins
+    by (Some from) e begins = made_changed taken old b.state new begin now commands given from is plain h b.named e begins
 
 -- ---- packets
 put_list : (given : List Command) (entries : List Entry) → after [] (given ++ option_list (put_of entries)) ≡ change_last
@@ -354,18 +354,18 @@ none_begun : (options : ChangeOptions) (given : List Command) (entries : List En
 none_begun options given [] all = subst (AllByRecursion (IsBegunAs options)) (sym (append-nil given)) all
 none_begun options given (entry ∷ entries) all = all_push (IsBegunAs options) given (PutOf (record { entries = entry ∷ entries })) all tt
 
-pub put_changed : (state : ChangeState) (put : Put) (commands given : List Command) → is_none state.options ≡ false
-    → HasChanged state commands given →
-    HasChanged state (commands ++ PutOf put ∷ []) (given ++ option_list (put_of (entries_named state.names put.entries)))
-put_changed state put commands given is h =
+pub put_changed : (taken : List ℕ) (state : ChangeState) (put : Put) (commands given : List Command) → is_none state.options ≡ false
+    → HasChangedBeside taken state commands given →
+    HasChangedBeside taken state (commands ++ PutOf put ∷ []) (given ++ option_list (put_of (entries_named state.names put.entries)))
+put_changed taken state put commands given is h =
     let now : List Entry = entries_named state.names put.entries in
-    of_by state (commands ++ PutOf put ∷ []) (given ++ option_list (put_of now)) is
+    of_by taken state (commands ++ PutOf put ∷ []) (given ++ option_list (put_of now)) is
     (stay_on state.options commands given (PutOf put) (put_of now) refl (put_begins given now) h.stay)
     (none_begun state.options given now h.begun)
-    (subst (λ r. IsFollowed state r (after [] (given ++ option_list (put_of now)))) (sym (after_push commands (PutOf put)))
-    (subst (IsFollowed state (change_last (λ link. fold with_packet link put.entries) (after [] commands))) (sym (put_list given now))
-    (change_step state (λ link. fold with_packet link put.entries) (λ link. fold with_packet link now) (after [] commands) (after [] given)
-    (λ link. put_serials link now) (λ earlier. put_under state earlier put.entries) (by_of state commands given is h))))
+    (subst (λ r. IsFollowed taken state r (after [] (given ++ option_list (put_of now)))) (sym (after_push commands (PutOf put)))
+    (subst (IsFollowed taken state (change_last (λ link. fold with_packet link put.entries) (after [] commands))) (sym (put_list given now))
+    (change_step taken state (λ link. fold with_packet link put.entries) (λ link. fold with_packet link now) (after [] commands) (after [] given)
+    (λ link. put_serials link now) (λ earlier. put_under state earlier put.entries) (by_of taken state commands given is h))))
 
 -- ---- ends
 end_list : Option ℕ → List Stream → List Stream
@@ -397,18 +397,18 @@ end_begun : (options : ChangeOptions) (given : List Command) (serial : Option �
 end_begun options given None all = subst (AllByRecursion (IsBegunAs options)) (sym (append-nil given)) all
 end_begun options given (Some serial) all = all_push (IsBegunAs options) given (EndOf serial) all tt
 
-pub end_changed : (state : ChangeState) (serial : ℕ) (commands given : List Command) → is_none state.options ≡ false
-    → HasChanged state commands given →
-    HasChanged state (commands ++ EndOf serial ∷ []) (given ++ option_list (end_of (name_of state.names serial)))
-end_changed state serial commands given is h =
+pub end_changed : (taken : List ℕ) (state : ChangeState) (serial : ℕ) (commands given : List Command) → is_none state.options ≡ false
+    → HasChangedBeside taken state commands given →
+    HasChangedBeside taken state (commands ++ EndOf serial ∷ []) (given ++ option_list (end_of (name_of state.names serial)))
+end_changed taken state serial commands given is h =
     let now : Option ℕ = name_of state.names serial in
-    of_by state (commands ++ EndOf serial ∷ []) (given ++ option_list (end_of now)) is
+    of_by taken state (commands ++ EndOf serial ∷ []) (given ++ option_list (end_of now)) is
     (stay_on state.options commands given (EndOf serial) (end_of now) refl (end_begins given now) h.stay)
     (end_begun state.options given now h.begun)
-    (subst (λ r. IsFollowed state r (after [] (given ++ option_list (end_of now)))) (sym (after_push commands (EndOf serial)))
-    (subst (IsFollowed state (change_last (with_end serial) (after [] commands))) (sym (end_after given now))
-    (change_step state (with_end serial) (end_list now) (after [] commands) (after [] given) (end_serials now)
-    (λ earlier. end_under state earlier serial now refl) (by_of state commands given is h))))
+    (subst (λ r. IsFollowed taken state r (after [] (given ++ option_list (end_of now)))) (sym (after_push commands (EndOf serial)))
+    (subst (IsFollowed taken state (change_last (with_end serial) (after [] commands))) (sym (end_after given now))
+    (change_step taken state (with_end serial) (end_list now) (after [] commands) (after [] given) (end_serials now)
+    (λ earlier. end_under state earlier serial now refl) (by_of taken state commands given is h))))
 
 -- ---- if nothing is changed
 plain_begun : (skeletons : Skeletons) (renumber : Bool) (command : Command) → is_none_with skeletons renumber ≡ true → IsPlain command
@@ -435,26 +435,26 @@ begins_same options commands given command is all = by command
     by (PutOf put) = stay_on options commands given (PutOf put) (Some (PutOf put)) refl (none_begin given (PutOf put) refl) all
     by (EndOf serial) = stay_on options commands given (EndOf serial) (Some (EndOf serial)) refl (none_begin given (EndOf serial) refl) all
 
-same_if : (b : Bool) (state : ChangeState) (recording now : Recording) → b ≡ true → now ≡ recording
-    → IsChangedIf b state.options recording now × FollowsIf b state recording now
-same_if true state recording now e same = (same, same)
-same_if false state recording now e same = clash e refl
+same_if : (taken : List ℕ) (b : Bool) (state : ChangeState) (recording now : Recording) → b ≡ true → now ≡ recording
+    → IsChangedIf b taken state.options recording now × FollowsIf b taken state recording now
+same_if taken true state recording now e same = (same, same)
+same_if taken false state recording now e same = clash e refl
 
-same_of : (b : Bool) (options : ChangeOptions) (recording now : Recording) → b ≡ true → IsChangedIf b options recording now
+same_of : (taken : List ℕ) (b : Bool) (options : ChangeOptions) (recording now : Recording) → b ≡ true → IsChangedIf b taken options recording now
     → now ≡ recording
-same_of true options recording now e c = c
-same_of false options recording now e c = clash e refl
+same_of taken true options recording now e c = c
+same_of taken false options recording now e c = clash e refl
 
-pub same_command : (state : ChangeState) (command : Command) (commands given : List Command) → is_none state.options ≡ true
-    → HasChanged state commands given → IsPlain command →
-    HasChanged state (commands ++ command ∷ []) (given ++ command ∷ [])
-same_command state command commands given is h plain =
+pub same_command : (taken : List ℕ) (state : ChangeState) (command : Command) (commands given : List Command) → is_none state.options ≡ true
+    → HasChangedBeside taken state commands given → IsPlain command →
+    HasChangedBeside taken state (commands ++ command ∷ []) (given ++ command ∷ [])
+same_command taken state command commands given is h plain =
     let recording : Recording = after [] (commands ++ command ∷ []) in
     let now : Recording = after [] (given ++ command ∷ []) in
-    let both : IsChangedIf (is_none state.options) state.options recording now × FollowsIf (is_none state.options) state recording now =
-    same_if (is_none state.options) state recording now is
+    let both : IsChangedIf (is_none state.options) taken state.options recording now × FollowsIf (is_none state.options) taken state recording now =
+    same_if taken (is_none state.options) state recording now is
     (after_push given command
-    ∙ ap (λ r. add r command) (same_of (is_none state.options) state.options (after [] commands) (after [] given) is h.changed)
+    ∙ ap (λ r. add r command) (same_of taken (is_none state.options) state.options (after [] commands) (after [] given) is h.changed)
     ∙ sym (after_push commands command)) in
     record {
       changed = both.0;
@@ -465,12 +465,12 @@ same_command state command commands given is h plain =
     }
 
 -- ---- one command after the other
-pub apply_step : (state : ChangeState) (before yielded given now more : List Command) (command : Command) (out : Option Command)
-    → HasChanged state ((before ++ yielded) ++ command ∷ []) ((given ++ now) ++ option_list out) → more ≡ now ++ option_list out
-    → HasChanged state (before ++ (yielded ++ command ∷ [])) (given ++ more)
-apply_step state before yielded given now more command out h e =
-    subst (λ l. HasChanged state l (given ++ more)) (append_assoc before yielded (command ∷ []))
-    (subst (HasChanged state ((before ++ yielded) ++ command ∷ [])) (append_assoc given now (option_list out)
+pub apply_step : (taken : List ℕ) (state : ChangeState) (before yielded given now more : List Command) (command : Command) (out : Option Command)
+    → HasChangedBeside taken state ((before ++ yielded) ++ command ∷ []) ((given ++ now) ++ option_list out) → more ≡ now ++ option_list out
+    → HasChangedBeside taken state (before ++ (yielded ++ command ∷ [])) (given ++ more)
+apply_step taken state before yielded given now more command out h e =
+    subst (λ l. HasChangedBeside taken state l (given ++ more)) (append_assoc before yielded (command ∷ []))
+    (subst (HasChangedBeside taken state ((before ++ yielded) ++ command ∷ [])) (append_assoc given now (option_list out)
     ∙ ap (λ l. given ++ l) (sym e)) h)
 
 pub all_front : {X : Type 0} (P : X → Type 0) (xs : List X) (x : X) → AllByRecursion P (xs ++ x ∷ []) → AllByRecursion P xs
@@ -481,23 +481,43 @@ pub all_last : {X : Type 0} (P : X → Type 0) (xs : List X) (x : X) → AllByRe
 all_last P [] x (p, all) = p
 all_last P (y ∷ xs) x (p, all) = all_last P xs x all
 
-pub same_commands : (state : ChangeState) (before given commands : List Command) → is_none state.options ≡ true
-    → HasChanged state before given → AllByRecursion IsPlain commands →
-    HasChanged state (before ++ commands) (given ++ commands)
-same_commands state before given [] is h plain = subst (HasChanged state (before ++ [])) (sym (append-nil given))
-    (subst (λ l. HasChanged state l given) (sym (append-nil before)) h)
-same_commands state before given (command ∷ commands) is h (p, plain) =
-    subst (HasChanged state (before ++ command ∷ commands)) (append_assoc given (command ∷ []) commands)
-    (subst (λ l. HasChanged state l ((given ++ command ∷ []) ++ commands)) (append_assoc before (command ∷ []) commands)
-    (same_commands state (before ++ command ∷ []) (given ++ command ∷ []) commands is
-    (same_command state command before given is h p) plain))
+pub same_commands : (taken : List ℕ) (state : ChangeState) (before given commands : List Command) → is_none state.options ≡ true
+    → HasChangedBeside taken state before given → AllByRecursion IsPlain commands →
+    HasChangedBeside taken state (before ++ commands) (given ++ commands)
+same_commands taken state before given [] is h plain = subst (HasChangedBeside taken state (before ++ [])) (sym (append-nil given))
+    (subst (λ l. HasChangedBeside taken state l given) (sym (append-nil before)) h)
+same_commands taken state before given (command ∷ commands) is h (p, plain) =
+    subst (HasChangedBeside taken state (before ++ command ∷ commands)) (append_assoc given (command ∷ []) commands)
+    (subst (λ l. HasChangedBeside taken state l ((given ++ command ∷ []) ++ commands)) (append_assoc before (command ∷ []) commands)
+    (same_commands taken state (before ++ command ∷ []) (given ++ command ∷ []) commands is
+    (same_command taken state command before given is h p) plain))
 
-pub no_commands : (state : ChangeState) → state.given ≡ [] → HasChanged state [] []
-no_commands state given =
-    let both : IsChangedIf (is_none state.options) state.options [] [] × FollowsIf (is_none state.options) state [] [] = by
+pub no_commands : (taken : List ℕ) (state : ChangeState) → state.given ≡ taken → HasChangedBeside taken state [] []
+no_commands taken state given =
+    let both : IsChangedIf (is_none state.options) taken state.options [] [] × FollowsIf (is_none state.options) taken state [] [] = by
     (is_none state.options) in
     record { changed = both.0; stay = tt; begun = tt; follows = both.1 }
   where
-    by : (b : Bool) → IsChangedIf b state.options [] [] × FollowsIf b state [] []
+    by : (b : Bool) → IsChangedIf b taken state.options [] [] × FollowsIf b taken state [] []
     by true = (refl, refl)
-    by false = (tt, record { up_to = inl (refl, refl); given = given })
+    by false = (tt, record { up_to = inl (refl, refl); given = given ∙ sym (append-nil taken) })
+
+-- ---- before the first command
+pub taken_more : (taken more : List ℕ) (old new : ChangeState) → new.options ≡ old.options → new.given ≡ old.given ++ more
+    → HasChangedBeside taken old [] [] → HasChangedBeside (taken ++ more) new [] []
+taken_more taken more old new same given h =
+    let beside : List ℕ = taken ++ more in
+    let both : IsChangedIf (is_none new.options) beside new.options [] [] × FollowsIf (is_none new.options) beside new [] [] =
+    by (is_none new.options) (subst (λ b. FollowsIf b taken old [] []) (ap is_none (sym same)) h.follows) in
+    record { changed = both.0; stay = tt; begun = tt; follows = both.1 }
+  where
+    by : (b : Bool) → FollowsIf b taken old [] []
+        → IsChangedIf b (taken ++ more) new.options [] [] × FollowsIf b (taken ++ more) new [] []
+    by true f = (refl, refl)
+    by false f = (
+      tt,
+      record {
+        up_to = inl (refl, refl);
+        given = given ∙ ap (λ l. l ++ more) (f.given ∙ append-nil taken) ∙ sym (append-nil (taken ++ more));
+      },
+    )

@@ -1,15 +1,15 @@
 //! Commands changed one after the other.
-ghost use Rattle.std.specs.Prelude.{◌≡◌, ◌++◌, ◌∷◌, [], List, true, false, map, Ok, Some, None, OnOk, OnErr, IfOk};
+ghost use Rattle.std.specs.Prelude.{◌≡◌, ◌++◌, ◌∷◌, [], ℕ, List, true, false, map, Ok, Some, None, OnOk, OnErr, IfOk};
 ghost use Rattle.std.specs.List.{AllByRecursion};
 ghost use Rattle.ogg_command.specs.declared.command.Command.{Command as CommandOf};
-ghost use Rattle.feed_changes.specs.Changed.{HasChanged, IsPlain};
+ghost use Rattle.feed_changes.specs.Changed.{HasChanged, HasChangedBeside, IsPlain};
 ghost use Rattle.feed_changes.specs.Naming.{entries_named, name_of};
 ghost use Rattle.feed_changes.specs.Options.{is_none};
 
 use crate::describing::{all_described, head_said};
 use crate::naming::{free_serial, name_all, name_of};
 use crate::options::ChangeOptions;
-use crate::renaming::{entries_named, give_all, streams_named};
+use crate::renaming::{entries_named, give_all, streams_named, take_all};
 use crate::skeletons::{made_for, staying};
 use link_chain::Serials;
 use ogg_command::{Begin, Command, Listed, Memory, NewStream, Put, SkeletonHead};
@@ -21,7 +21,7 @@ use std::marker::Model;
 pub struct Changes {
     alloc: Global,
     options: ChangeOptions,
-    // the serials that streams have now
+    // the serials that were taken before, and those that streams have now
     given: Serials,
     // all serials below this one are taken
     low: u32,
@@ -52,6 +52,19 @@ impl Changes {
             low: 0,
             names: Vec::new(alloc),
         }
+    }
+
+    /// Before the first command: no stream gets one of these serials, as those of the file that is recorded into. With
+    /// `renumber` a stream that has one of them gets another; a Skeleton that is made never has one. After `Memory` all
+    /// is as before.
+    pub fn avoid(&mut self, serials: &[u32]) -> Result<(), Memory>
+        ensures changed { OnOk result ((taken : List ℕ) → HasChangedBeside taken self.old [] []
+            → HasChangedBeside (taken ++ serials.now) self.new [] []) }
+        ensures options { self.new.options ≡ self.old.options }
+        ensures err { OnErr result (self.new ≡ self.old) }
+    {
+        take_all(&mut self.given, serials)?;
+        Ok(())
     }
 
     /// Names the streams of a new link that stay.
@@ -147,8 +160,9 @@ impl Changes {
 
     /// The command that this one becomes, if it isn't left out. After `Memory` change no further command.
     pub fn change(&mut self, command: Command) -> Result<Option<Command>, Memory>
-        ensures changed { IfOk result (λ now. (commands given : List CommandOf) → HasChanged self.old commands given → IsPlain command
-            → HasChanged self.new (commands ++ command ∷ []) (given ++ option_list now)) }
+        ensures changed { IfOk result (λ now. (taken : List ℕ) (commands given : List CommandOf)
+            → HasChangedBeside taken self.old commands given → IsPlain command
+            → HasChangedBeside taken self.new (commands ++ command ∷ []) (given ++ option_list now)) }
         ensures options { self.new.options ≡ self.old.options }
         ensures same { is_none self.old.options ≡ true → result ≡ Ok (Some command) }
     {
@@ -171,8 +185,9 @@ impl Changes {
     /// The commands that these become. After `Memory`, which comes only if something is changed, change no further
     /// command.
     pub fn apply(&mut self, commands: Vec<Command>) -> Result<Vec<Command>, Memory>
-        ensures changed { IfOk result (λ now. (before given : List CommandOf) → HasChanged self.old before given
-            → AllByRecursion IsPlain commands.items → HasChanged self.new (before ++ commands.items) (given ++ now.items)) }
+        ensures changed { IfOk result (λ now. (taken : List ℕ) (before given : List CommandOf)
+            → HasChangedBeside taken self.old before given → AllByRecursion IsPlain commands.items
+            → HasChangedBeside taken self.new (before ++ commands.items) (given ++ now.items)) }
         ensures options { self.new.options ≡ self.old.options }
         ensures same { is_none self.old.options ≡ true → IfOk result (λ now. now.items ≡ commands.items) }
         ensures full { OnErr result (is_none self.old.options ≡ false) }

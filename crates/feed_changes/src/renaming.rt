@@ -1,5 +1,5 @@
 //! Streams and packets under the serials that their streams have now.
-ghost use Rattle.std.specs.Prelude.{◌≡◌, ◌++◌, ◌≤◌, length, map, IfOk, OnOk, OnErr};
+ghost use Rattle.std.specs.Prelude.{◌≡◌, ◌++◌, ◌≤◌, ◌<◌, length, map, IfOk, OnOk, OnErr};
 ghost use Rattle.ogg_command.specs.declared.command.NewStream.{NewStream as NewStreamOf};
 ghost use Rattle.feed_changes.specs.Naming.{entries_named, named, serials_of, stream_named};
 
@@ -69,6 +69,22 @@ pub fn give_all(given: &mut Serials, streams: &[NewStream]) -> Result<(), Memory
     given.reserve(streams.len())?;
     for stream in streams {
         given.push_reserved(stream.serial);
+    }
+    Ok(())
+}
+
+/// Adds these serials to those that are taken. After `Memory` none is added.
+pub fn take_all(given: &mut Serials, serials: &[u32]) -> Result<(), Memory>
+    ensures ok { OnOk result (given.new.listed ≡ given.old.listed ++ serials.now) }
+    ensures err { OnErr result (given.new.listed ≡ given.old.listed) }
+    ensures full { OnErr result (given.old.room < length serials.now) }
+{
+    match given.reserve(serials.len()) {
+        Ok(()) => {}
+        Err(refused) => return Err(refused),
+    }
+    for serial in serials {
+        given.push_reserved(*serial);
     }
     Ok(())
 }

@@ -1,4 +1,4 @@
-use Rattle.std.proofs.Common.{◌∙◌, ap, ◌++◌, List, subst}
+use Rattle.std.proofs.Common.{◌∙◌, ap, ◌++◌, List, [], subst}
 use Rattle.ogg_command.specs.declared.command.Command.{Command}
 use Rattle.gathering.specs.Kept.{waits}
 use Rattle.gathering.specs.Giving.{begin_if}
@@ -16,5 +16,5 @@ returns c =
           (sourced_rest inside new c.end.new.commands.items more c.in-Ok-apply.now.items
           (c.in-Ok.ensures.commands ∙ ap (λ (l : List Command). l ++ more) c.new-commands.ensures.items)
           (c.links_are_begun_without_a_skeleton.ensures.end inside.link)
-          c.in-Ok.ensures.gathered c.in-Ok.ensures.waits c.apply.ensures.options c.in-Ok-apply.ensures.changed);
+          c.in-Ok.ensures.gathered c.in-Ok.ensures.waits c.apply.ensures.options (c.in-Ok-apply.ensures.changed []));
     }

@@ -12,4 +12,4 @@ returns-clause-ok c =
     subst (λ (s : Sourced). Gathers s c.args.page.now new [] c.in-Ok-apply.now.items) c.self.view_is
     (sourced_page inside new c.args.page.now commands c.in-Ok-apply.now.items
     (subst (λ (l : List Command). TakesIn (gathered_of inside) c.args.page.now (gathered_of new) l commands) c.new-commands.ensures.items c.in-Ok.ensures.ok.0)
-    c.apply.ensures.options c.in-Ok-apply.ensures.changed)
+    c.apply.ensures.options (c.in-Ok-apply.ensures.changed []))
