@@ -2,3 +2,4 @@ pub mod Lists
 pub mod Turns
 pub mod Ends
 pub mod Sources
+pub mod MendedSteps

@@ -1,5 +1,6 @@
 pub mod Feed
 pub mod Making
 pub mod MakingFault
+pub mod Mending
 pub mod Turn
 pub mod Source

@@ -5,7 +5,7 @@ use Rattle.ogg_page.specs.Page.{Page as PageValue, page_size}
 use Rattle.link_chain.specs.ChainState.{ChainState}
 use Rattle.link_chain.specs.Taking.{fault_of_page, links_with}
 use Rattle.ogg_command.specs.declared.command.Command.{Command}
-use Rattle.gathering.specs.Kept.{KeptLink, waits}
+use Rattle.gathering.specs.Kept.{KeptLink, is_too_long, waits}
 use Rattle.gathering.specs.Giving.{IsPlain}
 use Rattle.gathering.specs.Gathered.{CanGoOn, Gathered, HasGathered}
 use Rattle.feed_changes.specs.Changed.{ChangeState, HasChanged}
@@ -34,6 +34,7 @@ GoesFurther sourced = CanGoOn (gathered_of sourced)
 -- the page is gathered, and these commands are appended
 pub record TakesIn (old : Gathered) (page : PageValue) (new : Gathered) (before now : List Command) : Type 0 where
   pub follows : fault_of_page old.chain page ≡ None
+  pub short : is_too_long old.link page ≡ false
   pub more : List Command
   pub appended : now ≡ before ++ more
   pub gathers : (links : List (List PageValue)) (given : List Command) → HasGathered links old given → CanGoOn old

@@ -11,7 +11,7 @@ use Rattle.link_chain.specs.Taking.{fault_of_page}
 use Rattle.ogg_command.specs.declared.command.Command.{Command}
 use Rattle.gathering.specs.Kept.{is_too_long, waits}
 use Rattle.gathering.specs.Gathered.{Gathered}
-use Rattle.feed_maker.specs.Source.{Gathers, GoesFurther, HasSourced, Sourced}
+use Rattle.feed_maker.specs.Source.{Gathers, GoesFurther, HasSourced, Sourced, gathered_of}
 use Rattle.feed_maker.specs.Feed.{Fits, GivesNot, records_of}
 use Rattle.feed_maker.specs.Making.{BeginsWith, Breaks, BreaksAtLimit, HasGiven, HasTaken, IsFaultOfInput, MakesFeed, Stops}
 use Rattle.feed_maker.specs.declared.made.Made.{Made}
@@ -25,13 +25,17 @@ fault_at at (PageOf fault) = Page at fault
 fault_at at ReadOf = Read at
 
 -- ---- one page
+-- the page may follow, and no packet is too long with it
+abbrev pub HasNoFault : Gathered → PageValue → Type 0
+HasNoFault old page = (fault_of_page old.chain page ≡ None) × (is_too_long old.link page ≡ false)
+
 -- why a page at this offset isn't gathered
 abbrev pub RefusesPage : Sourced → PageValue → ℕ → Sourced → MakingFault → Type 0
 RefusesPage old page offset new (Chain at fault) = (at ≡ offset) × (fault_of_page old.chain page ≡ Some fault) × (new ≡ old)
 RefusesPage old page offset new (PacketTooLong at) =
     (at ≡ offset) × (fault_of_page old.chain page ≡ None) × (is_too_long old.link page ≡ true) × (new ≡ old)
 RefusesPage old page offset new (TooLong at) = (at ≡ offset) × (2 ^ 63 ≤ offset + page_size page) × (new ≡ old)
-RefusesPage old page offset new Memory = ⊤
+RefusesPage old page offset new Memory = HasNoFault (gathered_of old) page
 RefusesPage old page offset new fault = ⊥
 
 -- the same of what is gathered
@@ -40,7 +44,7 @@ RefusesIn old page offset new (Chain at fault) = (at ≡ offset) × (fault_of_pa
 RefusesIn old page offset new (PacketTooLong at) =
     (at ≡ offset) × (fault_of_page old.chain page ≡ None) × (is_too_long old.link page ≡ true) × (new ≡ old)
 RefusesIn old page offset new (TooLong at) = (at ≡ offset) × (2 ^ 63 ≤ offset + page_size page) × (new ≡ old)
-RefusesIn old page offset new Memory = ⊤
+RefusesIn old page offset new Memory = HasNoFault old page
 RefusesIn old page offset new fault = ⊥
 
 -- ---- what is kept between the pages

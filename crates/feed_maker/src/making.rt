@@ -106,7 +106,7 @@ fn finish_well<W: Write>(maker: &mut Maker, writer: &mut W) -> Result<Made, Maki
 }
 
 /// Whether it is the input that has the fault.
-fn is_of_input(fault: MakingFault) -> bool
+pub(crate) fn is_of_input(fault: MakingFault) -> bool
     ensures { result ≡ of_input fault }
 {
     match fault {

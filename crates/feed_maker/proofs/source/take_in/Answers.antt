@@ -1,12 +1,17 @@
-use Rattle.std.proofs.Common.{◌≡◌, refl, sym, ◌∙◌, arith, Option, Some, None, Ok, Err}
+use Rattle.std.proofs.Common.{◌≡◌, Bool, true, false, refl, sym, ◌∙◌, arith, Option, Some, None, Ok, Err}
 use Rattle.link_chain.specs.Taking.{fault_of_page}
 use Rattle.link_chain.specs.declared.chain_fault.ChainFault.{ChainFault}
+use Rattle.gathering.specs.Kept.{is_too_long}
 use Rattle.gathering.specs.declared.fault.GatherFault.{GatherFault}
 use Rattle.feed_maker.proofs.source.take_in.Goals as goal
 
 none_of : (o : Option ChainFault) → ((fault : ChainFault) → o ≡ Some fault → ⊥) → o ≡ None
 none_of None f = refl
 none_of (Some fault) f = absurd (f fault refl)
+
+short_of : (b : Bool) → (b ≡ true → ⊥) → b ≡ false
+short_of false f = refl
+short_of true f = absurd (f refl)
 
 pub returns-in-Ok-clause-ok : goal.returns-in-Ok-clause-ok
 returns-in-Ok-clause-ok c =
@@ -15,6 +20,8 @@ returns-in-Ok-clause-ok c =
     let (more, appended, gathers) = c.in-Ok.ensures.gathered in (
       record {
         follows = follows;
+        short = short_of (is_too_long c.args.gatherer.now.link c.args.page.now)
+            (λ is. differ c.in-Ok.field-0 _ (sym c.in-Ok.is ∙ c.take_page.ensures.long follows is));
         more = more;
         appended = appended;
         gathers = gathers.goes_on;
