@@ -230,7 +230,7 @@ fn place(offset: u64, code: u8, name: &str) -> Line
 }
 
 /// Puts a number and a name in front of a line.
-fn put_coded(line: &mut Line, code: u8, name: &str)
+pub(crate) fn put_coded(line: &mut Line, code: u8, name: &str)
     requires short { length name.now ≤ 13 }
     requires room { 34 ≤ line.old.room }
     ensures text { line.new.text ≡ coded code name.now line.old.text }

@@ -52,6 +52,8 @@ pub struct FakeWriter {
     step: usize,
     bad: u64,
     calls: u64,
+    flushes: u64,
+    flushed: usize,
 }
 
 impl FakeWriter {
@@ -62,6 +64,8 @@ impl FakeWriter {
             step,
             bad,
             calls: 0,
+            flushes: 0,
+            flushed: 0,
         }
     }
 
@@ -73,6 +77,11 @@ impl FakeWriter {
     /// How often it was called.
     pub fn calls(&self) -> u64 {
         self.calls
+    }
+
+    /// How often it was flushed, and how many bytes were written before the last time.
+    pub fn flushes(&self) -> (u64, usize) {
+        (self.flushes, self.flushed)
     }
 }
 
@@ -90,6 +99,8 @@ impl Write for FakeWriter {
     }
 
     fn flush(&mut self) -> io::Result<()> {
+        self.flushes = self.flushes.saturating_add(1);
+        self.flushed = self.written.len();
         Ok(())
     }
 }

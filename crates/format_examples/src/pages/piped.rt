@@ -229,3 +229,23 @@ fn a_feed_is_made_of_pages(rt: HostRuntime) -> Result<(), Fail> {
     }
     Ok(())
 }
+
+/// An input, which of its reads fails, and how often the writer is flushed: after the announcement, after each page that
+/// completes a command, and at the end if commands waited.
+const FLUSHES: [(&[&[u8]], u64, u64); 5] = [
+    (&[], 0, 1),
+    (&[&FIRST_PAGE], 0, 2),
+    (&[&FIRST_PAGE, &HELLO_PAGE], 0, 2),
+    (&[&FIRST_PAGE, &HELLO_PAGE], 2, 2),
+    (&THREE_PAGES, 0, 3),
+];
+
+#[test]
+fn what_a_page_completes_is_flushed(rt: HostRuntime) -> Result<(), Fail> {
+    for &(pieces, bad, flushes) in &FLUSHES {
+        let input = joined(rt.alloc(), pieces)?;
+        let (_, writer) = made(rt.alloc(), &input, (100, bad), 7, ChangeOptions::none());
+        assert!(rt; writer.flushes() == (flushes, writer.written().len()));
+    }
+    Ok(())
+}
