@@ -6,3 +6,4 @@ pub mod Links
 pub mod Begins
 pub mod Steps
 pub mod Own
+pub mod Low

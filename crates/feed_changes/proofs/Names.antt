@@ -1,17 +1,18 @@
 -- Names, one more after the other.
 use Rattle.std.proofs.Common.{◌≡◌, ℕ, Bool, true, false, List, [], ◌∷◌, ◌++◌, refl, sym, ◌∙◌, ap, subst, arith, append-nil, zero, suc}
 use Rattle.std.proofs.Common.{get_or, length, ◌<◌}
-use Rattle.std.specs.Prelude.{nat_eq, ◌||◌}
+use Rattle.std.specs.Prelude.{nat_eq, ◌||◌, ◌⊎◌, ◌≤◌, Some, None}
+use Rattle.std.proofs.Common.{inl, inr}
 use Rattle.std.specs.List.{AllByRecursion, IsDistinct, list_any}
 use Rattle.std.specs.Map.{keys_of, values_of}
 use Rattle.std.proofs.lemmas.Grind.{common_steps}
 use Rattle.std.proofs.lemmas.List.{map-append}
 use Rattle.std.proofs.lemmas.List.Folds.{list_any-append}
-use Rattle.std.proofs.lemmas.Bool.{eq-eqb}
+use Rattle.std.proofs.lemmas.Bool.{cases_lt, eq-eqb}
 use Rattle.std.proofs.lemmas.Map.Made.{is_some-lookup}
 use Rattle.std.specs.Option.{is_some}
 use Rattle.feed_changes.specs.Naming.{AreNamed, AreNames, AreOnlyOf, IsFreshName, IsKept, Keeps, KeepsAll, Renames, entries_named}
-use Rattle.feed_changes.specs.Naming.{entry_with, name_of, serials_of}
+use Rattle.feed_changes.specs.Naming.{AreAllTaken, IsFirstFree, IsFreeFrom, IsLow, entry_with, is_had, name_of, serials_of}
 use Rattle.std.proofs.lemmas.List.Elements.{filter_map-append}
 use Rattle.std.specs.Prelude.{Option}
 use Rattle.std.specs.List.{cons_option}
@@ -126,6 +127,7 @@ pub renames_none : (given : List ℕ) (serial : ℕ) (names : List (ℕ × ℕ))
 renames_none given serial names is = record {
   more = [];
   appended = sym (append-nil names);
+  first = tt;
   is_named = is;
   are = λ are kept. are;
   only = λ serials is only. only;
@@ -142,17 +144,65 @@ kept_given : (b : Bool) (k : Bool) (now serial : ℕ) → (b ≡ false → k ≡
 kept_given b k now serial kept none new = clash (kept new) none
 
 pub renames_one : (given : List ℕ) (serial now : ℕ) (names : List (ℕ × ℕ)) → list_any (nat_eq serial) (keys_of names) ≡ false
-    → list_any (nat_eq now) given ≡ false
-    → list_any (nat_eq now) (values_of names) ≡ false → Renames given serial names (names ++ (serial, now) ∷ [])
-renames_one given serial now names none free unused = record {
+    → IsFirstFree 0 given (values_of names) now → Renames given serial names (names ++ (serial, now) ∷ [])
+renames_one given serial now names none first = record {
   more = (serial, now) ∷ [];
   appended = refl;
+  first = (first, tt);
   is_named = own_key names serial now;
   are = λ are kept.
-      names_push given names serial now are none free
-      (kept_given (list_any (nat_eq serial) given) (list_any (nat_eq serial) (keys_of names)) now serial kept none) unused;
+      names_push given names serial now are none (or_left (list_any (nat_eq now) given) (list_any (nat_eq now) (values_of names)) first.free)
+      (kept_given (list_any (nat_eq serial) given) (list_any (nat_eq serial) (keys_of names)) now serial kept none)
+      (or_right (list_any (nat_eq now) given) (list_any (nat_eq now) (values_of names)) first.free);
   only = λ serials is only. only_push names serial now serials is only;
 }
+
+-- ---- serials below which all are taken
+or_more : (a b c : Bool) → (a || b) ≡ true → (a || (b || c)) ≡ true
+or_more true b c e = refl
+or_more false true c e = refl
+or_more false false c e = clash e refl
+
+had_more : (earlier serials more : List ℕ) (n : ℕ) → is_had earlier serials n ≡ true → is_had earlier (serials ++ more) n ≡ true
+had_more earlier serials more n e =
+    ap (λ b. list_any (nat_eq n) earlier || b) (list_any-append (nat_eq n) serials more)
+    ∙ or_more (list_any (nat_eq n) earlier) (list_any (nat_eq n) serials) (list_any (nat_eq n) more) e
+
+pub low_more : (given more : List ℕ) (low : ℕ) → IsLow given [] low → IsLow given more low
+low_more given more low is n less = had_more given [] more n (is n less)
+
+-- what isn't avoided may be taken all the same
+pub low_beside : (given serials : List ℕ) (low : ℕ) → IsLow [] serials low → IsLow given serials low
+low_beside given serials low is n less = ap (λ b. list_any (nat_eq n) given || b) (is n less) ∙ or_true (list_any (nat_eq n) given)
+
+-- a serial more is taken, which was the first free one
+pub low_named : (given : List ℕ) (names : List (ℕ × ℕ)) (serial now : ℕ) → IsFirstFree 0 given (values_of names) now
+    → IsLow given (values_of (names ++ (serial, now) ∷ [])) now
+low_named given names serial now first n less =
+    ap (λ l. is_had given l n) (map-append (λ (e : ℕ × ℕ). e.1) names ((serial, now) ∷ []))
+    ∙ had_more given (values_of names) (now ∷ []) n (first.first n (omega (arith)) less)
+
+-- from a serial on below which all are taken, the first free one is the first of all
+pub first_of_low : (given serials : List ℕ) (low free : ℕ) → IsLow given serials low → IsFreeFrom low given serials (Some free)
+    → IsFirstFree 0 given serials free
+first_of_low given serials low free is (f, above, taken) = record {
+  free = f;
+  first = λ n zero_less less. by n less (cases_lt n low);
+  none = λ less. absurd (omega (arith, less));
+  least = λ less. absurd (omega (arith, less));
+}
+  where
+    by : (n : ℕ) → n < free → (n < low) ⊎ (low ≤ n) → is_had given serials n ≡ true
+    by n less (inl below) = is n below
+    by n less (inr from) = taken n from less
+
+pub all_of_low : (given serials : List ℕ) (low : ℕ) → IsLow given serials low → IsFreeFrom low given serials None
+    → AreAllTaken given serials
+all_of_low given serials low is taken n less = by (cases_lt n low)
+  where
+    by : (n < low) ⊎ (low ≤ n) → is_had given serials n ≡ true
+    by (inl below) = is n below
+    by (inr from) = taken n from less
 
 -- ---- stream after stream
 any_own : (serials : List ℕ) (serial : ℕ) → list_any (nat_eq serial) (serials ++ serial ∷ []) ≡ true

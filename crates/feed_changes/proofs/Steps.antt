@@ -203,7 +203,7 @@ plain_changed taken old state new begin now commands given is plain h by none b 
     ))
 
 -- ---- and with a Skeleton
-named_serials : (names : List (ℕ × ℕ)) (streams : List NewStream)
+pub named_serials : (names : List (ℕ × ℕ)) (streams : List NewStream)
     → serials_of (map (stream_named names) streams) ≡ map (named names) (serials_of streams)
 named_serials names [] = refl
 named_serials names (stream ∷ streams) = ap (λ l. named names stream.serial ∷ l) (named_serials names streams)

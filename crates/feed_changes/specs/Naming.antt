@@ -45,6 +45,35 @@ pub record AreNames (given : List ℕ) (names : List (ℕ × ℕ)) : Type 0 wher
 abbrev pub serials_of : List NewStream → List ℕ
 serials_of streams = map (λ (stream : NewStream). stream.serial) streams
 
+-- ---- a new serial
+abbrev pub is_had : List ℕ → List ℕ → ℕ → Bool
+is_had earlier serials serial = list_any (nat_eq serial) earlier || list_any (nat_eq serial) serials
+
+-- the serial is the first from this one on that isn't among these, or if there is none, the first of all
+pub record IsFirstFree (from : ℕ) (earlier serials : List ℕ) (serial : ℕ) : Type 0 where
+  pub free : is_had earlier serials serial ≡ false
+  pub first : (other : ℕ) → from ≤ other → other < serial → is_had earlier serials other ≡ true
+  pub none : serial < from → (other : ℕ) → from ≤ other → other < 2 ^ 32 → is_had earlier serials other ≡ true
+  pub least : serial < from → (other : ℕ) → other < serial → is_had earlier serials other ≡ true
+
+-- whether there is a free one from this one on, and which
+abbrev pub IsFreeFrom : ℕ → List ℕ → List ℕ → Option ℕ → Type 0
+IsFreeFrom from earlier serials None = (other : ℕ) → from ≤ other → other < 2 ^ 32 → is_had earlier serials other ≡ true
+IsFreeFrom from earlier serials (Some serial) =
+    (is_had earlier serials serial ≡ false) × (from ≤ serial)
+    × ((other : ℕ) → from ≤ other → other < serial → is_had earlier serials other ≡ true)
+
+-- each serial below this one is among these, so a search can begin at it
+abbrev pub IsLow : List ℕ → List ℕ → ℕ → Type 0
+IsLow earlier serials low = (other : ℕ) → other < low → is_had earlier serials other ≡ true
+
+-- there is no free one
+abbrev pub AreAllTaken : List ℕ → List ℕ → Type 0
+AreAllTaken earlier serials = (other : ℕ) → other < 2 ^ 32 → is_had earlier serials other ≡ true
+
+abbrev pub IsFirstName : List ℕ → List (ℕ × ℕ) → ℕ × ℕ → Type 0
+IsFirstName given names name = IsFirstFree 0 given (values_of names) name.1
+
 -- ---- one stream after the other
 -- This stream's serial has a name, if it isn't taken already.
 abbrev pub IsKept : List ℕ → List (ℕ × ℕ) → ℕ → Type 0
@@ -68,24 +97,8 @@ pub record Keeps (given : List ℕ) (serial : ℕ) (old new : List (ℕ × ℕ))
 pub record Renames (given : List ℕ) (serial : ℕ) (old new : List (ℕ × ℕ)) : Type 0 where
   pub more : List (ℕ × ℕ)
   pub appended : new ≡ old ++ more
+  -- the new serial is the first free one of all
+  pub first : AllByRecursion (IsFirstName given old) more
   pub is_named : list_any (nat_eq serial) (keys_of new) ≡ true
   pub are : AreNames given old → IsKept given old serial → AreNames given new
   pub only : (serials : List ℕ) → list_any (nat_eq serial) serials ≡ true → AreOnlyOf old serials → AreOnlyOf new serials
-
--- ---- a new serial
-abbrev pub is_had : List ℕ → List ℕ → ℕ → Bool
-is_had earlier serials serial = list_any (nat_eq serial) earlier || list_any (nat_eq serial) serials
-
--- the serial is the first from this one on that isn't among these, or if there is none, the first of all
-pub record IsFirstFree (from : ℕ) (earlier serials : List ℕ) (serial : ℕ) : Type 0 where
-  pub free : is_had earlier serials serial ≡ false
-  pub first : (other : ℕ) → from ≤ other → other < serial → is_had earlier serials other ≡ true
-  pub none : serial < from → (other : ℕ) → from ≤ other → other < 2 ^ 32 → is_had earlier serials other ≡ true
-  pub least : serial < from → (other : ℕ) → other < serial → is_had earlier serials other ≡ true
-
--- whether there is a free one from this one on, and which
-abbrev pub IsFreeFrom : ℕ → List ℕ → List ℕ → Option ℕ → Type 0
-IsFreeFrom from earlier serials None = (other : ℕ) → from ≤ other → other < 2 ^ 32 → is_had earlier serials other ≡ true
-IsFreeFrom from earlier serials (Some serial) =
-    (is_had earlier serials serial ≡ false) × (from ≤ serial)
-    × ((other : ℕ) → from ≤ other → other < serial → is_had earlier serials other ≡ true)

@@ -1,7 +1,7 @@
 -- What each command becomes. Ours.
-use Rattle.std.specs.Prelude.{◌≡◌, ℕ, Option, Some, None, List, [], ◌∷◌, ◌++◌, map}
-use Rattle.std.specs.List.{AllZip}
-use Rattle.std.specs.Map.{values_of}
+use Rattle.std.specs.Prelude.{◌≡◌, ℕ, Option, Some, None, List, [], ◌∷◌, ◌++◌, map, nat_eq}
+use Rattle.std.specs.List.{AllZip, IsDistinct}
+use Rattle.std.specs.Map.{keys_of, values_of}
 use Rattle.ogg_command.specs.declared.command.Command.{Command}
 use Rattle.ogg_command.specs.declared.command.Command.TheVariants.{Begin as BeginOf, Put as PutOf, End as EndOf}
 use Rattle.ogg_command.specs.declared.command.Begin.{Begin}
@@ -9,7 +9,7 @@ use Rattle.ogg_command.specs.declared.command.Entry.{Entry}
 use Rattle.ogg_command.specs.declared.command.NewStream.{NewStream}
 use Rattle.ogg_command.specs.declared.command.SkeletonHead.{SkeletonHead}
 use Rattle.feed_changes.specs.Changed.{ChangeState}
-use Rattle.feed_changes.specs.Naming.{AreNamed, AreNames, AreOnlyOf, IsFirstFree, named, serials_of, stream_named}
+use Rattle.feed_changes.specs.Naming.{AreNamed, AreNames, AreOnlyOf, IsFirstFree, IsLow, named, serials_of, stream_named}
 use Rattle.feed_changes.specs.Renumbered.{avoided}
 use Rattle.feed_changes.specs.Said.{IsDescribedBy, IsHeadSaid}
 use Rattle.feed_changes.specs.Skeletons.{made_for, said_in, staying}
@@ -34,6 +34,13 @@ pub record Names (old new : ChangeState) (streams : List NewStream) : Type 0 whe
   pub names : AreNames (avoided old.options.renumber old.given) new.names
   pub named : AreNamed new.names (serials_of streams)
   pub only : AreOnlyOf new.names (serials_of streams)
+
+-- these streams are the link's that are named, and each serial below this one is taken
+pub record AreNamedFor (state : ChangeState) (streams : List NewStream) (low : ℕ) : Type 0 where
+  pub once : IsDistinct nat_eq (keys_of state.names)
+  pub named : AreNamed state.names (serials_of streams)
+  pub only : AreOnlyOf state.names (serials_of streams)
+  pub taken : IsLow state.given (values_of state.names) low
 
 -- these streams begin under their names, without a Skeleton that is made
 pub record BeginsPlain (old new : ChangeState) (skeleton : Option SkeletonHead) (streams : List NewStream) (now : Command) : Type 0 where

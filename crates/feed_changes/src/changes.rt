@@ -9,7 +9,7 @@ ghost use Rattle.feed_changes.specs.Options.{is_none};
 use crate::describing::{all_described, head_said};
 use crate::naming::{free_serial, name_all, name_of};
 use crate::options::ChangeOptions;
-use crate::renaming::{entries_named, give_all, streams_named, take_all};
+use crate::renaming::{entries_named, give_all, give_with, streams_named, take_all};
 use crate::skeletons::{made_for, staying};
 use link_chain::Serials;
 use ogg_command::{Begin, Command, Listed, Memory, NewStream, Put, SkeletonHead};
@@ -23,7 +23,7 @@ pub struct Changes {
     options: ChangeOptions,
     // the serials that were taken before, and those that streams have now
     given: Serials,
-    // all serials below this one are taken
+    // all serials below this one are among them
     low: u32,
     // of the last link: the serial that a stream had, and the one that it has now
     names: Vec<(u32, u32)>,
@@ -31,14 +31,20 @@ pub struct Changes {
 
 impl Model for Changes {
     ghost use Rattle.feed_changes.specs.Changed.{ChangeState};
+    ghost use Rattle.feed_changes.specs.Naming.{IsLow};
+    ghost use Rattle.std.specs.Prelude.{[]};
 
     ghost Value = { ChangeState };
 
     ghost view = { λ c. record { options = c.options; given = c.given.listed; names = c.names.items } };
+
+    ghost invariant = { λ c. IsLow c.given.listed [] c.low };
 }
 
 impl Changes {
-    ghost use Rattle.feed_changes.specs.Steps.{Begins, BeginsDescribed, BeginsPlain, Names, end_of, option_list, put_of};
+    ghost use Rattle.std.specs.Map.{values_of};
+    ghost use Rattle.feed_changes.specs.Naming.{IsLow};
+    ghost use Rattle.feed_changes.specs.Steps.{AreNamedFor, Begins, BeginsDescribed, BeginsPlain, Names, end_of, option_list, put_of};
 
     /// No commands yet. No memory is taken.
     pub fn new(alloc: Global, options: ChangeOptions) -> Changes
@@ -67,32 +73,44 @@ impl Changes {
         Ok(())
     }
 
-    /// Names the streams of a new link that stay.
-    fn name(&mut self, stay: &[NewStream]) -> Result<(), Memory>
+    /// Names the streams of a new link that stay. Returns the serial below which all are taken then.
+    fn name(&mut self, stay: &[NewStream]) -> Result<u32, Memory>
         ensures names { OnOk result (Names self.old self.new stay.now) }
+        ensures low { IfOk result (IsLow self.new.given (values_of self.new.names)) }
         ensures options { self.new.options ≡ self.old.options }
     {
         let names = &mut self.names;
         if self.options.renumber {
-            name_all(&self.given, names, stay, &mut self.low)?;
+            name_all(&self.given, names, stay, self.low)
         } else {
             // Nothing is avoided, so each is named by its own serial.
-            name_all(&Serials::new(self.alloc), names, stay, &mut self.low)?;
+            match name_all(&Serials::new(self.alloc), names, stay, 0) {
+                Ok(low) => Ok(low),
+                Err(refused) => Err(refused),
+            }
         }
-        Ok(())
     }
 
-    /// Begins these streams without a Skeleton that is made.
+    /// Begins these streams without a Skeleton that is made. They are named, and the serials below `low` are taken.
     fn begin_plain(
         &mut self,
         skeleton: Option<SkeletonHead>,
         stay: Vec<NewStream>,
+        low: u32,
     ) -> Result<Command, Memory>
+        requires { AreNamedFor self.old stay.items low }
         ensures begins { IfOk result (λ now. BeginsPlain self.old self.new skeleton stay.items now) }
         ensures options { self.new.options ≡ self.old.options }
     {
-        let streams = streams_named(self.alloc, self.names.as_slice(), stay)?;
-        give_all(&mut self.given, streams.as_slice())?;
+        let streams = match streams_named(self.alloc, self.names.as_slice(), stay) {
+            Ok(streams) => streams,
+            Err(refused) => return Err(refused),
+        };
+        match give_all(&mut self.given, streams.as_slice()) {
+            Ok(()) => {}
+            Err(refused) => return Err(refused),
+        }
+        self.low = low;
         Ok(Command::Begin(Begin {
             skeleton,
             streams: Listed::of(streams),
@@ -100,21 +118,31 @@ impl Changes {
     }
 
     /// Begins these streams with a Skeleton that says what the Skeletons with these packets say. The new Skeleton's
-    /// serial is the first free one from `from` on.
+    /// serial is the first free one from `from` on. The streams are named, and the serials below `low` are taken.
     fn begin_described(
         &mut self,
         from: u32,
         said: &[Listed<u8>],
         stay: Vec<NewStream>,
+        low: u32,
     ) -> Result<Command, Memory>
+        requires { AreNamedFor self.old stay.items low }
         ensures begins { IfOk result (λ now. BeginsDescribed from said.now self.old self.new stay.items now) }
         ensures options { self.new.options ≡ self.old.options }
     {
-        let serial = free_serial(&self.given, self.names.as_slice(), from)?;
-        self.given.reserve(1)?;
-        self.given.push_reserved(serial);
-        let streams = all_described(self.alloc, said, self.names.as_slice(), stay)?;
-        give_all(&mut self.given, streams.as_slice())?;
+        let serial = match free_serial(&self.given, self.names.as_slice(), from) {
+            Ok(serial) => serial,
+            Err(taken) => return Err(taken),
+        };
+        let streams = match all_described(self.alloc, said, self.names.as_slice(), stay) {
+            Ok(streams) => streams,
+            Err(refused) => return Err(refused),
+        };
+        match give_with(&mut self.given, serial, streams.as_slice()) {
+            Ok(()) => {}
+            Err(refused) => return Err(refused),
+        }
+        self.low = low;
         Ok(Command::Begin(Begin {
             skeleton: Some(head_said(said, serial)),
             streams: Listed::of(streams),
@@ -128,10 +156,13 @@ impl Changes {
     {
         let skeletons = self.options.skeletons;
         let (stay, said) = staying(self.alloc, skeletons, begin.streams.into_vec())?;
-        self.name(stay.as_slice())?;
+        let low = match self.name(stay.as_slice()) {
+            Ok(low) => low,
+            Err(refused) => return Err(refused),
+        };
         match made_for(skeletons, stay.as_slice()) {
-            Some(from) => self.begin_described(from, said.as_slice(), stay),
-            None => self.begin_plain(begin.skeleton, stay),
+            Some(from) => self.begin_described(from, said.as_slice(), stay, low),
+            None => self.begin_plain(begin.skeleton, stay, low),
         }
     }
 

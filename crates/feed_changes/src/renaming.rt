@@ -1,5 +1,5 @@
 //! Streams and packets under the serials that their streams have now.
-ghost use Rattle.std.specs.Prelude.{◌≡◌, ◌++◌, ◌≤◌, ◌<◌, length, map, IfOk, OnOk, OnErr};
+ghost use Rattle.std.specs.Prelude.{◌≡◌, ◌++◌, ◌∷◌, ◌≤◌, ◌<◌, length, map, IfOk, OnOk, OnErr};
 ghost use Rattle.ogg_command.specs.declared.command.NewStream.{NewStream as NewStreamOf};
 ghost use Rattle.feed_changes.specs.Naming.{entries_named, named, serials_of, stream_named};
 
@@ -62,14 +62,41 @@ pub fn entries_named(
     Ok(now)
 }
 
-/// Adds the serials of these streams to those that are taken.
-pub fn give_all(given: &mut Serials, streams: &[NewStream]) -> Result<(), Memory>
-    ensures { OnOk result (given.new.listed ≡ given.old.listed ++ serials_of streams.now) }
+/// Adds the serials of these streams to those that are taken, for which there is room.
+fn give_reserved(given: &mut Serials, streams: &[NewStream])
+    requires { length streams.now ≤ given.old.room }
+    ensures { given.new.listed ≡ given.old.listed ++ serials_of streams.now }
 {
-    given.reserve(streams.len())?;
     for stream in streams {
         given.push_reserved(stream.serial);
     }
+}
+
+/// Adds the serials of these streams to those that are taken. After `Memory` none is added.
+pub fn give_all(given: &mut Serials, streams: &[NewStream]) -> Result<(), Memory>
+    ensures ok { OnOk result (given.new.listed ≡ given.old.listed ++ serials_of streams.now) }
+    ensures err { OnErr result (given.new.listed ≡ given.old.listed) }
+{
+    match given.reserve(streams.len()) {
+        Ok(()) => {}
+        Err(refused) => return Err(refused),
+    }
+    give_reserved(given, streams);
+    Ok(())
+}
+
+/// Adds a Skeleton's serial, and then those of these streams, to those that are taken. After `Memory` none is added.
+pub fn give_with(given: &mut Serials, serial: u32, streams: &[NewStream]) -> Result<(), Memory>
+    ensures ok { OnOk result (given.new.listed ≡ given.old.listed ++ serial ∷ serials_of streams.now) }
+    ensures err { OnErr result (given.new.listed ≡ given.old.listed) }
+{
+    // A `Begin` has few streams, so the sum doesn't overflow.
+    match given.reserve(streams.len().saturating_add(1)) {
+        Ok(()) => {}
+        Err(refused) => return Err(refused),
+    }
+    given.push_reserved(serial);
+    give_reserved(given, streams);
     Ok(())
 }
 

@@ -16,4 +16,4 @@ loop-stream-preserved c =
     (ap (λ (s : NewStream). serials_of (take i streams) ++ s.serial ∷ []) c.stream-item.is
     ∙ sym (map_more (λ (s : NewStream). s.serial) streams i c.stream-item.result c.loop-stream-test.true))
     (keeps_next c.args.given.now.listed c.loop-stream.names.items c.keep.new.names.items
-    (serials_of (take i streams)) c.stream-item.result.serial c.loop-stream.invariant c.in_ok-keep.ensures)
+    (serials_of (take i streams)) c.stream-item.result.serial c.loop-stream.invariant c.in-Ok.ensures.kept)

@@ -1,30 +1,33 @@
-use Rattle.std.proofs.Common.{true, false, sym, ◌∙◌, ap, subst, ℕ, List, nat_eq}
-use Rattle.std.proofs.lemmas.Bool.{or_parts}
+use Rattle.std.proofs.Common.{true, false, sym, ◌∙◌, ap, subst, ℕ, List, [], ◌∷◌, ◌++◌}
 use Rattle.std.specs.Option.{is_some}
-use Rattle.std.specs.List.{list_any}
 use Rattle.std.specs.Map.{values_of}
-use Rattle.feed_changes.specs.Naming.{Renames, name_of}
-use Rattle.feed_changes.proofs.Names.{keyed, renames_none, renames_one}
+use Rattle.feed_changes.specs.Naming.{IsFirstFree, IsLow, Renames, name_of}
+use Rattle.feed_changes.proofs.Names.{keyed, low_named, renames_none, renames_one}
 use Rattle.feed_changes.proofs.naming.rename.Goals as goal
 
-pub returns-then-is_some : goal.returns-then-is_some
-returns-then-is_some c =
+pub returns-then-is_some-clause-names : goal.returns-then-is_some-clause-names
+returns-then-is_some-clause-names c =
     let names : List (ℕ × ℕ) = c.args.names.now.items in
     renames_none c.args.given.now.listed c.args.serial names
     (keyed names c.args.serial true
     (ap (λ l. is_some (name_of l c.args.serial)) (sym c.as_slice.ensures.value) ∙ ap is_some (sym c.name_of.ensures)
     ∙ sym c.is_some.ensures ∙ c.if-is_some.true))
 
-pub returns-in_ok-push-in-Some : goal.returns-in_ok-push-in-Some
-returns-in_ok-push-in-Some c =
+pub returns-clause-names : goal.returns-clause-names
+returns-clause-names c =
     let names : List (ℕ × ℕ) = c.args.names.now.items in
-    subst (Renames c.args.given.now.listed c.args.serial names) (sym c.in_ok-push-in-Some.ensures.items)
-    (renames_one c.args.given.now.listed c.args.serial c.in-Some.free names
+    subst (Renames c.args.given.now.listed c.args.serial names)
+    (sym (c.push_reserved.ensures.items ∙ ap (λ l. l ++ (c.args.serial, c.in-Ok.free) ∷ []) c.reserve.ensures.items))
+    (renames_one c.args.given.now.listed c.args.serial c.in-Ok.free names
     (keyed names c.args.serial false
     (ap (λ l. is_some (name_of l c.args.serial)) (sym c.as_slice.ensures.value) ∙ ap is_some (sym c.name_of.ensures)
     ∙ sym c.is_some.ensures ∙ c.if-is_some.false))
-    (or_parts (list_any (nat_eq c.in-Some.free) c.args.given.now.listed)
-    (list_any (nat_eq c.in-Some.free) (values_of c.as_slice-2.result.now)) c.in-Some.ensures.0).0
-    (ap (λ l. list_any (nat_eq c.in-Some.free) (values_of l)) (sym c.as_slice-2.ensures.value)
-    ∙ (or_parts (list_any (nat_eq c.in-Some.free) c.args.given.now.listed)
-    (list_any (nat_eq c.in-Some.free) (values_of c.as_slice-2.result.now)) c.in-Some.ensures.0).1))
+    (subst (λ l. IsFirstFree 0 c.args.given.now.listed (values_of l) c.in-Ok.free) c.as_slice-2.ensures.value c.in-Ok.ensures.free))
+
+pub returns-clause-low : goal.returns-clause-low
+returns-clause-low c =
+    let names : List (ℕ × ℕ) = c.args.names.now.items in
+    subst (λ l. IsLow c.args.given.now.listed (values_of l) c.in-Ok.free)
+    (sym (c.push_reserved.ensures.items ∙ ap (λ l. l ++ (c.args.serial, c.in-Ok.free) ∷ []) c.reserve.ensures.items))
+    (low_named c.args.given.now.listed names c.args.serial c.in-Ok.free
+    (subst (λ l. IsFirstFree 0 c.args.given.now.listed (values_of l) c.in-Ok.free) c.as_slice-2.ensures.value c.in-Ok.ensures.free))

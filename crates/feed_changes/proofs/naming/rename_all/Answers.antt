@@ -15,16 +15,17 @@ loop-stream-preserved c =
     let new : List (ℕ × ℕ) = c.rename.new.names.items in
     let serial : ℕ = c.stream-item.result.serial in
     record {
-      names = c.in_ok-rename.ensures.are c.loop-stream.invariant.names
+      names = c.in-Ok.ensures.names.are c.loop-stream.invariant.names
           (subst (λ (s : NewStream). IsKept given old s.serial) (sym c.stream-item.is)
           (kept_at given old streams i c.stream-item.result c.loop-stream-test.true c.loop-stream.invariant.kept));
-      kept = kept_next given old new (serials_of streams) serial c.loop-stream.invariant.kept c.in_ok-rename.ensures;
-      only = c.in_ok-rename.ensures.only (serials_of streams)
+      kept = kept_next given old new (serials_of streams) serial c.loop-stream.invariant.kept c.in-Ok.ensures.names;
+      only = c.in-Ok.ensures.names.only (serials_of streams)
           (subst (λ (s : NewStream). list_any (nat_eq s.serial) (serials_of streams) ≡ true) (sym c.stream-item.is)
           (serial_at streams i c.stream-item.result c.loop-stream-test.true))
           c.loop-stream.invariant.only;
       done = subst (AreNamed new)
           (ap (λ (s : NewStream). serials_of (take i streams) ++ s.serial ∷ []) c.stream-item.is
           ∙ sym (map_more (λ (s : NewStream). s.serial) streams i c.stream-item.result c.loop-stream-test.true))
-          (named_next given old new (serials_of (take i streams)) serial c.loop-stream.invariant.done c.in_ok-rename.ensures);
+          (named_next given old new (serials_of (take i streams)) serial c.loop-stream.invariant.done c.in-Ok.ensures.names);
+      low = c.in-Ok.ensures.low;
     }

@@ -1,6 +1,6 @@
 use Rattle.std.proofs.Common.{◌≡◌, ◌++◌, ◌≤◌, ◌+◌, length, take}
 use Rattle.feed_changes.specs.Naming.{serials_of}
-use Rattle.feed_changes.proofs.renaming.give_all.Given as goal
+use Rattle.feed_changes.proofs.renaming.give_reserved.Given as goal
 
 -- the serials so far are added, and there is room for the others
 abbrev pub invariant-loop-stream : goal.invariant-loop-stream
