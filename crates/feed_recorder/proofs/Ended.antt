@@ -8,6 +8,7 @@ use Rattle.feed_codec.specs.declared.item.Record.{Record}
 use Rattle.feed_codec.specs.declared.item.Record.TheVariants.{Flush}
 use Rattle.feed_codec.specs.declared.reply.Reply.{Reply}
 use Rattle.feed_run.specs.Answering.{AnswersAll}
+use Rattle.feed_run.specs.Laws.InTurn.{one_more}
 use Rattle.feed_run.specs.Run.{Streams, Outcome, RunsTo, StopsAt, EndsBy, IsClosed}
 use Rattle.ogg_recorder.specs.Recorder.{RecorderState}
 use Rattle.ogg_recorder.specs.Running.{Progress, Answers}
@@ -16,17 +17,6 @@ use Rattle.feed_recorder.specs.Recorded.{Answered, answered_with, answered_by}
 module _ {S : Type 0} (answers : S → Record → Reply → List ℕ → S → Type 0) where
   abbrev pub All : S → List Record → List Reply → S → Type 0
   All before records replies after = (bytes : List ℕ) × AnswersAll answers before records replies bytes after
-
-  -- one more record
-  one_more : (before mid after : S) (records : List Record) (replies : List Reply) (bytes own : List ℕ) (given : Record) (reply : Reply)
-      → AnswersAll answers before records replies bytes mid → answers mid given reply own after
-      → AnswersAll answers before (records ++ given ∷ []) (replies ++ reply ∷ []) (bytes ++ own) after
-  one_more before mid after [] [] bytes own given reply (none, same) answer =
-      (after, own, [], subst (λ (s : S). answers s given reply own after) same answer, (refl, refl), ap (λ l. l ++ own) none ∙ sym (append-nil own))
-  one_more before mid after [] (r ∷ replies) bytes own given reply all answer = absurd all
-  one_more before mid after (g ∷ records) [] bytes own given reply all answer = absurd all
-  one_more before mid after (g ∷ records) (r ∷ replies) bytes own given reply (next, first, later, first_answer, rest, whole) answer =
-      (next, first, later ++ own, first_answer, one_more next mid after records replies later own given reply rest answer, ap (λ l. l ++ own) whole ∙ append_assoc first later own)
 
   moved : (before after : S) (records more_records : List Record) (replies more_replies : List Reply) → records ≡ more_records → replies ≡ more_replies
       → All before records replies after → All before more_records more_replies after
@@ -43,7 +33,7 @@ module _ {S : Type 0} (answers : S → Record → Reply → List ℕ → S → T
     closed_all at now before mid after records closing replies last all (inr (some, reply, a_record, a_reply, answer, lines)) =
         moved before after (records ++ Flush ∷ []) (records ++ closing) (replies ++ reply ∷ []) (replies ++ last)
         (ap (λ (l : List Record). records ++ l) (sym a_record)) (ap (λ (l : List Reply). replies ++ l) (sym a_reply))
-        (all.0 ++ [], one_more before mid after records replies all.0 [] Flush reply all.1 answer)
+        (all.0 ++ [], one_more answers before records replies all.0 mid Flush reply [] after all.1 answer)
 
     pub run_to : (outcome : Outcome) (start now : Streams) (before after : S) (run : RunsTo answers held outcome start now before after)
         → All before (run.records ++ run.closing) (run.replies ++ run.last) after
@@ -56,7 +46,7 @@ module _ {S : Type 0} (answers : S → Record → Reply → List ℕ → S → T
     stopped before mid after records replies given waits pages new_pages lines new_lines own reply reached (inl none) all answer =
         subst (λ (s : S). All before records replies s) (sym none.2) all
     stopped before mid after records replies given waits pages new_pages lines new_lines own reply reached (inr whole) all answer =
-        subst (λ (s : S). All before (records ++ given ∷ []) (replies ++ reply ∷ []) s) (sym whole.2) (all.0 ++ own, one_more before mid reached records replies all.0 own given reply all.1 answer)
+        subst (λ (s : S). All before (records ++ given ∷ []) (replies ++ reply ∷ []) s) (sym whole.2) (all.0 ++ own, one_more answers before records replies all.0 mid given reply own reached all.1 answer)
 
     pub ended : (fault : RunFault) (start now : Streams) (before after : S) (run : EndsBy answers held fault start now before after)
         → let found : Answered = answered_by answers held fault start now before after run in All before found.records found.replies after

@@ -9,7 +9,7 @@ use Rattle.ogg_page.specs.Output.{WritesPrefix}
 use Rattle.feed_codec.specs.declared.item.Record.{Record}
 use Rattle.feed_codec.specs.declared.reply.Reply.{Reply}
 use Rattle.feed_codec.specs.Reply.{reply_line}
-use Rattle.feed_run.specs.Answering.{AnswersAll}
+use Rattle.feed_run.specs.Laws.InTurn.{answers_both}
 use Rattle.feed_recorder.specs.Ending.{HasEnded, HasToldSome, IsEnd}
 
 all_both : (xs ys : List Record) → AllByRecursion IsEnd xs → AllByRecursion IsEnd ys → AllByRecursion IsEnd (xs ++ ys)
@@ -21,15 +21,6 @@ prefix_both a b c xs ys whole (n, within, more) =
     (length xs + n, omega (arith, within, length-append xs ys), subst (Appends a c) (sym (take-append-add xs ys n)) (Appends-trans a b c xs (take n ys) whole more))
 
 module _ {S : Type 0} (answers : S → Record → Reply → List ℕ → S → Type 0) where
-  answers_both : (before mid after : S) (xs ys : List Record) (rs ss : List Reply) (bs cs : List ℕ) → AnswersAll answers before xs rs bs mid
-      → AnswersAll answers mid ys ss cs after → AnswersAll answers before (xs ++ ys) (rs ++ ss) (bs ++ cs) after
-  answers_both before mid after [] ys [] ss bs cs (none, same) more =
-      subst (λ l. AnswersAll answers before ys ss l after) (ap (λ l. l ++ cs) (sym none)) (subst (λ (s : S). AnswersAll answers s ys ss cs after) same more)
-  answers_both before mid after [] ys (r ∷ rs) ss bs cs all more = absurd all
-  answers_both before mid after (x ∷ xs) ys [] ss bs cs all more = absurd all
-  answers_both before mid after (x ∷ xs) ys (r ∷ rs) ss bs cs (next, own, later, first, rest, whole) more =
-      (next, own, later ++ cs, first, answers_both next mid after xs ys rs ss later cs rest more, ap (λ l. l ++ cs) whole ∙ append_assoc own later cs)
-
   pub no_end : (before : S) (lines : Option (List ℕ)) → HasEnded answers before before lines lines
   no_end before lines = record { records = []; replies = []; bytes = []; answers_all = (refl, refl); ends = tt; told = Appends-nil lines }
 
@@ -39,7 +30,7 @@ module _ {S : Type 0} (answers : S → Record → Reply → List ℕ → S → T
     records = first.records ++ then'.records;
     replies = first.replies ++ then'.replies;
     bytes = first.bytes ++ then'.bytes;
-    answers_all = answers_both before mid after first.records then'.records first.replies then'.replies first.bytes then'.bytes first.answers_all then'.answers_all;
+    answers_all = answers_both answers before mid after first.records then'.records first.replies then'.replies first.bytes then'.bytes first.answers_all then'.answers_all;
     ends = all_both first.records then'.records first.ends then'.ends;
     told =
         subst (Appends a c) (sym (flat_map-append reply_line first.replies then'.replies))
@@ -52,7 +43,7 @@ module _ {S : Type 0} (answers : S → Record → Reply → List ℕ → S → T
     records = first.records ++ then'.records;
     replies = first.replies ++ then'.replies;
     bytes = first.bytes ++ then'.bytes;
-    answers_all = answers_both before mid after first.records then'.records first.replies then'.replies first.bytes then'.bytes first.answers_all then'.answers_all;
+    answers_all = answers_both answers before mid after first.records then'.records first.replies then'.replies first.bytes then'.bytes first.answers_all then'.answers_all;
     ends = all_both first.records then'.records first.ends then'.ends;
     told =
         subst (WritesPrefix a c) (sym (flat_map-append reply_line first.replies then'.replies))

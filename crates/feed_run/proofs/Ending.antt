@@ -10,7 +10,8 @@ use Rattle.feed_run.specs.declared.counting.Counts.{Counts}
 use Rattle.feed_run.specs.Counting.{Counted, IsTally}
 use Rattle.feed_run.specs.Run.{Outcome, RunState, Streams, answer_at, ClosesOne, EndsBy, EndsOne, HasRun, Leaves, RunsOne, RunsTo, RunsWhole, Steps, StopsBy, StopsOne, most_records}
 use Rattle.feed_run.proofs.Kept.{counted_on}
-use Rattle.feed_run.proofs.Turns.{as_many, has_run_on, nothing_run}
+use Rattle.feed_run.specs.Laws.InTurn.{as_many}
+use Rattle.feed_run.proofs.Turns.{has_run_on, nothing_run}
 
 module _ {S : Type 0} (answers : S → Record → Reply → List ℕ → S → Type 0) where
   -- it goes on: these records were run

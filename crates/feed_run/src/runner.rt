@@ -2,7 +2,6 @@
 ghost use Rattle.std.specs.Prelude.{◌≡◌, ◌<◌, ◌≤◌, ◌+◌, ◌^◌, [], ℕ, List, IfOk, OnErr};
 ghost use Rattle.std.specs.Io.KnownBytes.{Appends};
 ghost use Rattle.ogg_page.specs.Output.{WritesPrefix};
-ghost use Rattle.ogg_command.specs.Command.{IsCommand};
 ghost use Rattle.feed_codec.specs.declared.item.Record.{Record as RecordOf};
 ghost use Rattle.feed_codec.specs.declared.reply.Reply.{Reply as ReplyOf};
 
@@ -42,7 +41,6 @@ pub trait Runner {
         command: &Command,
         pages: &mut P,
     ) -> Result<Reply, WriteFault>
-        requires numbers { IsCommand command.now }
         requires count { counted self.old < 2 ^ 63 }
         ensures ok { (before : State) → is_in before self.old → IfOk result (λ reply. (own : List ℕ) × (after : State)
             × answers before (RecordOf.Command command.now) reply own after × is_in after self.new
