@@ -1,0 +1,2 @@
+pub mod RunOn
+pub mod Turns

@@ -1,0 +1,54 @@
+-- What a step of a recording does. Ours.
+use Rattle.std.specs.Prelude.{◌≡◌, ℕ, Option, List, ◌++◌, ⊤}
+use Rattle.std.specs.List.{AllByRecursion}
+use Rattle.ogg_page.specs.Page.{Page}
+use Rattle.ogg_command.specs.declared.command.Command.{Command}
+use Rattle.feed_codec.specs.declared.item.Record.{Record}
+use Rattle.feed_codec.specs.declared.reply.Reply.{Reply}
+use Rattle.feed_changes.specs.Changed.{ChangeState, HasChangedBeside, IsPlain}
+use Rattle.import_mend.specs.Gives.{GivesEnd, Mending, mend_at_end, mending}
+use Rattle.import_mend.specs.Whole.{TakesPage}
+use Rattle.import_record.specs.Running.{HasRun, StopsAt}
+use Rattle.import_record.specs.declared.fault.RecordFault.{RecordFault}
+use Rattle.import_record.specs.declared.fault.RecordFault.TheVariants.{Read, Memory, Write}
+use Rattle.import_record.specs.declared.intake.Intake.{Intake}
+use Rattle.import_record.specs.declared.intake.Taken.{Taken}
+
+-- what the commands of the next pages depend on: how pages are mended, and under which serials streams are begun
+pub record IntakeState : Type 0 where
+  pub mending : Mending
+  pub changes : ChangeState
+
+abbrev pub state_of : Intake → IntakeState
+state_of intake = record { mending = mending intake.mender.losses intake.gatherer; changes = intake.changes }
+
+-- these commands become those in `given`, whatever became of the commands before them
+abbrev pub Become : ChangeState → ChangeState → List Command → List Command → Type 0
+Become old new commands given =
+    (taken : List ℕ) (before now : List Command) → HasChangedBeside taken old before now → AllByRecursion IsPlain commands
+    → HasChangedBeside taken new (before ++ commands) (now ++ given)
+
+module _ {S : Type 0} (answers : S → Record → Reply → List ℕ → S → Type 0) where
+  -- A page that begins at this offset was mended if it had to be; the commands that it completes were changed, and run.
+  pub record Takes (offset : ℕ) (page : Page) (old new : IntakeState) (taken : Taken) (before after : S) (pages new_pages : Option (List ℕ)) : Type 0 where
+    pub more : List Command
+    pub given : List Command
+    pub mended : TakesPage offset page old.mending new.mending taken.mend more
+    pub changed : Become old.changes new.changes more given
+    pub ran : HasRun answers given taken.answered before after pages new_pages
+
+  -- At the end of the input the open streams were ended, and what waited was run.
+  pub record Ends (offset : ℕ) (old new : IntakeState) (taken : Taken) (before after : S) (pages new_pages : Option (List ℕ)) : Type 0 where
+    pub more : List Command
+    pub given : List Command
+    pub ended : GivesEnd old.mending.gathered new.mending.gathered more
+    pub told : taken.mend ≡ mend_at_end offset old.mending.gathered.chain
+    pub changed : Become old.changes new.changes more given
+    pub ran : HasRun answers given taken.answered before after pages new_pages
+
+  -- Why a page was not taken whole: nothing of it was run; or some first commands of it were, and of the next one only
+  -- a part of the pages was written.
+  abbrev pub StopsBy : RecordFault → S → S → Option (List ℕ) → Option (List ℕ) → Type 0
+  StopsBy Read before after old new = (after ≡ before) × (new ≡ old)
+  StopsBy Memory before after old new = (after ≡ before) × (new ≡ old)
+  StopsBy Write before after old new = (given : List Command) × StopsAt answers given before after old new

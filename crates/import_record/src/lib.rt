@@ -1,0 +1,24 @@
+//! Any Ogg stream, recorded page by page: pages in, and the commands that they complete are run (RFC 3533).
+//!
+//! An `Intake` takes the pages of one input, one after the other. A page is mended if it has to be, its packets become
+//! commands, and a stream whose serial is taken gets one that is free. Each command is run at once, and its reply is
+//! looked at. An `ImportRun` reads the pages too: whatever waits for its group is kept before more of the input is
+//! waited for, so that a page is on the disk as soon as it has come.
+//!
+//! Start at `specs/Running.antt`, which says what was run, and at `specs/Steps.antt`, which says what a step does.
+#![tactic(auto)]
+
+mod answering;
+mod fault;
+mod intake;
+mod laws;
+mod lines;
+mod reading;
+
+pub use answering::Answered;
+pub use fault::RecordFault;
+pub use intake::{Intake, Taken};
+pub use laws::recordings_are_runs_of_mended_commands;
+pub use lines::{Totals, archived_line, progress_line, refused_line};
+pub use ogg_page::Memory;
+pub use reading::{ImportRun, Step};
