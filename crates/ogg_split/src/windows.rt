@@ -167,6 +167,7 @@ pub fn seek_link<S: PageSource>(
         → result ≢ Err SplitFault.Source }
     ensures no_write { result ≢ Err SplitFault.Write }
     ensures source { window.new.source ≡ window.old.source }
+    ensures same { result ≡ Err SplitFault.NoLink → window.new ≡ window.old }
 {
     match find_link(index, link) {
         Ok(found) => match set_range(window, found) {
