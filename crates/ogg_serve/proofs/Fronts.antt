@@ -18,7 +18,7 @@ use Rattle.link_chain.specs.declared.chain_fault.ChainFault.TheVariants.{Memory 
 use Rattle.link_index.specs.Adding.{AddsPages, IndexState, IsIndexOf, IsLeft}
 use Rattle.link_index.specs.declared.fault.IndexFault.{IndexFault}
 use Rattle.link_index.specs.declared.fault.IndexFault.TheVariants.{Page as PageOf, Chain as ChainOf, Memory as MemoryOf}
-use Rattle.ogg_serve.specs.Indexing.{IsOfFront, fault_of_page as hub_fault}
+use Rattle.ogg_serve.specs.Indexing.{IsOfFront, fault_unadded as hub_fault}
 use Rattle.sessions.specs.declared.fault.HubFault.{HubFault}
 use Rattle.sessions.specs.declared.fault.HubFault.TheVariants.{Source, Memory}
 

@@ -24,12 +24,22 @@ use Rattle.ogg_recorder.specs.declared.commanding.Outcome.{Outcome}
 use Rattle.ogg_recorder.specs.declared.commanding.Outcome.TheVariants.{Held as WasHeld}
 use Rattle.sending.specs.Sending.{HasFailed}
 use Rattle.ogg_serve.specs.declared.opening.Lost.{Lost}
+use Rattle.ogg_serve.specs.Parts.{HubParts}
 
 -- the disk of a hub
 abbrev pub disk_in : {D : Type 0} → Option (RecorderState D) → Option (Lost D) → Option D
 disk_in (Some recorder) lost = Some recorder.file.disk
 disk_in None (Some lost) = Some lost.disk
 disk_in None None = None
+
+-- how often it has failed
+abbrev pub failures_of : {D : Type 0} → (D → ℕ) → Option (RecorderState D) → Option (Lost D) → ℕ
+failures_of failures (Some recorder) lost = failures recorder.file.disk
+failures_of failures None (Some lost) = failures lost.disk
+failures_of failures None None = 0
+
+abbrev pub failures_in : {D : Type 0} → (D → ℕ) → HubParts D → ℕ
+failures_in failures hub = failures_of failures hub.file hub.lost
 
 -- P holds of the recorder before and after a call, if there is a file; else there is none after it
 abbrev pub IfFile : {R : Type 0} → (R → R → Type 0) → Option R → Option R → Type 0

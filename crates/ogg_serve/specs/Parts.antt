@@ -1,8 +1,11 @@
 -- What a hub keeps, as its contracts see it. Ours.
-use Rattle.std.specs.Prelude.{◌≡◌, ℕ, ◌+◌, ◌^◌, ◌≤◌, nat_eq, if◌then◌else◌, Option, None, Some, IsSome, List, [], ◌∷◌}
+use Rattle.std.specs.Prelude.{◌≡◌, ◌⊎◌, ℕ, ◌+◌, ◌^◌, ◌≤◌, nat_eq, if◌then◌else◌, Option, None, Some, IsSome, List, [], ◌∷◌, length}
 use Rattle.std.specs.Option.{option_map}
 use Rattle.link_index.specs.Adding.{IndexState}
 use Rattle.ogg_recorder.specs.Recorder.{RecorderState}
+use Rattle.sessions.specs.Hub.{most_sessions}
+use Rattle.sessions.specs.declared.fault.HubFault.{HubFault}
+use Rattle.sessions.specs.declared.fault.HubFault.TheVariants.{NoSession, NoFile}
 use Rattle.ogg_serve.specs.declared.opening.Lost.{Lost}
 use Rattle.ogg_serve.specs.declared.session.Session.{Session}
 
@@ -33,6 +36,23 @@ pub record HubParts (D : Type 0) : Type 0 where
 abbrev pub hub_parts : {D : Type 0} → Option (RecorderState D) → Option (Lost D) → IndexState → List Session → Option ℕ → ℕ → HubParts D
 hub_parts file lost index sessions next most =
     record { file = file; lost = lost; index = index; sessions = sessions; next = next; most = most }
+
+-- there is no place for one more session, or no number left for it
+abbrev pub HasNoPlace : {D : Type 0} → HubParts D → Type 0
+HasNoPlace hub = (most_sessions ≤ length hub.sessions) ⊎ (hub.next ≡ None)
+
+-- the sessions and the next number may be others, and nothing else
+abbrev pub OnlySessions : {D : Type 0} → HubParts D → HubParts D → Type 0
+OnlySessions old new = new ≡ hub_parts old.file old.lost old.index new.sessions new.next old.most
+
+-- the file may be another, and nothing else
+abbrev pub OnlyFile : {D : Type 0} → HubParts D → HubParts D → Type 0
+OnlyFile old new = new ≡ hub_parts new.file old.lost old.index old.sessions old.next old.most
+
+-- why nothing is done for a session without a file, by the place of the session
+abbrev pub fault_of_place : Option ℕ → HubFault
+fault_of_place None = NoSession
+fault_of_place (Some place) = NoFile
 
 -- what always holds
 pub record IsHub {D : Type 0} (hub : HubParts D) : Type 0 where

@@ -11,7 +11,7 @@ use Rattle.ogg_recorder.specs.Running.{reply_of, reply_of_flush}
 use Rattle.ogg_recorder.specs.declared.commanding.Outcome.{Outcome}
 use Rattle.sessions.specs.Hub.{HubState, command_step, flush_step}
 use Rattle.ogg_serve.specs.Images.{IfFile, Records, Flushes}
-use Rattle.ogg_serve.specs.Parts.{HubParts}
+use Rattle.ogg_serve.specs.Parts.{HubParts, OnlyFile}
 use Rattle.ogg_serve.specs.Showing.{Shows}
 
 -- a hub, and the machine that it is seen as
@@ -39,6 +39,7 @@ module _ {D : Type 0} (is_honest : D → Type 0) (state : D → DiskState) (mome
     pub told : reply ≡ reply_of answer
     pub step : command_step before.machine command answer after.machine
     pub disk : IfFile (Records is_honest state moment images_since failures command answer) before.now.file after.now.file
+    pub only : OnlyFile before.now after.now
 
   -- the same of a flush
   pub record FlushAnswered (before after : Progress D) (reply : Reply) : Type 0 where
@@ -46,6 +47,7 @@ module _ {D : Type 0} (is_honest : D → Type 0) (state : D → DiskState) (mome
     pub told : reply ≡ reply_of_flush answer
     pub step : flush_step before.machine answer after.machine
     pub disk : IfFile (Flushes is_honest state moment images_since failures answer) before.now.file after.now.file
+    pub only : OnlyFile before.now after.now
 
   abbrev pub RecordAnswered : Progress D → Record → Reply → Progress D → Type 0
   RecordAnswered before (CommandOf command) reply after = CommandAnswered before after command reply

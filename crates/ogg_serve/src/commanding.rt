@@ -1,5 +1,5 @@
 //! Commands go to the recorder of a hub, if there is a file.
-ghost use Rattle.std.specs.Prelude.{◌≡◌, ◌≤◌, ℕ, None, Some, Option, length, IsSome};
+ghost use Rattle.std.specs.Prelude.{◌≡◌, ◌≢◌, ◌≤◌, ℕ, None, Some, Err, Option, length, IsSome, IfErr};
 ghost use Rattle.sessions.specs.Hub.{HubState, command_step, flush_step, group_step};
 ghost use Rattle.ogg_recorder.specs.Recorder.{RecorderState, recorder_state};
 ghost use Rattle.ogg_serve.specs.declared.opening.Lost.{Lost};
@@ -19,6 +19,7 @@ fn record_command<D: Disk>(
     ensures step { (before : HubState) → ShowsFile D.is_honest D.state recorder.old before → (after : HubState)
         × ShowsFile D.is_honest D.state recorder.new after × command_step before command.now result after × KeepsSessions before after }
     ensures disk { Records D.is_honest D.state D.moment D.images_since D.failures command.now result recorder.old recorder.new }
+    ensures same { IfErr result (λ refusal. refusal ≢ Refusal.Disk → recorder.new ≡ recorder.old) }
 {
     refusals_are_of_the_table();
     let _before = recorder.end();
@@ -32,6 +33,7 @@ fn flush_commands<D: Disk>(recorder: &mut Recorder<D>) -> Result<Kept, Refusal>
     ensures step { (before : HubState) → ShowsFile D.is_honest D.state recorder.old before → (after : HubState)
         × ShowsFile D.is_honest D.state recorder.new after × flush_step before result after × KeepsSessions before after }
     ensures disk { Flushes D.is_honest D.state D.moment D.images_since D.failures result recorder.old recorder.new }
+    ensures same { IfErr result (λ refusal. refusal ≢ Refusal.Disk → recorder.new ≡ recorder.old) }
 {
     let _before = recorder.end();
     let answer = recorder.flush();
@@ -48,6 +50,8 @@ pub(crate) fn command_file<D: Disk>(
         × ShowsPlace D.is_honest D.state file.new lost after × command_step before command.now result after × KeepsSessions before after }
     ensures stays { file.new ≡ None → file.old ≡ None }
     ensures disk { IfFile (Records D.is_honest D.state D.moment D.images_since D.failures command.now result) file.old file.new }
+    ensures same { IfErr result (λ refusal. refusal ≢ Refusal.Disk → file.new ≡ file.old) }
+    ensures no_file { file.old ≡ None → result ≡ Err Refusal.Failed }
 {
     match file {
         Some(recorder) => record_command(recorder, command),
@@ -61,6 +65,8 @@ pub(crate) fn flush_file<D: Disk>(file: &mut Option<Recorder<D>>) -> Result<Kept
         × ShowsPlace D.is_honest D.state file.new lost after × flush_step before result after × KeepsSessions before after }
     ensures stays { file.new ≡ None → file.old ≡ None }
     ensures disk { IfFile (Flushes D.is_honest D.state D.moment D.images_since D.failures result) file.old file.new }
+    ensures same { IfErr result (λ refusal. refusal ≢ Refusal.Disk → file.new ≡ file.old) }
+    ensures no_file { file.old ≡ None → result ≡ Err Refusal.Failed }
 {
     match file {
         Some(recorder) => flush_commands(recorder),

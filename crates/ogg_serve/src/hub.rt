@@ -1,11 +1,11 @@
 //! A recorder, and the sessions of the clients that fetch its file.
-ghost use Rattle.std.specs.Prelude.{◌≡◌, ◌≢◌, ◌≤◌, ◌<◌, ◌+◌, ◌^◌, [], ℕ, false, List, vec_capacity, None, Some, Err, IsSome, length, IfOk, IfErr};
+ghost use Rattle.std.specs.Prelude.{◌≡◌, ◌≢◌, ◌↔◌, ◌⊎◌, ◌≤◌, ◌<◌, ◌+◌, ◌^◌, [], ℕ, false, List, vec_capacity, None, Some, Err, IsSome, length, IfOk, IfErr};
 ghost use Rattle.ogg_page.specs.Page.{Page};
 ghost use Rattle.link_chain.specs.Links.{AreLinks};
 ghost use Rattle.ogg_recorder.specs.Recorder.{RecorderState, committed};
 ghost use Rattle.sessions.specs.Hub.{HubState, IsNew, Connect, Receive, Pull, Close, Record, Flush, Group, Reopen, most_sessions};
 ghost use Rattle.sessions.specs.Calls.{Steps, found_by, given_in};
-ghost use Rattle.ogg_serve.specs.Parts.{next_of};
+ghost use Rattle.ogg_serve.specs.Parts.{HasNoPlace, OnlyFile, OnlySessions, next_of, place_in};
 ghost use Rattle.ogg_serve.specs.Images.{IfFile, Records, Flushes, Reads, Fails, Reopens, disk_in};
 
 use crate::commanding::{command_file, flush_file, group_file, held_in};
@@ -119,6 +119,12 @@ impl<D: Disk> Hub<D> {
     pub fn connect(&mut self) -> Result<u64, HubFault>
         ensures step { Steps (Shows D.is_honest D.state) self.old self.new (λ after. Connect result) }
         ensures room { result ≢ Err HubFault.Memory }
+
+        // By what the hub keeps, whatever its disk.
+        ensures full { (result ≡ Err HubFault.SessionsFull) ↔ HasNoPlace self.old }
+        ensures refused { IfErr result (λ fault. (fault ≡ HubFault.SessionsFull) × (self.new ≡ self.old)) }
+        ensures given { IfOk result (λ id. self.old.next ≡ Some id) }
+        ensures parts { OnlySessions self.old self.new }
     {
         let Some(id) = self.next else {
             return Err(HubFault::SessionsFull);
@@ -134,6 +140,12 @@ impl<D: Disk> Hub<D> {
     /// Ends a session. `NoSession` says that there is none with this number; nothing is changed then.
     pub fn close(&mut self, id: u64) -> Result<(), HubFault>
         ensures step { Steps (Shows D.is_honest D.state) self.old self.new (λ after. Close id result) }
+
+        // By what the hub keeps, whatever its disk.
+        ensures no_session { (result ≡ Err HubFault.NoSession) ↔ (place_in id self.old.sessions ≡ None) }
+        ensures refused { IfErr result (λ fault. (fault ≡ HubFault.NoSession) × (self.new ≡ self.old)) }
+        ensures next { self.new.next ≡ self.old.next }
+        ensures parts { OnlySessions self.old self.new }
     {
         match place_of(self.sessions.as_slice(), id) {
             Some(_) => {
@@ -149,6 +161,11 @@ impl<D: Disk> Hub<D> {
         ensures step { Steps (Shows D.is_honest D.state) self.old self.new (λ after. Record command.now result) }
         ensures disk { IfFile (Records D.is_honest D.state D.moment D.images_since D.failures command.now result)
             self.old.file self.new.file }
+
+        // Whatever the disk: a refusal other than `Disk` changes nothing.
+        ensures same { IfErr result (λ refusal. refusal ≢ Refusal.Disk → self.new ≡ self.old) }
+        ensures no_file { self.old.file ≡ None → result ≡ Err Refusal.Failed }
+        ensures parts { OnlyFile self.old self.new }
     {
         sessions_stay();
         command_file(&mut self.file, command)
@@ -158,6 +175,11 @@ impl<D: Disk> Hub<D> {
     pub fn flush(&mut self) -> Result<Kept, Refusal>
         ensures step { Steps (Shows D.is_honest D.state) self.old self.new (λ after. Flush result) }
         ensures disk { IfFile (Flushes D.is_honest D.state D.moment D.images_since D.failures result) self.old.file self.new.file }
+
+        // Whatever the disk: a refusal other than `Disk` changes nothing.
+        ensures same { IfErr result (λ refusal. refusal ≢ Refusal.Disk → self.new ≡ self.old) }
+        ensures no_file { self.old.file ≡ None → result ≡ Err Refusal.Failed }
+        ensures parts { OnlyFile self.old self.new }
     {
         sessions_stay();
         flush_file(&mut self.file)
@@ -193,7 +215,7 @@ impl<D: Disk> Hub<D> {
 }
 
 impl<D: Disk + Drop> Hub<D> {
-    ghost use Rattle.ogg_serve.specs.Parts.{lost_file};
+    ghost use Rattle.ogg_serve.specs.Parts.{lost_file, place_in};
     ghost use Rattle.ogg_serve.specs.Showing.{Shows};
 
     /// Takes further bytes of the session's request. The call that completes its head, or shows that none can come,
@@ -210,6 +232,13 @@ impl<D: Disk + Drop> Hub<D> {
         ensures cause { result ≡ Err HubFault.Source → (machine : HubState) (links : List (List Page))
             → Shows D.is_honest D.state self.old machine → AreLinks machine.committed links
             → IfFile (Fails D.is_honest D.state D.moment D.images_since D.failures) self.old.file self.new.file }
+
+        // By what the hub keeps, whatever its disk: `NoSession` comes before `NoFile`.
+        ensures no_session { (result ≡ Err HubFault.NoSession) ↔ (place_in id self.old.sessions ≡ None) }
+        ensures no_file { (result ≡ Err HubFault.NoFile) ↔ (IsSome (place_in id self.old.sessions) × (self.old.file ≡ None)) }
+        ensures not_full { result ≢ Err HubFault.SessionsFull }
+        ensures same { (result ≡ Err HubFault.NoSession) ⊎ (result ≡ Err HubFault.NoFile) → self.new ≡ self.old }
+        ensures lost { self.new.lost ≡ self.old.lost }
     {
         receive_from(
             &mut self.file,
@@ -237,6 +266,13 @@ impl<D: Disk + Drop> Hub<D> {
         ensures disk { IfFile (Reads D.is_honest D.state D.moment D.images_since D.failures) self.old.file self.new.file }
         ensures cause { result ≡ Err HubFault.Source → (machine : HubState) → Shows D.is_honest D.state self.old machine
             → IfFile (Fails D.is_honest D.state D.moment D.images_since D.failures) self.old.file self.new.file }
+
+        // By what the hub keeps, whatever its disk: `NoSession` comes before `NoFile`.
+        ensures no_session { (result ≡ Err HubFault.NoSession) ↔ (place_in id self.old.sessions ≡ None) }
+        ensures no_file { (result ≡ Err HubFault.NoFile) ↔ (IsSome (place_in id self.old.sessions) × (self.old.file ≡ None)) }
+        ensures not_full { result ≢ Err HubFault.SessionsFull }
+        ensures same { (result ≡ Err HubFault.NoSession) ⊎ (result ≡ Err HubFault.NoFile) → self.new ≡ self.old }
+        ensures lost { self.new.lost ≡ self.old.lost }
     {
         pull_from(
             &mut self.file,

@@ -3,9 +3,9 @@ ghost use Rattle.std.specs.Prelude.{◌≡◌, ◌⊎◌, ◌^◌, ◌<◌, ◌�
 ghost use Rattle.ogg_page.specs.Page.{Page as PageValue};
 ghost use Rattle.ogg_page.specs.Window.{KeepsSource};
 ghost use Rattle.link_chain.specs.Links.{AreLinks};
-ghost use Rattle.link_index.specs.Adding.{IsIndexOf};
+ghost use Rattle.link_index.specs.Adding.{IndexState, IsIndexOf};
 ghost use Rattle.sending.specs.Sending.{HasFailed};
-ghost use Rattle.ogg_serve.specs.Indexing.{IsOfFront, fault_of_page};
+ghost use Rattle.ogg_serve.specs.Indexing.{IsOfFront, LacksRoom, fault_unadded};
 
 use link_chain::ChainFault;
 use link_index::{Index, links_are_indexed};
@@ -16,8 +16,8 @@ use sessions::HubFault;
 const LENGTHS: u64 = 1 << 63;
 
 /// The fault if a page isn't added.
-fn fault_of_page(fault: ChainFault) -> HubFault
-    ensures { result ≡ fault_of_page fault }
+fn fault_unadded(fault: ChainFault) -> HubFault
+    ensures { result ≡ fault_unadded fault }
 {
     match fault {
         ChainFault::Memory => HubFault::Memory,
@@ -40,6 +40,9 @@ pub(crate) fn bring_up<S: PageSource>(
     ensures cause { result ≡ Err HubFault.Source → S.is_honest window.old.source → S.size window.old.source < 2 ^ 63
         → IsOfFront (S.bytes window.old.source) index.old → (links : List (List PageValue)) → AreLinks (S.bytes window.old.source) links
         → HasFailed (S.failures window.old.source) (S.failures window.new.source) }
+    // `Memory` comes only from the index.
+    ensures memory { result ≡ Err HubFault.Memory → (page : PageValue) × (before : IndexState) × LacksRoom page before index.new }
+
     ensures later { S.failures window.old.source ≤ S.failures window.new.source }
     ensures source { KeepsSource S.bytes S.is_honest S.size S.only_reads window.old.source window.new.source }
 {
@@ -54,7 +57,7 @@ pub(crate) fn bring_up<S: PageSource>(
             Ok(()) => match window.lent() {
                 Some((_, page)) => match index.add_page(&page) {
                     Ok(()) => {}
-                    Err(fault) => return Err(fault_of_page(fault)),
+                    Err(fault) => return Err(fault_unadded(fault)),
                 },
                 None => return Err(HubFault::Source),
             },

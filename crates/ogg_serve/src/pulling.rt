@@ -1,9 +1,10 @@
 //! What a session pulls: the rest of its response.
-ghost use Rattle.std.specs.Prelude.{◌≡◌, ◌≢◌, ◌≤◌, List, true, IfOk, length, vec_capacity};
+ghost use Rattle.std.specs.Prelude.{◌≡◌, ◌≢◌, ◌↔◌, ◌≤◌, List, None, Err, true, IfOk, IfErr, length, vec_capacity};
 ghost use Rattle.ogg_page.specs.Window.{KeepsSource};
 ghost use Rattle.sending.specs.Sending.{HasFailed};
 ghost use Rattle.sessions.specs.Calls.{given_in};
 ghost use Rattle.sessions.specs.Hub.{HubState, Phase, Session as SessionOf, phase_of, pull_step};
+ghost use Rattle.ogg_serve.specs.Parts.{place_in};
 ghost use Rattle.ogg_serve.specs.Serving.{PhaseGives};
 ghost use Rattle.ogg_serve.specs.Showing.{AreSessions, IsPhase};
 
@@ -22,7 +23,7 @@ pub(crate) fn pull_stage<S: PageSource>(
         × PhaseGives phase (length buffer.old) (given_in buffer.new result) after }
     ensures cause { result ≡ Err HubFault.Source → S.is_honest window.old.source → (phase : Phase) → IsPhase (S.bytes window.old.source) stage.old phase
         → HasFailed (S.failures window.old.source) (S.failures window.new.source) }
-    ensures room { result ≢ Err HubFault.Memory }
+    ensures faults { IfErr result (λ fault. fault ≡ HubFault.Source) }
     ensures within { IfOk result (λ pulled. pulled.count ≤ length buffer.old) }
     ensures later { S.failures window.old.source ≤ S.failures window.new.source }
     ensures source { KeepsSource S.bytes S.is_honest S.size S.only_reads window.old.source window.new.source }
@@ -50,6 +51,9 @@ pub(crate) fn pull_in<S: PageSource>(
         → AreSessions machine.committed sessions.old.items machine.sessions
         → (left : List SessionOf) × AreSessions machine.committed sessions.new.items left
         × pull_step (phase_of machine id) true machine id (length buffer.old) (given_in buffer.new result) (record machine { sessions = left }) }
+    ensures no_session { (result ≡ Err HubFault.NoSession) ↔ (place_in id sessions.old.items ≡ None) }
+    ensures some { (result ≢ Err HubFault.NoFile) × (result ≢ Err HubFault.SessionsFull) }
+    ensures same { result ≡ Err HubFault.NoSession → (window.new.source ≡ window.old.source) × (sessions.new.items ≡ sessions.old.items) }
     ensures cause { result ≡ Err HubFault.Source → S.is_honest window.old.source → (machine : HubState) → S.bytes window.old.source ≡ machine.committed
         → AreSessions machine.committed sessions.old.items machine.sessions
         → HasFailed (S.failures window.old.source) (S.failures window.new.source) }

@@ -1,6 +1,6 @@
 //! The file of a hub is read through a window. The window has the recorder, and the room for a page, while the call
 //! goes on.
-ghost use Rattle.std.specs.Prelude.{◌≡◌, ◌≢◌, ◌≤◌, ℕ, List, None, Option, Some, Err, IsSome, IfOk, IfSome, length, vec_capacity};
+ghost use Rattle.std.specs.Prelude.{◌≡◌, ◌≢◌, ◌↔◌, ◌⊎◌, ◌≤◌, ℕ, List, None, Option, Some, Err, IsSome, IfOk, IfSome, length, vec_capacity};
 ghost use Rattle.ogg_page.specs.Page.{Page};
 ghost use Rattle.link_chain.specs.Links.{AreLinks};
 ghost use Rattle.ogg_recorder.specs.Recorder.{committed};
@@ -9,6 +9,7 @@ ghost use Rattle.sessions.specs.Hub.{HubState, Session as SessionOf, phase_of, p
 ghost use Rattle.ogg_serve.specs.declared.opening.Lost.{Lost};
 ghost use Rattle.ogg_serve.specs.Images.{IfFile, Reads, Fails};
 ghost use Rattle.ogg_serve.specs.Indexing.{IsOfFront};
+ghost use Rattle.ogg_serve.specs.Parts.{fault_of_place, place_in};
 ghost use Rattle.ogg_serve.specs.Serving.{fault_without_file};
 ghost use Rattle.ogg_serve.specs.Showing.{AreSessions, ShowsPlace};
 
@@ -62,6 +63,7 @@ fn fault_without_file(sessions: &[Session], id: u64) -> HubFault
         → result ≡ fault_without_file (phase_of machine id) }
     ensures memory { result ≢ HubFault.Memory }
     ensures source { result ≢ HubFault.Source }
+    ensures place { result ≡ fault_of_place (place_in id sessions.now) }
 {
     match place_of(sessions, id) {
         Some(_) => HubFault::NoFile,
@@ -89,6 +91,11 @@ pub(crate) fn receive_from<D: Disk + Drop>(
         → ShowsPlace D.is_honest D.state file.old lost before → IsOfFront before.committed index.old
         → (links : List (List Page)) → AreLinks before.committed links → IfFile (Fails D.is_honest D.state D.moment D.images_since D.failures) file.old file.new }
     ensures disk { IfFile (Reads D.is_honest D.state D.moment D.images_since D.failures) file.old file.new }
+    ensures no_session { (result ≡ Err HubFault.NoSession) ↔ (place_in id sessions.old.items ≡ None) }
+    ensures no_file { (result ≡ Err HubFault.NoFile) ↔ (IsSome (place_in id sessions.old.items) × (file.old ≡ None)) }
+    ensures not_full { result ≢ Err HubFault.SessionsFull }
+    ensures same { (result ≡ Err HubFault.NoSession) ⊎ (result ≡ Err HubFault.NoFile)
+        → (file.new ≡ file.old) × (index.new ≡ index.old) × (sessions.new.items ≡ sessions.old.items) }
     ensures stays { file.new ≡ None → file.old ≡ None }
     ensures room { IsSome room.new }
     ensures capacity { vec_capacity sessions.new ≡ vec_capacity sessions.old }
@@ -121,6 +128,11 @@ pub(crate) fn pull_from<D: Disk + Drop>(
         → ShowsPlace D.is_honest D.state file.old lost before → AreSessions before.committed sessions.old.items before.sessions
         → IfFile (Fails D.is_honest D.state D.moment D.images_since D.failures) file.old file.new }
     ensures disk { IfFile (Reads D.is_honest D.state D.moment D.images_since D.failures) file.old file.new }
+    ensures no_session { (result ≡ Err HubFault.NoSession) ↔ (place_in id sessions.old.items ≡ None) }
+    ensures no_file { (result ≡ Err HubFault.NoFile) ↔ (IsSome (place_in id sessions.old.items) × (file.old ≡ None)) }
+    ensures not_full { result ≢ Err HubFault.SessionsFull }
+    ensures same { (result ≡ Err HubFault.NoSession) ⊎ (result ≡ Err HubFault.NoFile)
+        → (file.new ≡ file.old) × (sessions.new.items ≡ sessions.old.items) }
     ensures memory { result ≢ Err HubFault.Memory }
     ensures within { IfOk result (λ pulled. pulled.count ≤ length buffer.old) }
     ensures stays { file.new ≡ None → file.old ≡ None }

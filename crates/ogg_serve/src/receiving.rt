@@ -1,9 +1,10 @@
 //! What a session receives: the head of its request, to which a response is made.
-ghost use Rattle.std.specs.Prelude.{◌≡◌, ◌⊎◌, ℕ, List, true, IfOk, IfErr, option_map, vec_capacity};
-ghost use Rattle.responses.specs.Response.{Asks, IsResponse, asked_by};
+ghost use Rattle.std.specs.Prelude.{◌≡◌, ◌≢◌, ◌↔◌, ◌⊎◌, ◌+◌, ◌++◌, ◌<◌, ℕ, List, None, Err, Option, true, IfOk, IfErr, length, option_map, vec_len, vec_capacity};
+ghost use Rattle.responses.specs.Response.{Asked, Asks, IsResponse, asked_by};
 ghost use Rattle.sending.specs.Sending.{IsLeft};
 ghost use Rattle.sessions.specs.Hub.{HubState, Phase, Session as SessionOf, phase_of, receive_step};
 ghost use Rattle.ogg_serve.specs.Indexing.{IsOfFront};
+ghost use Rattle.ogg_serve.specs.Parts.{place_in};
 ghost use Rattle.ogg_serve.specs.Serving.{HeadGets, PhaseGets, Indexes, fault_in};
 ghost use Rattle.ogg_serve.specs.Showing.{AreSessions, IsPhase};
 
@@ -50,6 +51,10 @@ fn receive_head<S: PageSource>(
 ) -> Result<Option<Sending>, HubFault>
     ensures head { S.is_honest window.old.source → IsOfFront (S.bytes window.old.source) index.old
         → HeadGets (S.bytes window.old.source) head.old.items bytes.now result head.new.items }
+    // `Memory` comes if the head has no room for the bytes, or once they complete it.
+    ensures memory { result ≡ Err HubFault.Memory → (vec_capacity head.old < vec_len head.old + length bytes.now)
+        ⊎ ((asked : Option Asked) × Asks (head.old.items ++ bytes.now) asked) }
+    ensures faults { IfErr result (λ fault. (fault ≡ HubFault.Source) ⊎ (fault ≡ HubFault.Memory)) }
     ensures indexes { Indexes S.bytes S.is_honest S.size S.failures S.only_reads (fault_in result) window.old.source window.new.source index.old index.new }
 {
     let before = head.len();
@@ -82,6 +87,7 @@ pub(crate) fn receive_stage<S: PageSource>(
     ensures phase { S.is_honest window.old.source → IsOfFront (S.bytes window.old.source) index.old
         → (phase : Phase) → IsPhase (S.bytes window.old.source) stage.old phase
         → (after : Phase) × IsPhase (S.bytes window.old.source) stage.new after × PhaseGets (S.bytes window.old.source) phase bytes.now result after }
+    ensures faults { IfErr result (λ fault. (fault ≡ HubFault.Source) ⊎ (fault ≡ HubFault.Memory)) }
     ensures indexes { Indexes S.bytes S.is_honest S.size S.failures S.only_reads (fault_in result) window.old.source window.new.source index.old index.new }
 {
     match stage {
@@ -110,6 +116,9 @@ pub(crate) fn receive_in<S: PageSource>(
         → IsOfFront machine.committed index.old → AreSessions machine.committed sessions.old.items machine.sessions
         → (left : List SessionOf) × AreSessions machine.committed sessions.new.items left
         × receive_step (phase_of machine id) true machine id bytes.now result (record machine { sessions = left }) }
+    ensures no_session { (result ≡ Err HubFault.NoSession) ↔ (place_in id sessions.old.items ≡ None) }
+    ensures some { (result ≢ Err HubFault.NoFile) × (result ≢ Err HubFault.SessionsFull) }
+    ensures same { result ≡ Err HubFault.NoSession → (window.new.source ≡ window.old.source) × (index.new ≡ index.old) × (sessions.new.items ≡ sessions.old.items) }
     ensures capacity { vec_capacity sessions.new ≡ vec_capacity sessions.old }
     ensures indexes { Indexes S.bytes S.is_honest S.size S.failures S.only_reads (fault_in result) window.old.source window.new.source index.old index.new }
 {

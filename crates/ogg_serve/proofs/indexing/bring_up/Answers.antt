@@ -59,7 +59,7 @@ returns-in-Err-add_page-clause-cause g c e sure short f links are =
     absurd (no_chain_fault c.links_are_indexed.ensures.added (s.bytes c.args.window.now.source) c.pages.index (inv.front sure f) c.links_are_indexed.ensures.each links are
     c.in-Some.page (left_of s.bytes c.advance.new.self).bytes c.pages.window.at c.pages.window.to c.add_page.result c.in-Err-add_page.fault inv.at end_is
     (in_old (left_of s.bytes c.advance.new.self).bytes c.pages.window.at c.pages.window.to _ _ c.in-Some.page (inv.source.bytes_same sure) next.2) passes.is_page c.in-Err-add_page.is
-    (of_page c.in-Err-add_page.fault (ap Err (sym c.fault_of_page.ensures) ∙ e)) c.add_page.ensures.fault (λ none. c.in-Err-add_page.is ∙ (c.in-Err-add_page.ensures.memory none).0))
+    (of_page c.in-Err-add_page.fault (ap Err (sym c.fault_unadded.ensures) ∙ e)) c.add_page.ensures.fault (λ none. c.in-Err-add_page.is ∙ (c.in-Err-add_page.ensures.memory none).0))
 
 pub returns-in-Err-clause-cause : goal.returns-in-Err-clause-cause
 returns-in-Err-clause-cause g c e sure short f links are =
@@ -80,3 +80,11 @@ returns-clause-whole g c sure f =
     let inv = c.pages.invariant in
     let fits = g.met.S.PageSource.fits c.args.window.now.source sure in
     is_whole c.links_are_indexed.ensures.added (s.bytes c.args.window.now.source) c.pages.index (inv.front sure f) (omega (arith, c.pages-test.false, c.end-in-pages.ensures, inv.end, fits))
+
+pub returns-in-Err-add_page-clause-memory : goal.returns-in-Err-add_page-clause-memory
+returns-in-Err-add_page-clause-memory g c e =
+    let same = c.in-Err-add_page.ensures.same in (
+      c.in-Some.page,
+      c.pages.index,
+      record { lacks = λ none. (c.in-Err-add_page.ensures.memory none).1; chain = same.0; entries = same.1 },
+    )

@@ -3,23 +3,19 @@ use Rattle.ogg_serve.specs.Parts.{place_in}
 use Rattle.ogg_serve.proofs.Sessions.{closes, closes_none}
 use Rattle.ogg_serve.proofs.hub.Hub.close.Goals as goal
 
-pub returns-in-Some : goal.returns-in-Some
-returns-in-Some g c = record {
-  step =
-      let d = g.D.Disk in
-      let in_ = c.self.inside in
-      let at : place_in c.args.id in_.sessions.items ≡ Some c.in-Some.field-0 = ap (place_in c.args.id) (sym c.as_slice.ensures.value) ∙ sym c.place_of.ensures ∙ c.in-Some.is in
-      rw (← c.self.view_is)
-      (λ before s. closes d.is_honest d.state in_.file in_.lost in_.index in_.sessions.items in_.next in_.most before s c.args.id c.in-Some.field-0 c.drop_session.new.sessions.items at
-      c.drop_session.ensures.items);
-}
+pub returns-in-Some-clause-step : goal.returns-in-Some-clause-step
+returns-in-Some-clause-step g c =
+    let d = g.D.Disk in
+    let in_ = c.self.inside in
+    let at : place_in c.args.id in_.sessions.items ≡ Some c.in-Some.field-0 = ap (place_in c.args.id) (sym c.as_slice.ensures.value) ∙ sym c.place_of.ensures ∙ c.in-Some.is in
+    rw (← c.self.view_is)
+    (λ before s. closes d.is_honest d.state in_.file in_.lost in_.index in_.sessions.items in_.next in_.most before s c.args.id c.in-Some.field-0 c.drop_session.new.sessions.items at
+    c.drop_session.ensures.items)
 
-pub returns-in-None : goal.returns-in-None
-returns-in-None g c = record {
-  step =
-      let d = g.D.Disk in
-      let in_ = c.self.inside in
-      let at : place_in c.args.id in_.sessions.items ≡ None = ap (place_in c.args.id) (sym c.as_slice.ensures.value) ∙ sym c.place_of.ensures ∙ c.in-None.is in
-      rw (← c.self.view_is)
-      (λ before s. closes_none d.is_honest d.state in_.file in_.lost in_.index in_.sessions.items in_.next in_.most before s c.args.id at);
-}
+pub returns-in-None-clause-step : goal.returns-in-None-clause-step
+returns-in-None-clause-step g c =
+    let d = g.D.Disk in
+    let in_ = c.self.inside in
+    let at : place_in c.args.id in_.sessions.items ≡ None = ap (place_in c.args.id) (sym c.as_slice.ensures.value) ∙ sym c.place_of.ensures ∙ c.in-None.is in
+    rw (← c.self.view_is)
+    (λ before s. closes_none d.is_honest d.state in_.file in_.lost in_.index in_.sessions.items in_.next in_.most before s c.args.id at)

@@ -1,7 +1,7 @@
 use Rattle.std.proofs.Common.{[], refl, sym, subst}
 use Rattle.std.proofs.KnownBytes.{Appends-nil}
 use Rattle.ogg_serve.specs.Images.{IfFile, Records}
-use Rattle.ogg_serve.specs.Parts.{HubParts}
+use Rattle.ogg_serve.specs.Parts.{HubParts, OnlyFile}
 use Rattle.ogg_serve.proofs.running.HubRunner.run_command.Goals as goal
 
 pub returns-clause-ok : goal.returns-clause-ok
@@ -10,4 +10,5 @@ returns-clause-ok g c = λ before is_in.
     let e = c.command-answer.ensures in
     let s = e.step before.machine is_in.1 in
     let disk = subst (λ (hub : HubParts _). IfFile (Records d.is_honest d.state d.moment d.images_since d.failures c.args.command.now c.command-answer.result) hub.file c.command-answer.new.self.file) (sym is_in.0) e.disk in
-    ([], record { now = c.command-answer.new.self; machine = s.0 }, (refl, record { answer = c.command-answer.result; told = c.reply_to.ensures; step = s.2; disk = disk }), (refl, s.1), Appends-nil _)
+    let only = subst (λ (hub : HubParts _). OnlyFile hub c.command-answer.new.self) (sym is_in.0) e.parts in
+    ([], record { now = c.command-answer.new.self; machine = s.0 }, (refl, record { answer = c.command-answer.result; told = c.reply_to.ensures; step = s.2; disk = disk; only = only }), (refl, s.1), Appends-nil _)
