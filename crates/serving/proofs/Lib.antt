@@ -1,5 +1,7 @@
+mod Failing
 mod Faults
 mod Moves
+mod OnlyRead
 mod Received
 mod Sent
 mod Whole

@@ -63,6 +63,9 @@ both id a b c first second = record {
 pub committed_is : (id : ℕ) (a b : HubState) → OnlyServes id a b → b.committed ≡ a.committed
 committed_is id a b only = ap (λ (hub : HubState). hub.committed) only.file
 
+pub has_file_is : (id : ℕ) (a b : HubState) → OnlyServes id a b → b.has_file ≡ a.has_file
+has_file_is id a b only = ap (λ (hub : HubState). hub.has_file) only.file
+
 -- what no session sees leaves one session's others too
 pub of_all : (id : ℕ) (old new : HubState) → KeepsAll old new → KeepsOthers id old new
 of_all id old new keeps = record { others = λ other apart. keeps.phases other; numbers = keeps.numbers; extends = keeps.extends }

@@ -1,5 +1,5 @@
 -- How far the head of a session's request has come.
-use Rattle.std.proofs.Common.{◌≡◌, ℕ, Option, Some, Ok, List, [], ◌++◌, refl, sym, ◌∙◌, ap, subst, inl, inr, append-nil}
+use Rattle.std.proofs.Common.{◌≡◌, ◌+◌, ◌≤◌, ℕ, Option, Some, Ok, List, [], ◌++◌, length, refl, sym, ◌∙◌, ap, subst, inl, inr, arith, append-nil, length-append}
 use Rattle.std.specs.Io.KnownBytes.{Consumes, IsAtEnd}
 use Rattle.std.proofs.KnownBytes.{Consumes-nil, Consumes-trans}
 use Rattle.responses.specs.Response.{IsResponse}
@@ -36,6 +36,14 @@ more id coming left next before now after piece r read only has =
       no_head = inr has.0;
     }
 
+-- and how many bytes these are at least, if the piece has one
+pub longer : (n id : ℕ) (coming left next : Option (List ℕ)) (before now after : HubState) (piece : List ℕ) → (r : IsReading id coming left before now)
+    → Consumes left next piece → OnlyServes id now after → HasReceived now id (r.received ++ piece) More after → n ≤ length r.received → 1 ≤ length piece
+    → (s : IsReading id coming next before after) × (n + 1 ≤ length s.received)
+unfolding more
+longer n id coming left next before now after piece r read only has many some =
+    (more id coming left next before now after piece r read only has, omega (arith, many, some, length-append r.received piece))
+
 -- the head is complete
 pub ready : (id : ℕ) (coming left next : Option (List ℕ)) (before now after : HubState) (piece : List ℕ) → (r : IsReading id coming left before now)
     → Consumes left next piece → HasReceived now id (r.received ++ piece) Ready after → HasHead coming next id before.committed after
@@ -47,6 +55,12 @@ ready id coming left next before now after piece r read has =
       is_response = subst (λ (bytes : List ℕ). IsResponse bytes (r.received ++ piece) has.0) (committed_is id before now r.only) has.1;
       phase = has.2;
     }
+
+-- a head of so many bytes is complete
+pub never_so_long : (n : ℕ) (received : List ℕ) → HasNoHead received → n ≤ length received → n ≡ 8192 → ⊥
+never_so_long n received (inl none) le all =
+    let long : length received ≡ 0 = ap length none in absurd (omega (arith, le, all, long))
+never_so_long n received (inr awaited) le all = absurd (omega (arith, le, all, awaited.short))
 
 pub ended : (id : ℕ) (coming left next : Option (List ℕ)) (before now : HubState) (piece : List ℕ) → (r : IsReading id coming left before now)
     → Consumes left next piece → piece ≡ [] → IsAtEnd next → HasEnded coming next

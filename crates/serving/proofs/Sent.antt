@@ -1,5 +1,5 @@
 -- How far a session's response has been written.
-use Rattle.std.proofs.Common.{◌≡◌, ◌⊎◌, ℕ, ◌+◌, ◌*◌, ◌<◌, ◌≤◌, suc, Option, Some, None, Ok, Err, List, [], ◌++◌, length, take, drop, refl, sym, ◌∙◌, ap, subst, inl, inr, arith, append_assoc, length-append}
+use Rattle.std.proofs.Common.{◌≡◌, ◌⊎◌, ℕ, ◌+◌, ◌*◌, ◌^◌, ◌<◌, ◌≤◌, suc, Bool, false, Option, Some, None, Ok, Err, List, [], ◌++◌, length, take, drop, refl, sym, ◌∙◌, ap, subst, inl, inr, arith, append_assoc, length-append}
 use Rattle.std.specs.Io.KnownBytes.{Appends, Consumes}
 use Rattle.std.proofs.KnownBytes.{Appends-nil, Appends-trans}
 use Rattle.std.proofs.lemmas.List.{take-append-drop, length-take-le, length-drop}
@@ -10,9 +10,10 @@ use Rattle.sessions.specs.Hub.{HubState, Sending, phase_of}
 use Rattle.sessions.specs.declared.fault.HubFault.{HubFault}
 use Rattle.serving.specs.declared.pieces.Served.{Served}
 use Rattle.serving.specs.declared.pieces.Served.TheVariants.{Whole, NoHead, Cut}
-use Rattle.serving.specs.Pieces.{HasHead, HasRead, HasSent, piece}
-use Rattle.serving.specs.Serving.{Gets, GetsWhole, GetsFront}
+use Rattle.serving.specs.Pieces.{HasHead, HasRead, HasSent, HasTried, piece}
+use Rattle.serving.specs.Serving.{Gets, GetsWhole, GetsFront, HasTriedAll, IsCut, MayMeet}
 use Rattle.serving.specs.Steps.{AreIn, GetsIn}
+use Rattle.serving.proofs.Faults.{may_meet}
 
 -- these bytes were written, and the rest is left
 pub record IsSending (id : ℕ) (coming left : Option (List ℕ)) (old new : Option (List ℕ)) (before now : HubState) : Type 0 where
@@ -86,24 +87,36 @@ later id coming left old new before now after s same = record {
 }
 
 -- ---- how a connection has ended
-pub by_head : (id : ℕ) (coming left : Option (List ℕ)) (old : Option (List ℕ)) (before after : HubState) (served : Served)
-    → HasRead coming left id before.committed after (Ok (Some served)) → Gets coming left old old before.committed (Ok served)
-by_head id coming left old before after Whole has = absurd has
-by_head id coming left old before after NoHead has = record { received = has.received; read = has.read; no_head = has.no_head; ended = has.ended; written = refl }
-by_head id coming left old before after Cut has = record { received = has.0; read = has.1; written = inl refl }
+pub by_head : (id : ℕ) (coming left : Option (List ℕ)) (old : Option (List ℕ)) (before after : HubState) (has_file : Bool) (served : Served)
+    → HasRead coming left id before.committed after (Ok (Some served)) → Gets coming left old old has_file before.committed (Ok served)
+by_head id coming left old before after has_file Whole has = absurd has
+by_head id coming left old before after has_file NoHead has =
+    record { received = has.received; read = has.read; no_head = has.no_head; ended = has.ended; written = refl }
+by_head id coming left old before after has_file Cut has = record { received = has.0; read = has.1; written = inl refl }
 
-pub by_piece : (id : ℕ) (coming left : Option (List ℕ)) (old mid new : Option (List ℕ)) (before now after : HubState) (served : Served)
+pub by_piece : (id : ℕ) (coming left : Option (List ℕ)) (old mid new : Option (List ℕ)) (before now after : HubState) (has_file : Bool) (served : Served)
     → (s : IsSending id coming left old mid before now) → HasSent mid new id s.rest after (Ok (Some served))
-    → Gets coming left old new before.committed (Ok served)
-by_piece id coming left old mid new before now after Whole s sent = whole id coming left old mid new before now s sent.0
-by_piece id coming left old mid new before now after NoHead s sent = absurd sent
-by_piece id coming left old mid new before now after Cut s sent = front id coming left old mid new before now s sent
+    → Gets coming left old new has_file before.committed (Ok served)
+by_piece id coming left old mid new before now after has_file Whole s sent = whole id coming left old mid new before now s sent.0
+by_piece id coming left old mid new before now after has_file NoHead s sent = absurd sent
+by_piece id coming left old mid new before now after has_file Cut s sent = front id coming left old mid new before now s sent
 
-pub by_fault : (id : ℕ) (coming left : Option (List ℕ)) (old mid new : Option (List ℕ)) (before now after : HubState) (fault : HubFault)
-    → (s : IsSending id coming left old mid before now) → HasSent mid new id s.rest after (Err fault)
-    → Gets coming left old new before.committed (Err fault)
-by_fault id coming left old mid new before now after fault s sent =
-    (sent.0, subst (λ (o : Option (List ℕ)). GetsFront coming left old o before.committed) (sym sent.1) (stopped id coming left old mid before now s))
+-- by a fault of the hub
+pub by_head_fault : (id : ℕ) (coming left : Option (List ℕ)) (old : Option (List ℕ)) (before after : HubState) (has_file : Bool) (fault : HubFault)
+    → after.has_file ≡ has_file → HasRead coming left id before.committed after (Err fault)
+    → MayMeet has_file fault × GetsFront coming left old old before.committed
+by_head_fault id coming left old before after has_file fault same has = (
+  subst (λ (b : Bool). MayMeet b fault) same (may_meet fault after.has_file (phase_of after id) has.0),
+  record { received = has.1.0; read = has.1.1; written = inl refl },
+)
+
+pub by_fault : (id : ℕ) (coming left : Option (List ℕ)) (old mid new : Option (List ℕ)) (before now after : HubState) (has_file : Bool) (fault : HubFault)
+    → after.has_file ≡ has_file → (s : IsSending id coming left old mid before now) → HasSent mid new id s.rest after (Err fault)
+    → MayMeet has_file fault × GetsFront coming left old new before.committed
+by_fault id coming left old mid new before now after has_file fault same s sent = (
+  subst (λ (b : Bool). MayMeet b fault) same (may_meet fault after.has_file (phase_of after id) sent.0),
+  subst (λ (o : Option (List ℕ)). GetsFront coming left old o before.committed) (sym sent.2) (stopped id coming left old mid before now s),
+)
 
 -- ---- in how many pieces
 pub one_more : (n : ℕ) (written rest : List ℕ) → length written ≡ n * piece → piece < length rest
@@ -134,28 +147,28 @@ at_first_in id coming left old before now head = record { sending = at_first id 
 
 pub more_in : (n id : ℕ) (coming left : Option (List ℕ)) (old mid new : Option (List ℕ)) (before now after : HubState)
     → (s : IsSendingIn n id coming left old mid before now)
-    → HasSent mid new id s.sending.rest after (Ok None) → IsSendingIn (suc n) id coming left old new before after
+    → HasSent mid new id s.sending.rest after (Ok None) → IsSendingIn (n + 1) id coming left old new before after
 unfolding more
 more_in n id coming left old mid new before now after s sent = record {
   sending = more id coming left old mid new before now after s.sending sent.0 sent.1;
-  long = one_more n s.sending.written s.sending.rest s.long sent.2;
+  long = omega (arith, one_more n s.sending.written s.sending.rest s.long sent.2);
   some = inr (some_is_left s.sending.rest sent.2);
 }
 
-pub by_piece_in : (n id : ℕ) (coming left : Option (List ℕ)) (old mid new : Option (List ℕ)) (before now after : HubState) (served : Served)
+pub by_piece_in : (n id : ℕ) (coming left : Option (List ℕ)) (old mid new : Option (List ℕ)) (before now after : HubState) (has_file : Bool) (served : Served)
     → (s : IsSendingIn n id coming left old mid before now) → HasSent mid new id s.sending.rest after (Ok (Some served))
-    → GetsIn coming left old new (suc n) before.committed (Ok served)
+    → GetsIn coming left old new (suc n) has_file before.committed (Ok served)
 unfolding whole
-by_piece_in n id coming left old mid new before now after Whole s sent =
+by_piece_in n id coming left old mid new before now after has_file Whole s sent =
     (whole id coming left old mid new before now s.sending sent.0, are_in n s.sending.written s.sending.rest s.long s.some sent.1)
-by_piece_in n id coming left old mid new before now after NoHead s sent = absurd sent
-by_piece_in n id coming left old mid new before now after Cut s sent = front id coming left old mid new before now s.sending sent
+by_piece_in n id coming left old mid new before now after has_file NoHead s sent = absurd sent
+by_piece_in n id coming left old mid new before now after has_file Cut s sent = front id coming left old mid new before now s.sending sent
 
-pub by_head_in : (id : ℕ) (coming left : Option (List ℕ)) (old : Option (List ℕ)) (before after : HubState) (served : Served)
-    → HasRead coming left id before.committed after (Ok (Some served)) → GetsIn coming left old old 0 before.committed (Ok served)
-by_head_in id coming left old before after Whole has = absurd has
-by_head_in id coming left old before after NoHead has = (record { received = has.received; read = has.read; no_head = has.no_head; ended = has.ended; written = refl }, refl)
-by_head_in id coming left old before after Cut has = record { received = has.0; read = has.1; written = inl refl }
+pub by_head_in : (id : ℕ) (coming left : Option (List ℕ)) (old : Option (List ℕ)) (before after : HubState) (has_file : Bool) (served : Served)
+    → HasRead coming left id before.committed after (Ok (Some served)) → GetsIn coming left old old 0 has_file before.committed (Ok served)
+by_head_in id coming left old before after has_file Whole has = absurd has
+by_head_in id coming left old before after has_file NoHead has = (record { received = has.received; read = has.read; no_head = has.no_head; ended = has.ended; written = refl }, refl)
+by_head_in id coming left old before after has_file Cut has = record { received = has.0; read = has.1; written = inl refl }
 
 pub later_in : (n id : ℕ) (coming left : Option (List ℕ)) (old new : Option (List ℕ)) (before now after : HubState)
     → (s : IsSendingIn n id coming left old new before now)
@@ -172,3 +185,23 @@ read_as coming left id committed after some other e has = subst (λ (o : Option 
 pub sent_as : (old new : Option (List ℕ)) (id : ℕ) (rest : List ℕ) (after : HubState) (some other : Option Served) → some ≡ other
     → HasSent old new id rest after (Ok some) → HasSent old new id rest after (Ok other)
 sent_as old new id rest after some other e sent = subst (λ (o : Option Served). HasSent old new id rest after (Ok o)) e sent
+
+-- ---- which calls have failed
+pub tried_all : (failed : Bool) (committed : List ℕ) (served : Served) → HasTried failed (Ok (Some served)) → HasTriedAll failed committed (Ok served)
+tried_all failed committed Whole tried = tried
+tried_all failed committed NoHead tried = tried
+tried_all failed committed Cut tried = inl tried
+
+pub tried_fault : (failed : Bool) (committed : List ℕ) (fault : HubFault) → HasTried failed (Err fault) → HasTriedAll failed committed (Err fault)
+tried_fault failed committed fault tried = tried
+
+-- the same, with an answer that is equal
+pub tried_as : (failed : Bool) (some other : Option Served) → some ≡ other → HasTried failed (Ok some) → HasTried failed (Ok other)
+tried_as failed some other e tried = subst (λ (o : Option Served). HasTried failed (Ok o)) e tried
+
+-- after so many pieces the response is longer than any file
+pub too_long : (n id : ℕ) (failed : Bool) (coming left : Option (List ℕ)) (old new : Option (List ℕ)) (before now : HubState)
+    → (s : IsSendingIn n id coming left old new before now) → n ≡ 4503599627370496 → IsCut failed before.committed
+too_long n id failed coming left old new before now s all =
+    let size = length-append s.sending.written s.sending.rest in
+    inr (s.sending.received, s.sending.written ++ s.sending.rest, s.sending.is_response, omega (arith, s.long, all, size))

@@ -1,5 +1,5 @@
 -- Steps of a feed, one after the other.
-use Rattle.std.proofs.Common.{◌≡◌, ℕ, zero, suc, Option, Some, None, Result, List, refl, sym, ◌∙◌, ap, subst}
+use Rattle.std.proofs.Common.{◌≡◌, ◌+◌, ℕ, zero, suc, arith, Option, Some, None, Result, List, refl, sym, ◌∙◌, ap, subst}
 use Rattle.std.specs.Prelude.{IfSome}
 use Rattle.disk_model.specs.Image.{DiskState}
 use Rattle.feed_codec.specs.declared.fault.RunFault.{RunFault}
@@ -39,6 +39,14 @@ module _ {D : Type 0} (is_honest : D → Type 0) (state : D → DiskState) (mome
         (c.1 ∙ ap (λ (r : Result Step RunFault). feed_state old.reader old.replies old.run (Some r)) c.0, refl),
       )
   taken shows None None result old new hub hub_after before shown stays closed stepped = stepped refl refl
+
+  -- the same number of steps
+  pub as_many : (n : ℕ) (old new : FeedState R W) (before after : HubState)
+      → TakesSteps is_honest state moment images_since failures remaining contents (suc n) old new before after
+      → TakesSteps is_honest state moment images_since failures remaining contents (n + 1) old new before after
+  as_many n old new before after steps =
+      let e : suc n ≡ n + 1 = omega arith in
+      subst (λ (k : ℕ). TakesSteps is_honest state moment images_since failures remaining contents k old new before after) e steps
 
   -- nothing is recorded before the steps either
   pub led : (n : ℕ) (old new : FeedState R W) (a b c : HubState) → KeepsFile a b

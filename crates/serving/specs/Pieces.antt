@@ -1,17 +1,27 @@
 -- What one piece of a session reads or writes. Ours.
-use Rattle.std.specs.Prelude.{◌≡◌, ℕ, Option, Some, None, Result, Ok, Err, List, take, drop, length, ◌<◌, ◌≤◌}
+use Rattle.std.specs.Prelude.{◌≡◌, ◌≢◌, ℕ, Bool, true, false, Option, Some, None, IsSome, Result, Ok, Err, List, take, drop, length, ◌<◌, ◌≤◌}
 use Rattle.std.specs.Io.KnownBytes.{Appends, Consumes, IsAtEnd}
 use Rattle.ogg_page.specs.Output.{WritesPrefix}
 use Rattle.responses.specs.Response.{IsResponse}
 use Rattle.sessions.specs.declared.fault.HubFault.{HubFault}
-use Rattle.sessions.specs.Hub.{HubState, Sending, phase_of}
-use Rattle.serving.specs.Serving.{HasNoHead, MayMeet}
+use Rattle.sessions.specs.declared.fault.HubFault.TheVariants.{NoSession, SessionsFull, Source, Memory, NoFile}
+use Rattle.sessions.specs.Hub.{HubState, Phase, Sending, phase_of}
+use Rattle.serving.specs.Serving.{HasNoHead}
 use Rattle.serving.specs.declared.pieces.Served.{Served}
 use Rattle.serving.specs.declared.pieces.Served.TheVariants.{Whole, NoHead, Cut}
 
 -- the greatest number of bytes of a piece
 abbrev pub piece : ℕ
 piece = 4096
+
+-- What a fault of the hub has left, by whether the hub has a file and by the phase of the session: `Source` has ended
+-- the session, and after any other it is there.
+abbrev pub LeftBy : HubFault → Bool → Option Phase → Type 0
+LeftBy NoSession has_file phase = ⊥
+LeftBy SessionsFull has_file phase = ⊥
+LeftBy NoFile has_file phase = (has_file ≡ false) × IsSome phase
+LeftBy Source has_file phase = (has_file ≡ true) × (phase ≡ None)
+LeftBy Memory has_file phase = (has_file ≡ true) × IsSome phase
 
 -- `coming` and `left` are the bytes that the reader shows before and after.
 module _ (coming left : Option (List ℕ)) where
@@ -39,7 +49,12 @@ module _ (coming left : Option (List ℕ)) where
   HasRead id committed after (Ok (Some Whole)) = ⊥
   HasRead id committed after (Ok (Some NoHead)) = HasEnded
   HasRead id committed after (Ok (Some Cut)) = HasReadSome
-  HasRead id committed after (Err fault) = MayMeet fault × HasReadSome
+  HasRead id committed after (Err fault) = LeftBy fault after.has_file (phase_of after id) × HasReadSome
+
+-- whether a call on the reader or on the writer has failed: exactly if the connection is cut
+abbrev pub HasTried : Bool → Result (Option Served) HubFault → Type 0
+HasTried failed (Ok (Some Cut)) = failed ≡ true
+HasTried failed result = failed ≡ false
 
 -- `old` and `new` are the bytes that the writer shows before and after. Of what was left of the response a full piece
 -- was written, and more is left; or all of it was written; or a front of it.
@@ -49,4 +64,4 @@ HasSent old new id rest after (Ok None) = Appends old new (take piece rest) × (
 HasSent old new id rest after (Ok (Some Whole)) = Appends old new rest × (length rest ≤ piece)
 HasSent old new id rest after (Ok (Some NoHead)) = ⊥
 HasSent old new id rest after (Ok (Some Cut)) = WritesPrefix old new rest
-HasSent old new id rest after (Err fault) = MayMeet fault × (new ≡ old)
+HasSent old new id rest after (Err fault) = LeftBy fault after.has_file (phase_of after id) × (fault ≢ Memory) × (new ≡ old)

@@ -1,5 +1,5 @@
 -- The steps of a feed that are taken while a connection is served. Ours.
-use Rattle.std.specs.Prelude.{◌≡◌, ◌⊎◌, ◌+◌, ◌*◌, ◌<◌, ◌≤◌, ℕ, zero, suc, Option, Some, None, Result, Ok, Err, List, length}
+use Rattle.std.specs.Prelude.{◌≡◌, ◌⊎◌, ◌+◌, ◌*◌, ◌<◌, ◌≤◌, ℕ, zero, suc, Bool, Option, Some, None, Result, Ok, Err, List, length}
 use Rattle.disk_model.specs.Image.{DiskState}
 use Rattle.feed_codec.specs.declared.fault.RunFault.{RunFault}
 use Rattle.feed_run.specs.Run.{Outcome, streams}
@@ -48,9 +48,9 @@ abbrev pub AreIn : ℕ → ℕ → Type 0
 AreIn n size = (size ≤ n * piece) × ((n ≡ 1) ⊎ (n * piece < size + piece))
 
 -- What a connection gets if it ends with this result after this many steps. There was one step before each piece of
--- a whole response.
-abbrev pub GetsIn : (coming left old new : Option (List ℕ)) → ℕ → List ℕ → Result Served HubFault → Type 0
-GetsIn coming left old new n committed (Ok Whole) = (got : GetsWhole coming left old new committed) × AreIn n (length got.response)
-GetsIn coming left old new n committed (Ok NoHead) = GetsNothing coming left old new × (n ≡ 0)
-GetsIn coming left old new n committed (Ok Cut) = GetsFront coming left old new committed
-GetsIn coming left old new n committed (Err fault) = MayMeet fault × GetsFront coming left old new committed
+-- a whole response. At its end the hub has a file, or none.
+abbrev pub GetsIn : (coming left old new : Option (List ℕ)) → ℕ → Bool → List ℕ → Result Served HubFault → Type 0
+GetsIn coming left old new n has_file committed (Ok Whole) = (got : GetsWhole coming left old new committed) × AreIn n (length got.response)
+GetsIn coming left old new n has_file committed (Ok NoHead) = GetsNothing coming left old new × (n ≡ 0)
+GetsIn coming left old new n has_file committed (Ok Cut) = GetsFront coming left old new committed
+GetsIn coming left old new n has_file committed (Err fault) = MayMeet has_file fault × GetsFront coming left old new committed

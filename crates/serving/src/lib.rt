@@ -13,6 +13,7 @@ mod feeding;
 mod live;
 mod pieces;
 mod serve;
+mod trying;
 
 pub use feeding::{LiveFeed, Step};
 pub use live::live_one;

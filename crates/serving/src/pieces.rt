@@ -1,12 +1,15 @@
 //! The pieces in which a request is read and a response is written.
-ghost use Rattle.std.specs.Prelude.{◌≡◌, ℕ, List, [], Some};
+ghost use Rattle.std.specs.Prelude.{◌≡◌, ℕ, List, [], Some, Err, false};
+ghost use Rattle.ogg_page.specs.Page.{Page};
+ghost use Rattle.link_chain.specs.Links.{AreLinks};
 ghost use Rattle.sessions.specs.Hub.{HubState, Reading, Sending, phase_of};
+ghost use Rattle.ogg_serve.specs.Images.{IfFile, Fails, Reads};
 ghost use Rattle.ogg_serve.specs.Showing.{Shows};
-ghost use Rattle.serving.specs.Pieces.{HasRead, HasSent};
+ghost use Rattle.serving.specs.Pieces.{HasRead, HasSent, HasTried};
 ghost use Rattle.serving.specs.Keeping.{OnlyServes};
 
+use crate::trying::Tries;
 use disk_model::Disk;
-use ogg_page::write_whole;
 use ogg_serve::{Hub, HubFault};
 use sessions::{Progress, calls_move_their_session, other_sessions_stay, sessions_are_numbered};
 use std::io::{Read, Write};
@@ -34,10 +37,20 @@ pub fn read_head<D: Disk + Drop, R: Read>(
     hub: &mut Hub<D>,
     id: u64,
     reader: &mut R,
+    tries: &mut Tries,
 ) -> Result<Option<Served>, HubFault>
-    ensures { (before : HubState) → Shows D.is_honest D.state hub.old before → phase_of before id ≡ Some (Reading [])
+    ensures read { (before : HubState) → Shows D.is_honest D.state hub.old before → phase_of before id ≡ Some (Reading [])
         → (after : HubState) × Shows D.is_honest D.state hub.new after × OnlyServes id before after
         × HasRead (R.remaining reader.old) (R.remaining reader.new) id before.committed after result }
+    ensures tried { (before : HubState) → Shows D.is_honest D.state hub.old before → phase_of before id ≡ Some (Reading [])
+        → tries.old ≡ false → HasTried tries.new result }
+
+    // The file is only read, and a fault of committed links has a cause.
+    ensures disk { IfFile (Reads D.is_honest D.state D.moment D.images_since D.failures) hub.old.file hub.new.file }
+    ensures cause { result ≡ Err HubFault.Source → (before : HubState) (links : List (List Page))
+        → Shows D.is_honest D.state hub.old before → phase_of before id ≡ Some (Reading []) → AreLinks before.committed links
+        → IfFile (Fails D.is_honest D.state D.moment D.images_since D.failures) hub.old.file hub.new.file }
+    ensures lost { hub.new.lost ≡ hub.old.lost }
 {
     calls_move_their_session();
     other_sessions_stay();
@@ -45,14 +58,14 @@ pub fn read_head<D: Disk + Drop, R: Read>(
     let mut piece = [0; PIECE];
     // Each turn but the last adds a byte to the head.
     for _ in 0..MOST_HEAD {
-        match reader.read(&mut piece) {
-            Ok(0) => return Ok(Some(Served::NoHead)),
-            Ok(count) => match hub.receive(id, &piece[..count]) {
+        match tries.read(reader, &mut piece) {
+            Some(0) => return Ok(Some(Served::NoHead)),
+            Some(count) => match hub.receive(id, &piece[..count]) {
                 Ok(Progress::More) => {}
                 Ok(Progress::Ready) => return Ok(None),
                 Err(fault) => return Err(fault),
             },
-            Err(_) => return Ok(Some(Served::Cut)),
+            None => return Ok(Some(Served::Cut)),
         }
     }
     Ok(Some(Served::Cut))
@@ -63,17 +76,25 @@ pub fn send_piece<D: Disk + Drop, W: Write>(
     hub: &mut Hub<D>,
     id: u64,
     writer: &mut W,
+    tries: &mut Tries,
 ) -> Result<Option<Served>, HubFault>
-    ensures { (before : HubState) (rest : List ℕ) → Shows D.is_honest D.state hub.old before → phase_of before id ≡ Some (Sending rest)
+    ensures sent { (before : HubState) (rest : List ℕ) → Shows D.is_honest D.state hub.old before → phase_of before id ≡ Some (Sending rest)
         → (after : HubState) × Shows D.is_honest D.state hub.new after × OnlyServes id before after
         × HasSent (W.contents writer.old) (W.contents writer.new) id rest after result }
+    ensures tried { tries.old ≡ false → HasTried tries.new result }
+
+    // The file is only read, and a fault has a cause.
+    ensures disk { IfFile (Reads D.is_honest D.state D.moment D.images_since D.failures) hub.old.file hub.new.file }
+    ensures cause { result ≡ Err HubFault.Source → (before : HubState) → Shows D.is_honest D.state hub.old before
+        → IfFile (Fails D.is_honest D.state D.moment D.images_since D.failures) hub.old.file hub.new.file }
+    ensures lost { hub.new.lost ≡ hub.old.lost }
 {
     calls_move_their_session();
     other_sessions_stay();
     sessions_are_numbered();
     let mut piece = [0; PIECE];
     match hub.pull(id, &mut piece) {
-        Ok(pulled) => match write_whole(writer, &piece[..pulled.count]) {
+        Ok(pulled) => match tries.write(writer, &piece[..pulled.count]) {
             Ok(()) if pulled.done => Ok(Some(Served::Whole)),
             Ok(()) => Ok(None),
             Err(_) => Ok(Some(Served::Cut)),

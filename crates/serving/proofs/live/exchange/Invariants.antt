@@ -1,4 +1,5 @@
-use Rattle.std.proofs.Common.{◌≡◌, ℕ, Some, []}
+use Rattle.std.proofs.Common.{◌≡◌, ◌≤◌, Some, [], false}
+use Rattle.ogg_serve.specs.Images.{failures_in}
 use Rattle.sessions.specs.Hub.{HubState, Reading, phase_of}
 use Rattle.ogg_serve.specs.Showing.{Shows}
 use Rattle.serving.specs.Keeping.{KeepsOthers}
@@ -7,11 +8,16 @@ use Rattle.serving.proofs.Sent.{IsSendingIn}
 use Rattle.serving.proofs.live.exchange.Given as goal
 
 abbrev pub invariant-loop : goal.invariant-loop
-invariant-loop g l =
-    (before : HubState) → Shows g.D.Disk.is_honest g.D.Disk.state l.fn.hub before → phase_of before l.fn.id ≡ Some (Reading [])
-    → (now : HubState) × Shows g.D.Disk.is_honest g.D.Disk.state l.hub now
-    × KeepsOthers l.fn.id before now
-    × ((n : ℕ) × TakesSteps g.D.Disk.is_honest g.D.Disk.state g.D.Disk.moment g.D.Disk.images_since g.D.Disk.failures
-    g.F.Read.remaining g.L.Write.contents n l.fn.feed l.feed before now
-    × IsSendingIn n l.fn.id (g.R.Read.remaining l.fn.reader) (g.R.Read.remaining l.reader)
-    (g.W.Write.contents l.fn.writer) (g.W.Write.contents l.writer) before now)
+invariant-loop g l = record {
+  sending : (before : HubState) → Shows g.D.Disk.is_honest g.D.Disk.state l.fn.hub before → phase_of before l.fn.id ≡ Some (Reading [])
+      → (now : HubState) × Shows g.D.Disk.is_honest g.D.Disk.state l.hub now
+      × KeepsOthers l.fn.id before now
+      × TakesSteps g.D.Disk.is_honest g.D.Disk.state g.D.Disk.moment g.D.Disk.images_since g.D.Disk.failures
+      g.F.Read.remaining g.L.Write.contents l.counter l.fn.feed l.feed before now
+      × IsSendingIn l.counter l.fn.id (g.R.Read.remaining l.fn.reader) (g.R.Read.remaining l.reader)
+      (g.W.Write.contents l.fn.writer) (g.W.Write.contents l.writer) before now;
+  tries : (before : HubState) → Shows g.D.Disk.is_honest g.D.Disk.state l.fn.hub before → phase_of before l.fn.id ≡ Some (Reading [])
+      → l.fn.tries ≡ false → l.tries ≡ false;
+  later : (before : HubState) → Shows g.D.Disk.is_honest g.D.Disk.state l.fn.hub before → phase_of before l.fn.id ≡ Some (Reading [])
+      → failures_in g.D.Disk.failures l.fn.hub ≤ failures_in g.D.Disk.failures l.hub;
+}

@@ -1,11 +1,12 @@
 use Rattle.std.proofs.Common.{refl}
 use Rattle.ogg_serve.specs.Showing.{Shows}
 use Rattle.serving.proofs.Alongside.{stepped}
+use Rattle.serving.proofs.Failing.{by_step, later}
 use Rattle.serving.proofs.Taken.{taken}
 use Rattle.serving.proofs.live.go_on.Goals as goal
 
-pub returns : goal.returns
-returns g c = λ before shown.
+pub returns-clause-took : goal.returns-clause-took
+returns-clause-took g c = λ before shown.
     let d = g.D.Disk in
     let e = c.step.ensures in
     taken d.is_honest d.state d.moment d.images_since d.failures g.F.Read.remaining g.L.Write.contents
@@ -18,3 +19,12 @@ returns g c = λ before shown.
           _ _ _ _ (record { now = c.args.hub.now; machine = before }) after _ has,
       record { was = c.args.hub.now; now = after.now; answer = _; stepped = has; ended = e.ended going },
     ))
+
+pub returns-clause-later : goal.returns-clause-later
+returns-clause-later g c = λ before shown.
+    let d = g.D.Disk in
+    let e = c.step.ensures in
+    later d.is_honest d.state d.moment d.images_since d.failures c.args.feed.now.ended c.args.feed.now.run.outcome _ c.args.feed.now c.step.new.self c.args.hub.now c.step.new.hub e.stays e.closed
+    (λ going unended.
+    let (after, is_in, has) = e.stepped (record { now = c.args.hub.now; machine = before }) (refl, shown) going unended in
+    by_step d.is_honest d.state d.moment d.images_since d.failures _ _ _ _ (record { now = c.args.hub.now; machine = before }) after _ c.step.new.hub is_in.0 is_in.1.place has)
