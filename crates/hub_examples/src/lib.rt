@@ -6,6 +6,10 @@
 #![tactic(auto)]
 
 #[cfg(test)]
+mod connections;
+#[cfg(test)]
+mod fakes;
+#[cfg(test)]
 mod hubs;
 #[cfg(test)]
 mod pulling;

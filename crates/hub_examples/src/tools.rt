@@ -1,5 +1,6 @@
 //! Hubs and sessions for the tests.
 use disk_model::{Disk, MemDisk};
+use feed_recorder::record_feed;
 use ogg_recorder::Recorder;
 use ogg_serve::{Hub, Progress};
 use std::alloc::Global;
@@ -86,5 +87,30 @@ pub(super) fn gives<D: Disk + Drop>(hub: &mut Hub<D>, id: u64, size: usize, want
             *given == *want
         }
         Err(_) => false,
+    }
+}
+
+/// One stream begins, with serial 1 and the header `abc`, and gets the packet `hello` at position 5.
+const BEGIN_AND_PUT: &[u8] = b"\x01\x2f\0\0\0\0\x01\0\x01\0\0\0\x01\0\x03\0\0\0abc\0\0\
+    \0\0\0\0\0\0\0\0\0\0\0\0\0\0\0\0\0\0\0\0\0\0\0\0\0\0\0\0\0\
+    \x02\x17\0\0\0\x01\0\x01\0\0\0\x05\0\0\0\0\0\0\0\x05\0\0\0hello";
+
+/// A hub over a file to which two commands were given since it was opened. From now on `most` commands share a commit.
+pub(super) fn hub_after_two(alloc: Global, most: u32) -> Result<Hub<MemDisk>, Fail> {
+    let mut feed = BEGIN_AND_PUT;
+    let mut replies = Vec::new(alloc);
+    let Ok(mut recorder) = Recorder::open(alloc, MemDisk::of(alloc, b"")?) else {
+        return Err(Fail::from("not opened"));
+    };
+    let tally = record_feed(alloc, &mut feed, &mut replies, &mut recorder)?;
+    if tally.kept != 2 || recorder.held() != 0 || most < 1 || most > 1024 {
+        return Err(Fail::from("not kept"));
+    }
+    match Hub::new(alloc, recorder) {
+        Ok(mut hub) => {
+            hub.group(most);
+            Ok(hub)
+        }
+        Err(_) => Err(Fail::from("no hub")),
     }
 }
