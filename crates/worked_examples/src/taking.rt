@@ -9,6 +9,7 @@ use chain_rules::{ChainFault, Command, Refusal, Shape};
 use example_feeds::bytes_of;
 use feed_codec::{Feed, FeedFault};
 use link_chain::{Chain, WalkFault};
+use ogg_page::split_page;
 use std::alloc::Global;
 use std::test::Fail;
 
@@ -198,12 +199,42 @@ pub fn take_pages(alloc: Global, bytes: &[u8]) -> Result<Taken, Fail> {
     })
 }
 
+/// The same by a shape, which takes one page after the other, at most 16.
+fn take_one_by_one(alloc: Global, bytes: &[u8]) -> Result<Taken, Fail> {
+    let mut shape = Shape::new(alloc);
+    let mut rest = bytes;
+    let mut fault = None;
+    for _ in 0..16 {
+        if rest.is_empty() || fault.is_some() {
+            break;
+        }
+        let Ok((page, others)) = split_page(rest) else {
+            return Err("no page".into());
+        };
+        if rest.len() > 1 << 40 || shape.len() > 1 << 40 {
+            return Err("too long".into());
+        }
+        match shape.take_page(&page) {
+            Ok(()) => rest = others,
+            Err(first) => fault = Some(first),
+        }
+    }
+    let end = shape.len();
+    Ok(Taken { shape, end, fault })
+}
+
 /// Whether the file's pages are taken as far as it says.
+fn is_as_far(taken: &Taken, file: &File) -> bool {
+    let left = (taken.end, taken.fault, taken.shape.unfinished());
+    left == (file.end, file.fault, file.unfinished)
+}
+
+/// Whether they are, all at once and one by one.
 fn is_taken(alloc: Global, file: &File) -> Result<bool, Fail> {
     let bytes = bytes_of(alloc, file.pieces)?;
     let taken = take_pages(alloc, bytes.as_slice())?;
-    let left = (taken.end, taken.fault, taken.shape.unfinished());
-    Ok(left == (file.end, file.fault, file.unfinished))
+    let one_by_one = take_one_by_one(alloc, bytes.as_slice())?;
+    Ok(is_as_far(&taken, file) && is_as_far(&one_by_one, file))
 }
 
 #[test]
