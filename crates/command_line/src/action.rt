@@ -3,8 +3,10 @@
 /// What the command line asks for.
 #[derive(Clone, Copy)]
 pub enum Action<'a> {
-    /// The feed of the Ogg bitstream on standard input; with `renumber` its streams get serials that are free.
+    /// The feed of the Ogg bitstream on standard input; with `renumber` its streams get serials that are free, and with
+    /// `mend` what has no place in a sound stream is mended or left out.
     Feed {
+        mend: bool,
         renumber: bool,
         skeletons: Skeletons,
     },

@@ -86,6 +86,7 @@ fn feed_of<'a>(words: &ArgMatches<'a>) -> Action<'a>
         None => Skeletons::Kept,
     };
     Action::Feed {
+        mend: words.get_flag("mend"),
         renumber: words.get_flag("renumber"),
         skeletons,
     }

@@ -93,6 +93,11 @@ static FEED: Subcommand = Subcommand {
             kind: Kind::Flag,
             help: "Gives a stream another serial if an earlier link of the input has its serial",
         },
+        Argument {
+            name: "mend",
+            kind: Kind::Flag,
+            help: "Goes on where the input is damaged or incomplete, and tells what was lost",
+        },
     ],
     help: "\
 The feed goes to standard output, page by page: a page's packets are out as soon as the page is
@@ -123,6 +128,12 @@ What can't be taken ends the feed by a fault with its offset, after everything b
   fault make 2 Chain OFFSET CODE NAME      the page there doesn't belong after those before it
   fault make 3 PacketTooLong OFFSET        a packet has more than 8,388,608 bytes
   fault make 4 Unfinished OFFSET SERIAL    the input ends within a packet of this stream
+
+With `--mend` none of these ends it: of a stream that is joined in the middle, cut, or damaged, each packet
+that lies whole in good pages is taken, and what is open at the end is ended. Each loss is a line on
+standard error, such as `mended 2 Gap OFFSET SERIAL FROM TO`; docs/FORMATS.md lists them:
+
+  curl http://radio.example/live.ogg | kudzuturret feed --mend | kudzuturret record radio.ogg --end-open
 ",
 };
 

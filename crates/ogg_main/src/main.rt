@@ -7,6 +7,7 @@
 mod files;
 mod finishing;
 mod indexing;
+mod mends;
 mod recorders;
 mod salvaging;
 mod server;
@@ -57,9 +58,10 @@ fn show(rt: &HostRuntime, error: &Error) -> ExitCode {
 fn run(rt: &HostRuntime, action: Action<'_>) -> Result<(), Fault> {
     match action {
         Action::Feed {
+            mend,
             renumber,
             skeletons,
-        } => streams::feed(rt, changes(renumber, skeletons)),
+        } => streams::feed(rt, mend, changes(renumber, skeletons)),
         Action::Mux { strict } => streams::mux(rt, strict),
         Action::Check { strict } => streams::check(rt, strict),
         Action::Record {

@@ -1,11 +1,12 @@
 //! The commands that read a feed from standard input.
 
 use crate::files::output;
+use crate::mends::MendLines;
 use crate::recorders::{open_recorder, seal_file};
 use disk_model::FileMode;
 use fault_lines::Fault;
 use feed_codec::{FeedFault, RunFault, Tally};
-use feed_maker::{ChangeOptions, make_feed};
+use feed_maker::{ChangeOptions, make_feed, make_mended_feed};
 use feed_recorder::{end_open_streams, record_feed_for};
 use feed_run::{Batched, Buffered, FirstRefusal, Together};
 use multiplexer::{check_feed_for, mux_for};
@@ -127,10 +128,18 @@ fn outcome<W: Write + Drop>(replies: &ReplyLines<W>) -> Result<(), Fault> {
     Ok(())
 }
 
-/// Writes the feed of the Ogg bitstream on standard input to standard output, changed as the options ask.
-pub fn feed(rt: &HostRuntime, options: ChangeOptions) -> Result<(), Fault> {
+/// Writes the feed of the Ogg bitstream on standard input to standard output, changed as the options ask. If `mend`
+/// says so, any input is mended, and what was mended is told on standard error.
+pub fn feed(rt: &HostRuntime, mend: bool, options: ChangeOptions) -> Result<(), Fault> {
     // The standard streams keep no bytes back: what is written is out, and what can be read at once is read.
-    match make_feed(rt.alloc(), &mut rt.stdin(), &mut rt.stdout(), options) {
+    let (mut input, mut out) = (rt.stdin(), rt.stdout());
+    let made = if mend {
+        let mut lines = MendLines::new(rt.alloc(), rt.stderr());
+        make_mended_feed(rt.alloc(), &mut input, &mut out, &mut lines, options)
+    } else {
+        make_feed(rt.alloc(), &mut input, &mut out, options)
+    };
+    match made {
         Ok(_) => Ok(()),
         Err(fault) => Err(Fault::Make(fault)),
     }
