@@ -235,4 +235,28 @@ packets "$work/killed.finished.ogg" >"$work/found"
 check "killed: something is there" [ -s "$work/found" ]
 check "killed: the first packets" cmp "$work/found" <(head -n "$(wc -l <"$work/found")" "$work/vorbis.want")
 
+# Encoders' streams are archived one after the other into one file, each cut out again, and played.
+archived() { # archived NAME: the last link of the archive is NAME's stream, packet for packet
+    "$program" archive "$work/archive.ogg" <"$work/$1.ogg" 2>"$work/err"
+    check "archived $1: status" [ $? -eq 0 ]
+    check "archived $1: $(cat "$work/err")" grep -q '^archived 1 [0-9]* [0-9]* 0$' "$work/err"
+    "$program" finish "$work/archive.ogg" "$(($("$program" links "$work/archive.ogg" | grep -c '^link') - 1))" >"$work/last.ogg"
+    packets "$work/last.ogg" >"$work/found"
+    packets "$work/$1.ogg" >"$work/want"
+    check "archived $1: the packets are the same" cmp "$work/want" "$work/found"
+    check "archived $1: it sounds the same" [ "$(sounds "$work/last.ogg" | head -n 1)" = "$(sounds "$work/$1.ogg" | head -n 1)" ]
+}
+for name in vorbis opus flac vorbis oggenc opusenc opus; do
+    [ ! -s "$work/$name.ogg" ] || archived "$name"
+done
+
+# A torn stream, and then the same line again.
+head -c 6000 "$work/paged.ogg" | "$program" archive "$work/torn.ogg" 2>"$work/err"
+check "archived torn: status" [ "${PIPESTATUS[1]}" -eq 0 ]
+"$program" archive "$work/torn.ogg" <"$work/vorbis.ogg" 2>"$work/err"
+check "archived after it: $(cat "$work/err")" grep -q '^archived 1 ' "$work/err"
+"$program" finish "$work/torn.ogg" 1 >"$work/last.ogg"
+packets "$work/last.ogg" >"$work/found"
+check "archived after it: the packets are the same" cmp "$work/vorbis.want" "$work/found"
+
 finish

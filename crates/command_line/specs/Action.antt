@@ -1,7 +1,7 @@
 -- The numbers of what is asked for. Their bounds are ours.
 use Rattle.std.specs.Prelude.{◌≤◌, ℕ, ⊤}
 use Rattle.command_line.specs.declared.action.Action.{Action}
-use Rattle.command_line.specs.declared.action.Action.TheVariants.{Record, Serve, Live}
+use Rattle.command_line.specs.declared.action.Action.TheVariants.{Archive, Record, Serve, Live}
 
 -- how many commands may share one commit
 abbrev pub IsGroup : ℕ → Type 0
@@ -13,6 +13,7 @@ IsCount count = (1 ≤ count) × (count ≤ 65536)
 
 -- each number lies within its bounds
 abbrev pub IsInBounds : Action → Type 0
+IsInBounds (Archive file skeletons most strict seal) = IsGroup most
 IsInBounds (Record file end_open seal most strict) = IsGroup most
 IsInBounds (Serve file address count) = IsCount count
 IsInBounds (Live file address feed count most) = IsCount count × IsGroup most

@@ -10,6 +10,16 @@ pub enum Action<'a> {
         renumber: bool,
         skeletons: Skeletons,
     },
+    /// The Ogg stream on standard input into the file, mended where it has to be. As many as `most` commands share a
+    /// commit while more of the stream is at hand. With `strict` the first mend or refusal ends the run. The file is
+    /// sealed at the end if `seal` says so.
+    Archive {
+        file: &'a str,
+        skeletons: Skeletons,
+        most: u32,
+        strict: bool,
+        seal: bool,
+    },
     /// The pages of the feed on standard input, with `strict` up to the first refusal.
     Mux {
         strict: bool,

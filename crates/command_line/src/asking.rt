@@ -40,6 +40,7 @@ fn asked<'a>(name: &str, words: &ArgMatches<'a>) -> Option<Action<'a>>
     ensures { IfSome result IsInBounds }
 {
     match name {
+        "archive" => archive_of(words),
         "feed" => Some(feed_of(words)),
         "mux" => Some(mux_of(words)),
         "record" => record_of(words),
@@ -77,18 +78,34 @@ fn number_of(words: &ArgMatches<'_>, name: &str, bounds: Bounds) -> Option<u32>
     }
 }
 
-fn feed_of<'a>(words: &ArgMatches<'a>) -> Action<'a>
-    ensures { IsInBounds result }
-{
-    let skeletons = match words.get_one::<u32>("skeleton") {
+/// What becomes of Skeletons.
+fn skeletons_of(words: &ArgMatches<'_>) -> Skeletons {
+    match words.get_one::<u32>("skeleton") {
         Some(serial) => Skeletons::Made(serial),
         None if words.get_flag("no-skeleton") => Skeletons::LeftOut,
         None => Skeletons::Kept,
-    };
+    }
+}
+
+fn archive_of<'a>(words: &ArgMatches<'a>) -> Option<Action<'a>>
+    ensures { IfSome result IsInBounds }
+{
+    Some(Action::Archive {
+        file: words.get_str("FILE")?,
+        skeletons: skeletons_of(words),
+        most: group_of(words)?,
+        strict: words.get_flag("strict"),
+        seal: words.get_flag("seal"),
+    })
+}
+
+fn feed_of<'a>(words: &ArgMatches<'a>) -> Action<'a>
+    ensures { IsInBounds result }
+{
     Action::Feed {
         mend: words.get_flag("mend"),
         renumber: words.get_flag("renumber"),
-        skeletons,
+        skeletons: skeletons_of(words),
     }
 }
 

@@ -10,11 +10,11 @@ pub(crate) static PROGRAM: Program = Program {
     help: "\
 From an encoder to an archive to a player:
 
-  ffmpeg -i INPUT -f ogg - | kudzuturret feed | kudzuturret record radio.ogg --end-open
+  ffmpeg -i INPUT -f ogg - | kudzuturret archive radio.ogg
   kudzuturret finish radio.ogg > radio-to-play.ogg
   kudzuturret serve radio.ogg 127.0.0.1:8000 10
 
-Between them packets come as a feed: records that begin streams, put packets into them and end them.
+Packets can also come as a feed: records that begin streams, put packets into them and end them.
 docs/FORMATS.md describes it, and examples/ has some:
 
   kudzuturret mux < examples/hello.feed > hello.ogg
@@ -25,9 +25,9 @@ or a command line that can't be read.
 };
 
 /// The subcommands, as help lists them.
-pub(crate) fn subcommands() -> [&'static Subcommand; 9] {
+pub(crate) fn subcommands() -> [&'static Subcommand; 10] {
     [
-        &FEED, &MUX, &RECORD, &LINKS, &SPLIT, &FINISH, &SALVAGE, &SERVE, &LIVE,
+        &ARCHIVE, &FEED, &MUX, &RECORD, &LINKS, &SPLIT, &FINISH, &SALVAGE, &SERVE, &LIVE,
     ]
 }
 
@@ -70,24 +70,98 @@ const COUNT: Argument = Argument {
     help: "How many connections are served before the program ends, 1 to 65536",
 };
 
+/// A Skeleton that is made anew.
+const SKELETON: Argument = Argument {
+    name: "skeleton",
+    kind: Kind::Valued {
+        value: "SERIAL",
+        bounds: ANY,
+        default: None,
+    },
+    help: "Begins each link with a Skeleton made anew, of this serial or the next one that is free",
+};
+
+/// Skeletons that are left out.
+const NO_SKELETON: Argument = Argument {
+    name: "no-skeleton",
+    kind: Kind::FlagWithout("skeleton"),
+    help: "Leaves out the Skeletons of the input",
+};
+
+/// The file that is recorded into.
+const RECORDED_FILE: Argument = Argument {
+    name: "FILE",
+    kind: Kind::Text,
+    help: "The file; it is made if there is none, and continued if there is one",
+};
+
+/// Whether the file is sealed.
+const SEAL: Argument = Argument {
+    name: "seal",
+    kind: Kind::Flag,
+    help: "At the end, if no fault came, cuts the file to its pages",
+};
+
+static ARCHIVE: Subcommand = Subcommand {
+    name: "archive",
+    about: "Records the Ogg stream on standard input into a file, whatever stops or restarts",
+    arguments: &[
+        RECORDED_FILE,
+        SKELETON,
+        NO_SKELETON,
+        Argument {
+            name: "group",
+            kind: Kind::Valued {
+                value: "MOST",
+                bounds: GROUPS,
+                default: Some("256"),
+            },
+            help: "How many commands may share one commit, 1 to 1024, while more of the stream is at hand",
+        },
+        Argument {
+            name: "strict",
+            kind: Kind::Flag,
+            help: "The first mend or refusal ends the run, with status 1",
+        },
+        SEAL,
+    ],
+    help: "\
+The stream comes from an encoder, from a server, or from a file:
+
+  ffmpeg -i INPUT -f ogg - | kudzuturret archive radio.ogg
+  curl -s http://127.0.0.1:8000/radio.ogg | kudzuturret archive radio.ogg
+
+Run the same line again after whatever stopped it: all that was on the disk is kept, what was left
+open is ended, and the stream goes on as a new link. A page is on the disk as soon as it has come; only
+while more is at hand do commands share a commit. A stream whose serial the file has already gets one
+that is free.
+
+What can't be read is mended, and told by a line on standard error with its offset in the input:
+
+  mended 1 Junk OFFSET BYTES               bytes of no page: they are left out
+  mended 2 Gap OFFSET SERIAL FROM TO       the pages FROM to TO - 1 are missing
+  mended 3 Restart OFFSET                  a new link begins before the old one has ended
+  mended 4 Stranger OFFSET SERIAL          a page of no stream that has begun: it is left out
+  mended 5 Repeated OFFSET SERIAL          a page that came before: it is left out
+  mended 6 Unfinished OFFSET SERIAL        a packet without its beginning or end: it is left out
+  mended 7 TooLong OFFSET SERIAL           a packet of more than 8,388,608 bytes: it is left out
+  mended 8 Misshapen OFFSET SERIAL         a first page without exactly one packet: it is left out
+  mended 9 Full OFFSET SERIAL              too many streams, links or pages: it is left out
+  refused CODE NAME OFFSET                 packets of this page break a rule, and aren't recorded
+
+The last line is `archived LINKS PACKETS BYTES MENDS`: how many links were begun and packets recorded,
+how many bytes the file's pages have, and how often something was mended. Mends are no fault. After a
+refusal the status is 1, and the last line is `fault refused`. At a terminal a line tells how far the
+recording has come.
+",
+};
+
 static FEED: Subcommand = Subcommand {
     name: "feed",
     about: "Makes a feed of the Ogg stream on standard input, as an encoder writes it",
     arguments: &[
-        Argument {
-            name: "skeleton",
-            kind: Kind::Valued {
-                value: "SERIAL",
-                bounds: ANY,
-                default: None,
-            },
-            help: "Begins each link with a Skeleton made anew, of this serial or the next one that is free",
-        },
-        Argument {
-            name: "no-skeleton",
-            kind: Kind::FlagWithout("skeleton"),
-            help: "Leaves out the Skeletons of the input",
-        },
+        SKELETON,
+        NO_SKELETON,
         Argument {
             name: "renumber",
             kind: Kind::Flag,
@@ -166,21 +240,13 @@ static RECORD: Subcommand = Subcommand {
     name: "record",
     about: "Records the feed on standard input into a file that survives a stop at any moment",
     arguments: &[
-        Argument {
-            name: "FILE",
-            kind: Kind::Text,
-            help: "The file; it is made if there is none, and continued if there is one",
-        },
+        RECORDED_FILE,
         Argument {
             name: "end-open",
             kind: Kind::Flag,
             help: "First ends the streams that an earlier run has left open",
         },
-        Argument {
-            name: "seal",
-            kind: Kind::Flag,
-            help: "At the end, if no fault came, cuts the file to its pages",
-        },
+        SEAL,
         GROUP,
         STRICT,
     ],

@@ -16,10 +16,11 @@ use Rattle.feed_codec.specs.declared.fault.RunFault.TheVariants.{Feed as RunFeed
 use Rattle.feed_maker.specs.MakingFault as M
 use Rattle.feed_maker.specs.declared.fault.MakingFault.{MakingFault}
 use Rattle.feed_maker.specs.declared.fault.MakingFault.TheVariants.{Page as MakePage, Chain as MakeChain, PacketTooLong, Unfinished as MakeUnfinished, TooLong, Read as MakeRead, Limit, Write as MakeWrite, Memory as MakeMemory}
+use Rattle.import_record.specs.RecordFault as R
 use Rattle.ogg_split.specs.SplitFault as S
 use Rattle.sessions.specs.HubFault as H
 use Rattle.fault_lines.specs.declared.fault.Fault.{Fault}
-use Rattle.fault_lines.specs.declared.fault.Fault.TheVariants.{File, Locked, Memory, Open, Feed, Write, TooMany, Index, Split, Finish, Make, Net, Serve, Failed, Refused, Seal}
+use Rattle.fault_lines.specs.declared.fault.Fault.TheVariants.{File, Locked, Memory, Open, Feed, Write, TooMany, Index, Split, Finish, Make, Archive, Mended, Net, Serve, Failed, Refused, Seal}
 
 -- a number and a name, and then this
 abbrev pub coded : ℕ → List ℕ → List ℕ → List ℕ
@@ -71,6 +72,8 @@ fault_line (Index fault) = codes "fault index " ++ coded (I.code_of fault) (I.na
 fault_line (Split fault) = codes "fault split " ++ coded (S.code_of fault) (S.name_of fault) line_end
 fault_line (Finish fault) = codes "fault finish " ++ coded (S.code_of fault) (S.name_of fault) line_end
 fault_line (Make fault) = codes "fault make " ++ coded (M.code_of fault) (M.name_of fault) (make_rest fault)
+fault_line (Archive fault) = codes "fault archive " ++ coded (R.code_of fault) (R.name_of fault) line_end
+fault_line Mended = codes "fault mended" ++ line_end
 fault_line Net = codes "fault net" ++ line_end
 fault_line (Serve fault) = codes "fault serve " ++ coded (H.code_of fault) (H.name_of fault) line_end
 fault_line Failed = codes "fault failed" ++ line_end

@@ -8,6 +8,7 @@ ghost use Rattle.fault_lines.specs.Fault.{IsOfRun, coded, fault_line, index_rest
 use feed_codec::{FeedFault, RunFault};
 use feed_maker::MakingFault;
 use gate_file::OpenFault;
+use import_record::RecordFault;
 use link_index::IndexFault;
 use ogg_page::{WriteFault, write_whole};
 use ogg_split::SplitFault;
@@ -52,6 +53,12 @@ pub enum Fault {
     /// No feed was made of the whole input.
     #[error("{0}")]
     Make(MakingFault),
+    /// The input wasn't recorded to its end.
+    #[error("{0}")]
+    Archive(RecordFault),
+    /// Something was mended, in a run that ends at the first mend.
+    #[error("the input had to be mended")]
+    Mended,
     /// The address can't be listened to.
     #[error("the address can't be listened to")]
     Net,
@@ -135,6 +142,13 @@ fn line_of(fault: Fault) -> Line
             line.put_text(b"fault make ");
             line
         }
+        Fault::Archive(fault) => {
+            let mut line = Line::new();
+            put_coded(&mut line, fault.code(), fault.name());
+            line.put_text(b"fault archive ");
+            line
+        }
+        Fault::Mended => words(b"fault mended"),
         Fault::Net => words(b"fault net"),
         Fault::Serve(fault) => {
             let mut line = Line::new();

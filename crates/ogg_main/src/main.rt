@@ -4,6 +4,7 @@
 //! command line asks for nothing that can be done; then a text on standard error says what it could ask for.
 #![tactic(auto)]
 
+mod archiving;
 mod files;
 mod finishing;
 mod indexing;
@@ -12,6 +13,7 @@ mod recorders;
 mod salvaging;
 mod server;
 mod streams;
+mod telling;
 
 use command_line::{Action, Error, Skeletons, action_of, not_text};
 use fault_lines::{Fault, write_fault};
@@ -57,6 +59,21 @@ fn show(rt: &HostRuntime, error: &Error) -> ExitCode {
 /// Does what the command line asks for.
 fn run(rt: &HostRuntime, action: Action<'_>) -> Result<(), Fault> {
     match action {
+        Action::Archive {
+            file,
+            skeletons,
+            most,
+            strict,
+            seal,
+        } => {
+            let options = archiving::Options {
+                skeletons: made(skeletons),
+                most,
+                strict,
+                seal,
+            };
+            archiving::archive(rt, file, options)
+        }
         Action::Feed {
             mend,
             renumber,
@@ -97,10 +114,15 @@ fn run(rt: &HostRuntime, action: Action<'_>) -> Result<(), Fault> {
 fn changes(renumber: bool, skeletons: Skeletons) -> ChangeOptions {
     ChangeOptions {
         renumber,
-        skeletons: match skeletons {
-            Skeletons::Kept => SkeletonsOf::Kept,
-            Skeletons::LeftOut => SkeletonsOf::LeftOut,
-            Skeletons::Made(serial) => SkeletonsOf::Made(serial),
-        },
+        skeletons: made(skeletons),
+    }
+}
+
+/// What is asked for of Skeletons, as it is made.
+fn made(skeletons: Skeletons) -> SkeletonsOf {
+    match skeletons {
+        Skeletons::Kept => SkeletonsOf::Kept,
+        Skeletons::LeftOut => SkeletonsOf::LeftOut,
+        Skeletons::Made(serial) => SkeletonsOf::Made(serial),
     }
 }

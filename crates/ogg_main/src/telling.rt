@@ -1,0 +1,179 @@
+//! What is told of a recording: mends and refusals as they come, how far it has come at a terminal, and what it came
+//! to.
+
+use crate::mends::MendLines;
+use fault_lines::Fault;
+use feed_codec::Reply;
+use feed_maker::Mends;
+use import_mend::Mend;
+use import_record::{Taken, Totals, archived_line, progress_line, refused_line};
+use ogg_command::Refusal;
+use ogg_page::write_whole;
+use std::io::{IsTerminal, Stderr};
+use std::time::{Duration, Instant};
+
+/// After how many seconds the line at a terminal is renewed.
+const RENEWED: u64 = 1;
+
+/// Goes to the line before, and erases it (ECMA-48, CUU and EL).
+const ERASE: &[u8] = b"\x1b[A\x1b[2K";
+
+/// What a recording came to so far. Nobody is told of a standard error that takes no more.
+#[derive(Drop)]
+pub struct Told<'a> {
+    rt: &'a HostRuntime,
+    strict: bool,
+    lines: MendLines<Stderr>,
+    totals: Totals,
+    // links and packets that wait for their commit
+    links: u64,
+    packets: u64,
+    refused: bool,
+    failed: bool,
+    // the length of the file when it was opened again
+    reopened: Option<u64>,
+    shown: Option<Instant>,
+}
+
+impl<'a> Told<'a> {
+    /// Nothing has come. In a strict run the first mend or refusal is enough.
+    pub fn new(rt: &'a HostRuntime, strict: bool) -> Told<'a> {
+        Told {
+            rt,
+            strict,
+            lines: MendLines::new(rt.alloc(), rt.stderr()),
+            totals: Totals {
+                links: 0,
+                packets: 0,
+                bytes: 0,
+                mends: 0,
+            },
+            links: 0,
+            packets: 0,
+            refused: false,
+            failed: false,
+            reopened: None,
+            shown: None,
+        }
+    }
+
+    /// Something was mended.
+    pub fn mended(&mut self, mend: Option<Mend>) {
+        if let Some(mend) = mend {
+            self.totals.mends = self.totals.mends.saturating_add(1);
+            self.erase();
+            self.lines.mended(&mend);
+        }
+    }
+
+    /// A page that begins at this offset was taken.
+    pub fn taken(&mut self, offset: u64, taken: &Taken) {
+        self.mended(taken.mend);
+        if taken.answered.links > 0 {
+            self.lines.link_begun();
+        }
+        self.links = self.links.saturating_add(taken.answered.links);
+        self.packets = self.packets.saturating_add(taken.answered.packets);
+        if let Some(refusal) = taken.answered.refused {
+            self.refused = true;
+            self.failed = self.failed || is_of_disk(refusal);
+            self.erase();
+            let _ = write_whole(
+                &mut self.rt.stderr(),
+                refused_line(refusal, offset).as_slice(),
+            );
+        }
+    }
+
+    /// What waited was to be kept, and this is the reply.
+    pub fn flushed(&mut self, reply: &Reply) {
+        if let Reply::Refused(_) = reply {
+            self.failed = true;
+        }
+    }
+
+    /// Unless commands wait, all that was taken is on the disk, and the file's pages have `end` bytes.
+    pub fn settle(&mut self, waiting: u64, end: u64) {
+        if waiting == 0 && !self.failed {
+            self.totals.links = self.totals.links.saturating_add(self.links);
+            self.totals.packets = self.totals.packets.saturating_add(self.packets);
+            self.totals.bytes = end;
+            self.links = 0;
+            self.packets = 0;
+            self.show();
+        }
+    }
+
+    /// The disk has failed, so what waited is lost. Whether the file is to be opened again: not if nothing was kept
+    /// since that was done before.
+    pub fn lost(&mut self, end: u64) -> bool {
+        self.failed = false;
+        self.refused = true;
+        self.links = 0;
+        self.packets = 0;
+        let again = self.reopened != Some(end);
+        self.reopened = Some(end);
+        again
+    }
+
+    /// Whether the disk has failed.
+    pub fn has_failed(&self) -> bool {
+        self.failed
+    }
+
+    /// Whether a strict run ends here.
+    pub fn has_enough(&self) -> bool {
+        self.strict && (self.refused || self.totals.mends > 0)
+    }
+
+    /// The fault with which the run ends, if it has one.
+    pub fn fault(&self) -> Option<Fault> {
+        if self.refused {
+            Some(Fault::Refused)
+        } else if self.has_enough() {
+            Some(Fault::Mended)
+        } else {
+            None
+        }
+    }
+
+    /// Tells what the recording came to.
+    pub fn close(&mut self, end: u64) {
+        self.totals.bytes = end;
+        self.erase();
+        let mut errors = self.rt.stderr();
+        let _ = write_whole(&mut errors, archived_line(self.totals).as_slice());
+    }
+
+    /// Takes the line off the terminal that tells how far the recording has come, if it stands there.
+    fn erase(&mut self) {
+        if self.shown.is_some() {
+            self.shown = None;
+            let _ = write_whole(&mut self.rt.stderr(), ERASE);
+        }
+    }
+
+    /// Tells whoever sits at the terminal how far the recording has come, about once a second.
+    fn show(&mut self) {
+        let mut errors = self.rt.stderr();
+        if !errors.is_terminal() {
+            return;
+        }
+        let Ok(now) = Instant::now(self.rt) else {
+            return;
+        };
+        if let Some(shown) = self.shown {
+            if now.duration_since(shown) < Duration::from_secs(RENEWED) {
+                return;
+            }
+        }
+        self.erase();
+        self.shown = Some(now);
+        let _ = write_whole(&mut errors, progress_line(self.totals).as_slice());
+    }
+}
+
+/// Whether the disk has failed.
+fn is_of_disk(refusal: Refusal) -> bool {
+    matches!(refusal, Refusal::Failed | Refusal::Disk)
+}

@@ -1,0 +1,96 @@
+#!/usr/bin/env bash
+# Streams are archived: mended, renumbered, ended, and found again whatever stopped the program or its encoder.
+. "$(dirname "$0")/common.bash"
+
+archive() {
+    run archive "$@"
+}
+
+ogg=$work/radio.ogg
+pages "02 0 1 0 3 abc" "00 5 1 1 5 hello" "04 9 1 2 3 end" >"$work/whole"
+
+# A new file, and the same stream again: it gets a serial that is free.
+archive "$ogg" <"$work/whole"
+came "a new file" 0 '' 'archived 1 2 93 0\n'
+check "a new file: the stream" cmp <(head -c 93 "$ogg") "$work/whole"
+archive "$ogg" --seal <"$work/whole"
+came "the same stream again" 0 '' 'archived 1 2 186 0\n'
+run links "$ogg"
+came "two links" 0 'committed 186\nlink 0 0 93 1\nstream 1 93 3 ended\nlink 1 93 93 1\nstream 0 93 3 ended\n' ''
+archive "$ogg" </dev/null
+came "no stream" 0 '' 'archived 0 0 186 0\n'
+
+# A stream that stops in the middle is ended, at once or by the next run.
+head -c 62 "$work/whole" >"$work/cut"
+archive "$work/cut.ogg" <"$work/cut"
+came "a stream that stops" 0 '' 'archived 1 1 91 0\n'
+run links "$work/cut.ogg"
+came "a stream that stops, listed" 0 'committed 91\nlink 0 0 91 1\nstream 1 91 3 ended\n' ''
+records 'begin([1]), put([(1, 5, b"hello")])' >"$work/feed"
+run record "$work/open.ogg" <"$work/feed"
+archive "$work/open.ogg" <"$work/whole"
+came "what was left open" 0 '' 'archived 1 2 184 0\n'
+run links "$work/open.ogg"
+came "what was left open, listed" 0 \
+    'committed 184\nlink 0 0 91 1\nstream 1 91 3 ended\nlink 1 91 93 1\nstream 0 93 3 ended\n' ''
+
+# A listener that joined midway: the headers, then pages from later on.
+pages "02 0 1 0 3 abc" "00 50 1 7 5 hello" "04 90 1 8 3 end" >"$work/midway"
+archive "$work/midway.ogg" <"$work/midway"
+came "joined midway" 0 '' 'mended 2 Gap 31 1 1 7\narchived 1 2 93 1\n'
+run archive "$work/strict.ogg" --strict <"$work/midway"
+came "joined midway, strictly" 1 '' 'mended 2 Gap 31 1 1 7\narchived 1 1 91 1\nfault mended\n'
+printf 'junk' | cat - "$work/whole" >"$work/junk"
+archive "$work/junk.ogg" --seal <"$work/junk"
+came "junk in front" 0 '' 'mended 1 Junk 0 4\narchived 1 2 93 1\n'
+check "junk in front: the stream" cmp "$work/junk.ogg" "$work/whole"
+
+# What is refused is told, and what follows is recorded. A position that goes back breaks a rule.
+pages "02 0 1 0 3 abc" "00 9 1 1 5 hello" "00 5 1 2 1 x" "04 9 1 3 3 end" >"$work/back"
+archive "$work/back.ogg" <"$work/back"
+came "a position that goes back" 1 '' 'refused 15 PositionBack 64\narchived 1 2 93 0\nfault refused\n'
+run archive "$work/back2.ogg" --strict <"$work/back"
+came "a position that goes back, strictly" 1 '' 'refused 15 PositionBack 64\narchived 1 1 91 0\nfault refused\n'
+
+# Files that can't be recorded into.
+archive "$work" <"$work/whole"
+came "a folder" 1 '' 'fault file\n'
+archive /dev/full <"$work/whole"
+came "no regular file" 1 '' 'fault open 1 Disk\n'
+mkfifo "$work/pipe"
+"$program" record "$work/locked.ogg" <"$work/pipe" >/dev/null 2>&1 &
+exec 7>"$work/pipe"
+python3 - "$work/locked.ogg" <<'WAIT'
+import os, sys, time
+for _ in range(1000):
+    if os.path.exists(sys.argv[1]):
+        break
+    time.sleep(0.01)
+WAIT
+sleep 0.1
+archive "$work/locked.ogg" <"$work/whole"
+came "another program writes the file" 1 '' 'fault locked\n'
+exec 7>&-
+wait
+
+# After a device is full the file is opened again once, and then the run ends; what was kept is found.
+python3 "$here/archiving.py" long >"$work/long"
+(
+    trap '' XFSZ
+    ulimit -f 8
+    run archive "$work/full.ogg" <"$work/long"
+    cp "$work/err" "$work/full.err"
+    exit "$status"
+)
+check "a full device: status" [ $? -eq 1 ]
+check "a full device: the fault" [ "$(tail -n 1 "$work/full.err")" = "fault failed" ]
+archive "$work/full.ogg" <"$work/whole"
+check "a full device, then room: status $status" [ "$status" -eq 0 ]
+
+# Kills of the encoder, of the program, or of both.
+python3 "$here/archiving.py" kills "$program" "$work" 300 >"$work/kills"
+tally=$(tail -n 1 "$work/kills")
+echo "$tally"
+check "kills: $(head -n 5 "$work/kills")" [ "$tally" = "300 runs, 0 wrong" ]
+
+finish
