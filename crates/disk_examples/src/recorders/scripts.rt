@@ -55,6 +55,9 @@ const OLD: Script = Script {
     ..NEW
 };
 
+/// The bytes of the first row's page.
+const PAGE_1: &[u8] = b"OggS\0\x02\0\0\0\0\0\0\0\0\x01\0\0\0\0\0\0\0\x92\xdd\xf6\x15\x01\x03abc";
+
 /// The put and the end that follow the first page.
 const PUT: Given = Given::Put(&[(1, 5, b"hello")]);
 
@@ -211,6 +214,24 @@ const SCRIPTS: &[Script] = &[
             (Fuse::StopAfter(9), true, (65_366, 1)),
         ],
         ..OLD
+    },
+    // A packet of 1,048,576 bytes has 17 pages: 17 heads of 27 bytes, 4,113 lacing values and the packet.
+    Script {
+        turns: &[
+            (Given::Begin(&[1]), Answer::Kept(1, 31)),
+            (Given::Zeros(1_048_576), Answer::Kept(2, 1_053_179)),
+        ],
+        stops: &[(Fuse::Whole, true, (1_053_179, 1))],
+        ..NEW
+    },
+    // A packet that is a page: its own page has 59 bytes.
+    Script {
+        turns: &[
+            (Given::Begin(&[1]), Answer::Kept(1, 31)),
+            (Given::Put(&[(1, 5, PAGE_1)]), Answer::Kept(2, 90)),
+        ],
+        stops: &[(Fuse::Whole, true, (90, 1))],
+        ..NEW
     },
     // A put of 60,000 bytes is stopped before its commit byte is written, and the next one is written over it.
     Script {
