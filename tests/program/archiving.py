@@ -4,7 +4,8 @@
 `archiving.py long` writes one long stream to standard output. `archiving.py encode SEED` writes a stream as a live
 encoder does, page by page with pauses, until it is killed. `archiving.py kills PROGRAM FOLDER COUNT` runs an encoder
 into `archive` again and again over one growing file, each time killing the encoder, the program or both, and checks
-after each run what the file holds.
+after each run what the file holds. `archiving.py fails PROGRAM LIBRARY FOLDER` has each device call fail in turn, and
+`archiving.py refuses PROGRAM LIBRARY FOLDER` each request for memory, by the libraries of failing.c and refusing.c.
 """
 import os
 import random
@@ -133,6 +134,96 @@ def kills(program, folder, count):
     print(f"{runs} runs, {wrong} wrong")
 
 
+def is_part(some, all_of_it):
+    """Whether these are some of the others, in their order."""
+    rest = iter(all_of_it)
+    return all(any(one == other for other in rest) for one in some)
+
+
+def archived(program, path, given, most, environment):
+    return subprocess.run([program, "archive", path, "--group", str(most)], input=given, stdout=subprocess.PIPE, stderr=subprocess.PIPE,
+                          timeout=20, env={**os.environ, **environment})
+
+
+def met_in_turn(mark, environment, limit):
+    """An environment for each call that is met, from the first one on."""
+    for call in range(1, limit):
+        if os.path.exists(mark):
+            os.remove(mark)
+        yield call, environment(call)
+        if not os.path.exists(mark):
+            return
+    raise ValueError("no end")
+
+
+def holds(program, path, sent, ran, name):
+    """What is wrong with the file after a run in which something failed."""
+    again = archived(program, path, b"", 1, {})
+    with open(path, "rb") as file:
+        streams, _ = found(file.read())
+    if again.returncode:
+        yield f"{name}: not opened again, {again.stderr}"
+    if any(not one["ended"] for one in streams):
+        yield f"{name}: a stream is open"
+    kept = streams[0]["packets"] if streams else []
+    if len(streams) > 1 or not is_part(kept, sent):
+        yield f"{name}: other packets"
+    if ran.returncode == 0 and kept != sent:
+        yield f"{name}: status 0, and {len(kept)} of {len(sent)} packets"
+
+
+def fails(program, library, folder):
+    path, mark = os.path.join(folder, "fails.ogg"), os.path.join(folder, "met")
+    given = b"".join(stream(9, 12))
+    sent = [struct.pack("<II", 9, 0)] + [packet(9, number) for number in range(1, 23)]
+    runs = wrong = 0
+    for most in (1, 4, 256):
+        for how in ("io", "full", "interrupted", "short", "torn", "stop"):
+            for onward in ({}, {"FAILING_ON": "1"}) if how in ("io", "full") else ({},):
+                for call, failing in met_in_turn(mark, lambda call: {"LD_PRELOAD": library, "FAILING_CALL": str(call), "FAILING_HOW": how,
+                                                                     "FAILING_MET": mark, **onward}, 400):
+                    if os.path.exists(path):
+                        os.remove(path)
+                    ran = archived(program, path, given, most, failing)
+                    name = f"{how} {'from' if onward else 'at'} call {call}, groups of {most}"
+                    if not os.path.exists(mark):
+                        continue
+                    runs += 1
+                    told = list(holds(program, path, sent, ran, name))
+                    if ran.returncode == 1 and not ran.stderr.splitlines()[-1].startswith(b"fault "):
+                        told.append(f"{name}: no fault is told, {ran.stderr}")
+                    if how == "short" and ran.returncode:
+                        told.append(f"{name}: a short write was taken for a fault, {ran.stderr}")
+                    wrong += bool(told)
+                    print(*told, sep="\n", end="\n" if told else "")
+    print(f"{runs} runs, {wrong} wrong")
+    return wrong or runs < 200
+
+
+def refuses(program, library, folder):
+    path, mark = os.path.join(folder, "refuses.ogg"), os.path.join(folder, "refused")
+    given = b"".join(stream(9, 12))
+    sent = [struct.pack("<II", 9, 0)] + [packet(9, number) for number in range(1, 23)]
+    runs = wrong = 0
+    for onward in ({}, {"REFUSING_ON": "1"}):
+        for call, refusing in met_in_turn(mark, lambda call: {"LD_PRELOAD": library, "REFUSING_CALL": str(call), "REFUSING_MET": mark, **onward},
+                                          4000):
+            if os.path.exists(path):
+                os.remove(path)
+            ran = archived(program, path, given, 4, refusing)
+            if not os.path.exists(mark):
+                continue
+            runs += 1
+            name = f"request {call}{' and all after it' if onward else ''}"
+            told = list(holds(program, path, sent, ran, name)) if os.path.exists(path) else []
+            if ran.returncode and not any(line in ran.stderr for line in (b"emory", b"refused 20 Memory")):
+                told.append(f"{name}: status {ran.returncode}, {ran.stderr[-200:]}")
+            wrong += bool(told)
+            print(*told, sep="\n", end="\n" if told else "")
+    print(f"{runs} runs, {wrong} wrong")
+    return wrong or runs < 100
+
+
 if __name__ == "__main__":
     if sys.argv[1] == "long":
         sys.stdout.buffer.write(b"".join(stream(5, 400)))
@@ -141,5 +232,9 @@ if __name__ == "__main__":
             encode(int(sys.argv[2]))
         except BrokenPipeError:
             os.close(1)
+    elif sys.argv[1] == "fails":
+        sys.exit(fails(*sys.argv[2:]))
+    elif sys.argv[1] == "refuses":
+        sys.exit(refuses(*sys.argv[2:]))
     else:
         kills(sys.argv[2], sys.argv[3], int(sys.argv[4]))
