@@ -6,9 +6,8 @@ use Rattle.ogg_page.specs.Output.{WritesPrefix}
 use Rattle.ogg_page.specs.Page.{Page as PageValue, IsPage}
 use Rattle.ogg_command.specs.declared.command.Command.{Command}
 use Rattle.ogg_command.specs.declared.command.Command.TheVariants.{Begin as BeginOf, Put as PutOf, End as EndOf}
-use Rattle.import_mend.specs.Losses.{lost_in}
-use Rattle.import_mend.specs.Steps.{Mends}
-use Rattle.import_mend.specs.Ways.{way_of}
+use Rattle.import_mend.specs.Gives.{mending as mending_of}
+use Rattle.import_mend.specs.Whole.{TakesPage}
 use Rattle.import_mend.specs.declared.mend.Mend.{Mend}
 use Rattle.import_mend.specs.declared.import.Import.{Import}
 use Rattle.import_mend.specs.declared.import.Step.{Step}
@@ -32,8 +31,7 @@ pub record ImportStep : Type 0 where
 abbrev pub IsImportStep : ImportStep → Type 0
 IsImportStep s =
     s.step.is_page ≡ true → (offset : ℕ) × (page : PageValue) × IsPage page
-    × Mends (way_of s.old.gatherer.chain (lost_in s.old.mender.losses s.old.gatherer.chain.streams page.serial) page) offset
-    (lost_in s.old.mender.losses s.old.gatherer.chain.streams page.serial) page s.old.gatherer s.new.gatherer s.step.mend
+    × TakesPage offset page (mending_of s.old.mender.losses s.old.gatherer) (mending_of s.new.mender.losses s.new.gatherer) s.step.mend s.commands
 
 -- step after step, from the first import to the last
 abbrev pub AreSteps : Import → List ImportStep → Import → Type 0
