@@ -18,7 +18,7 @@ mod reading;
 pub use answering::Answered;
 pub use fault::RecordFault;
 pub use intake::{Intake, Taken};
-pub use laws::recordings_are_runs_of_mended_commands;
+pub use laws::{recordings_are_runs_of_mended_commands, recordings_are_steps_of_their_file};
 pub use lines::{Totals, archived_line, progress_line, refused_line};
 pub use ogg_page::Memory;
 pub use reading::{ImportRun, Step};
