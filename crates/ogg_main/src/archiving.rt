@@ -1,15 +1,13 @@
 //! A stream that is recorded as it comes.
 
-use crate::recorders::{open_recorder, seal_file};
+use crate::recorders::{open_recorder, reopen, seal_file};
 use crate::telling::Told;
 use disk_model::{FileDisk, FileMode};
 use fault_lines::Fault;
 use feed_maker::{ChangeOptions, Skeletons};
 use feed_recorder::end_open_streams;
-use feed_run::Runner;
 use import_record::{ImportRun, RecordFault, Step};
 use ogg_recorder::Recorder;
-use ogg_serve::Hub;
 use std::io;
 
 /// How many bytes of the stream are read at once.
@@ -33,34 +31,37 @@ pub struct Options {
 pub fn archive(rt: &HostRuntime, file: &str, options: Options) -> Result<(), Fault> {
     let mut recorder = open_recorder(rt, file, FileMode::Create)?;
     // `clap` has checked that `most` lies in this range, and nothing waits yet.
-    recorder.group(options.most.clamp(1, 1024));
-    end_earlier(&mut recorder)?;
+    let most = options.most.clamp(1, 1024);
+    recorder.group(most);
+    end_open(&mut recorder)?;
     let mut import = import_of(rt, &recorder, options.skeletons)?;
-    let mut hub = match Hub::new(rt.alloc(), recorder) {
-        Ok(hub) => hub,
-        Err(_) => return Err(Fault::Memory),
-    };
-    let mut told = Told::new(rt, options.strict);
-    let met = record_all(rt, &mut hub, &mut import, &mut told).err();
-    told.close(hub.end());
-    match met.or(told.fault()) {
-        Some(fault) => Err(fault),
-        None => end_file(hub, options.seal),
+    let mut told = Told::new(rt, options.strict, recorder.end());
+    let recorded = record_all(rt, recorder, &mut import, &mut told, most);
+    told.close();
+    let recorder = recorded?;
+    if let Some(fault) = told.fault() {
+        return Err(fault);
+    }
+    if options.seal {
+        seal_file(recorder)
+    } else {
+        Ok(())
     }
 }
 
-/// Ends the streams that an earlier run has left open.
-fn end_earlier(recorder: &mut Recorder<FileDisk>) -> Result<(), Fault> {
-    match end_open_streams(recorder, &mut io::sink()) {
-        Ok(false) => {}
-        Ok(true) if recorder.is_failed() => return Err(Fault::Failed),
-        Ok(true) => return Err(Fault::Refused),
+/// Ends the streams that are open in the file, and keeps that.
+fn end_open(recorder: &mut Recorder<FileDisk>) -> Result<(), Fault> {
+    let left = match end_open_streams(recorder, &mut io::sink()) {
+        Ok(left) => left,
         Err(_) => return Err(Fault::Write),
+    };
+    if recorder.flush().is_err() {
+        return Err(Fault::Failed);
     }
-    match recorder.flush() {
-        Ok(_) => Ok(()),
-        Err(_) => Err(Fault::Failed),
+    if left {
+        return Err(Fault::Refused);
     }
+    Ok(())
 }
 
 /// The stream that is to be recorded. Its streams get serials that the file doesn't have.
@@ -80,36 +81,62 @@ fn import_of(
     }
 }
 
-/// Records what comes until the stream ends, or has to. Then what is open is ended, and what waits is kept.
+/// Records the stream. After a fault of the disk the file is opened again, unless nothing was kept since that was done
+/// before, and the stream goes on.
 fn record_all(
     rt: &HostRuntime,
-    hub: &mut Hub<FileDisk>,
+    mut recorder: Recorder<FileDisk>,
+    import: &mut ImportRun,
+    told: &mut Told<'_>,
+    most: u32,
+) -> Result<Recorder<FileDisk>, Fault> {
+    for _ in 0..u64::MAX {
+        let ran = record_stream(rt, &mut recorder, import, told);
+        if !recorder.is_failed() {
+            return match ran {
+                Ok(()) => Ok(recorder),
+                Err(fault) => Err(fault),
+            };
+        }
+        if !told.lost(import.offset(), recorder.end()) {
+            return Err(Fault::Failed);
+        }
+        recorder = reopen(rt, recorder)?;
+        recorder.group(most);
+    }
+    Err(Fault::Failed)
+}
+
+/// Records what comes until the stream ends, or has to, or the disk fails. Unless it has failed, what is open is ended
+/// then, and what waits is kept.
+fn record_stream(
+    rt: &HostRuntime,
+    recorder: &mut Recorder<FileDisk>,
     import: &mut ImportRun,
     told: &mut Told<'_>,
 ) -> Result<(), Fault> {
-    let met = record_steps(rt, hub, import, told);
+    let met = record_steps(rt, recorder, import, told);
+    if recorder.is_failed() {
+        return Ok(());
+    }
     let ended = match met {
         // If the reader has failed, what has come is a stream that stops there.
-        Ok(()) | Err(Fault::Archive(RecordFault::Read)) => end_streams(hub, import, told),
+        Ok(()) | Err(Fault::Archive(RecordFault::Read)) => end_stream(recorder, import, told),
         Err(_) => Ok(()),
     };
-    told.flushed(&hub.run_flush());
-    told.settle(hub.held(), hub.end());
-    met.and(ended).and(if told.has_failed() {
-        Err(Fault::Failed)
-    } else {
-        Ok(())
-    })
+    let kept = end_open(recorder);
+    told.settle(recorder);
+    met.and(ended).and(kept)
 }
 
-/// Ends the streams that are open.
-fn end_streams(
-    hub: &mut Hub<FileDisk>,
+/// Ends the stream that was recorded.
+fn end_stream(
+    recorder: &mut Recorder<FileDisk>,
     import: &mut ImportRun,
     told: &mut Told<'_>,
 ) -> Result<(), Fault> {
     let offset = import.offset();
-    match import.finish(hub, &mut io::sink()) {
+    match import.finish(recorder, &mut io::sink()) {
         Ok(taken) => {
             told.taken(offset, &taken);
             Ok(())
@@ -118,17 +145,17 @@ fn end_streams(
     }
 }
 
-/// Records what comes, page by page, until the stream ends, or a strict run has to.
+/// Records what comes, page by page, until the stream ends, the disk fails, or a strict run has to end.
 fn record_steps(
     rt: &HostRuntime,
-    hub: &mut Hub<FileDisk>,
+    recorder: &mut Recorder<FileDisk>,
     import: &mut ImportRun,
     told: &mut Told<'_>,
 ) -> Result<(), Fault> {
     for _ in 0..u64::MAX {
-        match import.step(hub, &mut rt.stdin(), &mut io::sink()) {
-            Ok(Step::Flushed(reply)) => told.flushed(&reply),
-            Ok(Step::PassedOver) => {}
+        match import.step(recorder, &mut rt.stdin(), &mut io::sink()) {
+            // Whether it was kept is seen by the recorder.
+            Ok(Step::Flushed(_) | Step::PassedOver) => {}
             Ok(
                 Step::Page {
                     offset,
@@ -145,32 +172,10 @@ fn record_steps(
             }
             Err(fault) => return Err(Fault::Archive(fault)),
         }
-        told.settle(hub.held(), hub.end());
-        if told.has_failed() {
-            reopen(hub, told)?;
-        }
-        if told.has_enough() {
+        told.settle(recorder);
+        if recorder.is_failed() || told.has_enough() {
             return Ok(());
         }
     }
     Ok(())
-}
-
-/// Opens the file again after its disk has failed, unless nothing was kept since it was opened again before.
-fn reopen(hub: &mut Hub<FileDisk>, told: &mut Told<'_>) -> Result<(), Fault> {
-    if !told.lost(hub.end()) {
-        return Err(Fault::Failed);
-    }
-    match hub.reopen() {
-        Ok(()) => Ok(()),
-        Err(fault) => Err(Fault::Open(fault)),
-    }
-}
-
-/// Closes the file, and seals it if that is asked for.
-fn end_file(hub: Hub<FileDisk>, seal: bool) -> Result<(), Fault> {
-    match hub.into_recorder() {
-        Ok(recorder) if seal => seal_file(recorder),
-        _ => Ok(()),
-    }
 }

@@ -25,6 +25,16 @@ pub fn open_recorder(
     }
 }
 
+/// Opens the file of a recorder again, whose disk has failed. Nothing waits in it.
+pub fn reopen(rt: &HostRuntime, recorder: Recorder<FileDisk>) -> Result<Recorder<FileDisk>, Fault>
+    ensures { IfOk result (λ recorder. recorder.held ≡ 0) }
+{
+    match Recorder::open(rt.alloc(), recorder.give_back()) {
+        Ok(recorder) => Ok(recorder),
+        Err((fault, _)) => Err(Fault::Open(fault)),
+    }
+}
+
 /// Seals the file, unless its recorder has failed or a command waits.
 pub fn seal_file(recorder: Recorder<FileDisk>) -> Result<(), Fault> {
     if recorder.is_failed() || recorder.held() > 0 {

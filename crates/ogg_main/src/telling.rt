@@ -2,13 +2,14 @@
 //! to.
 
 use crate::mends::MendLines;
+use disk_model::FileDisk;
 use fault_lines::Fault;
-use feed_codec::Reply;
 use feed_maker::Mends;
 use import_mend::Mend;
 use import_record::{Taken, Totals, archived_line, progress_line, refused_line};
 use ogg_command::Refusal;
 use ogg_page::write_whole;
+use ogg_recorder::Recorder;
 use std::io::{IsTerminal, Stderr};
 use std::time::{Duration, Instant};
 
@@ -28,16 +29,15 @@ pub struct Told<'a> {
     // links and packets that wait for their commit
     links: u64,
     packets: u64,
-    refused: bool,
-    failed: bool,
+    is_refused: bool,
     // the length of the file when it was opened again
     reopened: Option<u64>,
     shown: Option<Instant>,
 }
 
 impl<'a> Told<'a> {
-    /// Nothing has come. In a strict run the first mend or refusal is enough.
-    pub fn new(rt: &'a HostRuntime, strict: bool) -> Told<'a> {
+    /// Nothing has come, and the file's pages have `end` bytes. In a strict run the first mend or refusal is enough.
+    pub fn new(rt: &'a HostRuntime, strict: bool, end: u64) -> Told<'a> {
         Told {
             rt,
             strict,
@@ -45,13 +45,12 @@ impl<'a> Told<'a> {
             totals: Totals {
                 links: 0,
                 packets: 0,
-                bytes: 0,
+                bytes: end,
                 mends: 0,
             },
             links: 0,
             packets: 0,
-            refused: false,
-            failed: false,
+            is_refused: false,
             reopened: None,
             shown: None,
         }
@@ -74,41 +73,37 @@ impl<'a> Told<'a> {
         }
         self.links = self.links.saturating_add(taken.answered.links);
         self.packets = self.packets.saturating_add(taken.answered.packets);
-        if let Some(refusal) = taken.answered.refused {
-            self.refused = true;
-            self.failed = self.failed || is_of_disk(refusal);
-            self.erase();
-            let _ = write_whole(
-                &mut self.rt.stderr(),
-                refused_line(refusal, offset).as_slice(),
-            );
+        match taken.answered.refused {
+            // A fault of the disk is told when the file is opened again.
+            None | Some(Refusal::Disk | Refusal::Failed) => {}
+            Some(refusal) => self.refused(refusal, offset),
         }
     }
 
-    /// What waited was to be kept, and this is the reply.
-    pub fn flushed(&mut self, reply: &Reply) {
-        if let Reply::Refused(_) = reply {
-            self.failed = true;
-        }
+    /// Packets of the page at this offset are refused.
+    fn refused(&mut self, refusal: Refusal, offset: u64) {
+        self.is_refused = true;
+        self.erase();
+        let mut errors = self.rt.stderr();
+        let _ = write_whole(&mut errors, refused_line(refusal, offset).as_slice());
     }
 
-    /// Unless commands wait, all that was taken is on the disk, and the file's pages have `end` bytes.
-    pub fn settle(&mut self, waiting: u64, end: u64) {
-        if waiting == 0 && !self.failed {
+    /// Unless commands wait, all that was taken is on the disk.
+    pub fn settle(&mut self, recorder: &Recorder<FileDisk>) {
+        if recorder.held() == 0 && !recorder.is_failed() {
             self.totals.links = self.totals.links.saturating_add(self.links);
             self.totals.packets = self.totals.packets.saturating_add(self.packets);
-            self.totals.bytes = end;
+            self.totals.bytes = recorder.end();
             self.links = 0;
             self.packets = 0;
             self.show();
         }
     }
 
-    /// The disk has failed, so what waited is lost. Whether the file is to be opened again: not if nothing was kept
-    /// since that was done before.
-    pub fn lost(&mut self, end: u64) -> bool {
-        self.failed = false;
-        self.refused = true;
+    /// The disk has failed once the input was read up to this offset, and what waited is lost. Whether the file, whose
+    /// pages have `end` bytes, is to be opened again: not if nothing was kept since that was done before.
+    pub fn lost(&mut self, offset: u64, end: u64) -> bool {
+        self.refused(Refusal::Disk, offset);
         self.links = 0;
         self.packets = 0;
         let again = self.reopened != Some(end);
@@ -116,19 +111,14 @@ impl<'a> Told<'a> {
         again
     }
 
-    /// Whether the disk has failed.
-    pub fn has_failed(&self) -> bool {
-        self.failed
-    }
-
     /// Whether a strict run ends here.
     pub fn has_enough(&self) -> bool {
-        self.strict && (self.refused || self.totals.mends > 0)
+        self.strict && (self.is_refused || self.totals.mends > 0)
     }
 
     /// The fault with which the run ends, if it has one.
     pub fn fault(&self) -> Option<Fault> {
-        if self.refused {
+        if self.is_refused {
             Some(Fault::Refused)
         } else if self.has_enough() {
             Some(Fault::Mended)
@@ -138,8 +128,7 @@ impl<'a> Told<'a> {
     }
 
     /// Tells what the recording came to.
-    pub fn close(&mut self, end: u64) {
-        self.totals.bytes = end;
+    pub fn close(&mut self) {
         self.erase();
         let mut errors = self.rt.stderr();
         let _ = write_whole(&mut errors, archived_line(self.totals).as_slice());
@@ -171,9 +160,4 @@ impl<'a> Told<'a> {
         self.shown = Some(now);
         let _ = write_whole(&mut errors, progress_line(self.totals).as_slice());
     }
-}
-
-/// Whether the disk has failed.
-fn is_of_disk(refusal: Refusal) -> bool {
-    matches!(refusal, Refusal::Failed | Refusal::Disk)
 }
