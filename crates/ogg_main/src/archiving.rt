@@ -31,12 +31,11 @@ pub struct Options {
 pub fn archive(rt: &HostRuntime, file: &str, options: Options) -> Result<(), Fault> {
     let mut recorder = open_recorder(rt, file, FileMode::Create)?;
     // `clap` has checked that `most` lies in this range, and nothing waits yet.
-    let most = options.most.clamp(1, 1024);
-    recorder.group(most);
+    recorder.group(options.most.clamp(1, 1024));
     end_open(&mut recorder)?;
     let mut import = import_of(rt, &recorder, options.skeletons)?;
     let mut told = Told::new(rt, options.strict, recorder.end());
-    let recorded = record_all(rt, recorder, &mut import, &mut told, most);
+    let recorded = record_all(rt, recorder, &mut import, &mut told, options);
     told.close();
     let recorder = recorded?;
     if let Some(fault) = told.fault() {
@@ -88,7 +87,7 @@ fn record_all(
     mut recorder: Recorder<FileDisk>,
     import: &mut ImportRun,
     told: &mut Told<'_>,
-    most: u32,
+    options: Options,
 ) -> Result<Recorder<FileDisk>, Fault> {
     for _ in 0..u64::MAX {
         let ran = record_stream(rt, &mut recorder, import, told);
@@ -102,7 +101,7 @@ fn record_all(
             return Err(Fault::Failed);
         }
         recorder = reopen(rt, recorder)?;
-        recorder.group(most);
+        recorder.group(options.most.clamp(1, 1024));
     }
     Err(Fault::Failed)
 }
