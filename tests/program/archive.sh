@@ -11,44 +11,49 @@ pages "02 0 1 0 3 abc" "00 5 1 1 5 hello" "04 9 1 2 3 end" >"$work/whole"
 
 # A new file, and the same stream again: it gets a serial that is free.
 archive "$ogg" <"$work/whole"
-came "a new file" 0 '' 'archived 1 2 93 0\n'
-check "a new file: the stream" cmp <(head -c 93 "$ogg") "$work/whole"
+came "a new file" 0 '' 'archived 1 2 122 0\n'
+run finish "$ogg"
+check "a new file: the stream" cmp "$work/out" "$work/whole"
 archive "$ogg" --seal <"$work/whole"
-came "the same stream again" 0 '' 'archived 1 2 186 0\n'
+came "the same stream again" 0 '' 'archived 1 2 244 0\n'
 run links "$ogg"
-came "two links" 0 'committed 186\nlink 0 0 93 1\nstream 1 93 3 ended\nlink 1 93 93 1\nstream 0 93 3 ended\n' ''
+came "two links" 0 'committed 244\nlink 0 0 122 1\nstream 1 122 4 ended\nlink 1 122 122 1\nstream 0 122 4 ended\n' ''
 archive "$ogg" </dev/null
-came "no stream" 0 '' 'archived 0 0 186 0\n'
+came "no stream" 0 '' 'archived 0 0 244 0\n'
 
 # A stream that stops in the middle is ended, at once or by the next run.
-head -c 62 "$work/whole" >"$work/cut"
+head -c 64 "$work/whole" >"$work/cut"
 archive "$work/cut.ogg" <"$work/cut"
 came "a stream that stops" 0 '' 'archived 1 1 91 0\n'
 run links "$work/cut.ogg"
 came "a stream that stops, listed" 0 'committed 91\nlink 0 0 91 1\nstream 1 91 3 ended\n' ''
+head -c 62 "$work/whole" >"$work/cut"
+archive "$work/torn.ogg" <"$work/cut"
+came "a page that is torn" 0 '' 'mended 1 Junk 31 31\narchived 1 0 58 1\n'
 records 'begin([1]), put([(1, 5, b"hello")])' >"$work/feed"
 run record "$work/open.ogg" <"$work/feed"
 archive "$work/open.ogg" <"$work/whole"
-came "what was left open" 0 '' 'archived 1 2 184 0\n'
+came "what was left open" 0 '' 'archived 1 2 213 0\n'
 run links "$work/open.ogg"
 came "what was left open, listed" 0 \
-    'committed 184\nlink 0 0 91 1\nstream 1 91 3 ended\nlink 1 91 93 1\nstream 0 93 3 ended\n' ''
+    'committed 213\nlink 0 0 91 1\nstream 1 91 3 ended\nlink 1 91 122 1\nstream 0 122 4 ended\n' ''
 
 # A listener that joined midway: the headers, then pages from later on.
 pages "02 0 1 0 3 abc" "00 50 1 7 5 hello" "04 90 1 8 3 end" >"$work/midway"
 archive "$work/midway.ogg" <"$work/midway"
-came "joined midway" 0 '' 'mended 2 Gap 31 1 1 7\narchived 1 2 93 1\n'
+came "joined midway" 0 '' 'mended 2 Gap 31 1 1 7\narchived 1 2 122 1\n'
 run archive "$work/strict.ogg" --strict <"$work/midway"
 came "joined midway, strictly" 1 '' 'mended 2 Gap 31 1 1 7\narchived 1 1 91 1\nfault mended\n'
 printf 'junk' | cat - "$work/whole" >"$work/junk"
 archive "$work/junk.ogg" --seal <"$work/junk"
-came "junk in front" 0 '' 'mended 1 Junk 0 4\narchived 1 2 93 1\n'
-check "junk in front: the stream" cmp "$work/junk.ogg" "$work/whole"
+came "junk in front" 0 '' 'mended 1 Junk 0 4\narchived 1 2 122 1\n'
+run finish "$work/junk.ogg"
+check "junk in front: the stream" cmp "$work/out" "$work/whole"
 
 # What is refused is told, and what follows is recorded. A position that goes back breaks a rule.
 pages "02 0 1 0 3 abc" "00 9 1 1 5 hello" "00 5 1 2 1 x" "04 9 1 3 3 end" >"$work/back"
 archive "$work/back.ogg" <"$work/back"
-came "a position that goes back" 1 '' 'refused 15 PositionBack 64\narchived 1 2 93 0\nfault refused\n'
+came "a position that goes back" 1 '' 'refused 15 PositionBack 64\narchived 1 2 122 0\nfault refused\n'
 run archive "$work/back2.ogg" --strict <"$work/back"
 came "a position that goes back, strictly" 1 '' 'refused 15 PositionBack 64\narchived 1 1 91 0\nfault refused\n'
 
@@ -78,7 +83,7 @@ python3 "$here/archiving.py" long >"$work/long"
 (
     trap '' XFSZ
     ulimit -f 8
-    run archive "$work/full.ogg" <"$work/long"
+    run archive "$work/full.ogg" --group 1 <"$work/long"
     cp "$work/err" "$work/full.err"
     exit "$status"
 )

@@ -250,10 +250,20 @@ def differs(program, data):
         return "it tells\n  %r\nand not\n  %r" % (ran.stderr.decode().splitlines(), told)
     if made is None or len(made) != len(links) or not all(map(is_alike, links, made)):
         return "it makes\n  %.600r\nand not\n  %.600r" % (made, links)
-    again = run([program, "mux", "--strict"], ran.stdout) if all_apart(links) else None
+    again = run([program, "mux", "--strict"], ran.stdout) if all_apart(links) and all_in_range(made) else None
     if again and again.returncode:
         return "its feed is refused: %r" % again.stderr[-100:]
     return None
+
+
+def all_in_range(made):
+    """Whether a command may have each position: none is above 2^63 - 1, and none falls."""
+    for link in made:
+        for _, packets, _ in link:
+            positions = [position for _, position in packets if position is not None]
+            if positions != sorted(positions) or positions and positions[-1] >= 2**63:
+                return False
+    return True
 
 
 def all_apart(links):
