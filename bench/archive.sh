@@ -12,7 +12,8 @@ program=${PROGRAM:-$here/../crates/ogg_main/out/ogg_main}
 work=$(mktemp -d "${TMPDIR:-/tmp}/archive-bench.XXXXXX")
 trap 'rm -rf "$work"' EXIT
 bytes=${1:-1000000000}
-export program work
+# The name `program` is set anew by some wrappers of python3.
+export recorder=$program work
 
 [ -x "$program" ] || { echo "no program at $program: ./kudzuturret builds it" >&2; exit 1; }
 cc -O2 -o "$work/pages_made" "$here/pages_made.c" -logg || exit 1
@@ -39,10 +40,10 @@ for packet in 4000 60000; do
     rm -f "$work"/*.s
     for _ in 1 2 3; do
         rm -f "$work/out.ogg"
-        took "$work/archive.s" bash -c '"$program" archive "$work/out.ogg" <"$work/file" 2>"$work/err"'
+        took "$work/archive.s" bash -c '"$recorder" archive "$work/out.ogg" <"$work/file" 2>"$work/err"'
         rm -f "$work/pair.ogg"
         took "$work/pair.s" bash -c 'set -o pipefail
-            "$program" feed <"$work/file" | "$program" record "$work/pair.ogg" --group 256 >"$work/replies"'
+            "$recorder" feed <"$work/file" | "$recorder" record "$work/pair.ogg" --group 256 >"$work/replies"'
         rm -f "$work/copy.ogg"
         took "$work/cp.s" bash -c 'cp "$work/file" "$work/copy.ogg" && sync "$work/copy.ogg"'
     done
