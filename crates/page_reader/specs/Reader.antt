@@ -72,6 +72,20 @@ pub record HasAdvanced (old : ReaderState) (from : Option (List ℕ)) (result : 
   pub consumed : Consumes from left taken
   pub gives : Gives (old.unread ++ taken) left old.offset result new.lent new
 
+-- ---- one read
+-- no page is lent
+abbrev pub unlent : ReaderState → ReaderState
+unlent state = record state { lent = None }
+
+-- One read adds this number of bytes to those that are unread. The number is 0 only at the end of the input.
+pub record ReadsOnce (old : ReaderState) (from : Option (List ℕ)) (count : ℕ) (new : ReaderState) (left : Option (List ℕ)) : Type 0 where
+  pub taken : List ℕ
+  pub consumed : Consumes from left taken
+  pub new_is : new ≡ record (unlent old) { unread = old.unread ++ taken }
+  pub counted : length taken ≡ count
+  pub at_end : count ≡ 0 → IsAtEnd left
+
+-- ---- bytes of no page
 -- So many bytes are passed over: at none of their places but the first does a page begin, since each begins with the
 -- capture pattern (RFC 3533, section 6).
 pub record IsPassed (bytes : List ℕ) (count : ℕ) : Type 0 where

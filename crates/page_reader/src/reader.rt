@@ -1,11 +1,13 @@
 //! Pages of a reader, lent one at a time.
-ghost use Rattle.std.specs.Prelude.{◌≡◌, ◌≢◌, [], None, Some, Err, IfOk, IfSome, true, false};
+ghost use Rattle.std.specs.Prelude.{◌≡◌, ◌≢◌, [], None, Some, Err, IfOk, IfSome, OnErr, true, false};
+ghost use Rattle.std.specs.Io.KnownBytes.{Keeps};
 ghost use Rattle.ogg_page.specs.Reading.{page_at};
-ghost use Rattle.page_reader.specs.Reader.{HasAdvanced, PassesOver, started};
+ghost use Rattle.page_reader.specs.Reader.{HasAdvanced, PassesOver, ReadsOnce, started, unlent};
 ghost use Rattle.ogg_page.specs.declared.fault.PageFault.{PageFault as Fault};
 
 use crate::Memory;
 use crate::fault::PageReaderFault;
+use crate::filling::read_more;
 use crate::finding::{find, next_place};
 use crate::front::{known_page, wants_more};
 use crate::held::{Held, Lent};
@@ -109,6 +111,20 @@ impl PageReader {
         ensures no { result ≡ false → page_at self.now.unread ≢ Err PageFault.Short }
     {
         wants_more(&self.room[self.held.start..self.held.end])
+    }
+
+    /// Reads once, as many bytes as come at once and fit, after those that are unread: as bytes that are pushed, if the
+    /// reader is a slice of them. It returns how many came, 0 only at the end of the input. The page that was lent isn't
+    /// lent any more. The end of the input isn't known by this call: only `advance` finds it. After `Read`, an error of
+    /// any kind, no byte was taken, and the call may be made again.
+    pub fn read_once<R: Read>(&mut self, reader: &mut R) -> Result<usize, PageReaderFault>
+        requires waits { page_at self.old.unread ≡ Err PageFault.Short }
+        ensures reads { IfOk result (λ count. ReadsOnce self.old (R.remaining reader.old) count self.new (R.remaining reader.new)) }
+        ensures err { OnErr result ((result ≡ Err PageReaderFault.Read) × (self.new ≡ unlent self.old)
+            × Keeps (R.remaining reader.old) (R.remaining reader.new)) }
+    {
+        self.lent = None;
+        read_more(reader, &mut self.room, &mut self.held)
     }
 
     /// After a fault that says that no page begins here: passes over the bytes up to the next place where one may
