@@ -1,2 +1,4 @@
 pub mod RunOn
 pub mod Turns
+pub mod Pushed
+pub mod Pushes

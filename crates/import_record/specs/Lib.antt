@@ -4,3 +4,4 @@ pub mod Reading
 pub mod Running
 pub mod Steps
 pub mod Whole
+pub mod Pushing

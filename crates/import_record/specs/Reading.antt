@@ -6,7 +6,7 @@ use Rattle.feed_codec.specs.declared.item.Record.{Record}
 use Rattle.feed_codec.specs.declared.item.Record.TheVariants.{Flush}
 use Rattle.feed_codec.specs.declared.reply.Reply.{Reply}
 use Rattle.page_reader.specs.Reader.{HasAdvanced, ReaderState}
-use Rattle.page_reader.specs.declared.fault.PageReaderFault.TheVariants.{Page as NoPage}
+use Rattle.import_mend.specs.Found.{PassesOne}
 use Rattle.import_record.specs.Steps.{IntakeState, Takes}
 use Rattle.import_record.specs.declared.reading.Step.{Step}
 use Rattle.import_record.specs.declared.reading.Step.TheVariants.{Flushed, PassedOver, Page, Ended}
@@ -27,7 +27,7 @@ module _ {S : Type 0} (answers : S → Record → Reply → List ℕ → S → T
   Steps (Flushed reply) reader old from pages before new_reader new left new_pages after =
       answers before Flush reply [] after × (new_reader ≡ reader) × (new ≡ old) × (left ≡ from) × (new_pages ≡ pages)
   Steps PassedOver reader old from pages before new_reader new left new_pages after =
-      (new ≡ old) × (after ≡ before) × (new_pages ≡ pages)
+      (reader.outcome ≡ None → (count : ℕ) × PassesOne reader from count new_reader left) × (new ≡ old) × (after ≡ before) × (new_pages ≡ pages)
   Steps (Page offset junk taken) reader old from pages before new_reader new left new_pages after =
       (reader.outcome ≡ None → HasAdvanced reader from (Ok tt) new_reader left)
       × HasTaken (Page offset junk taken) new_reader.lent old pages before new new_pages after

@@ -1,8 +1,10 @@
 //! What always holds of recordings.
-ghost use Rattle.std.specs.Prelude.{◌≡◌, ◌++◌, [], ℕ, Option, List};
+ghost use Rattle.std.specs.Prelude.{◌≡◌, ◌+◌, ◌-◌, ◌<◌, ◌^◌, ◌++◌, [], ℕ, Option, None, List, length};
 ghost use Rattle.ogg_page.specs.Window.{LentAt};
 ghost use Rattle.feed_changes.specs.Changed.{HasChangedBeside};
+ghost use Rattle.import_mend.specs.Found.{AreGoodPages, HoldsNone};
 ghost use Rattle.import_mend.specs.Whole.{IsStart, TakesPages};
+ghost use Rattle.import_record.specs.Pushing.{Call, Feeds, Imports, InputState, bytes_in, events_in};
 ghost use Rattle.import_record.specs.Steps.{Become, IntakeState};
 ghost use Rattle.import_record.specs.Whole.{Done, IsRecorded, Records, pages_in};
 ghost use Rattle.chain_rules.specs.Commands.{bytes_of_commands};
@@ -16,7 +18,10 @@ ghost use Rattle.ogg_recorder.specs.Running.{Answers, Progress};
 use disk_model::Disk;
 use feed_recorder::records_are_steps;
 use feed_run::Runner;
-use import_mend::{commands_begin_links_without_a_skeleton, commands_hold_sound_links};
+use import_mend::{
+    commands_begin_links_without_a_skeleton, commands_hold_sound_links,
+    pages_found_are_the_good_pages,
+};
 
 /// Pages that are taken in turn, with flushes between them, are a run of commands. The commands are those of the mended
 /// pages, and these hold what sound links hold; their streams are begun under serials that weren't taken before.
@@ -45,4 +50,24 @@ pub fn recordings_are_steps_of_their_file<D: Disk>()
         → committed D.state after.now ≡ committed D.state before.now ++ bytes_of_commands links (kept_after waiting done.records done.replies) }
 {
     records_are_steps::<D>();
+}
+
+/// However the bytes of an input come, the pages that are taken are the good pages of them all, in order, and what is
+/// recorded is a recording of these pages. Bytes that come in other pieces have the same pages.
+pub fn pages_that_come_are_the_good_pages<T: Runner>()
+    ensures so_far { (calls : List Call) (old new : InputState) (before after : T.State) → Feeds T.answers calls old new before after
+        → old.pages.outcome ≡ None → old.pages.offset + length (old.pages.unread ++ bytes_in calls) < 2 ^ 64 - 1
+        → (rest : List ℕ) × AreGoodPages old.pages.offset (old.pages.unread ++ bytes_in calls) (pages_in (events_in calls)) rest }
+    ensures all { (bytes : List ℕ) (events : List (Option LentAt)) (old new : InputState) (before after : T.State)
+        → Imports T.answers bytes events old new before after
+        → old.pages.outcome ≡ None → old.pages.offset + length (old.pages.unread ++ bytes) < 2 ^ 64 - 1
+        → (rest : List ℕ) × AreGoodPages old.pages.offset (old.pages.unread ++ bytes) (pages_in events) rest × HoldsNone rest }
+    ensures records { (bytes : List ℕ) (events : List (Option LentAt)) (old new : InputState) (before after : T.State)
+        → Imports T.answers bytes events old new before after → (done : Done) × Records T.answers events old.intake new.intake done before after }
+    ensures pieces { (bytes : List ℕ) (events others : List (Option LentAt)) (old new last : InputState) (before after later : T.State)
+        → Imports T.answers bytes events old new before after → Imports T.answers bytes others old last before later
+        → old.pages.outcome ≡ None → old.pages.offset + length (old.pages.unread ++ bytes) < 2 ^ 64 - 1
+        → pages_in events ≡ pages_in others }
+{
+    pages_found_are_the_good_pages();
 }

@@ -18,7 +18,10 @@ mod reading;
 pub use answering::Answered;
 pub use fault::RecordFault;
 pub use intake::{Intake, Taken};
-pub use laws::{recordings_are_runs_of_mended_commands, recordings_are_steps_of_their_file};
+pub use laws::{
+    pages_that_come_are_the_good_pages, recordings_are_runs_of_mended_commands,
+    recordings_are_steps_of_their_file,
+};
 pub use lines::{Totals, archived_line, progress_line, refused_line};
 pub use ogg_page::Memory;
 pub use reading::{ImportRun, Step};

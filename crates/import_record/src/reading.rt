@@ -1,11 +1,13 @@
 //! An input that is read and recorded, one step after the other.
-ghost use Rattle.std.specs.Prelude.{◌≡◌, ◌⊎◌, ◌<◌, [], ℕ, None, Some, IfOk, IfErr};
+ghost use Rattle.std.specs.Prelude.{◌≡◌, ◌≢◌, ◌⊎◌, ◌<◌, [], ℕ, None, Some, Err, IfOk, IfErr, OnErr, true, false};
+ghost use Rattle.std.specs.Io.KnownBytes.{Keeps};
+ghost use Rattle.ogg_page.specs.Reading.{page_at};
 ghost use Rattle.feed_changes.specs.Changed.{HasChangedBeside};
 ghost use Rattle.import_mend.specs.Whole.{IsStart};
 ghost use Rattle.import_mend.specs.declared.mend.Mend.{Mend as MendOf};
 ghost use Rattle.import_record.specs.Steps.{Ends, StopsBy, state_of};
 ghost use Rattle.import_record.specs.Reading.{HasTaken, Steps};
-ghost use Rattle.page_reader.specs.Reader.{started};
+ghost use Rattle.page_reader.specs.Reader.{ReadsOnce, started, unlent};
 
 use crate::Memory;
 use crate::fault::RecordFault;
@@ -14,6 +16,7 @@ use feed_changes::ChangeOptions;
 use feed_codec::Reply;
 use feed_run::Runner;
 use import_mend::Mend;
+use ogg_page::PageFault;
 use page_reader::{PageReader, PageReaderFault};
 use std::alloc::Global;
 use std::io::{Read, Write};
@@ -78,6 +81,32 @@ impl ImportRun {
         self.pages.offset()
     }
 
+    /// Whether more of the input has to come before it is known what the next step takes: a page, bytes that are of no
+    /// page, or the end. Otherwise the next step doesn't call its reader.
+    pub fn waits(&self) -> bool
+        ensures yes { result ≡ true → page_at self.now.pages.unread ≡ Err PageFault.Short }
+        ensures no { result ≡ false → page_at self.now.pages.unread ≢ Err PageFault.Short }
+    {
+        self.pages.waits()
+    }
+
+    /// Reads once, as many bytes of the input as come at once and fit: as bytes that are pushed, if the reader is a
+    /// slice of them. It returns how many came. Between such calls take steps with `std::io::empty()` until the run
+    /// waits again; at the end of the input go on with them until `Ended`. After `Read` no byte was taken, and the call
+    /// may be made again.
+    pub fn read_once<R: Read>(&mut self, reader: &mut R) -> Result<usize, RecordFault>
+        requires waits { page_at self.old.pages.unread ≡ Err PageFault.Short }
+        ensures reads { IfOk result (λ count. ReadsOnce self.old.pages (R.remaining reader.old) count self.new.pages (R.remaining reader.new)) }
+        ensures same { (state_of self.new.intake ≡ state_of self.old.intake) × (self.new.junk ≡ self.old.junk) }
+        ensures err { OnErr result ((result ≡ Err RecordFault.Read) × (self.new.pages ≡ unlent self.old.pages)
+            × Keeps (R.remaining reader.old) (R.remaining reader.new)) }
+    {
+        match self.pages.read_once(reader) {
+            Ok(count) => Ok(count),
+            Err(_) => Err(RecordFault::Read),
+        }
+    }
+
     /// Takes one step: a page, bytes that are of no page, or the end. If more of the input has to be read for that
     /// while commands wait, they are kept instead. After `Read` call `finish`; after another fault take no step.
     pub fn step<T: Runner, R: Read, P: Write>(
@@ -87,7 +116,8 @@ impl ImportRun {
         pages: &mut P,
     ) -> Result<Step, RecordFault>
         requires uncounted { (one : T) → T.counted one ≡ 0 }
-        // The input is waited for only while nothing waits for its group.
+        // The input is waited for only while more of it is needed, and nothing waits for its group.
+        ensures needed { page_at self.old.pages.unread ≢ Err PageFault.Short → reader.new ≡ reader.old }
         ensures prompt { (before : T.State) → T.is_in before runner.old → (reader.new ≡ reader.old) ⊎ (T.held_in before ≡ 0) }
         ensures steps { (before : T.State) → T.is_in before runner.old → IfOk result (λ step. (after : T.State) × T.is_in after runner.new
             × Steps T.answers step self.old.pages (state_of self.old.intake) (R.remaining reader.old) (P.contents pages.old) before
