@@ -92,11 +92,11 @@ check "a full device: the fault" [ "$(tail -n 1 "$work/full.err")" = "fault fail
 archive "$work/full.ogg" <"$work/whole"
 check "a full device, then room: status $status" [ "$status" -eq 0 ]
 
-# Each device call fails in turn, and each request for memory is refused.
+# Each device call fails in turn, also once while links come, and each request for memory is refused.
 for name in failing refusing; do
     cc -O2 -shared -fPIC -D_GNU_SOURCE -o "$work/$name.so" "$here/$name.c" || exit 1
 done
-for name in fails:failing refuses:refusing; do
+for name in fails:failing resumes:failing refuses:refusing; do
     timeout 250 python3 "$here/archiving.py" "${name%:*}" "$program" "$work/${name#*:}.so" "$work" >"$work/runs"
     status=$?
     tail -n 1 "$work/runs"

@@ -6,6 +6,8 @@ encoder does, page by page with pauses, until it is killed. `archiving.py kills 
 into `archive` again and again over one growing file, each time killing the encoder, the program or both, and checks
 after each run what the file holds. `archiving.py fails PROGRAM LIBRARY FOLDER` has each device call fail in turn, and
 `archiving.py refuses PROGRAM LIBRARY FOLDER` each request for memory, by the libraries of failing.c and refusing.c.
+`archiving.py resumes PROGRAM LIBRARY FOLDER` has each device call fail once while two links come, one after the other:
+all but one group of their commands is kept then.
 """
 import os
 import random
@@ -200,6 +202,69 @@ def fails(program, library, folder):
     return wrong or runs < 200
 
 
+def link(seed, count):
+    """The pages of a stream that ends."""
+    pages = list(stream(seed, count))
+    number = 2 * count - 1
+    pages.append(page(4, number + 1, 77, count, [len(packet(seed, number))], packet(seed, number)))
+    return pages
+
+
+def packets_of(seed, count):
+    return [struct.pack("<II", seed, 0)] + [packet(seed, number) for number in range(1, 2 * count)]
+
+
+def lost_first(kept, sent, firsts, most):
+    """Where the packets that are missing begin, if they are of one group of so many commands, and none other is. If a
+    link begins in that group, the last such link begins again, unless it ends there too. None if it isn't so."""
+    for start in range(len(sent) + 1):
+        if kept[:start] != sent[:start]:
+            return None
+        for end in range(start, min(len(sent), start + 2 * most + 2) + 1):
+            again = [one for one in sent[start:end] if one in firsts][-1:]
+            if kept in (sent[:start] + sent[end:], sent[:start] + again + sent[end:]):
+                return start
+    return None
+
+
+def resumes(program, library, folder):
+    path, mark = os.path.join(folder, "resumes.ogg"), os.path.join(folder, "met")
+    given = b"".join(link(9, 6) + link(10, 6))
+    sent = packets_of(9, 6) + packets_of(10, 6)
+    firsts = [sent[0], sent[len(sent) // 2]]
+    runs = wrong = 0
+    begun_again = set()
+    for most in (1, 3, 4, 256):
+        for how in ("io", "full", "torn"):
+            for call, failing in met_in_turn(mark, lambda call: {"LD_PRELOAD": library, "FAILING_CALL": str(call), "FAILING_HOW": how,
+                                                                 "FAILING_MET": mark}, 400):
+                if os.path.exists(path):
+                    os.remove(path)
+                ran = archived(program, path, given, most, failing)
+                lines = ran.stderr.splitlines()
+                if not os.path.exists(mark) or not any(line.startswith(b"refused 21 Disk") for line in lines):
+                    continue
+                runs += 1
+                name = f"{how} at call {call}, groups of {most}"
+                told = []
+                with open(path, "rb") as file:
+                    streams, _ = found(file.read())
+                if sum(line.startswith(b"refused ") for line in lines) > 1:
+                    told.append(f"{name}: more is refused, {ran.stderr}")
+                if any(not one["ended"] for one in streams) or len({one["serial"] for one in streams}) < len(streams):
+                    told.append(f"{name}: a stream is open, or a serial stands twice")
+                kept = [one for of_stream in streams for one in of_stream["packets"]]
+                start = lost_first(kept, sent, firsts, most)
+                if start is None:
+                    told.append(f"{name}: more than a group is lost, {len(kept)} of {len(sent)} packets are kept")
+                elif kept and any(kept.count(first) == 1 and sent[sent.index(first) + 1] not in kept for first in firsts):
+                    begun_again.add(most)
+                wrong += bool(told)
+                print(*told, sep="\n", end="\n" if told else "")
+    print(f"{runs} runs, {wrong} wrong")
+    return wrong or runs < 100 or not {3, 4} <= begun_again
+
+
 def refuses(program, library, folder):
     path, mark = os.path.join(folder, "refuses.ogg"), os.path.join(folder, "refused")
     given = b"".join(stream(9, 12))
@@ -234,6 +299,8 @@ if __name__ == "__main__":
             os.close(1)
     elif sys.argv[1] == "fails":
         sys.exit(fails(*sys.argv[2:]))
+    elif sys.argv[1] == "resumes":
+        sys.exit(resumes(*sys.argv[2:]))
     elif sys.argv[1] == "refuses":
         sys.exit(refuses(*sys.argv[2:]))
     else:

@@ -2,3 +2,4 @@ pub mod RunOn
 pub mod Turns
 pub mod Pushed
 pub mod Pushes
+pub mod Kept

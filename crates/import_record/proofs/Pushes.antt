@@ -10,7 +10,8 @@ use Rattle.page_reader.specs.Reader.{HasAdvanced, ReaderState}
 use Rattle.import_mend.specs.Found.{PassesOne}
 use Rattle.import_mend.specs.declared.mend.Mend.{Mend}
 use Rattle.import_record.specs.Steps.{IntakeState, Takes}
-use Rattle.import_record.specs.Whole.{Done, Records, flush_then, nothing_done, page_then, pages_in}
+use Rattle.import_record.specs.Whole.Event.{Flushing, Taking, Resuming}
+use Rattle.import_record.specs.Whole.{Done, Event, Records, flush_then, nothing_done, page_then, pages_in}
 use Rattle.import_record.specs.Pushing.{Call, Comes, Drains, Feeds, Imports, InputState, IsStepped, bytes_in, event_of, events_in}
 use Rattle.import_record.specs.Pushing.Call.{Came, Stepped}
 use Rattle.import_record.specs.declared.intake.Taken.{Taken}
@@ -19,10 +20,11 @@ use Rattle.import_record.specs.declared.reading.Step.TheVariants.{Flushed, Passe
 use Rattle.import_record.proofs.Pushed.{IsOfBytes, Reaches, any_page, any_pass, no_end, none_passed, page_goes_on, pushed, reaches_page, reaches_passed, reaches_unpushed, unpushed}
 
 -- ---- the pages
-pages_both : (events more : List (Option LentAt)) → pages_in (events ++ more) ≡ pages_in events ++ pages_in more
+pages_both : (events more : List Event) → pages_in (events ++ more) ≡ pages_in events ++ pages_in more
 pages_both [] more = refl
-pages_both (None ∷ events) more = pages_both events more
-pages_both (Some lent ∷ events) more = ap (λ l. lent ∷ l) (pages_both events more)
+pages_both (Flushing ∷ events) more = pages_both events more
+pages_both (Resuming streams serials ∷ events) more = pages_both events more
+pages_both (Taking lent ∷ events) more = ap (λ l. lent ∷ l) (pages_both events more)
 
 -- the end is found
 pub record IsEnd (state : ReaderState) (xs : List ℕ) : Type 0 where
@@ -110,7 +112,7 @@ module _ {S : Type 0} (answers : S → Record → Reply → List ℕ → S → T
   -- ---- the recording
   -- a step adds its event
   one_recorded : (step : Step) (lent : Option LentAt) (bytes : List ℕ) (old next : InputState) (before mid : S) → IsStepped answers bytes step lent old next before mid
-      → (events : List (Option LentAt)) (new : IntakeState) (after : S) → (rest : Done) → Records answers events next.intake new rest mid after
+      → (events : List Event) (new : IntakeState) (after : S) → (rest : Done) → Records answers events next.intake new rest mid after
       → (done : Done) × Records answers (event_of step lent ++ events) old.intake new done before after
   one_recorded (Flushed reply) lent bytes old next before mid is events new after rest records =
       let (answer, same, intake, left, output) = is.steps in
@@ -138,7 +140,7 @@ module _ {S : Type 0} (answers : S → Record → Reply → List ℕ → S → T
       (rest, subst (λ (s : S). Records answers events old.intake new rest s after) here (subst (λ (s : IntakeState). Records answers events s new rest mid after) intake records))
 
   pub feeds_recorded : (calls : List Call) (old mid : InputState) (before between : S) → Feeds answers calls old mid before between
-      → (events : List (Option LentAt)) (new : IntakeState) (after : S) (rest : Done) → Records answers events mid.intake new rest between after
+      → (events : List Event) (new : IntakeState) (after : S) (rest : Done) → Records answers events mid.intake new rest between after
       → (done : Done) × Records answers (events_in calls ++ events) old.intake new done before after
   feeds_recorded [] old mid before between (same, here) events new after rest records =
       (rest, subst (λ (s : S). Records answers events old.intake new rest s after) here (subst (λ (s : InputState). Records answers events s.intake new rest between after) same records))
@@ -167,7 +169,7 @@ module _ {S : Type 0} (answers : S → Record → Reply → List ℕ → S → T
       subst (λ (l : List Call). (done : Done) × Records answers (events_in l) old.intake new.intake done before after) (sym none)
       (one_recorded (Ended junk) lent [] old new before after is [] new.intake after nothing_done (refl, refl, refl))
 
-  pub imports_reached : (bytes : List ℕ) (events : List (Option LentAt)) (old new : InputState) (before after : S) → Imports answers bytes events old new before after
+  pub imports_reached : (bytes : List ℕ) (events : List Event) (old new : InputState) (before after : S) → Imports answers bytes events old new before after
       → old.pages.outcome ≡ None → Reaches IsEnd (pages_in events) old.pages bytes
   imports_reached bytes events old new before after is on =
       let reached : Reaches IsEnd (pages_in (events_in is.calls) ++ pages_in (events_in is.last)) old.pages (bytes_in is.calls ++ []) =
@@ -176,7 +178,7 @@ module _ {S : Type 0} (answers : S → Record → Reply → List ℕ → S → T
       subst (λ l. Reaches IsEnd (pages_in events) old.pages l) (append-nil (bytes_in is.calls) ∙ sym is.bytes_are)
       (subst (λ l. Reaches IsEnd l old.pages (bytes_in is.calls ++ [])) (sym (ap pages_in is.events_are ∙ pages_both (events_in is.calls) (events_in is.last))) reached)
 
-  pub imports_recorded : (bytes : List ℕ) (events : List (Option LentAt)) (old new : InputState) (before after : S) → Imports answers bytes events old new before after
+  pub imports_recorded : (bytes : List ℕ) (events : List Event) (old new : InputState) (before after : S) → Imports answers bytes events old new before after
       → (done : Done) × Records answers events old.intake new.intake done before after
   imports_recorded bytes events old new before after is =
       let (rest, drained) = drains_recorded is.last is.mid new is.between after is.drains in

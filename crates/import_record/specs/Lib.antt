@@ -5,3 +5,5 @@ pub mod Running
 pub mod Steps
 pub mod Whole
 pub mod Pushing
+pub mod Begun
+pub mod Resuming

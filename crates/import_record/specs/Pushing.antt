@@ -8,6 +8,8 @@ use Rattle.feed_codec.specs.declared.reply.Reply.{Reply}
 use Rattle.page_reader.specs.Reader.{ReaderState, ReadsOnce}
 use Rattle.import_record.specs.Reading.{Steps}
 use Rattle.import_record.specs.Steps.{IntakeState}
+use Rattle.import_record.specs.Whole.{Event}
+use Rattle.import_record.specs.Whole.Event.{Flushing, Taking}
 use Rattle.import_record.specs.declared.reading.Step.{Step}
 use Rattle.import_record.specs.declared.reading.Step.TheVariants.{Flushed, PassedOver, Page, Ended}
 
@@ -23,14 +25,14 @@ bytes_in (Came bytes ∷ later) = bytes ++ bytes_in later
 bytes_in (Stepped step lent ∷ later) = bytes_in later
 
 -- the event that a step is for the recording: a page that is taken, or a flush
-abbrev pub event_of : Step → Option LentAt → List (Option LentAt)
-event_of (Flushed reply) lent = None ∷ []
+abbrev pub event_of : Step → Option LentAt → List Event
+event_of (Flushed reply) lent = Flushing ∷ []
 event_of PassedOver lent = []
 event_of (Page offset junk taken) None = []
-event_of (Page offset junk taken) (Some lent) = Some lent ∷ []
+event_of (Page offset junk taken) (Some lent) = Taking lent ∷ []
 event_of (Ended junk) lent = []
 
-abbrev pub events_in : List Call → List (Option LentAt)
+abbrev pub events_in : List Call → List Event
 events_in [] = []
 events_in (Came bytes ∷ later) = events_in later
 events_in (Stepped step lent ∷ later) = event_of step lent ++ events_in later
@@ -85,7 +87,7 @@ module _ {S : Type 0} (answers : S → Record → Reply → List ℕ → S → T
       (next : InputState) × (mid : S) × IsStepped [] (Page offset junk taken) lent old next before mid × Drains later next new mid after
 
   -- An input of these bytes came in some pieces, and was taken to its end; these are the events of its recording.
-  pub record Imports (bytes : List ℕ) (events : List (Option LentAt)) (old new : InputState) (before after : S) : Type 0 where
+  pub record Imports (bytes : List ℕ) (events : List Event) (old new : InputState) (before after : S) : Type 0 where
     pub calls : List Call
     pub last : List Call
     pub mid : InputState

@@ -6,21 +6,26 @@ use Rattle.ogg_command.specs.declared.command.Command.{Command}
 use Rattle.feed_codec.specs.declared.item.Record.{Record}
 use Rattle.feed_codec.specs.declared.reply.Reply.{Reply}
 use Rattle.feed_changes.specs.Changed.{ChangeState, HasChangedBeside, IsPlain}
+use Rattle.feed_changes.specs.declared.options.ChangeOptions.{ChangeOptions}
 use Rattle.import_mend.specs.Gives.{GivesEnd, Mending, mend_at_end, mending}
 use Rattle.import_mend.specs.Whole.{TakesPage}
+use Rattle.import_record.specs.Begun.{BegunState, begun_after, begun_of}
 use Rattle.import_record.specs.Running.{HasRun, StopsAt}
 use Rattle.import_record.specs.declared.fault.RecordFault.{RecordFault}
 use Rattle.import_record.specs.declared.fault.RecordFault.TheVariants.{Read, Memory, Write}
 use Rattle.import_record.specs.declared.intake.Intake.{Intake}
 use Rattle.import_record.specs.declared.intake.Taken.{Taken}
 
--- what the commands of the next pages depend on: how pages are mended, and under which serials streams are begun
+-- what the commands of the next pages depend on: how pages are mended, and under which serials streams are begun; and
+-- what is kept of the link that is open
 pub record IntakeState : Type 0 where
   pub mending : Mending
+  pub options : ChangeOptions
   pub changes : ChangeState
+  pub begun : BegunState
 
 abbrev pub state_of : Intake → IntakeState
-state_of intake = record { mending = mending intake.mender.losses intake.gatherer; changes = intake.changes }
+state_of intake = record { mending = mending intake.mender.losses intake.gatherer; options = intake.options; changes = intake.changes; begun = begun_of intake.begun }
 
 -- these commands become those in `given`, whatever became of the commands before them
 abbrev pub Become : ChangeState → ChangeState → List Command → List Command → Type 0
@@ -34,7 +39,9 @@ module _ {S : Type 0} (answers : S → Record → Reply → List ℕ → S → T
     pub more : List Command
     pub given : List Command
     pub mended : TakesPage offset page old.mending new.mending taken.mend more
+    pub options : new.options ≡ old.options
     pub changed : Become old.changes new.changes more given
+    pub begun : new.begun ≡ begun_after old.begun more given
     pub ran : HasRun answers given taken.answered before after pages new_pages
 
   -- At the end of the input the open streams were ended, and what waited was run.
@@ -43,7 +50,9 @@ module _ {S : Type 0} (answers : S → Record → Reply → List ℕ → S → T
     pub given : List Command
     pub ended : GivesEnd old.mending.gathered new.mending.gathered more
     pub told : taken.mend ≡ mend_at_end offset old.mending.gathered.chain
+    pub options : new.options ≡ old.options
     pub changed : Become old.changes new.changes more given
+    pub begun : new.begun ≡ begun_after old.begun more given
     pub ran : HasRun answers given taken.answered before after pages new_pages
 
   -- Why a page was not taken whole: nothing of it was run; or some first commands of it were, and of the next one only

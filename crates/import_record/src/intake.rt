@@ -3,11 +3,13 @@ ghost use Rattle.std.specs.Prelude.{◌≡◌, [], IfOk, IfErr, List};
 ghost use Rattle.ogg_command.specs.declared.command.Command.{Command as CommandOf};
 ghost use Rattle.feed_changes.specs.Changed.{HasChangedBeside};
 ghost use Rattle.import_mend.specs.Whole.{IsStart};
+ghost use Rattle.import_record.specs.Begun.{begun_after, begun_of, none_begun};
 ghost use Rattle.import_record.specs.Running.{HasRun};
 ghost use Rattle.import_record.specs.Steps.{Become, Ends, StopsBy, Takes, state_of};
 
 use crate::Memory;
 use crate::answering::{Answered, run_all};
+use crate::begun::{Begun, keep_all_open, keep_all_streams};
 use crate::fault::RecordFault;
 use feed_changes::{ChangeOptions, Changes};
 use feed_run::Runner;
@@ -30,10 +32,12 @@ pub struct Taken {
 /// The pages of one input, as they become commands: what the commands of the next pages depend on.
 #[derive(Drop)]
 pub struct Intake {
-    alloc: Global,
+    pub(crate) alloc: Global,
     mender: Mender,
     gatherer: Gatherer,
-    changes: Changes,
+    pub(crate) options: ChangeOptions,
+    pub(crate) changes: Changes,
+    pub(crate) begun: Begun,
 }
 
 impl Intake {
@@ -42,7 +46,8 @@ impl Intake {
     pub fn new(alloc: Global, options: ChangeOptions, serials: &[u32]) -> Result<Intake, Memory>
         ensures start { IfOk result (λ intake. IsStart (state_of intake).mending) }
         ensures changes { IfOk result (λ intake. HasChangedBeside serials.now intake.changes [] []) }
-        ensures options { IfOk result (λ intake. intake.changes.options ≡ options) }
+        ensures options { IfOk result (λ intake. (intake.options ≡ options) × (intake.changes.options ≡ options)) }
+        ensures begun { IfOk result (λ intake. (state_of intake).begun ≡ none_begun) }
     {
         let mut changes = Changes::new(alloc, options);
         changes.avoid(serials)?;
@@ -50,7 +55,9 @@ impl Intake {
             alloc,
             mender: Mender::new(alloc),
             gatherer: Gatherer::new(alloc),
+            options,
             changes,
+            begun: Begun::new(alloc),
         })
     }
 
@@ -78,7 +85,14 @@ impl Intake {
             Ok(mend) => mend,
             Err(_) => return Err(RecordFault::Memory),
         };
-        match run(&mut self.changes, runner, pages, commands) {
+        match run(
+            self.alloc,
+            &mut self.changes,
+            &mut self.begun,
+            runner,
+            pages,
+            commands,
+        ) {
             Ok(answered) => Ok(Taken { mend, answered }),
             Err(fault) => Err(fault),
         }
@@ -103,7 +117,14 @@ impl Intake {
             Ok(mend) => mend,
             Err(_) => return Err(RecordFault::Memory),
         };
-        match run(&mut self.changes, runner, pages, commands) {
+        match run(
+            self.alloc,
+            &mut self.changes,
+            &mut self.begun,
+            runner,
+            pages,
+            commands,
+        ) {
             Ok(answered) => Ok(Taken { mend, answered }),
             Err(fault) => Err(fault),
         }
@@ -112,7 +133,9 @@ impl Intake {
 
 /// Has commands run, changed as asked.
 fn run<T: Runner, P: Write>(
+    alloc: Global,
     changes: &mut Changes,
+    begun: &mut Begun,
     runner: &mut T,
     pages: &mut P,
     commands: Vec<Command>,
@@ -120,14 +143,23 @@ fn run<T: Runner, P: Write>(
     requires uncounted { (one : T) → T.counted one ≡ 0 }
     ensures ran { (before : T.State) → T.is_in before runner.old → IfOk result (λ answered. (after : T.State) × T.is_in after runner.new
         × (given : List CommandOf) × Become changes.old changes.new commands.items given
+        × (begun_of begun.new ≡ begun_after (begun_of begun.old) commands.items given)
         × HasRun T.answers given answered before after (P.contents pages.old) (P.contents pages.new)) }
     ensures stops { (before : T.State) → T.is_in before runner.old → IfErr result (λ fault. (after : T.State) × T.is_in after runner.new
         × StopsBy T.answers fault before after (P.contents pages.old) (P.contents pages.new)) }
 {
+    match keep_all_streams(alloc, &mut begun.streams, commands.as_slice()) {
+        Ok(()) => {}
+        Err(_) => return Err(RecordFault::Memory),
+    }
     let given = match changes.apply(commands) {
         Ok(given) => given,
         Err(_) => return Err(RecordFault::Memory),
     };
+    match keep_all_open(alloc, &mut begun.serials, given.as_slice()) {
+        Ok(()) => {}
+        Err(_) => return Err(RecordFault::Memory),
+    }
     match run_all(runner, given.as_slice(), pages) {
         Ok(answered) => Ok(answered),
         Err(_) => Err(RecordFault::Write),

@@ -9,13 +9,15 @@
 #![tactic(auto)]
 
 mod answering;
+mod begun;
 mod fault;
 mod intake;
 mod laws;
 mod lines;
 mod reading;
+mod resuming;
 
-pub use answering::Answered;
+pub use answering::{Answered, run_all};
 pub use fault::RecordFault;
 pub use intake::{Intake, Taken};
 pub use laws::{

@@ -5,6 +5,8 @@ ghost use Rattle.ogg_page.specs.Reading.{page_at};
 ghost use Rattle.feed_changes.specs.Changed.{HasChangedBeside};
 ghost use Rattle.import_mend.specs.Whole.{IsStart};
 ghost use Rattle.import_mend.specs.declared.mend.Mend.{Mend as MendOf};
+ghost use Rattle.import_record.specs.Begun.{none_begun};
+ghost use Rattle.import_record.specs.Resuming.{Resumes};
 ghost use Rattle.import_record.specs.Steps.{Ends, StopsBy, state_of};
 ghost use Rattle.import_record.specs.Reading.{HasTaken, Steps};
 ghost use Rattle.page_reader.specs.Reader.{ReadsOnce, started, unlent};
@@ -16,6 +18,8 @@ use feed_changes::ChangeOptions;
 use feed_codec::Reply;
 use feed_run::Runner;
 use import_mend::Mend;
+use link_chain::StreamState;
+use ogg_command::Command;
 use ogg_page::PageFault;
 use page_reader::{PageReader, PageReaderFault};
 use std::alloc::Global;
@@ -63,7 +67,8 @@ impl ImportRun {
         ensures pages { IfOk result (λ run. run.pages ≡ started) }
         ensures start { IfOk result (λ run. IsStart (state_of run.intake).mending) }
         ensures changes { IfOk result (λ run. HasChangedBeside serials.now run.intake.changes [] []) }
-        ensures options { IfOk result (λ run. run.intake.changes.options ≡ options) }
+        ensures options { IfOk result (λ run. (run.intake.options ≡ options) × (run.intake.changes.options ≡ options)) }
+        ensures begun { IfOk result (λ run. (state_of run.intake).begun ≡ none_begun) }
     {
         let pages = PageReader::with_room(alloc, room)?;
         let intake = Intake::new(alloc, options, serials)?;
@@ -166,6 +171,23 @@ impl ImportRun {
             }
             None => Ok(Step::Ended { junk }),
         }
+    }
+
+    /// The commands that are to be run before the next step, after the file was opened again, in which a fault of the
+    /// disk may have lost what waited. `streams` are those of the file's last link, and `serials` all that it has. If
+    /// the input's link isn't open there it begins again, without the streams that have ended, under serials that are
+    /// free; otherwise it goes on. Whatever else is open is ended. After `Memory` all is as before.
+    pub fn resume(
+        &mut self,
+        streams: &[StreamState],
+        serials: &[u32],
+    ) -> Result<Vec<Command>, Memory>
+        ensures resumes { IfOk result (λ commands.
+            Resumes streams.now serials.now (state_of self.old.intake) (state_of self.new.intake) commands.items) }
+        ensures same { (self.new.pages ≡ self.old.pages) × (self.new.junk ≡ self.old.junk) }
+        ensures err { OnErr result (state_of self.new.intake ≡ state_of self.old.intake) }
+    {
+        self.intake.resume(streams, serials)
     }
 
     /// Ends the streams that are open, and has the commands run that still wait for a header. Take no further step.

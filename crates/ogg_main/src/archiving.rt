@@ -6,7 +6,7 @@ use disk_model::{FileDisk, FileMode};
 use fault_lines::Fault;
 use feed_maker::{ChangeOptions, Skeletons};
 use feed_recorder::end_open_streams;
-use import_record::{ImportRun, RecordFault, Step};
+use import_record::{ImportRun, RecordFault, Step, Taken, run_all};
 use ogg_recorder::Recorder;
 use std::io;
 
@@ -102,8 +102,32 @@ fn record_all(
         }
         recorder = reopen(rt, recorder)?;
         recorder.group(options.most.clamp(1, 1024));
+        resume(&mut recorder, import, told)?;
     }
     Err(Fault::Failed)
+}
+
+/// Goes on with the stream in a file that was opened again. If the link that is open was lost with what waited, it
+/// begins again.
+fn resume(
+    recorder: &mut Recorder<FileDisk>,
+    import: &mut ImportRun,
+    told: &mut Told<'_>,
+) -> Result<(), Fault> {
+    let commands = match import.resume(recorder.streams(), recorder.serials().as_slice()) {
+        Ok(commands) => commands,
+        Err(_) => return Err(Fault::Memory),
+    };
+    match run_all(recorder, commands.as_slice(), &mut io::sink()) {
+        Ok(answered) => {
+            told.taken(import.offset(), &Taken {
+                mend: None,
+                answered,
+            });
+            Ok(())
+        }
+        Err(_) => Err(Fault::Write),
+    }
 }
 
 /// Records what comes until the stream ends, or has to, or the disk fails. Unless it has failed, what is open is ended
@@ -152,6 +176,9 @@ fn record_steps(
     told: &mut Told<'_>,
 ) -> Result<(), Fault> {
     for _ in 0..u64::MAX {
+        if recorder.is_failed() || told.has_enough() {
+            return Ok(());
+        }
         match import.step(recorder, &mut rt.stdin(), &mut io::sink()) {
             // Whether it was kept is seen by the recorder.
             Ok(Step::Flushed(_) | Step::PassedOver) => {}
@@ -172,9 +199,6 @@ fn record_steps(
             Err(fault) => return Err(Fault::Archive(fault)),
         }
         told.settle(recorder);
-        if recorder.is_failed() || told.has_enough() {
-            return Ok(());
-        }
     }
     Ok(())
 }

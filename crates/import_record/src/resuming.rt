@@ -1,0 +1,135 @@
+//! A recording that goes on after its file was opened again.
+ghost use Rattle.std.specs.Prelude.{◌≡◌, ◌++◌, ◌∷◌, [], nat_eq, IfOk, OnOk, OnErr};
+ghost use Rattle.std.specs.List.{list_any};
+ghost use Rattle.feed_changes.specs.Changed.{HasChangedBeside};
+ghost use Rattle.import_record.specs.Begun.{open_after};
+ghost use Rattle.import_record.specs.Resuming.{Resumes, begin_of, ends_of, has_open, holds_open, is_left};
+ghost use Rattle.import_record.specs.Steps.{state_of};
+ghost use Rattle.ogg_command.specs.declared.command.Command.{Command as CommandOf};
+
+use crate::Memory;
+use crate::begun::{all_bare, keep_all_open};
+use crate::intake::Intake;
+use feed_changes::{ChangeOptions, Changes};
+use link_chain::StreamState;
+use ogg_command::{Begin, Command, Listed, NewStream};
+use std::alloc::Global;
+
+/// A link that is begun again.
+#[derive(Drop)]
+struct Again {
+    changes: Changes,
+    given: Vec<Command>,
+    ours: Vec<u32>,
+}
+
+impl Intake {
+    /// The commands that are to be run before the next page, after the file was opened again. `streams` are those of
+    /// its last link, and `serials` all that it has. If it has each stream open that the input has, only the others
+    /// are ended. Otherwise all that is open is ended, and if the input's link is open it begins again: with the
+    /// streams that are open, under serials that are free. After `Memory` all is as before.
+    pub fn resume(
+        &mut self,
+        streams: &[StreamState],
+        serials: &[u32],
+    ) -> Result<Vec<Command>, Memory>
+        ensures resumes { IfOk result (λ commands. Resumes streams.now serials.now (state_of self.old) (state_of self.new) commands.items) }
+        ensures err { OnErr result (state_of self.new ≡ state_of self.old) }
+    {
+        let mut commands = Vec::new(self.alloc);
+        if holds_open(streams, self.begun.serials.as_slice()) {
+            push_ends(&mut commands, self.begun.serials.as_slice(), streams)?;
+            return Ok(commands);
+        }
+        push_ends(&mut commands, &[], streams)?;
+        let Again {
+            changes,
+            mut given,
+            ours,
+        } = begin_again(
+            self.alloc,
+            self.options,
+            serials,
+            self.begun.streams.as_slice(),
+        )?;
+        commands.append(&mut given)?;
+        self.changes = changes;
+        self.begun.serials = ours;
+        Ok(commands)
+    }
+}
+
+/// Begins a link of these streams, in a file that has these serials.
+fn begin_again(
+    alloc: Global,
+    options: ChangeOptions,
+    serials: &[u32],
+    streams: &[NewStream],
+) -> Result<Again, Memory>
+    ensures changed { IfOk result (λ again. HasChangedBeside serials.now again.changes (begin_of streams.now ∷ []) again.given.items) }
+    ensures options { IfOk result (λ again. again.changes.options ≡ options) }
+    ensures ours { IfOk result (λ again. again.ours.items ≡ open_after [] again.given.items) }
+{
+    let mut changes = Changes::new(alloc, options);
+    changes.avoid(serials)?;
+    let streams = all_bare(alloc, streams)?;
+    let mut commands = Vec::new(alloc);
+    commands.push(Command::Begin(Begin {
+        skeleton: None,
+        streams: Listed::of(streams),
+    }))?;
+    let given = changes.apply(commands)?;
+    let mut ours = Vec::new(alloc);
+    keep_all_open(alloc, &mut ours, given.as_slice())?;
+    Ok(Again {
+        changes,
+        given,
+        ours,
+    })
+}
+
+/// Whether a stream of the file's last link, which has these streams, has this serial and is open.
+fn has_open(streams: &[StreamState], serial: u32) -> bool
+    ensures { result ≡ has_open streams.now serial }
+{
+    streams
+        .iter()
+        .any(|stream| stream.serial == serial && !stream.ended)
+}
+
+/// Whether each of these is the serial of a stream that is open in the file.
+fn holds_open(streams: &[StreamState], ours: &[u32]) -> bool
+    ensures { result ≡ holds_open streams.now ours.now }
+{
+    ours.iter().all(|serial| has_open(streams, *serial))
+}
+
+/// Whether the stream is open and none of these.
+fn is_left(ours: &[u32], stream: &StreamState) -> bool
+    ensures { result ≡ is_left ours.now stream.now }
+{
+    !stream.ended && !has(ours, stream.serial)
+}
+
+/// Whether this serial is one of these.
+fn has(ours: &[u32], serial: u32) -> bool
+    ensures { result ≡ list_any (nat_eq serial) ours.now }
+{
+    ours.iter().any(|other| serial == *other)
+}
+
+/// Appends the ends of the open streams that are none of these. After `Memory` only some were appended.
+fn push_ends(
+    commands: &mut Vec<Command>,
+    ours: &[u32],
+    streams: &[StreamState],
+) -> Result<(), Memory>
+    ensures { OnOk result (commands.new.items ≡ commands.old.items ++ ends_of ours.now streams.now) }
+{
+    for stream in streams {
+        if is_left(ours, stream) {
+            commands.push(Command::End(stream.serial))?;
+        }
+    }
+    Ok(())
+}
