@@ -120,10 +120,13 @@ fn resume(
     };
     match run_all(recorder, commands.as_slice(), &mut io::sink()) {
         Ok(answered) => {
-            told.taken(import.offset(), &Taken {
-                mend: None,
-                answered,
-            });
+            told.taken(
+                import.offset(),
+                &Taken {
+                    mend: None,
+                    answered,
+                },
+            );
             Ok(())
         }
         Err(_) => Err(Fault::Write),
