@@ -1,6 +1,7 @@
 pub mod Answered
 pub mod Growing
 pub mod Lasting
+pub mod Lengths
 pub mod Opened
 pub mod Passed
 pub mod Refused

@@ -1,5 +1,5 @@
 //! A recorder of commands.
-ghost use Rattle.std.specs.Prelude.{◌≡◌, ◌≢◌, ◌↔◌, ◌⊎◌, ◌+◌, ◌-◌, ◌^◌, ◌<◌, ◌≤◌, true, false, Bool, ℕ, List, length, take, drop, OnOk, IfOk, IfErr};
+ghost use Rattle.std.specs.Prelude.{◌≡◌, ◌≢◌, ◌↔◌, ◌⊎◌, ◌+◌, ◌-◌, ◌^◌, ◌<◌, ◌≤◌, true, false, Bool, ℕ, List, length, take, drop, OnOk, IfOk, IfErr, ◌++◌};
 ghost use Rattle.disk_model.specs.Image.{IsSettled};
 ghost use Rattle.disk_model.specs.Clock.{LeavesOnly};
 ghost use Rattle.disk_model.specs.Fault.{HasCause};
@@ -17,7 +17,7 @@ ghost use Rattle.history.specs.World.{World, Opening, Opened, Sealing, Sealed, L
 ghost use Rattle.history.specs.History.{StandsIn, IsStep};
 ghost use Rattle.ogg_recorder.specs.Recovery.{Commits, Shows, Accepts};
 ghost use Rattle.ogg_recorder.specs.Taking.{HoldsChain, IsBrokenAt, IsUnfinished};
-ghost use Rattle.ogg_recorder.specs.Recorder.{RecorderState, IsRecorder, IsIn, recorder_state, over_disk, committed};
+ghost use Rattle.ogg_recorder.specs.Recorder.{RecorderState, IsRecorder, IsIn, recorder_state, over_disk, committed, staged};
 
 use crate::opening::{FoundChain, find_chain};
 use chain_rules::{Serials, Shape, StreamState};
@@ -137,6 +137,17 @@ impl<D: Disk> Recorder<D> {
             → EachImage (D.state self.now.file.disk) (CommitsTo (committed D.state self.now)) }
     {
         self.file.end()
+    }
+
+    /// The length of the committed bytes and of those of the commands that wait. After a fault it still counts those
+    /// of the group in doubt, as the streams and the serials do.
+    pub fn length(&self) -> u64
+        ensures length { result ≡ self.now.chain.length_of }
+        // While it hasn't failed: a command that is accepted next has its bytes from there on.
+        ensures bytes { self.now.file.failed ≡ false → D.is_honest self.now.file.disk
+            → result ≡ length (committed D.state self.now ++ staged D.state self.now) }
+    {
+        self.shape.len()
     }
 
     /// How many bytes followed the committed ones when the file was opened.
