@@ -1,6 +1,7 @@
 pub mod Fronts
 pub mod Imaged
 pub mod Listed
+pub mod Ordered
 pub mod FileRead
 pub mod Reopening
 pub mod Sessions

@@ -80,17 +80,17 @@ pub record Found (committed : List ℕ) (id place : ℕ) (parts : List SessionPa
       → AreSessions committed (set parts place new) (with_phase_in id after machine)
   pub same : with_phase_in id phase machine ≡ machine
 
-none_more : (o : Option ℕ) (k : ℕ) → ◌≡◌ {A = Option ℕ} (option_map (λ (place : ℕ). place + 1) o) (Some k) → (j : ℕ) × (o ≡ Some j) × (k ≡ suc j)
+pub none_more : (o : Option ℕ) (k : ℕ) → ◌≡◌ {A = Option ℕ} (option_map (λ (place : ℕ). place + 1) o) (Some k) → (j : ℕ) × (o ≡ Some j) × (k ≡ suc j)
 none_more None k e = absurd (let f : ◌≡◌ {A = Option ℕ} None (Some k) = e in cc)
 none_more (Some j) k e = (j, refl, (let f : ◌≡◌ {A = Option ℕ} (Some (j + 1)) (Some k) = e in let g : j + 1 ≡ k = cc in omega (arith, g)))
 
-some_same : (j k : ℕ) → ◌≡◌ {A = Option ℕ} (Some j) (Some k) → j ≡ k
+pub some_same : (j k : ℕ) → ◌≡◌ {A = Option ℕ} (Some j) (Some k) → j ≡ k
 some_same j k e = cc
 
-none_not : (k : ℕ) → ◌≡◌ {A = Option ℕ} None (Some k) → ⊥
+pub none_not : (k : ℕ) → ◌≡◌ {A = Option ℕ} None (Some k) → ⊥
 none_not k e = cc
 
-some_not : (k : ℕ) → ◌≡◌ {A = Option ℕ} (Some k) None → ⊥
+pub some_not : (k : ℕ) → ◌≡◌ {A = Option ℕ} (Some k) None → ⊥
 some_not k e = cc
 
 here : (committed : List ℕ) (id : ℕ) (s : SessionParts) (parts : List SessionParts) (m : Session) (machine : List Session) → AreSessions committed (s ∷ parts) (m ∷ machine)
@@ -135,7 +135,7 @@ found committed id place (s ∷ parts) (m ∷ machine) are e =
           (behind committed id j s parts m machine are (ap (λ (n : ℕ). nat_eq n id) (sym are.0.0) ∙ other) (found committed id j parts machine are.1 is))
     ]
 
-map_none : (o : Option ℕ) → ◌≡◌ {A = Option ℕ} (option_map (λ (place : ℕ). place + 1) o) None → o ≡ None
+pub map_none : (o : Option ℕ) → ◌≡◌ {A = Option ℕ} (option_map (λ (place : ℕ). place + 1) o) None → o ≡ None
 map_none None e = refl
 map_none (Some j) e = absurd (let f : ◌≡◌ {A = Option ℕ} (Some (j + 1)) None = e in cc)
 

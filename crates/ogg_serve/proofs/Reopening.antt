@@ -45,7 +45,7 @@ module _ {D : Type 0} (is_honest : D → Type 0) (state : D → DiskState) (mome
         shows_good is_honest state new after honest now good refl refl (sym (staged_none is_honest state new now good held_is)) (sym held_is) most_is
             (zero_sum new.kept new.held kept_is held_is) refl,
         (subst (λ (l : List ℕ). MayBeFound m l) same may, refl),
-        record { sessions = refl; numbers = refl; group = refl },
+        record { sessions = refl; numbers = refl; group = refl; room = refl },
       )
 
   -- the recorder that was opened, once its group is set

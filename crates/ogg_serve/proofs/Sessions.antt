@@ -5,7 +5,7 @@ use Rattle.std.proofs.lemmas.Bool.{cases_Bool, or_left, or_cases, le-leb, leb-tr
 use Rattle.disk_model.specs.Image.{DiskState}
 use Rattle.link_index.specs.Adding.{IndexState, IsIndexOf}
 use Rattle.ogg_recorder.specs.Recorder.{RecorderState, IsRecorder, committed, staged}
-use Rattle.sessions.specs.Hub.{HubState, IsNew, Event, Phase, Reading, Session, close_step, connect_step, hub_step, is_full, most_sessions, with_session, without_in, without_session, phase_in}
+use Rattle.sessions.specs.Hub.{HubState, IsNewFor, Event, Phase, Reading, Session, close_step, connect_step, hub_step, is_full, with_session, without_in, without_session, phase_in}
 use Rattle.sessions.specs.declared.fault.HubFault.TheVariants.{NoSession}
 use Rattle.ogg_serve.specs.declared.opening.Lost.{Lost}
 use Rattle.ogg_serve.specs.declared.session.Session.{Session as SessionParts}
@@ -20,17 +20,17 @@ closes_it : (phase : Option Phase) (m : HubState) (id : ℕ) → is_some phase �
 closes_it None m id there = cc
 closes_it (Some phase) m id there = (refl, refl)
 
-pub full : (m : HubState) (parts : List SessionParts) → AreSessions m.committed parts m.sessions → 64 ≤ length parts → is_full m ≡ true
-full m parts are many =
-    or_left (nat_le most_sessions (length m.sessions)) (nat_le (2 ^ 64) m.next_id)
-    (le-leb most_sessions (length m.sessions) (let n = as_many m.committed parts m.sessions are in omega (arith, n, many)))
+pub full : (m : HubState) (parts : List SessionParts) (room : ℕ) → m.room ≡ room → AreSessions m.committed parts m.sessions → room ≤ length parts → is_full m ≡ true
+full m parts room is are many =
+    or_left (nat_le m.room (length m.sessions)) (nat_le (2 ^ 64) m.next_id)
+    (le-leb m.room (length m.sessions) (let n = as_many m.committed parts m.sessions are in omega (arith, n, is, many)))
 
-not_full : (m : HubState) (parts : List SessionParts) → AreSessions m.committed parts m.sessions → length parts < 64 → m.next_id < 2 ^ 64 → is_full m ≡ false
-not_full m parts are few short =
+not_full : (m : HubState) (parts : List SessionParts) (room : ℕ) → m.room ≡ room → AreSessions m.committed parts m.sessions → length parts < room → m.next_id < 2 ^ 64 → is_full m ≡ false
+not_full m parts room same are few short =
     elim (cases_Bool (is_full m)) [
       | inl is ↦
-          elim (or_cases (nat_le most_sessions (length m.sessions)) (nat_le (2 ^ 64) m.next_id) is) [
-            | inl many ↦ let h = leb-true most_sessions (length m.sessions) many in let n = as_many m.committed parts m.sessions are in absurd (omega (arith, h, n, few))
+          elim (or_cases (nat_le m.room (length m.sessions)) (nat_le (2 ^ 64) m.next_id) is) [
+            | inl many ↦ let h = leb-true m.room (length m.sessions) many in let n = as_many m.committed parts m.sessions are in absurd (omega (arith, h, n, same, few))
             | inr last ↦ let h = leb-true (2 ^ 64) m.next_id last in absurd (omega (arith, h, short))
           ]
       | inr isnt ↦ isnt
@@ -63,11 +63,11 @@ module _ {D : Type 0} (is_honest : D → Type 0) (state : D → DiskState) where
   }
   other_sessions None None m sessions next s = absurd s
 
-  module _ (file : Option (RecorderState D)) (lost : Option (Lost D)) (index : IndexState) (sessions : List SessionParts) (next : Option ℕ) (most : ℕ)
-      (m : HubState) (s : Shows is_honest state (hub_parts file lost index sessions next most) m) where
+  module _ (file : Option (RecorderState D)) (lost : Option (Lost D)) (index : IndexState) (sessions : List SessionParts) (next : Option ℕ) (most room : ℕ)
+      (m : HubState) (s : Shows is_honest state (hub_parts file lost index sessions next most room) m) where
     pub closes : (id place : ℕ) (left : List SessionParts) → place_in id sessions ≡ Some place
         → ((committed : List ℕ) (machine : List Session) → AreSessions committed sessions machine → AreSessions committed left (without_in id machine))
-        → (after : HubState) × Shows is_honest state (hub_parts file lost index left next most) after × close_step (phase_in id m.sessions) m id (Ok tt) after
+        → (after : HubState) × Shows is_honest state (hub_parts file lost index left next most room) after × close_step (phase_in id m.sessions) m id (Ok tt) after
     closes id place left at ends =
         let f = found m.committed id place sessions m.sessions s.sessions_are at in (
           without_session id m,
@@ -77,19 +77,20 @@ module _ {D : Type 0} (is_honest : D → Type 0) (state : D → DiskState) where
             sessions_are = ends m.committed m.sessions s.sessions_are;
             next_is = s.next_is;
             most_is = s.most_is;
+            room_is = s.room_is;
           },
           closes_it (phase_in id m.sessions) m id (ap (λ (o : Option Phase). is_some o) f.phase_is),
         )
 
     pub closes_none : (id : ℕ) → place_in id sessions ≡ None
-        → (after : HubState) × Shows is_honest state (hub_parts file lost index sessions next most) after × close_step (phase_in id m.sessions) m id (Err NoSession) after
+        → (after : HubState) × Shows is_honest state (hub_parts file lost index sessions next most room) after × close_step (phase_in id m.sessions) m id (Err NoSession) after
     closes_none id at =
         (m, s, subst (λ (o : Option Phase). close_step o m id (Err NoSession) m) (sym (not_found m.committed id sessions m.sessions s.sessions_are at)) (refl, refl))
 
     -- another session
-    pub connects : (id : ℕ) (now : List SessionParts) (next_now : Option ℕ) → next ≡ Some id → id < 2 ^ 64 → next_of next_now ≡ id + 1 → length sessions < 64
+    pub connects : (id : ℕ) (now : List SessionParts) (next_now : Option ℕ) → next ≡ Some id → id < 2 ^ 64 → next_of next_now ≡ id + 1 → length sessions < room
         → ((committed : List ℕ) (machine : List Session) → AreSessions committed sessions machine → AreSessions committed now (machine ++ record { id = id; phase = Reading [] } ∷ []))
-        → (after : HubState) × Shows is_honest state (hub_parts file lost index now next_now most) after × connect_step m (Ok id) after
+        → (after : HubState) × Shows is_honest state (hub_parts file lost index now next_now most room) after × connect_step m (Ok id) after
     connects id now next_now is short more few adds =
         let number : m.next_id ≡ id = s.next_is ∙ ap next_of is in (
           with_session m,
@@ -99,24 +100,25 @@ module _ {D : Type 0} (is_honest : D → Type 0) (state : D → DiskState) where
             sessions_are = subst (λ (n : ℕ). AreSessions m.committed now (m.sessions ++ record { id = n; phase = Reading [] } ∷ [])) (sym number) (adds m.committed m.sessions s.sessions_are);
             next_is = ap (λ (n : ℕ). n + 1) number ∙ sym more;
             most_is = s.most_is;
+            room_is = s.room_is;
           },
-          (not_full m sessions s.sessions_are few (omega (arith, number, short)), sym number, refl),
+          (not_full m sessions room s.room_is s.sessions_are few (omega (arith, number, short)), sym number, refl),
         )
 
     -- a call of the recorder
     pub goes_on : (file_now : Option (RecorderState D)) (lost_now : Option (Lost D)) (after : HubState) (event : Event)
         → ((before after : HubState) (event : Event) (index : IndexState) (parts : List SessionParts) → hub_step before event after → after.sessions ≡ before.sessions
         → IsOfFront before.committed index → AreSessions before.committed parts before.sessions → IsOfFront after.committed index × AreSessions after.committed parts after.sessions)
-        → ShowsPlace is_honest state file_now lost_now after → hub_step m event after → after.sessions ≡ m.sessions → after.next_id ≡ m.next_id → (most_now : ℕ) → after.most_after_reopening ≡ most_now
-        → Shows is_honest state (hub_parts file_now lost_now index sessions next most_now) after
-    goes_on file_now lost_now after event law place step same numbers most_now most_is =
+        → ShowsPlace is_honest state file_now lost_now after → hub_step m event after → after.sessions ≡ m.sessions → after.next_id ≡ m.next_id → after.room ≡ m.room → (most_now : ℕ) → after.most_after_reopening ≡ most_now
+        → Shows is_honest state (hub_parts file_now lost_now index sessions next most_now room) after
+    goes_on file_now lost_now after event law place step same numbers rooms most_now most_is =
         let (front, are) = law m after event index sessions step same s.indexed s.sessions_are in
-        record { place = place; indexed = front; sessions_are = are; next_is = numbers ∙ s.next_is; most_is = most_is }
+        record { place = place; indexed = front; sessions_are = are; next_is = numbers ∙ s.next_is; most_is = most_is; room_is = rooms ∙ s.room_is }
 
   -- a new hub
-  pub new_shows : (r : RecorderState D) (index : IndexState) (sessions : List SessionParts) → sessions ≡ [] → IsIndexOf [] index → IsRecorder is_honest state r → r.file.failed ≡ false → is_honest r.file.disk
-      → (m : HubState) × Shows is_honest state (hub_parts (Some r) None index sessions (Some 0) 1) m × IsNew m
-  new_shows r index sessions none empty always good honest =
+  pub new_shows : (room : ℕ) (r : RecorderState D) (index : IndexState) (sessions : List SessionParts) → sessions ≡ [] → IsIndexOf [] index → IsRecorder is_honest state r → r.file.failed ≡ false → is_honest r.file.disk
+      → (m : HubState) × Shows is_honest state (hub_parts (Some r) None index sessions (Some 0) 1 room) m × IsNewFor room m
+  new_shows room r index sessions none empty always good honest =
       let m : HubState = record {
         committed = committed state r;
         held = staged state r;
@@ -128,6 +130,7 @@ module _ {D : Type 0} (is_honest : D → Type 0) (state : D → DiskState) where
         has_file = true;
         sessions = [];
         next_id = 0;
+        room = room;
       } in (
         m,
         record {
@@ -141,6 +144,7 @@ module _ {D : Type 0} (is_honest : D → Type 0) (state : D → DiskState) where
           sessions_are = subst (λ (l : List SessionParts). AreSessions (committed state r) l []) (sym none) tt;
           next_is = refl;
           most_is = refl;
+          room_is = refl;
         },
-        record { file = refl; sessions = refl; numbers = refl; group = refl },
+        record { file = refl; sessions = refl; numbers = refl; group = refl; room = refl },
       )

@@ -70,7 +70,7 @@ not_disk : (refusal : Refusal) → code_of refusal ≤ 19 → refusal ≢ Disk
 not_disk refusal few is = absurd (omega (arith, few, ap code_of is))
 
 same_sessions : (m : HubState) → KeepsSessions m m
-same_sessions m = record { sessions = refl; numbers = refl; group = refl }
+same_sessions m = record { sessions = refl; numbers = refl; group = refl; room = refl }
 
 module _ {D : Type 0} (is_honest : D → Type 0) (state : D → DiskState) (new : RecorderState D) where
   -- the recorder hasn't failed, and the machine has its bytes
@@ -181,7 +181,7 @@ module _ {D : Type 0} (is_honest : D → Type 0) (state : D → DiskState) (mome
             shows_good is_honest state new (holding added m) honest now fine s.has_file (s.committed_is ∙ sym front) (ap (λ (l : List ℕ). l ++ added) (held_good good) ∙ sym rest)
                 (omega (arith, s.waiting_is, held_is)) (s.most_is ∙ sym most_is) (omega (arith, s.count_is, held_is, kept_is)) (s.failed_is ∙ good),
             (failed_as ∙ good, added, accepted always command good ok, omega (arith, tells.0, s.waiting_is, s.most_is), omega (arith, tells.1, s.count_is), refl),
-            record { sessions = refl; numbers = refl; group = refl },
+            record { sessions = refl; numbers = refl; group = refl; room = refl },
           )
 
       kept_step : (kept : Kept) → old.file.failed ≡ false → IsOk (decision old.chain command) → Tells old (WasKept kept) new → new.file.failed ≡ false
@@ -207,7 +207,7 @@ module _ {D : Type 0} (is_honest : D → Type 0) (state : D → DiskState) (mome
               tells.1 ∙ ap (λ (n : ℕ). kept_of n new.file.end) (sym count_is) ∙ ap (kept_of (m.count + 1)) (sym long_new ∙ ap (λ (l : List ℕ). length l) (sym committed_is)),
               refl,
             ),
-            record { sessions = refl; numbers = refl; group = refl },
+            record { sessions = refl; numbers = refl; group = refl; room = refl },
           )
 
       disk_step : old.file.failed ≡ false → IsOk (decision old.chain command)
@@ -221,7 +221,7 @@ module _ {D : Type 0} (is_honest : D → Type 0) (state : D → DiskState) (mome
             shows_doubt (doubting (holding added m)) (waits ++ added) honest has leaves faulted.0 s.has_file s.committed_is front refl (sym held_is) (s.most_is ∙ sym most_is)
                 (omega (arith, s.count_is, s.waiting_is, held_is, kept_is)) (ap (λ (l : List ℕ). Some (l ++ added)) (held_good good)),
             (failed_as ∙ good, added, accepted always command good ok, refl),
-            record { sessions = refl; numbers = refl; group = refl },
+            record { sessions = refl; numbers = refl; group = refl; room = refl },
           )
 
       -- what the recorder's answer says, for the machine
@@ -281,7 +281,7 @@ module _ {D : Type 0} (is_honest : D → Type 0) (state : D → DiskState) (mome
             kept_by_is ∙ ap (λ (n : ℕ). kept_of n new.file.end) (sym count_is) ∙ ap (kept_of m.count) (sym long_new ∙ ap (λ (l : List ℕ). length l) (sym committed_is)),
             refl,
           ),
-          record { sessions = refl; numbers = refl; group = refl },
+          record { sessions = refl; numbers = refl; group = refl; room = refl },
         )
 
     flush_failed : old.file.failed ≡ false → 0 < old.held
@@ -295,7 +295,7 @@ module _ {D : Type 0} (is_honest : D → Type 0) (state : D → DiskState) (mome
           shows_doubt (doubting m) waits honest has leaves faulted.0 s.has_file s.committed_is front refl (sym held_is) (s.most_is ∙ sym most_is)
               (omega (arith, s.count_is, s.waiting_is, held_is, kept_is)) (ap (λ (l : List ℕ). Some l) (held_good good)),
           (failed_as ∙ good, omega (arith, some, s.waiting_is), refl),
-          record { sessions = refl; numbers = refl; group = refl },
+          record { sessions = refl; numbers = refl; group = refl; room = refl },
         )
 
     pub flushes : (result : Result Kept Refusal)

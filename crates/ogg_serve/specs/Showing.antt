@@ -80,9 +80,11 @@ module _ {D : Type 0} (is_honest : D → Type 0) (state : D → DiskState) where
     pub sessions_are : AreSessions machine.committed hub.sessions machine.sessions
     pub next_is : machine.next_id ≡ next_of hub.next
     pub most_is : machine.most_after_reopening ≡ hub.most
+    pub room_is : machine.room ≡ hub.room
 
 -- the calls of the recorder leave the sessions as they are
 pub record KeepsSessions (old new : HubState) : Type 0 where
   pub sessions : new.sessions ≡ old.sessions
   pub numbers : new.next_id ≡ old.next_id
   pub group : new.most_after_reopening ≡ old.most_after_reopening
+  pub room : new.room ≡ old.room

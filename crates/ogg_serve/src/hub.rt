@@ -3,7 +3,7 @@ ghost use Rattle.std.specs.Prelude.{◌≡◌, ◌≢◌, ◌↔◌, ◌⊎◌, 
 ghost use Rattle.ogg_page.specs.Page.{Page};
 ghost use Rattle.link_chain.specs.Links.{AreLinks};
 ghost use Rattle.ogg_recorder.specs.Recorder.{RecorderState, committed};
-ghost use Rattle.sessions.specs.Hub.{HubState, IsNew, Connect, Receive, Pull, Close, Record, Flush, Group, Reopen, most_sessions};
+ghost use Rattle.sessions.specs.Hub.{HubState, IsNew, IsNewFor, Connect, Receive, Pull, Close, Record, Flush, Group, Reopen, most_sessions};
 ghost use Rattle.sessions.specs.Calls.{Steps, found_by, given_in};
 ghost use Rattle.ogg_serve.specs.Parts.{HasNoPlace, OnlyFile, OnlySessions, next_of, place_in};
 ghost use Rattle.ogg_serve.specs.Images.{IfFile, Records, Flushes, Reads, Fails, Reopens, disk_in};
@@ -23,38 +23,39 @@ use sessions::{HubFault, Progress, Pulled, SeenAsHub};
 use std::alloc::{AllocError as Memory, Global};
 use std::marker::Model;
 
-/// The greatest number of sessions.
+/// The greatest number of sessions if no other is asked for.
 const MOST_SESSIONS: usize = 64;
 
 /// A recorder, and the sessions of the clients that fetch its file.
 #[derive(Drop)]
 pub struct Hub<D: Disk> {
     // none after a reopening that failed
-    file: Option<Recorder<D>>,
-    lost: Option<Lost<D>>,
-    index: Index,
+    pub(crate) file: Option<Recorder<D>>,
+    pub(crate) lost: Option<Lost<D>>,
+    pub(crate) index: Index,
     // room for a page; none only while a window has it
-    room: Option<PageBuffer>,
-    // with room for as many as there may be
+    pub(crate) room: Option<PageBuffer>,
+    // in the order of their numbers, with room for as many as there may be
     sessions: Vec<Session>,
     // none if all numbers are given
     next: Option<u64>,
     // how many commands will share a commit after a reopening
     most: u32,
-    alloc: Global,
+    // how many sessions there may be
+    most_sessions: usize,
+    pub(crate) alloc: Global,
 }
 
 impl<D: Disk> Model for Hub<D> {
     ghost use Rattle.std.specs.Prelude.{◌≤◌, IsSome, vec_capacity};
-    ghost use Rattle.sessions.specs.Hub.{most_sessions};
     ghost use Rattle.ogg_serve.specs.Parts.{HubParts, IsHub, hub_parts};
 
     ghost Value = { HubParts D };
 
-    ghost view = { λ h. hub_parts h.file h.lost h.index h.sessions.items h.next h.most };
+    ghost view = { λ h. hub_parts h.file h.lost h.index h.sessions.items h.next h.most h.most_sessions };
 
-    ghost invariant = { λ h. IsHub (hub_parts h.file h.lost h.index h.sessions.items h.next h.most) × IsSome h.room
-        × (most_sessions ≤ vec_capacity h.sessions) };
+    ghost invariant = { λ h. IsHub (hub_parts h.file h.lost h.index h.sessions.items h.next h.most h.most_sessions) × IsSome h.room
+        × (h.most_sessions ≤ vec_capacity h.sessions) };
 }
 
 /// What holds of all steps of the machine holds of a hub's calls.
@@ -64,13 +65,13 @@ impl<D: Disk> SeenAsHub for Hub<D> {
     ghost shows = { Shows D.is_honest D.state };
 }
 
-/// The room for all sessions that there may be, and for a page.
-fn rooms(alloc: Global) -> Result<(Vec<Session>, PageBuffer), Memory>
+/// The room for this many sessions, and for a page.
+fn rooms(alloc: Global, most: usize) -> Result<(Vec<Session>, PageBuffer), Memory>
     ensures none { IfOk result (λ made. made.0.items ≡ []) }
-    ensures all { IfOk result (λ made. most_sessions ≤ vec_capacity made.0) }
+    ensures all { IfOk result (λ made. most ≤ vec_capacity made.0) }
 {
     let room = PageBuffer::new(alloc)?;
-    let sessions = Vec::with_capacity(alloc, MOST_SESSIONS)?;
+    let sessions = Vec::with_capacity(alloc, most)?;
     Ok((sessions, room))
 }
 
@@ -95,9 +96,27 @@ impl<D: Disk> Hub<D> {
         ensures shown { IfOk result (λ hub. recorder.file.failed ≡ false → D.is_honest recorder.file.disk
             → (machine : HubState) × Shows D.is_honest D.state hub machine × IsNew machine) }
         ensures back { IfErr result (λ e. e.1 ≡ recorder) }
+        ensures room { IfOk result (λ hub. hub.room ≡ most_sessions) }
+    {
+        Hub::with_room(alloc, recorder, MOST_SESSIONS)
+    }
+
+    /// A hub over this recorder, without sessions, to which up to `most` sessions may be connected at once. It makes
+    /// the room for them, and for a page. After `Memory` the recorder is given back.
+    pub fn with_room(
+        alloc: Global,
+        recorder: Recorder<D>,
+        most: usize,
+    ) -> Result<Hub<D>, (Memory, Recorder<D>)>
+        ensures owns { IfOk result (λ hub. (hub.file ≡ Some recorder) × (hub.lost ≡ None) × (hub.sessions ≡ [])
+            × (hub.next ≡ Some 0) × (hub.most ≡ 1) × (hub.room ≡ most) × IsIndexOf [] hub.index) }
+        // If the recorder hasn't failed, the hub is seen as a new machine with this room.
+        ensures shown { IfOk result (λ hub. recorder.file.failed ≡ false → D.is_honest recorder.file.disk
+            → (machine : HubState) × Shows D.is_honest D.state hub machine × IsNewFor most machine) }
+        ensures back { IfErr result (λ e. e.1 ≡ recorder) }
     {
         let _end = recorder.end();
-        match rooms(alloc) {
+        match rooms(alloc, most) {
             Ok((sessions, room)) => Ok(Hub {
                 file: Some(recorder),
                 lost: None,
@@ -106,6 +125,7 @@ impl<D: Disk> Hub<D> {
                 sessions,
                 next: Some(0),
                 most: 1,
+                most_sessions: most,
                 alloc,
             }),
             Err(memory) => Err((memory, recorder)),
@@ -114,8 +134,8 @@ impl<D: Disk> Hub<D> {
 
     /// Begins a session, whose number is the next one, from 0 on. No memory is taken.
     ///
-    /// `SessionsFull` says that there are 64 sessions, or that all numbers of 64 bits are given. Nothing is changed
-    /// then.
+    /// `SessionsFull` says that there are as many sessions as there may be, 64 if no other number was asked for, or
+    /// that all numbers of 64 bits are given. Nothing is changed then.
     pub fn connect(&mut self) -> Result<u64, HubFault>
         ensures step { Steps (Shows D.is_honest D.state) self.old self.new (λ after. Connect result) }
         ensures room { result ≢ Err HubFault.Memory }
@@ -129,7 +149,7 @@ impl<D: Disk> Hub<D> {
         let Some(id) = self.next else {
             return Err(HubFault::SessionsFull);
         };
-        if self.sessions.len() >= MOST_SESSIONS {
+        if self.sessions.len() >= self.most_sessions {
             return Err(HubFault::SessionsFull);
         }
         add_session(&mut self.sessions, id, self.alloc);
@@ -193,6 +213,7 @@ impl<D: Disk> Hub<D> {
         requires file { IsSome self.old.file }
         requires none { (recorder : RecorderState D) → self.old.file ≡ Some recorder → recorder.held ≡ 0 }
         ensures step { Steps (Shows D.is_honest D.state) self.old self.new (λ after. Group most) }
+        ensures places { self.new.room ≡ self.old.room }
     {
         sessions_stay();
         group_file(&mut self.file, most);
@@ -239,6 +260,7 @@ impl<D: Disk + Drop> Hub<D> {
         ensures not_full { result ≢ Err HubFault.SessionsFull }
         ensures same { (result ≡ Err HubFault.NoSession) ⊎ (result ≡ Err HubFault.NoFile) → self.new ≡ self.old }
         ensures lost { self.new.lost ≡ self.old.lost }
+        ensures places { self.new.room ≡ self.old.room }
     {
         receive_from(
             &mut self.file,
@@ -273,6 +295,7 @@ impl<D: Disk + Drop> Hub<D> {
         ensures not_full { result ≢ Err HubFault.SessionsFull }
         ensures same { (result ≡ Err HubFault.NoSession) ⊎ (result ≡ Err HubFault.NoFile) → self.new ≡ self.old }
         ensures lost { self.new.lost ≡ self.old.lost }
+        ensures places { self.new.room ≡ self.old.room }
     {
         pull_from(
             &mut self.file,
@@ -289,6 +312,7 @@ impl<D: Disk + Drop> Hub<D> {
         ensures step { Steps (Shows D.is_honest D.state) self.old self.new (λ after. Reopen (found_by result after)) }
         ensures disk { (old new : D) → disk_in self.old.file self.old.lost ≡ Some old → disk_in self.new.file self.new.lost ≡ Some new
             → Reopens D.is_honest D.state D.moment D.images_since D.failures result self.new.file old new }
+        ensures places { self.new.room ≡ self.old.room }
     {
         sessions_stay();
         let Lost { disk, end } = take_disk(&mut self.file, &mut self.lost);

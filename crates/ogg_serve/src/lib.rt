@@ -21,6 +21,7 @@ mod reading;
 mod receiving;
 mod running;
 mod session;
+mod telling;
 
 pub use gate_file::OpenFault;
 pub use hub::Hub;

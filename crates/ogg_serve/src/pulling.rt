@@ -1,10 +1,10 @@
 //! What a session pulls: the rest of its response.
-ghost use Rattle.std.specs.Prelude.{◌≡◌, ◌≢◌, ◌↔◌, ◌≤◌, List, None, Err, true, IfOk, IfErr, length, vec_capacity};
+ghost use Rattle.std.specs.Prelude.{◌≡◌, ◌≢◌, ◌↔◌, ◌≤◌, ℕ, List, None, Err, true, IfOk, IfErr, length, vec_capacity};
 ghost use Rattle.ogg_page.specs.Window.{KeepsSource};
 ghost use Rattle.sending.specs.Sending.{HasFailed};
 ghost use Rattle.sessions.specs.Calls.{given_in};
 ghost use Rattle.sessions.specs.Hub.{HubState, Phase, Session as SessionOf, phase_of, pull_step};
-ghost use Rattle.ogg_serve.specs.Parts.{place_in};
+ghost use Rattle.ogg_serve.specs.Parts.{AreInOrder, IdsRise, place_in};
 ghost use Rattle.ogg_serve.specs.Serving.{PhaseGives};
 ghost use Rattle.ogg_serve.specs.Showing.{AreSessions, IsPhase};
 
@@ -47,10 +47,12 @@ pub(crate) fn pull_in<S: PageSource>(
     id: u64,
     buffer: &mut [u8],
 ) -> Result<Pulled, HubFault>
+    requires order { IdsRise sessions.old.items }
     ensures step { S.is_honest window.old.source → (machine : HubState) → S.bytes window.old.source ≡ machine.committed
         → AreSessions machine.committed sessions.old.items machine.sessions
         → (left : List SessionOf) × AreSessions machine.committed sessions.new.items left
         × pull_step (phase_of machine id) true machine id (length buffer.old) (given_in buffer.new result) (record machine { sessions = left }) }
+    ensures order { (next : ℕ) → AreInOrder next sessions.old.items → AreInOrder next sessions.new.items }
     ensures no_session { (result ≡ Err HubFault.NoSession) ↔ (place_in id sessions.old.items ≡ None) }
     ensures some { (result ≢ Err HubFault.NoFile) × (result ≢ Err HubFault.SessionsFull) }
     ensures same { result ≡ Err HubFault.NoSession → (window.new.source ≡ window.old.source) × (sessions.new.items ≡ sessions.old.items) }

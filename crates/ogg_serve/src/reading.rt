@@ -9,7 +9,7 @@ ghost use Rattle.sessions.specs.Hub.{HubState, Session as SessionOf, phase_of, p
 ghost use Rattle.ogg_serve.specs.declared.opening.Lost.{Lost};
 ghost use Rattle.ogg_serve.specs.Images.{IfFile, Reads, Fails};
 ghost use Rattle.ogg_serve.specs.Indexing.{IsOfFront};
-ghost use Rattle.ogg_serve.specs.Parts.{fault_of_place, place_in};
+ghost use Rattle.ogg_serve.specs.Parts.{AreInOrder, IdsRise, fault_of_place, place_in};
 ghost use Rattle.ogg_serve.specs.Serving.{fault_without_file};
 ghost use Rattle.ogg_serve.specs.Showing.{AreSessions, ShowsPlace};
 
@@ -59,6 +59,7 @@ fn close_window<D: Disk + Drop>(
 
 /// Why nothing is done for a session if there is no file.
 fn fault_without_file(sessions: &[Session], id: u64) -> HubFault
+    requires { IdsRise sessions.now }
     ensures fault { (machine : HubState) (bytes : List ℕ) → AreSessions bytes sessions.now machine.sessions
         → result ≡ fault_without_file (phase_of machine id) }
     ensures memory { result ≢ HubFault.Memory }
@@ -81,7 +82,8 @@ pub(crate) fn receive_from<D: Disk + Drop>(
     id: u64,
     bytes: &[u8],
 ) -> Result<Progress, HubFault>
-    requires { IsSome room.old }
+    requires room { IsSome room.old }
+    requires order { IdsRise sessions.old.items }
     ensures step { (lost : Option (Lost D)) (before : HubState) → ShowsPlace D.is_honest D.state file.old lost before
         → IsOfFront before.committed index.old → AreSessions before.committed sessions.old.items before.sessions
         → (left : List SessionOf) × ShowsPlace D.is_honest D.state file.new lost (record before { sessions = left })
@@ -91,6 +93,7 @@ pub(crate) fn receive_from<D: Disk + Drop>(
         → ShowsPlace D.is_honest D.state file.old lost before → IsOfFront before.committed index.old
         → (links : List (List Page)) → AreLinks before.committed links → IfFile (Fails D.is_honest D.state D.moment D.images_since D.failures) file.old file.new }
     ensures disk { IfFile (Reads D.is_honest D.state D.moment D.images_since D.failures) file.old file.new }
+    ensures order { (next : ℕ) → AreInOrder next sessions.old.items → AreInOrder next sessions.new.items }
     ensures no_session { (result ≡ Err HubFault.NoSession) ↔ (place_in id sessions.old.items ≡ None) }
     ensures no_file { (result ≡ Err HubFault.NoFile) ↔ (IsSome (place_in id sessions.old.items) × (file.old ≡ None)) }
     ensures not_full { result ≢ Err HubFault.SessionsFull }
@@ -118,7 +121,8 @@ pub(crate) fn pull_from<D: Disk + Drop>(
     id: u64,
     buffer: &mut [u8],
 ) -> Result<Pulled, HubFault>
-    requires { IsSome room.old }
+    requires room { IsSome room.old }
+    requires order { IdsRise sessions.old.items }
     ensures step { (lost : Option (Lost D)) (before : HubState) → ShowsPlace D.is_honest D.state file.old lost before
         → AreSessions before.committed sessions.old.items before.sessions
         → (left : List SessionOf) × ShowsPlace D.is_honest D.state file.new lost (record before { sessions = left })
@@ -128,6 +132,7 @@ pub(crate) fn pull_from<D: Disk + Drop>(
         → ShowsPlace D.is_honest D.state file.old lost before → AreSessions before.committed sessions.old.items before.sessions
         → IfFile (Fails D.is_honest D.state D.moment D.images_since D.failures) file.old file.new }
     ensures disk { IfFile (Reads D.is_honest D.state D.moment D.images_since D.failures) file.old file.new }
+    ensures order { (next : ℕ) → AreInOrder next sessions.old.items → AreInOrder next sessions.new.items }
     ensures no_session { (result ≡ Err HubFault.NoSession) ↔ (place_in id sessions.old.items ≡ None) }
     ensures no_file { (result ≡ Err HubFault.NoFile) ↔ (IsSome (place_in id sessions.old.items) × (file.old ≡ None)) }
     ensures not_full { result ≢ Err HubFault.SessionsFull }

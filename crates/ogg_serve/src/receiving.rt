@@ -4,7 +4,7 @@ ghost use Rattle.responses.specs.Response.{Asked, Asks, IsResponse, asked_by};
 ghost use Rattle.sending.specs.Sending.{IsLeft};
 ghost use Rattle.sessions.specs.Hub.{HubState, Phase, Session as SessionOf, phase_of, receive_step};
 ghost use Rattle.ogg_serve.specs.Indexing.{IsOfFront};
-ghost use Rattle.ogg_serve.specs.Parts.{place_in};
+ghost use Rattle.ogg_serve.specs.Parts.{AreInOrder, IdsRise, place_in};
 ghost use Rattle.ogg_serve.specs.Serving.{HeadGets, PhaseGets, Indexes, fault_in};
 ghost use Rattle.ogg_serve.specs.Showing.{AreSessions, IsPhase};
 
@@ -112,10 +112,12 @@ pub(crate) fn receive_in<S: PageSource>(
     id: u64,
     bytes: &[u8],
 ) -> Result<Progress, HubFault>
+    requires order { IdsRise sessions.old.items }
     ensures step { S.is_honest window.old.source → (machine : HubState) → S.bytes window.old.source ≡ machine.committed
         → IsOfFront machine.committed index.old → AreSessions machine.committed sessions.old.items machine.sessions
         → (left : List SessionOf) × AreSessions machine.committed sessions.new.items left
         × receive_step (phase_of machine id) true machine id bytes.now result (record machine { sessions = left }) }
+    ensures order { (next : ℕ) → AreInOrder next sessions.old.items → AreInOrder next sessions.new.items }
     ensures no_session { (result ≡ Err HubFault.NoSession) ↔ (place_in id sessions.old.items ≡ None) }
     ensures some { (result ≢ Err HubFault.NoFile) × (result ≢ Err HubFault.SessionsFull) }
     ensures same { result ≡ Err HubFault.NoSession → (window.new.source ≡ window.old.source) × (index.new ≡ index.old) × (sessions.new.items ≡ sessions.old.items) }

@@ -4,7 +4,7 @@ ghost use Rattle.link_index.specs.Adding.{IndexState};
 ghost use Rattle.sessions.specs.Hub.{Event, HubState, Session as SessionOf, Reading, hub_step, without_in};
 ghost use Rattle.ogg_serve.specs.declared.session.Session.{Session as SessionParts};
 ghost use Rattle.ogg_serve.specs.Indexing.{IsOfFront};
-ghost use Rattle.ogg_serve.specs.Parts.{place_in};
+ghost use Rattle.ogg_serve.specs.Parts.{AreInOrder, IdsRise, place_in};
 ghost use Rattle.ogg_serve.specs.Serving.{left_after};
 ghost use Rattle.ogg_serve.specs.Showing.{AreSessions};
 
@@ -28,20 +28,15 @@ pub(crate) struct Session {
     pub(crate) stage: Stage,
 }
 
-/// The place of the first session with this number.
+/// The place of the session with this number.
 pub(crate) fn place_of(sessions: &[Session], id: u64) -> Option<usize>
+    requires { IdsRise sessions.now }
     ensures { result ≡ place_in id sessions.now }
 {
-    let mut rest = sessions;
-    let mut place = 0;
-    while let Some((session, others)) = rest.split_first() {
-        if session.id == id {
-            return Some(place);
-        }
-        rest = others;
-        place += 1;
+    match sessions.binary_search_by_key(&id, |session| session.id) {
+        Ok(place) => Some(place),
+        Err(_) => None,
     }
-    None
 }
 
 /// Adds a session that has received nothing.
@@ -49,6 +44,7 @@ pub(crate) fn add_session(sessions: &mut Vec<Session>, id: u64, alloc: Global)
     requires { vec_len sessions.old < vec_capacity sessions.old }
     ensures items { (committed : List ℕ) (machine : List SessionOf) → AreSessions committed sessions.old.items machine
         → AreSessions committed sessions.new.items (machine ++ record { id = id; phase = Reading [] } ∷ []) }
+    ensures order { AreInOrder id sessions.old.items → AreInOrder (id + 1) sessions.new.items }
     ensures capacity { vec_capacity sessions.new ≡ vec_capacity sessions.old }
 {
     sessions.push_reserved(Session {
@@ -57,19 +53,25 @@ pub(crate) fn add_session(sessions: &mut Vec<Session>, id: u64, alloc: Global)
     });
 }
 
-/// Takes out the sessions with this number.
+/// Takes out the session with this number, if there is one.
 pub(crate) fn drop_session(sessions: &mut Vec<Session>, id: u64)
+    requires { IdsRise sessions.old.items }
     ensures items { (committed : List ℕ) (machine : List SessionOf) → AreSessions committed sessions.old.items machine
         → AreSessions committed sessions.new.items (without_in id machine) }
+    ensures order { (next : ℕ) → AreInOrder next sessions.old.items → AreInOrder next sessions.new.items }
     ensures capacity { vec_capacity sessions.new ≡ vec_capacity sessions.old }
 {
-    sessions.retain(|session| session.id != id);
+    if let Some(place) = place_of(sessions.as_slice(), id) {
+        let _ended = sessions.remove(place);
+    }
 }
 
 /// Ends the session after a fault of its file.
 pub(crate) fn end_after(fault: HubFault, sessions: &mut Vec<Session>, id: u64)
+    requires { IdsRise sessions.old.items }
     ensures items { (committed : List ℕ) (machine : List SessionOf) → AreSessions committed sessions.old.items machine
         → AreSessions committed sessions.new.items (left_after fault id machine) }
+    ensures order { (next : ℕ) → AreInOrder next sessions.old.items → AreInOrder next sessions.new.items }
     ensures capacity { vec_capacity sessions.new ≡ vec_capacity sessions.old }
 {
     match fault {

@@ -6,7 +6,7 @@ use Rattle.sessions.specs.declared.fault.HubFault.{HubFault}
 use Rattle.sessions.specs.declared.fault.HubFault.TheVariants.{NoSession, SessionsFull, Source, Memory, NoFile}
 use Rattle.sessions.specs.declared.answers.Progress.{Progress}
 use Rattle.sessions.specs.declared.answers.Progress.TheVariants.{More, Ready}
-use Rattle.sessions.specs.Hub.{HubState, Phase, Reading, Sending, Given, Event, Connect, Receive, Pull, Close, Record, Flush, Group, Reopen, hub_step, phase_of, with_phase_in, without_in, most_sessions, connect_step, head_step, receive_step, send_step, pull_step, close_step}
+use Rattle.sessions.specs.Hub.{HubState, Phase, Reading, Sending, Given, Event, Connect, Receive, Pull, Close, Record, Flush, Group, Reopen, hub_step, phase_of, with_phase_in, without_in, connect_step, head_step, receive_step, send_step, pull_step, close_step}
 use Rattle.sessions.proofs.Seen.{command_sessions, flush_sessions, group_sessions, reopen_sessions}
 
 -- it stays, a session is in another phase, the sessions with a number have ended, or one more was connected
@@ -14,7 +14,7 @@ pub data Changes (old new : HubState) : Type 0 where
   Stays : (same : new.sessions ≡ old.sessions) → Changes old new
   Moves : (id : ℕ) (phase : Phase) (moved : new.sessions ≡ with_phase_in id phase old.sessions) → Changes old new
   Loses : (id : ℕ) (left : new.sessions ≡ without_in id old.sessions) → Changes old new
-  Gains : (room : length old.sessions < 64) (later : new.next_id ≡ old.next_id + 1)
+  Gains : (room : length old.sessions < old.room) (later : new.next_id ≡ old.next_id + 1)
       (more : new.sessions ≡ old.sessions ++ record { id = old.next_id; phase = Reading [] } ∷ []) → Changes old new
 
 sessions_are : (new other : HubState) → new ≡ other → new.sessions ≡ other.sessions
@@ -22,7 +22,7 @@ sessions_are new other e = ap (λ (h : HubState). h.sessions) e
 
 by_connect : (old new : HubState) (answer : Result ℕ HubFault) → connect_step old answer new → Changes old new
 by_connect old new (Ok id) step =
-    Gains (leb-false most_sessions (length old.sessions) (or_parts (nat_le most_sessions (length old.sessions)) (nat_le (2 ^ 64) old.next_id) step.0).0)
+    Gains (leb-false old.room (length old.sessions) (or_parts (nat_le old.room (length old.sessions)) (nat_le (2 ^ 64) old.next_id) step.0).0)
     (ap (λ (h : HubState). h.next_id) step.2) (ap (λ (h : HubState). h.sessions) step.2)
 by_connect old new (Err SessionsFull) step = Stays (sessions_are new old step.1)
 by_connect old new (Err Memory) step = Stays (sessions_are new old step.1)

@@ -5,19 +5,19 @@ use Rattle.std.proofs.lemmas.Bool.{or_cases, or_left, or_right, leb-true, le-leb
 use Rattle.sessions.specs.declared.fault.HubFault.{HubFault}
 use Rattle.sessions.specs.declared.fault.HubFault.TheVariants.{NoSession, SessionsFull, Source, Memory, NoFile}
 use Rattle.sessions.specs.declared.answers.Progress.{Progress}
-use Rattle.sessions.specs.Hub.{HubState, Phase, Reading, Sending, Given, is_full, most_sessions, connect_step, head_step, receive_step, send_step, pull_step, close_step}
+use Rattle.sessions.specs.Hub.{HubState, Phase, Reading, Sending, Given, is_full, connect_step, head_step, receive_step, send_step, pull_step, close_step}
 
 -- ---- connect
-full_is : (old : HubState) → is_full old ≡ true → (64 ≤ length old.sessions) ⊎ (2 ^ 64 ≤ old.next_id)
+full_is : (old : HubState) → is_full old ≡ true → (old.room ≤ length old.sessions) ⊎ (2 ^ 64 ≤ old.next_id)
 full_is old e =
-    elim (or_cases (nat_le most_sessions (length old.sessions)) (nat_le (2 ^ 64) old.next_id) e) [
-      | inl many ↦ inl (leb-true most_sessions (length old.sessions) many)
+    elim (or_cases (nat_le old.room (length old.sessions)) (nat_le (2 ^ 64) old.next_id) e) [
+      | inl many ↦ inl (leb-true old.room (length old.sessions) many)
       | inr last ↦ inr (leb-true (2 ^ 64) old.next_id last)
     ]
 
-is_full_by : (old : HubState) → (64 ≤ length old.sessions) ⊎ (2 ^ 64 ≤ old.next_id) → is_full old ≡ true
-is_full_by old (inl many) = or_left (nat_le most_sessions (length old.sessions)) (nat_le (2 ^ 64) old.next_id) (le-leb most_sessions (length old.sessions) many)
-is_full_by old (inr last) = or_right (nat_le most_sessions (length old.sessions)) (nat_le (2 ^ 64) old.next_id) (le-leb (2 ^ 64) old.next_id last)
+is_full_by : (old : HubState) → (old.room ≤ length old.sessions) ⊎ (2 ^ 64 ≤ old.next_id) → is_full old ≡ true
+is_full_by old (inl many) = or_left (nat_le old.room (length old.sessions)) (nat_le (2 ^ 64) old.next_id) (le-leb old.room (length old.sessions) many)
+is_full_by old (inr last) = or_right (nat_le old.room (length old.sessions)) (nat_le (2 ^ 64) old.next_id) (le-leb (2 ^ 64) old.next_id last)
 
 when_full : (old new : HubState) (answer : Result ℕ HubFault) → connect_step old answer new → is_full old ≡ true → answer ≡ Err SessionsFull
 when_full old new (Ok id) step full = absurd (both_ways (is_full old) step.0 full)
@@ -36,7 +36,7 @@ said_full old new (Err Source) step e = absurd step
 said_full old new (Err NoFile) step e = absurd step
 
 pub full_exactly : (old new : HubState) (answer : Result ℕ HubFault) → connect_step old answer new
-    → (answer ≡ Err SessionsFull) ↔ ((64 ≤ length old.sessions) ⊎ (2 ^ 64 ≤ old.next_id))
+    → (answer ≡ Err SessionsFull) ↔ ((old.room ≤ length old.sessions) ⊎ (2 ^ 64 ≤ old.next_id))
 full_exactly old new answer step = (λ e. full_is old (said_full old new answer step e), λ full. when_full old new answer step (is_full_by old full))
 
 -- ---- receive

@@ -18,6 +18,7 @@ hub committed =
       has_file = true;
       sessions = [];
       next_id = 0;
+      room = 64;
     }
 
 abbrev step : Event → List ℕ → Step

@@ -1,11 +1,12 @@
--- There are at most 64 sessions.
+-- There are at most as many sessions as may be.
 use Rattle.std.proofs.Common.{◌≡◌, ℕ, suc, ◌+◌, ◌≤◌, not, List, [], ◌∷◌, length, refl, ◌∙◌, ap, arith, inl, inr, length-append}
 use Rattle.std.specs.Prelude.{nat_eq}
 use Rattle.std.specs.List.{AllByRecursion}
 use Rattle.std.proofs.lemmas.Bool.{cases_Bool, cond-true, cond-false}
-use Rattle.sessions.specs.Hub.{HubState, Phase, Reading, Session, Event, hub_step, with_phase_in, without_in}
+use Rattle.sessions.specs.Hub.{HubState, Phase, Reading, Session, Event, IsNewFor, hub_step, with_phase_in, without_in}
 use Rattle.sessions.specs.Run.{Step, AreSteps}
 use Rattle.sessions.proofs.Changes.{Changes, Stays, Moves, Loses, Gains, changes}
+use Rattle.sessions.proofs.Rooms.{same_room}
 
 as_many : (id : ℕ) (phase : Phase) (sessions : List Session) → length (with_phase_in id phase sessions) ≡ length sessions
 as_many id phase [] = refl
@@ -32,31 +33,46 @@ no_more id (s ∷ sessions) =
     ]
 
 abbrev AreFew : HubState → Type 0
-AreFew hub = length hub.sessions ≤ 64
+AreFew hub = length hub.sessions ≤ hub.room
 
-few_of : (old new : HubState) (sessions : List Session) → new.sessions ≡ sessions → length sessions ≤ length old.sessions → AreFew old → AreFew new
-few_of old new sessions e le few = let is : length new.sessions ≡ length sessions = ap (λ (l : List Session). length l) e in omega (arith, is, le, few)
+few_of : (old new : HubState) (sessions : List Session) → new.room ≡ old.room → new.sessions ≡ sessions → length sessions ≤ length old.sessions → AreFew old → AreFew new
+few_of old new sessions room e le few = let is : length new.sessions ≡ length sessions = ap (λ (l : List Session). length l) e in omega (arith, room, is, le, few)
 
-few_changed : (old new : HubState) (id : ℕ) (phase : Phase) → new.sessions ≡ with_phase_in id phase old.sessions → AreFew old → AreFew new
-few_changed old new id phase e few = let is = as_many id phase old.sessions in few_of old new (with_phase_in id phase old.sessions) e (omega (arith, is)) few
+few_changed : (old new : HubState) (id : ℕ) (phase : Phase) → new.room ≡ old.room → new.sessions ≡ with_phase_in id phase old.sessions → AreFew old → AreFew new
+few_changed old new id phase room e few = let is = as_many id phase old.sessions in few_of old new (with_phase_in id phase old.sessions) room e (omega (arith, is)) few
 
-few_left : (old new : HubState) (id : ℕ) → new.sessions ≡ without_in id old.sessions → AreFew old → AreFew new
-few_left old new id e few = few_of old new (without_in id old.sessions) e (no_more id old.sessions) few
+few_left : (old new : HubState) (id : ℕ) → new.room ≡ old.room → new.sessions ≡ without_in id old.sessions → AreFew old → AreFew new
+few_left old new id room e few = few_of old new (without_in id old.sessions) room e (no_more id old.sessions) few
 
 few_step : (old new : HubState) (event : Event) → hub_step old event new → AreFew old → AreFew new
 few_step old new event step few = by_change (changes old new event step)
   where
+    same : new.room ≡ old.room
+    same = same_room old new event step
+
     by_change : Changes old new → AreFew new
-    by_change (Stays same) = few_of old new old.sessions same (omega arith) few
-    by_change (Moves id phase moved) = few_changed old new id phase moved few
-    by_change (Loses id left) = few_left old new id left few
+    by_change (Stays unmoved) = few_of old new old.sessions same unmoved (omega arith) few
+    by_change (Moves id phase moved) = few_changed old new id phase same moved few
+    by_change (Loses id left) = few_left old new id same left few
     by_change (Gains room later more) =
         let is : length new.sessions ≡ length old.sessions + 1 =
         ap (λ (l : List Session). length l) more ∙ length-append old.sessions (record { id = old.next_id; phase = Reading [] } ∷ []) in
-        omega (arith, room, is)
+        omega (arith, room, is, same)
 
-pub few : (old : HubState) (steps : List Step) → length old.sessions ≤ 64 → AreSteps old steps → AllByRecursion (λ (step : Step). length step.after.sessions ≤ 64) steps
-few old [] here are = tt
-few old (step ∷ steps) here are =
-    let next = few_step old step.after step.event are.0 here in
-    (next, few step.after steps next are.1)
+few_now : (room : ℕ) (old : HubState) (steps : List Step) → old.room ≡ room → length old.sessions ≤ room → AreSteps old steps
+    → AllByRecursion (λ (step : Step). length step.after.sessions ≤ room) steps
+few_now room old [] is here are = tt
+few_now room old (step ∷ steps) is here are =
+    let now : step.after.room ≡ room = same_room old step.after step.event are.0 ∙ is in
+    let next : AreFew step.after = few_step old step.after step.event are.0 (omega (arith, is, here)) in
+    let few_after : length step.after.sessions ≤ room = omega (arith, now, next) in
+    (few_after, few_now room step.after steps now few_after are.1)
+
+pub few : (old : HubState) (steps : List Step) → length old.sessions ≤ old.room → AreSteps old steps → AllByRecursion (λ (step : Step). length step.after.sessions ≤ old.room) steps
+few old steps here are = few_now old.room old steps refl here are
+
+-- a new hub
+pub few_of_new : (room : ℕ) (old : HubState) (steps : List Step) → IsNewFor room old → AreSteps old steps → AllByRecursion (λ (step : Step). length step.after.sessions ≤ room) steps
+few_of_new room old steps new are =
+    let none : length old.sessions ≡ 0 = ap (λ (l : List Session). length l) new.sessions in
+    few_now room old steps new.room (omega (arith, none)) are

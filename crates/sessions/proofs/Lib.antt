@@ -7,6 +7,7 @@ mod Alone
 mod Others
 mod Exact
 mod Changes
+mod Rooms
 mod Few
 mod Grows
 mod Recorded

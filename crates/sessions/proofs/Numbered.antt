@@ -3,7 +3,7 @@ use Rattle.std.proofs.Common.{◌≡◌, ℕ, ◌+◌, ◌≤◌, ◌<◌, not, 
 use Rattle.std.specs.Prelude.{nat_eq}
 use Rattle.std.specs.List.{AllByRecursion}
 use Rattle.std.proofs.lemmas.Bool.{cases_Bool, cond-true, cond-false, eqb-true}
-use Rattle.sessions.specs.Hub.{HubState, Phase, Reading, Session, Event, IsNew, hub_step, phase_in, with_phase_in, without_in}
+use Rattle.sessions.specs.Hub.{HubState, Phase, Reading, Session, Event, IsNewFor, hub_step, phase_in, with_phase_in, without_in}
 use Rattle.sessions.specs.Own.{AreNumbered}
 use Rattle.sessions.specs.Run.{IsUnused}
 use Rattle.sessions.proofs.Changes.{Changes, Stays, Moves, Loses, Gains, changes}
@@ -72,5 +72,5 @@ none_has n (s ∷ sessions) all =
 pub unused : (hub : HubState) → AreNumbered hub → IsUnused hub hub.next_id
 unused hub all = (omega arith, none_has hub.next_id hub.sessions all)
 
-pub at_first : (hub : HubState) → IsNew hub → AreNumbered hub
-at_first hub new = subst (AreBelow hub.next_id) (sym new.sessions) tt
+pub at_first : (room : ℕ) (hub : HubState) → IsNewFor room hub → AreNumbered hub
+at_first room hub new = subst (AreBelow hub.next_id) (sym new.sessions) tt

@@ -7,7 +7,7 @@ use Rattle.sessions.specs.declared.fault.HubFault.{HubFault}
 use Rattle.sessions.specs.declared.fault.HubFault.TheVariants.{NoSession, SessionsFull, Source, Memory, NoFile}
 use Rattle.sessions.specs.declared.answers.Progress.{Progress}
 use Rattle.sessions.specs.declared.answers.Progress.TheVariants.{More, Ready}
-use Rattle.sessions.specs.Hub.{HubState, Phase, Reading, Sending, Session, Given, Event, Connect, Receive, Pull, Close, Record, Flush, Group, Reopen, hub_step, phase_of, with_phase_in, without_in, most_sessions, connect_step, head_step, receive_step, send_step, pull_step, close_step}
+use Rattle.sessions.specs.Hub.{HubState, Phase, Reading, Sending, Session, Given, Event, Connect, Receive, Pull, Close, Record, Flush, Group, Reopen, hub_step, phase_of, with_phase_in, without_in, connect_step, head_step, receive_step, send_step, pull_step, close_step}
 use Rattle.sessions.specs.Run.{Step, AreSteps, connected, all_connected}
 use Rattle.sessions.proofs.Seen.{command_sessions, flush_sessions, group_sessions, reopen_sessions}
 
@@ -65,7 +65,7 @@ connect_number old new (Ok id) step =
     inr (
       ap (λ k. k ∷ []) step.1,
       ap (λ (h : HubState). h.next_id) step.2,
-      leb-false (2 ^ 64) old.next_id (or_parts (nat_le most_sessions (length old.sessions)) (nat_le (2 ^ 64) old.next_id) step.0).1,
+      leb-false (2 ^ 64) old.next_id (or_parts (nat_le old.room (length old.sessions)) (nat_le (2 ^ 64) old.next_id) step.0).1,
     )
 connect_number old new (Err SessionsFull) step = inl (refl, ap (λ (h : HubState). h.next_id) step.1)
 connect_number old new (Err Memory) step = inl (refl, ap (λ (h : HubState). h.next_id) step.1)

@@ -52,20 +52,27 @@ pub record HubState : Type 0 where
   pub sessions : List Session
   -- the number of the next session
   pub next_id : ℕ
+  -- how many sessions there may be at once: no call changes it
+  pub room : ℕ
 
--- a hub with a file, to which no session has been connected
-pub record IsNew (hub : HubState) : Type 0 where
+-- how many sessions there may be if no other number is asked for
+abbrev pub most_sessions : ℕ
+most_sessions = 64
+
+-- a hub with a file, to which no session has been connected, and to which this many may be
+pub record IsNewFor (most : ℕ) (hub : HubState) : Type 0 where
   pub file : hub.has_file ≡ true
   pub sessions : hub.sessions ≡ []
   pub numbers : hub.next_id ≡ 0
   -- its recorder may have been given groups before; after a reopening each command is a group of its own
   pub group : hub.most_after_reopening ≡ 1
+  pub room : hub.room ≡ most
+
+-- the same with room for 64 sessions
+abbrev pub IsNew : HubState → Type 0
+IsNew hub = IsNewFor most_sessions hub
 
 -- ---- sessions
--- how many sessions a hub has at most
-abbrev pub most_sessions : ℕ
-most_sessions = 64
-
 -- the phase of the first session with this number
 abbrev pub phase_in : ℕ → List Session → Option Phase
 phase_in id [] = None
@@ -95,7 +102,7 @@ without_session id hub = record hub { sessions = without_in id hub.sessions }
 
 -- there is no place for one more session, or no number left for it: numbers have 64 bits
 abbrev pub is_full : HubState → Bool
-is_full hub = nat_le most_sessions (length hub.sessions) || nat_le (2 ^ 64) hub.next_id
+is_full hub = nat_le hub.room (length hub.sessions) || nat_le (2 ^ 64) hub.next_id
 
 -- the hub after one more session was connected, which has received nothing
 abbrev pub with_session : HubState → HubState

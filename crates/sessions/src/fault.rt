@@ -10,7 +10,7 @@ pub enum HubFault {
     /// There is no session with this number.
     #[error("there is no such session")]
     NoSession,
-    /// There are 64 sessions, or all numbers of 64 bits are given.
+    /// There are as many sessions as may be, or all numbers of 64 bits are given.
     #[error("there are too many sessions")]
     SessionsFull,
     /// A read of the file failed, or found no good page. The session has ended.

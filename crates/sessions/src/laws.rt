@@ -10,7 +10,7 @@ ghost use Rattle.responses.specs.Response.{Asked, Asks, AsksOrWaits, IsResponse}
 ghost use Rattle.sessions.specs.declared.fault.HubFault.{HubFault as HubFaultOf};
 ghost use Rattle.sessions.specs.declared.fault.HubFault.TheVariants.{NoSession, SessionsFull, Source, Memory, NoFile};
 ghost use Rattle.sessions.specs.declared.answers.Progress.{Progress as ProgressOf};
-ghost use Rattle.sessions.specs.Hub.{HubState, IsNew, Given, Event, Reading, Sending, Connect, Receive, Pull, Close, Record, Flush, Reopen, MayBeFound, hub_step, phase_of, most_sessions};
+ghost use Rattle.sessions.specs.Hub.{HubState, IsNew, IsNewFor, Given, Event, Reading, Sending, Connect, Receive, Pull, Close, Record, Flush, Reopen, MayBeFound, hub_step, phase_of, most_sessions};
 ghost use Rattle.sessions.specs.Run.{Step, AreSteps, IsUnused, own_calls, committed_at_head, pulled, session_of, IsServed, all_connected};
 ghost use Rattle.sessions.specs.Own.{AreNumbered, HasReceived, HasPulled, KeepsFile};
 ghost use Rattle.sessions.specs.Sound.{Extends, HasCommand, IsSound};
@@ -28,6 +28,8 @@ pub fn sessions_get_their_responses()
     // A new hub has given no number.
     ensures from_new { (start : HubState) (steps : List Step) (id : ℕ) → IsNew start → AreSteps start steps
         → IsServed id steps }
+    ensures from_new_for { (room : ℕ) (start : HubState) (steps : List Step) (id : ℕ) → IsNewFor room start
+        → AreSteps start steps → IsServed id steps }
     // Two sessions, of one hub or of two, pull the same if their own calls are the same, and the same was committed
     // when their heads were complete, whatever other sessions and the recorder do.
     ensures alone { (start other_start : HubState) (steps other_steps : List Step) (id other : ℕ)
@@ -71,21 +73,28 @@ pub fn numbers_are_given_once()
 /// Each session has a number that was given, if it was so at first, and so no session has the next number.
 pub fn sessions_are_numbered()
     ensures new { (hub : HubState) → IsNew hub → AreNumbered hub }
+    ensures new_for { (room : ℕ) (hub : HubState) → IsNewFor room hub → AreNumbered hub }
     ensures kept { (old new : HubState) (event : Event) → hub_step old event new → AreNumbered old → AreNumbered new }
     ensures unused { (hub : HubState) → AreNumbered hub → IsUnused hub hub.next_id }
 {}
 
-/// There are never more than 64 sessions.
+/// There are never more sessions than a hub has room for at first, and no call changes this number. So a hub that was
+/// made for 64 never has more than 64.
 pub fn sessions_are_few()
-    ensures { (start : HubState) (steps : List Step) → length start.sessions ≤ most_sessions → AreSteps start steps
+    ensures few { (start : HubState) (steps : List Step) → length start.sessions ≤ start.room → AreSteps start steps
+        → AllByRecursion (λ (step : Step). length step.after.sessions ≤ start.room) steps }
+    ensures new { (start : HubState) (steps : List Step) → IsNew start → AreSteps start steps
         → AllByRecursion (λ (step : Step). length step.after.sessions ≤ most_sessions) steps }
+    ensures new_for { (room : ℕ) (start : HubState) (steps : List Step) → IsNewFor room start → AreSteps start steps
+        → AllByRecursion (λ (step : Step). length step.after.sessions ≤ room) steps }
+    ensures room { (old new : HubState) (event : Event) → hub_step old event new → new.room ≡ old.room }
 {}
 
 /// `SessionsFull`, `NoSession` and `NoFile` are answered exactly if the hub is so: it is full, has no such session,
 /// or has no file.
 pub fn refusals_are_exact()
     ensures connect { (old new : HubState) (answer : Result ℕ HubFaultOf) → hub_step old (Connect answer) new
-        → (answer ≡ Err SessionsFull) ↔ ((64 ≤ length old.sessions) ⊎ (2 ^ 64 ≤ old.next_id)) }
+        → (answer ≡ Err SessionsFull) ↔ ((old.room ≤ length old.sessions) ⊎ (2 ^ 64 ≤ old.next_id)) }
     ensures receive { (old new : HubState) (id : ℕ) (bytes : List ℕ) (answer : Result ProgressOf HubFaultOf)
         → hub_step old (Receive id bytes answer) new
         → ((answer ≡ Err NoSession) ↔ (phase_of old id ≡ None))

@@ -3,8 +3,9 @@ use Rattle.link_chain.specs.Laws.Walked.{no_fault_there}
 use Rattle.sessions.specs.Hub.{Phase, receive_step}
 use Rattle.sessions.specs.declared.fault.HubFault.TheVariants.{NoSession}
 use Rattle.ogg_serve.specs.Indexing.{IsOfFront}
-use Rattle.ogg_serve.specs.Parts.{place_in}
+use Rattle.ogg_serve.specs.Parts.{AreInOrder, IdsRise, place_in}
 use Rattle.ogg_serve.proofs.Listed.{found, not_found, place_inside, written_back}
+use Rattle.ogg_serve.proofs.Ordered.{order_set, rise_set, same_id}
 use Rattle.ogg_serve.proofs.Steps.{phase_there, receive_ok, receive_err}
 use Rattle.ogg_serve.proofs.receiving.receive_in.Goals as goal
 
@@ -53,3 +54,22 @@ returns-in-Err-clause-step g c sure machine e front are =
     receive_err b machine e c.args.id c.in-Some.place items f d _ c.as_mut_slice.result.now c.as_mut_slice.ensures.value refl c.end_after.new.sessions.items _
     (written_back c.args.sessions.now.len c.in-Some.place items c.as_mut_slice.result.now _ _ c.as_mut_slice.ensures.value c.args.sessions.now.ok.0) c.in-Err.fault c.end_after.ensures.items c.args.bytes.now
     (c.in-Err.ensures.phase sure (subst (λ k. IsOfFront k c.args.index.now) (sym e) front) f.phase (phase_there b machine e c.args.id c.in-Some.place items f d c.as_mut_slice.result.now c.as_mut_slice.ensures.value))
+
+pub end_after-requires : goal.end_after-requires
+end_after-requires g c =
+    let items = c.args.sessions.now.items in
+    subst IdsRise (sym (written_back c.args.sessions.now.len c.in-Some.place items c.as_mut_slice.result.now _ _ c.as_mut_slice.ensures.value c.args.sessions.now.ok.0))
+    (rise_set items c.in-Some.place _ (λ d inside. same_id items c.as_mut_slice.result.now c.in-Some.place c.index-as_mut_slice-place.result d c.as_mut_slice.ensures.value inside) c.requires.order)
+
+pub returns-in-Ok-clause-order : goal.returns-in-Ok-clause-order
+returns-in-Ok-clause-order g c next order =
+    let items = c.args.sessions.now.items in
+    subst (AreInOrder next) (sym (written_back c.args.sessions.now.len c.in-Some.place items c.as_mut_slice.result.now _ _ c.as_mut_slice.ensures.value c.args.sessions.now.ok.0))
+    (order_set next items c.in-Some.place _ (λ d inside. same_id items c.as_mut_slice.result.now c.in-Some.place c.index-as_mut_slice-place.result d c.as_mut_slice.ensures.value inside) order)
+
+pub returns-in-Err-clause-order : goal.returns-in-Err-clause-order
+returns-in-Err-clause-order g c next order =
+    let items = c.args.sessions.now.items in
+    c.end_after.ensures.order next
+    (subst (AreInOrder next) (sym (written_back c.args.sessions.now.len c.in-Some.place items c.as_mut_slice.result.now _ _ c.as_mut_slice.ensures.value c.args.sessions.now.ok.0))
+    (order_set next items c.in-Some.place _ (λ d inside. same_id items c.as_mut_slice.result.now c.in-Some.place c.index-as_mut_slice-place.result d c.as_mut_slice.ensures.value inside) order))

@@ -1,8 +1,10 @@
-use Rattle.std.proofs.Common.{List, [], ◌++◌, ◌∷◌, refl, sym, subst}
+use Rattle.std.proofs.Common.{◌+◌, List, [], ◌++◌, ◌∷◌, refl, sym, subst}
 use Rattle.sessions.specs.Hub.{Session, Reading}
+use Rattle.ogg_serve.specs.Parts.{AreInOrder}
 use Rattle.ogg_serve.specs.Showing.{AreSessions}
 use Rattle.ogg_serve.specs.declared.session.Session.{Session as SessionParts}
 use Rattle.ogg_serve.proofs.Listed.{one_more}
+use Rattle.ogg_serve.proofs.Ordered.{order_appended}
 use Rattle.ogg_serve.proofs.session.add_session.Goals as goal
 
 pub returns-clause-items : goal.returns-clause-items
@@ -10,3 +12,7 @@ returns-clause-items c committed machine are =
     let new : Session = record { id = c.args.id; phase = Reading [] } in
     subst (λ (l : List SessionParts). AreSessions committed l (machine ++ new ∷ [])) (sym c.push_reserved.ensures.items)
     (one_more committed c.args.sessions.now.items machine _ new are (refl, c.new.ensures.items))
+
+pub returns-clause-order : goal.returns-clause-order
+returns-clause-order c order =
+    subst (AreInOrder (c.args.id + 1)) (sym c.push_reserved.ensures.items) (order_appended c.args.sessions.now.items _ order)

@@ -12,3 +12,6 @@ returns-clause-alone c = alone c.responses_are_unambiguous.ensures
 
 pub returns-clause-from_new : goal.returns-clause-from_new
 returns-clause-from_new c start steps id new are = served start steps id (omega (arith, new.numbers), ap (phase_in id) new.sessions) are
+
+pub returns-clause-from_new_for : goal.returns-clause-from_new_for
+returns-clause-from_new_for c room start steps id new are = served start steps id (omega (arith, new.numbers), ap (phase_in id) new.sessions) are

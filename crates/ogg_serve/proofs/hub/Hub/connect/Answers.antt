@@ -2,12 +2,12 @@ use Rattle.std.proofs.Common.{refl, arith}
 use Rattle.ogg_serve.proofs.Sessions.{connects, full}
 use Rattle.ogg_serve.proofs.hub.Hub.connect.Goals as goal
 
-pub returns-then-len-ge-MOST_SESSIONS-clause-step : goal.returns-then-len-ge-MOST_SESSIONS-clause-step
-returns-then-len-ge-MOST_SESSIONS-clause-step g c =
+pub returns-then-len-self-clause-step : goal.returns-then-len-self-clause-step
+returns-then-len-self-clause-step g c =
     let d = g.D.Disk in
     let in_ = c.self.inside in
     rw (← c.self.view_is)
-    (λ before s. (before, s, (full before in_.sessions.items s.sessions_are (omega (arith, c.if-len-ge-MOST_SESSIONS.true, c.len.ensures, in_.sessions.ok.0)), refl)))
+    (λ before s. (before, s, (full before in_.sessions.items in_.most_sessions s.room_is s.sessions_are (omega (arith, c.if-len-self.true, c.len.ensures, in_.sessions.ok.0)), refl)))
 
 pub returns-clause-step : goal.returns-clause-step
 returns-clause-step g c =
@@ -15,6 +15,6 @@ returns-clause-step g c =
     let in_ = c.self.inside in
     rw (← c.self.view_is)
     (λ before s.
-    connects d.is_honest d.state in_.file in_.lost in_.index in_.sessions.items in_.next in_.most before s c.in-Some.id c.add_session.new.sessions.items c.next_after-self-inside.result c.in-Some.is c.next_after-self-inside.ensures.fits
+    connects d.is_honest d.state in_.file in_.lost in_.index in_.sessions.items in_.next in_.most in_.most_sessions before s c.in-Some.id c.add_session.new.sessions.items c.next_after-self-inside.result c.in-Some.is c.next_after-self-inside.ensures.fits
     c.next_after-self-inside.ensures.next
-    (omega (arith, c.if-len-ge-MOST_SESSIONS.false, c.len.ensures, in_.sessions.ok.0)) c.add_session.ensures.items)
+    (omega (arith, c.if-len-self.false, c.len.ensures, in_.sessions.ok.0)) c.add_session.ensures.items)
