@@ -12,6 +12,10 @@ mod fakes;
 #[cfg(test)]
 mod hubs;
 #[cfg(test)]
+mod listening;
+#[cfg(test)]
+mod many;
+#[cfg(test)]
 mod pulling;
 #[cfg(test)]
 mod tools;

@@ -1,5 +1,7 @@
 pub mod Fronts
+pub mod Heard
 pub mod Imaged
+pub mod Lasting
 pub mod Listed
 pub mod Ordered
 pub mod FileRead

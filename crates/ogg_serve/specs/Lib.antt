@@ -1,5 +1,6 @@
 pub mod Images
 pub mod Indexing
+pub mod Listening
 pub mod Parts
 pub mod Serving
 pub mod Showing

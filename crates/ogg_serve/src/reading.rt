@@ -24,7 +24,7 @@ use sessions::{HubFault, Progress, Pulled};
 use std::alloc::Global;
 
 /// A window over the file, if there is one.
-fn open_window<D: Disk>(
+pub(crate) fn open_window<D: Disk>(
     file: &mut Option<Recorder<D>>,
     room: &mut Option<PageBuffer>,
 ) -> Option<Window<Recorder<D>>>
@@ -44,7 +44,7 @@ fn open_window<D: Disk>(
 }
 
 /// Gives the file back.
-fn close_window<D: Disk + Drop>(
+pub(crate) fn close_window<D: Disk + Drop>(
     window: Window<Recorder<D>>,
     file: &mut Option<Recorder<D>>,
     room: &mut Option<PageBuffer>,

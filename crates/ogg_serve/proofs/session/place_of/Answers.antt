@@ -1,4 +1,4 @@
-use Rattle.std.proofs.Common.{rules, Ok, Err, sym, ap, ◌∙◌}
+use Rattle.std.proofs.Common.{rules, sym, ap, ◌∙◌}
 use Rattle.std.proofs.lemmas.List.Sorted.{answers_always}
 use Rattle.ogg_serve.proofs.Ordered.{answer_of, searched}
 use Rattle.ogg_serve.proofs.session.place_of.Goals as goal
