@@ -1,5 +1,5 @@
 //! Listeners of a hub, whose file is recorded meanwhile.
-use crate::tools::{TWO, hub_over};
+use crate::tools::{TWO, hub_again, hub_over};
 use chain_rules::{Begin, Command, Listed, NewStream};
 use disk_model::{Disk, FuseDisk, MemDisk};
 use ogg_serve::{Hub, HubFault, JoinPlace, Listener, OpenFault, Outcome};
@@ -184,5 +184,26 @@ fn a_listener_stays_as_it_was_after_a_fault(rt: HostRuntime) -> Result<(), Fail>
     let disk = FuseDisk::fail_once(MemDisk::of(rt.alloc(), TWO)?, 9);
     let mut hub = hub_over(rt.alloc(), disk, 1)?;
     assert!(rt; hears_after_a_fault(&mut hub));
+    Ok(())
+}
+
+/// Whether a listener joins, once more if memory was refused, and hears the link's beginning.
+fn joins_again<D: Disk + Drop>(hub: &mut Hub<D>) -> bool {
+    let mut answer = hub.join(PLACE);
+    if matches!(answer, Err(HubFault::Memory)) {
+        answer = hub.join(PLACE);
+    }
+    let Ok(mut listener) = answer else {
+        return false;
+    };
+    let (header, _) = HEARD.split_at(31);
+    hears(hub, &mut listener, header)
+}
+
+/// `rt try --test --fail-alloc N` refuses the `N`th request for memory.
+#[test]
+fn a_listener_joins_after_memory_was_refused(rt: HostRuntime) -> Result<(), Fail> {
+    let mut hub = hub_again(rt.alloc(), TWO)?;
+    assert!(rt; joins_again(&mut hub));
     Ok(())
 }

@@ -1,22 +1,30 @@
 //! What always holds of the listeners of a hub.
-ghost use Rattle.std.specs.Prelude.{◌≡◌, ◌++◌, ℕ, List, Some};
+ghost use Rattle.std.specs.Prelude.{◌≡◌, ◌++◌, ℕ, List, Some, false};
 ghost use Rattle.std.specs.List.{AllByRecursion};
 ghost use Rattle.disk_model.specs.Clock.{LeavesOnly};
 ghost use Rattle.gate_file.specs.Commit.{CommitsToEither};
 ghost use Rattle.gate_file.specs.Gate.{EachImage};
+ghost use Rattle.ogg_page.specs.Page.{Page};
+ghost use Rattle.link_chain.specs.ChainState.{chain_state_of, is_open};
+ghost use Rattle.link_chain.specs.Links.{AreLinks};
 ghost use Rattle.serve_live.specs.Hearing.{IsHearing};
 ghost use Rattle.serve_live.specs.Listening.{ListenerState};
-ghost use Rattle.serve_live.specs.Live.{Moment};
+ghost use Rattle.serve_live.specs.Live.{IsLive, Moment};
+ghost use Rattle.serve_live.specs.Places.{IsPlaceIn};
+ghost use Rattle.serve_live.specs.declared.listener.JoinPlace.{JoinPlace as JoinPlaceOf};
 ghost use Rattle.sessions.specs.Hub.{HubState, Event, hub_step};
 ghost use Rattle.sessions.specs.Run.{Step, AreSteps};
 ghost use Rattle.sessions.specs.Sound.{HasCommand, IsRecorded, IsSound};
 ghost use Rattle.ogg_serve.specs.Images.{disk_in};
-ghost use Rattle.ogg_serve.specs.Listening.{ShowsHeard};
+ghost use Rattle.ogg_serve.specs.Listening.{ShowsHeard, waiting_at};
 ghost use Rattle.ogg_serve.specs.Parts.{HubParts};
 ghost use Rattle.ogg_serve.specs.Showing.{Shows};
 
 use disk_model::Disk;
-use serve_live::{listeners_hear_what_they_should, sessions_hear_what_is_committed};
+use serve_live::{
+    listeners_hear_what_they_should, places_are_moments, sessions_hear_what_is_committed,
+    what_is_live_is_a_chain,
+};
 use sessions::committed_bytes_grow;
 
 /// A listener goes on hearing what it should, whichever calls of the hub come: what it was given stays the front of
@@ -32,6 +40,20 @@ pub fn listeners_go_on_hearing()
 {
     committed_bytes_grow();
     listeners_hear_what_they_should();
+}
+
+/// A listener that waits while no link is open has joined at a moment of the file. So what it hears is a chain of links,
+/// whatever is committed since; and so is what one hears that joined a link.
+pub fn what_a_hub_lets_hear_is_a_chain()
+    ensures waits { (front committed more bytes : List ℕ) (closed links : List (List Page)) → AreLinks front closed
+        → is_open (chain_state_of closed) ≡ false → committed ≡ front ++ more → AreLinks committed links
+        → IsLive (waiting_at front) committed bytes → (heard : List (List Page)) × AreLinks bytes heard }
+    ensures joins { (front committed more bytes : List ℕ) (moment : Moment) (place : JoinPlaceOf) (links after : List (List Page))
+        → AreLinks front links → IsPlaceIn links moment place → committed ≡ front ++ more → AreLinks committed after
+        → IsLive moment committed bytes → (heard : List (List Page)) × AreLinks bytes heard }
+{
+    places_are_moments();
+    what_is_live_is_a_chain();
 }
 
 /// What a listener was given is on the disk: each image of it shows the same, whether the machine stops now or later.

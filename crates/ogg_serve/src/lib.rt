@@ -31,7 +31,9 @@ mod telling;
 
 pub use gate_file::OpenFault;
 pub use hub::Hub;
-pub use laws::{images_show_what_was_heard, listeners_go_on_hearing};
+pub use laws::{
+    images_show_what_was_heard, listeners_go_on_hearing, what_a_hub_lets_hear_is_a_chain,
+};
 pub use ogg_recorder::Outcome;
 pub use serve_live::{JoinPlace, Listener};
 pub use sessions::{HubFault, Progress, Pulled};
