@@ -10,3 +10,4 @@ pub mod Sessions
 pub mod Stages
 pub mod Stepping
 pub mod Steps
+pub mod Told

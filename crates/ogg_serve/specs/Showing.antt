@@ -1,9 +1,11 @@
 -- Which machine a hub is seen as. Ours.
-use Rattle.std.specs.Prelude.{◌≡◌, ℕ, ◌+◌, true, false, if◌then◌else◌, is_some, Option, None, Some, List, [], length, take}
+use Rattle.std.specs.Prelude.{◌≡◌, ℕ, ◌+◌, true, false, if◌then◌else◌, is_some, Option, None, Some, List, [], ◌++◌, length, take}
 use Rattle.std.specs.List.{AllZip}
 use Rattle.disk_model.specs.Image.{DiskState}
+use Rattle.ogg_page.specs.Page.{Page}
 use Rattle.gate_file.specs.Commit.{CommitsTo}
 use Rattle.gate_file.specs.Gate.{EachImage}
+use Rattle.link_chain.specs.Links.{AreLinks}
 use Rattle.ogg_recorder.specs.Recorder.{RecorderState, committed, staged}
 use Rattle.sending.specs.Sending.{IsLeft}
 use Rattle.sessions.specs.Hub.{HubState, MayBeFound, Phase, Reading, Sending, Session}
@@ -81,6 +83,12 @@ module _ {D : Type 0} (is_honest : D → Type 0) (state : D → DiskState) where
     pub next_is : machine.next_id ≡ next_of hub.next
     pub most_is : machine.most_after_reopening ≡ hub.most
     pub room_is : machine.room ≡ hub.room
+
+-- there is a file, no group is in doubt, and the committed bytes with those that wait are these links
+pub record HasLinks (machine : HubState) (links : List (List Page)) : Type 0 where
+  pub has_file : machine.has_file ≡ true
+  pub none : machine.in_doubt ≡ None
+  pub are_links : AreLinks (machine.committed ++ machine.held) links
 
 -- the calls of the recorder leave the sessions as they are
 pub record KeepsSessions (old new : HubState) : Type 0 where

@@ -1,14 +1,17 @@
 //! What a hub tells of its file, if there is one.
-ghost use Rattle.std.specs.Prelude.{◌≡◌, ◌++◌, None, Option, is_some, length};
+ghost use Rattle.std.specs.Prelude.{◌≡◌, ◌++◌, List, None, Option, is_some, length};
+ghost use Rattle.ogg_page.specs.Page.{Page};
+ghost use Rattle.link_chain.specs.ChainState.{chain_state_of};
 ghost use Rattle.sessions.specs.Hub.{HubState, is_failed};
 ghost use Rattle.ogg_serve.specs.declared.opening.Lost.{Lost as LostOf};
 ghost use Rattle.ogg_serve.specs.Parts.{failed_in, length_in, serials_in, streams_in};
-ghost use Rattle.ogg_serve.specs.Showing.{Shows, ShowsPlace};
+ghost use Rattle.ogg_serve.specs.Showing.{HasLinks, Shows, ShowsPlace};
 
 use crate::hub::Hub;
 use crate::opening::Lost;
 use chain_rules::StreamState;
 use disk_model::Disk;
+use link_chain::bytes_are_one_chain;
 use ogg_recorder::Recorder;
 
 /// How many bytes are committed and wait. Without a file it is the last end that is known.
@@ -28,20 +31,34 @@ pub(crate) fn length_of<D: Disk>(file: &Option<Recorder<D>>, lost: &Option<Lost<
 
 /// The streams of the last link, with what waits.
 pub(crate) fn streams_of<D: Disk>(file: &Option<Recorder<D>>) -> &[StreamState]
-    ensures { result.now ≡ streams_in file.now }
+    ensures streams { result.now ≡ streams_in file.now }
+    ensures machine { (lost : Option (LostOf D)) (machine : HubState) (links : List (List Page))
+        → ShowsPlace D.is_honest D.state file.now lost machine → HasLinks machine links
+        → result.now ≡ (chain_state_of links).streams }
 {
+    bytes_are_one_chain();
     match file {
-        Some(recorder) => recorder.streams(),
+        Some(recorder) => {
+            let _end = recorder.end();
+            recorder.streams()
+        }
         None => &[],
     }
 }
 
 /// The serials of all streams, those that wait included.
 pub(crate) fn serials_of<D: Disk>(file: &Option<Recorder<D>>) -> &[u32]
-    ensures { result.now ≡ serials_in file.now }
+    ensures serials { result.now ≡ serials_in file.now }
+    ensures machine { (lost : Option (LostOf D)) (machine : HubState) (links : List (List Page))
+        → ShowsPlace D.is_honest D.state file.now lost machine → HasLinks machine links
+        → result.now ≡ (chain_state_of links).serials }
 {
+    bytes_are_one_chain();
     match file {
-        Some(recorder) => recorder.serials().as_slice(),
+        Some(recorder) => {
+            let _end = recorder.end();
+            recorder.serials().as_slice()
+        }
         None => &[],
     }
 }
@@ -72,7 +89,9 @@ impl<D: Disk> Hub<D> {
     /// The streams of the last link, with what waits, in the order of their first pages. Without a file there are
     /// none.
     pub fn streams(&self) -> &[StreamState]
-        ensures { result.now ≡ streams_in self.now.file }
+        ensures streams { result.now ≡ streams_in self.now.file }
+        ensures machine { (machine : HubState) (links : List (List Page)) → Shows D.is_honest D.state self.now machine
+            → HasLinks machine links → result.now ≡ (chain_state_of links).streams }
     {
         streams_of(&self.file)
     }
@@ -80,7 +99,9 @@ impl<D: Disk> Hub<D> {
     /// The serials of all streams of the file, those that wait included, in the order of their first pages. Without a
     /// file there are none.
     pub fn serials(&self) -> &[u32]
-        ensures { result.now ≡ serials_in self.now.file }
+        ensures serials { result.now ≡ serials_in self.now.file }
+        ensures machine { (machine : HubState) (links : List (List Page)) → Shows D.is_honest D.state self.now machine
+            → HasLinks machine links → result.now ≡ (chain_state_of links).serials }
     {
         serials_of(&self.file)
     }

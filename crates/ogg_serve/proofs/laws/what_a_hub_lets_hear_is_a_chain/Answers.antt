@@ -1,4 +1,4 @@
-use Rattle.std.proofs.Common.{◌≡◌, List, ◌++◌, take, drop, refl, sym, ◌∙◌, ap, inr, append_assoc}
+use Rattle.std.proofs.Common.{◌++◌, take, drop, refl, sym, ◌∙◌, ap, inr, append_assoc}
 use Rattle.std.proofs.lemmas.List.{take-append-drop}
 use Rattle.serve_live.specs.Live.{IsMomentOf}
 use Rattle.ogg_serve.specs.Listening.{waiting_at}
