@@ -1,0 +1,65 @@
+-- What the first bytes of a connection ask for, by their request line: a method, a space, a target, a space, a version
+-- (RFC 9112, section 3).
+-- Ours: a connection has one request, so no empty line is passed over before it (section 2.2).
+use Rattle.std.specs.Prelude.{◌≡◌, ◌≢◌, ◌≤◌, ℕ, ◌⊎◌, Bool, true, false, List, length, drop, take, nat_eq, ◌||◌, ◌&&◌, ◌==◌, if◌then◌else◌, Option, Some, None, position, codes}
+use Rattle.std.specs.List.{starts_with}
+use Rattle.std.specs.Str.{byte}
+use Rattle.httparse.specs.Grammar.{RequestHead, ReadsRequest}
+use Rattle.ogg_http.specs.Head.{head_bytes, most_bytes, most_fields, IsAwaited, IsHopeless}
+use Rattle.serve_sources.specs.Live.{is_live_target, may_be_live_target}
+
+-- a source's method and the space after it: PUT (RFC 9110, section 9.3.4), or SOURCE as encoders have it
+abbrev pub is_source : List ℕ → Bool
+is_source front = starts_with nat_eq front (codes "PUT ") || starts_with nat_eq front (codes "SOURCE ")
+
+-- more bytes may make this a source's method
+abbrev pub may_be_source : List ℕ → Bool
+may_be_source front = starts_with nat_eq (codes "PUT ") front || starts_with nat_eq (codes "SOURCE ") front
+
+-- a listener's method and the space after it
+abbrev pub listener_method : Bool → List ℕ
+listener_method false = codes "GET "
+listener_method true = codes "HEAD "
+
+-- the bytes after the method may still become a target that names what is live, or it has come and does
+abbrev pub may_go_on : Option ℕ → List ℕ → Bool
+may_go_on None target = may_be_live_target target
+may_go_on (Some end) target = is_live_target (take end target)
+
+-- the same of all bytes after the method
+abbrev pub may_name_live : List ℕ → Bool
+may_name_live target = may_go_on (position (λ b. b == byte " ") target) target
+
+-- more bytes may make this the request line of a live listener, or they have made it
+abbrev pub may_be_live : List ℕ → Bool
+may_be_live front =
+    if starts_with nat_eq front (listener_method false) then may_name_live (drop 4 front)
+    else if starts_with nat_eq front (listener_method true) then may_name_live (drop 5 front)
+    else starts_with nat_eq (listener_method false) front || starts_with nat_eq (listener_method true) front
+
+-- the bytes begin with this head, and it isn't past the limits
+abbrev pub HasHead : List ℕ → RequestHead → Type 0
+HasHead front request =
+    (rest : List ℕ) × ReadsRequest (head_bytes front) request rest × (length request.fields ≤ most_fields)
+
+-- a whole head asks for what is live, by GET or by HEAD
+pub record IsLive (head : Bool) (front : List ℕ) : Type 0 where
+  pub method : starts_with nat_eq front (listener_method head) ≡ true
+  pub request : RequestHead
+  pub has : HasHead front request
+  pub target : is_live_target request.target ≡ true
+
+-- a source's or a listener's request may still come
+abbrev pub MayCome : List ℕ → Type 0
+MayCome front = (may_be_source front ≡ true) ⊎ ((may_be_live front ≡ true) × IsAwaited front)
+
+-- a whole head asks for something else
+abbrev pub AsksOther : List ℕ → Type 0
+AsksOther front =
+    (request : RequestHead) × HasHead front request
+    × ((head : Bool) → starts_with nat_eq front (listener_method head) ≡ true → is_live_target request.target ≡ true → ⊥)
+
+-- why neither comes: the request line is another one, the head asks for something else, no head comes, or none came
+-- within the limit
+abbrev pub IsOther : List ℕ → Type 0
+IsOther front = (may_be_live front ≡ false) ⊎ (AsksOther front ⊎ (IsHopeless front ⊎ (most_bytes ≤ length front)))

@@ -1,0 +1,109 @@
+//! What the first bytes of a connection ask for.
+ghost use Rattle.std.specs.Prelude.{◌≡◌, ◌==◌, ◌↔◌, Bool, true, false, nat_eq, position, IfSome, Some};
+ghost use Rattle.std.specs.List.{starts_with};
+ghost use Rattle.serve_sources.specs.Live.{is_live_target};
+ghost use Rattle.serve_sources.specs.Asking.{IsLive, IsOther, MayCome, is_source, listener_method, may_be_live, may_be_source, may_name_live};
+
+use crate::live::{is_live_target, may_be_live_target};
+use ogg_http::{HeadRead, read_head};
+
+/// What the first bytes of a connection ask for.
+#[derive(Clone, Copy, Debug, PartialEq, Eq)]
+pub enum Asks {
+    /// More bytes must come before this is known.
+    More,
+    /// A source: the request's method is PUT or SOURCE.
+    Source,
+    /// What is recorded now, without an end: `GET` or `HEAD` of `/live` or `/live.ogg`.
+    Live { head: bool },
+    /// Anything else. The file server answers it, byte for byte.
+    File,
+}
+
+fn is_source(front: &[u8]) -> bool
+    ensures { result ≡ is_source front.now }
+{
+    front.starts_with(b"PUT ") || front.starts_with(b"SOURCE ")
+}
+
+fn may_be_source(front: &[u8]) -> bool
+    ensures { result ≡ may_be_source front.now }
+{
+    b"PUT ".starts_with(front) || b"SOURCE ".starts_with(front)
+}
+
+fn first_space(text: &[u8]) -> Option<usize>
+    ensures { result ≡ position (λ b. b == 32) text.now }
+{
+    text.iter().position(|b| *b == b' ')
+}
+
+fn may_name_live(target: &[u8]) -> bool
+    ensures { result ≡ may_name_live target.now }
+{
+    match first_space(target) {
+        Some(end) => is_live_target(&target[..end]),
+        None => may_be_live_target(target),
+    }
+}
+
+fn may_be_live(front: &[u8]) -> bool
+    ensures { result ≡ may_be_live front.now }
+{
+    if front.starts_with(b"GET ") {
+        may_name_live(&front[4..])
+    } else if front.starts_with(b"HEAD ") {
+        may_name_live(&front[5..])
+    } else {
+        b"GET ".starts_with(front) || b"HEAD ".starts_with(front)
+    }
+}
+
+/// Whether a listener asks for it by `HEAD`, if the head is a listener's.
+fn listens(front: &[u8], target: &[u8]) -> Option<bool>
+    ensures listens { IfSome result (λ head.
+        (starts_with nat_eq front.now (listener_method head) ≡ true) × (is_live_target target.now ≡ true)) }
+    ensures each { (head : Bool) → starts_with nat_eq front.now (listener_method head) ≡ true
+        → is_live_target target.now ≡ true → result ≡ Some head }
+{
+    if !is_live_target(target) {
+        None
+    } else if front.starts_with(b"GET ") {
+        Some(false)
+    } else if front.starts_with(b"HEAD ") {
+        Some(true)
+    } else {
+        None
+    }
+}
+
+impl Asks {
+    /// What the bytes that have come so far ask for. It stays the same whatever follows, unless it is `More`.
+    pub fn of(front: &[u8]) -> Asks
+        // A source is known by its method.
+        ensures source { (result ≡ Asks.Source) ↔ (is_source front.now ≡ true) }
+
+        // A listener is known once its head is whole, and only then.
+        ensures live { (head : Bool) → (result ≡ Asks.Live head) ↔ IsLive head front.now }
+
+        // What is awaited may come, and what isn't awaited doesn't come.
+        ensures more { result ≡ Asks.More → MayCome front.now }
+        ensures begins { may_be_source front.now ≡ true → is_source front.now ≡ false → result ≡ Asks.More }
+        ensures file { result ≡ Asks.File → IsOther front.now }
+    {
+        if is_source(front) {
+            return Asks::Source;
+        }
+        if may_be_source(front) {
+            return Asks::More;
+        }
+        match read_head(front) {
+            HeadRead::Whole(request) => match listens(front, request.target) {
+                Some(head) => Asks::Live { head },
+                None => Asks::File,
+            },
+            HeadRead::Partial if may_be_live(front) => Asks::More,
+            _ => Asks::File,
+        }
+    }
+}
