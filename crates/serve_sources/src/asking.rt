@@ -1,10 +1,11 @@
 //! What the first bytes of a connection ask for.
-ghost use Rattle.std.specs.Prelude.{◌≡◌, ◌==◌, ◌↔◌, Bool, true, false, nat_eq, position, IfSome, Some};
+ghost use Rattle.std.specs.Prelude.{◌≡◌, ◌↔◌, Bool, true, false, nat_eq, IfSome, Some};
 ghost use Rattle.std.specs.List.{starts_with};
 ghost use Rattle.serve_sources.specs.Live.{is_live_target};
 ghost use Rattle.serve_sources.specs.Asking.{IsLive, IsOther, MayCome, is_source, listener_method, may_be_live, may_be_source, may_name_live};
 
 use crate::live::{is_live_target, may_be_live_target};
+use crate::places::place_of;
 use ogg_http::{HeadRead, read_head};
 
 /// What the first bytes of a connection ask for.
@@ -32,16 +33,10 @@ fn may_be_source(front: &[u8]) -> bool
     b"PUT ".starts_with(front) || b"SOURCE ".starts_with(front)
 }
 
-fn first_space(text: &[u8]) -> Option<usize>
-    ensures { result ≡ position (λ b. b == 32) text.now }
-{
-    text.iter().position(|b| *b == b' ')
-}
-
 fn may_name_live(target: &[u8]) -> bool
     ensures { result ≡ may_name_live target.now }
 {
-    match first_space(target) {
+    match place_of(b' ', target) {
         Some(end) => is_live_target(&target[..end]),
         None => may_be_live_target(target),
     }

@@ -1,7 +1,17 @@
 //! Heads and bodies of source clients: encoders that send an Ogg bitstream over HTTP (RFC 9110, RFC 9112).
 #![tactic(auto)]
 
+mod answers;
 mod asking;
+mod credentials;
+mod laws;
 mod live;
+mod password;
+mod places;
+mod refused;
 
+pub use answers::{DONE, FULL, LIVE};
 pub use asking::Asks;
+pub use laws::answers_are_these;
+pub use password::{Password, PasswordFault};
+pub use refused::Refused;

@@ -3,10 +3,12 @@ ghost use Rattle.std.specs.Prelude.{◌≡◌};
 ghost use Rattle.ogg_http.specs.Target.{first_slash, has_scheme, path_of};
 ghost use Rattle.serve_sources.specs.Live.{is_live_path, is_live_target, may_be_live_path, may_be_live_target, may_have_scheme};
 
+use crate::places::place_of;
+
 fn first_slash(text: &[u8]) -> Option<usize>
     ensures { result ≡ first_slash text.now }
 {
-    text.iter().position(|b| *b == b'/')
+    place_of(b'/', text)
 }
 
 fn has_scheme(target: &[u8]) -> bool

@@ -1,0 +1,24 @@
+//! Answers whose text is always the same.
+
+/// The answer after a whole body whose end is marked.
+pub const DONE: &[u8] = b"HTTP/1.1 200 OK\r\n\
+    Content-Length: 0\r\n\
+    Connection: close\r\n\r\n";
+
+/// The head of the answer to a live listener. Its content ends with the connection.
+pub const LIVE: &[u8] = b"HTTP/1.1 200 OK\r\n\
+    Content-Type: application/ogg\r\n\
+    Cache-Control: no-store\r\n\
+    Connection: close\r\n\r\n";
+
+/// The answer to a connection too many.
+pub const FULL: &[u8] = b"HTTP/1.1 503 Service Unavailable\r\n\
+    Retry-After: 1\r\n\
+    Content-Length: 0\r\n\
+    Connection: close\r\n\r\n";
+
+/// The interim answer to a source that waits before it sends its body.
+pub(crate) const GO_ON: &[u8] = b"HTTP/1.1 100 Continue\r\n\r\n";
+
+/// The answer to a source that says `SOURCE`, before its body.
+pub(crate) const ACCEPTED: &[u8] = b"HTTP/1.0 200 OK\r\n\r\n";
