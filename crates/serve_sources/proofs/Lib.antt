@@ -1,2 +1,3 @@
 pub mod Methods
 pub mod Comparing
+pub mod Named

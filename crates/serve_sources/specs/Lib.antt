@@ -3,3 +3,9 @@ pub mod Live
 pub mod Answers
 pub mod Credentials
 pub mod Password
+pub mod Fields
+pub mod Framing
+pub mod Reply
+pub mod Body
+-- the grammar of bodies, which the contracts of `Body` cite
+pub use Rattle.http1.specs.Body as BodyGrammar

@@ -16,9 +16,3 @@ pub const FULL: &[u8] = b"HTTP/1.1 503 Service Unavailable\r\n\
     Retry-After: 1\r\n\
     Content-Length: 0\r\n\
     Connection: close\r\n\r\n";
-
-/// The interim answer to a source that waits before it sends its body.
-pub(crate) const GO_ON: &[u8] = b"HTTP/1.1 100 Continue\r\n\r\n";
-
-/// The answer to a source that says `SOURCE`, before its body.
-pub(crate) const ACCEPTED: &[u8] = b"HTTP/1.0 200 OK\r\n\r\n";

@@ -3,15 +3,20 @@
 
 mod answers;
 mod asking;
+mod body;
 mod credentials;
+mod fields;
+mod framing;
 mod laws;
 mod live;
 mod password;
 mod places;
 mod refused;
+mod reply;
 
 pub use answers::{DONE, FULL, LIVE};
 pub use asking::Asks;
+pub use body::{Body, BodyFault, Piece};
 pub use laws::answers_are_these;
 pub use password::{Password, PasswordFault};
 pub use refused::Refused;
