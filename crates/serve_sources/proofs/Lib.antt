@@ -1,3 +1,4 @@
 pub mod Methods
 pub mod Comparing
 pub mod Named
+pub mod Saying
