@@ -2,3 +2,4 @@ pub mod Methods
 pub mod Comparing
 pub mod Named
 pub mod Saying
+pub mod Taking

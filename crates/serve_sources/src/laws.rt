@@ -1,11 +1,27 @@
 //! What always holds of sources' requests.
-ghost use Rattle.std.specs.Prelude.{◌≡◌};
+ghost use Rattle.std.specs.Prelude.{◌≡◌, ℕ, List};
+ghost use Rattle.httparse.specs.Grammar.{Field};
+ghost use Rattle.http1.specs.Body.{ReadsBody, body_of};
+ghost use Rattle.http1.specs.declared.framing.Framing.{Framing as FramingOf};
 ghost use Rattle.serve_sources.specs.declared.answers.TheConstants.{DONE, LIVE, FULL};
+ghost use Rattle.serve_sources.specs.declared.reply.Reply.{Reply as ReplyOf};
 ghost use Rattle.serve_sources.specs.Answers.{done_text, live_text, full_text};
+ghost use Rattle.serve_sources.specs.Body.{Takes, body_for, limits};
 
 /// The constant answers, line by line.
 pub fn answers_are_these()
     ensures done { DONE.now ≡ done_text }
     ensures live { LIVE.now ≡ live_text }
     ensures full { FULL.now ≡ full_text }
+{}
+
+/// What a caller takes of a body, piece by piece, is the body of RFC 9112, section 6: so many bytes, or the content of
+/// the chunks (section 7.1), or all up to the end of the connection; and it is the same however the bytes were cut.
+pub fn bodies_are_taken_whole()
+    ensures read { (framing : FramingOf) (reply : ReplyOf) (stream taken rest : List ℕ)
+        → Takes (body_for framing reply) stream taken rest
+        → (trailers : List Field) × ReadsBody limits framing stream (body_of taken trailers) rest }
+    ensures one { (framing : FramingOf) (reply other : ReplyOf) (stream taken others rest left : List ℕ)
+        → Takes (body_for framing reply) stream taken rest → Takes (body_for framing other) stream others left
+        → (taken ≡ others) × (rest ≡ left) }
 {}
