@@ -3,3 +3,4 @@ pub mod Comparing
 pub mod Named
 pub mod Saying
 pub mod Taking
+pub mod Naming

@@ -1,10 +1,12 @@
 -- What the first bytes of a connection ask for, by their request line: a method, a space, a target, a space, a version
 -- (RFC 9112, section 3).
 -- Ours: a connection has one request, so no empty line is passed over before it (section 2.2).
-use Rattle.std.specs.Prelude.{◌≡◌, ◌≢◌, ◌≤◌, ℕ, ◌⊎◌, Bool, true, false, List, length, drop, take, nat_eq, ◌||◌, ◌&&◌, ◌==◌, if◌then◌else◌, Option, Some, None, position, codes}
+use Rattle.std.specs.Prelude.{◌≡◌, ◌≢◌, ◌≤◌, ℕ, ◌⊎◌, Bool, true, false, List, length, drop, take, map, not, nat_eq, ◌||◌, ◌&&◌, ◌==◌, if◌then◌else◌, Option, Some, None, position, codes}
 use Rattle.std.specs.List.{starts_with}
 use Rattle.std.specs.Str.{byte}
 use Rattle.httparse.specs.Grammar.{RequestHead, ReadsRequest}
+use Rattle.httparse.specs.Spans.{name_and_value}
+use Rattle.ogg_http.specs.Fields.{count_of}
 use Rattle.ogg_http.specs.Head.{head_bytes, most_bytes, most_fields, IsAwaited, IsHopeless}
 use Rattle.serve_sources.specs.Live.{is_live_target, may_be_live_target}
 
@@ -42,12 +44,20 @@ abbrev pub HasHead : List ℕ → RequestHead → Type 0
 HasHead front request =
     (rest : List ℕ) × ReadsRequest (head_bytes front) request rest × (length request.fields ≤ most_fields)
 
+-- the head names what is live, and has one Host field if it is of HTTP/1.1 (section 3.2)
+abbrev pub names_live : List ℕ → Bool → ℕ → Bool
+names_live target http11 hosts = is_live_target target && not (http11 && not (hosts == 1))
+
+abbrev pub asks_live : RequestHead → Bool
+asks_live request =
+    names_live request.target (request.minor == 1) (count_of (codes "host") (map name_and_value request.fields))
+
 -- a whole head asks for what is live, by GET or by HEAD
 pub record IsLive (head : Bool) (front : List ℕ) : Type 0 where
   pub method : starts_with nat_eq front (listener_method head) ≡ true
   pub request : RequestHead
   pub has : HasHead front request
-  pub target : is_live_target request.target ≡ true
+  pub asks : asks_live request ≡ true
 
 -- a source's or a listener's request may still come
 abbrev pub MayCome : List ℕ → Type 0
@@ -57,9 +67,16 @@ MayCome front = (may_be_source front ≡ true) ⊎ ((may_be_live front ≡ true)
 abbrev pub AsksOther : List ℕ → Type 0
 AsksOther front =
     (request : RequestHead) × HasHead front request
-    × ((head : Bool) → starts_with nat_eq front (listener_method head) ≡ true → is_live_target request.target ≡ true → ⊥)
+    × ((head : Bool) → starts_with nat_eq front (listener_method head) ≡ true → asks_live request ≡ true → ⊥)
 
--- why neither comes: the request line is another one, the head asks for something else, no head comes, or none came
--- within the limit
-abbrev pub IsOther : List ℕ → Type 0
-IsOther front = (may_be_live front ≡ false) ⊎ (AsksOther front ⊎ (IsHopeless front ⊎ (most_bytes ≤ length front)))
+-- there is no head, and none comes, or none came within the limit
+pub record LacksHead (front : List ℕ) : Type 0 where
+  pub none : (request : RequestHead) → HasHead front request → ⊥
+  pub cause : IsHopeless front ⊎ (most_bytes ≤ length front)
+
+-- neither a source's nor a listener's request comes: the request line is another one, the head asks for something else,
+-- or there is none
+pub record IsOther (front : List ℕ) : Type 0 where
+  pub no_source : is_source front ≡ false
+  pub nor_front : may_be_source front ≡ false
+  pub cause : (may_be_live front ≡ false) ⊎ (AsksOther front ⊎ LacksHead front)

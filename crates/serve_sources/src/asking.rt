@@ -1,8 +1,7 @@
 //! What the first bytes of a connection ask for.
-ghost use Rattle.std.specs.Prelude.{◌≡◌, ◌↔◌, Bool, true, false, nat_eq, IfSome, Some};
+ghost use Rattle.std.specs.Prelude.{◌≡◌, ◌≢◌, ◌↔◌, Bool, true, false, nat_eq, IfSome, Some};
 ghost use Rattle.std.specs.List.{starts_with};
-ghost use Rattle.serve_sources.specs.Live.{is_live_target};
-ghost use Rattle.serve_sources.specs.Asking.{IsLive, IsOther, MayCome, is_source, listener_method, may_be_live, may_be_source, may_name_live};
+ghost use Rattle.serve_sources.specs.Asking.{IsLive, IsOther, MayCome, is_source, listener_method, may_be_live, may_be_source, may_name_live, names_live};
 
 use crate::live::{is_live_target, may_be_live_target};
 use crate::places::place_of;
@@ -54,21 +53,26 @@ fn may_be_live(front: &[u8]) -> bool
     }
 }
 
-/// Whether a listener asks for it by `HEAD`, if the head is a listener's.
-fn listens(front: &[u8], target: &[u8]) -> Option<bool>
-    ensures listens { IfSome result (λ head.
-        (starts_with nat_eq front.now (listener_method head) ≡ true) × (is_live_target target.now ≡ true)) }
-    ensures each { (head : Bool) → starts_with nat_eq front.now (listener_method head) ≡ true
-        → is_live_target target.now ≡ true → result ≡ Some head }
+fn names_live(target: &[u8], http11: bool, hosts: u32) -> bool
+    ensures { result ≡ names_live target.now http11 hosts }
 {
-    if !is_live_target(target) {
-        None
+    is_live_target(target) && !(http11 && hosts != 1)
+}
+
+/// What a whole head asks for that isn't a source's, if it names what is live or not.
+fn asks_whole(front: &[u8], names_live: bool) -> Asks
+    ensures never { (result ≢ Asks.More) × (result ≢ Asks.Source) }
+    ensures live { (head : Bool) → (result ≡ Asks.Live head) ↔
+        ((starts_with nat_eq front.now (listener_method head) ≡ true) × (names_live ≡ true)) }
+{
+    if !names_live {
+        Asks::File
     } else if front.starts_with(b"GET ") {
-        Some(false)
+        Asks::Live { head: false }
     } else if front.starts_with(b"HEAD ") {
-        Some(true)
+        Asks::Live { head: true }
     } else {
-        None
+        Asks::File
     }
 }
 
@@ -93,10 +97,10 @@ impl Asks {
             return Asks::More;
         }
         match read_head(front) {
-            HeadRead::Whole(request) => match listens(front, request.target) {
-                Some(head) => Asks::Live { head },
-                None => Asks::File,
-            },
+            HeadRead::Whole(request) => {
+                let names = names_live(request.target, request.http11, request.hosts);
+                asks_whole(front, names)
+            }
             HeadRead::Partial if may_be_live(front) => Asks::More,
             _ => Asks::File,
         }
