@@ -4,3 +4,5 @@ pub mod Named
 pub mod Saying
 pub mod Taking
 pub mod Naming
+pub mod Fronts
+pub mod Targets

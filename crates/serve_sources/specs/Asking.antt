@@ -32,12 +32,18 @@ may_go_on (Some end) target = is_live_target (take end target)
 abbrev pub may_name_live : List ℕ → Bool
 may_name_live target = may_go_on (position (λ b. b == byte " ") target) target
 
+-- more bytes may make this a listener's method
+abbrev pub may_be_listener : List ℕ → Bool
+may_be_listener front =
+    starts_with nat_eq (listener_method false) front || starts_with nat_eq (listener_method true) front
+
 -- more bytes may make this the request line of a live listener, or they have made it
 abbrev pub may_be_live : List ℕ → Bool
 may_be_live front =
-    if starts_with nat_eq front (listener_method false) then may_name_live (drop 4 front)
+    if may_be_listener front then true
+    else if starts_with nat_eq front (listener_method false) then may_name_live (drop 4 front)
     else if starts_with nat_eq front (listener_method true) then may_name_live (drop 5 front)
-    else starts_with nat_eq (listener_method false) front || starts_with nat_eq (listener_method true) front
+    else false
 
 -- the bytes begin with this head, and it isn't past the limits
 abbrev pub HasHead : List ℕ → RequestHead → Type 0

@@ -1,7 +1,7 @@
 //! What the first bytes of a connection ask for.
 ghost use Rattle.std.specs.Prelude.{◌≡◌, ◌≢◌, ◌↔◌, Bool, true, false, nat_eq, IfSome, Some};
 ghost use Rattle.std.specs.List.{starts_with};
-ghost use Rattle.serve_sources.specs.Asking.{IsLive, IsOther, MayCome, is_source, listener_method, may_be_live, may_be_source, may_name_live, names_live};
+ghost use Rattle.serve_sources.specs.Asking.{IsLive, IsOther, MayCome, is_source, listener_method, may_be_listener, may_be_live, may_be_source, may_name_live, names_live};
 
 use crate::live::{is_live_target, may_be_live_target};
 use crate::places::place_of;
@@ -41,15 +41,23 @@ fn may_name_live(target: &[u8]) -> bool
     }
 }
 
+fn may_be_listener(front: &[u8]) -> bool
+    ensures { result ≡ may_be_listener front.now }
+{
+    b"GET ".starts_with(front) || b"HEAD ".starts_with(front)
+}
+
 fn may_be_live(front: &[u8]) -> bool
     ensures { result ≡ may_be_live front.now }
 {
-    if front.starts_with(b"GET ") {
+    if may_be_listener(front) {
+        true
+    } else if front.starts_with(b"GET ") {
         may_name_live(&front[4..])
     } else if front.starts_with(b"HEAD ") {
         may_name_live(&front[5..])
     } else {
-        b"GET ".starts_with(front) || b"HEAD ".starts_with(front)
+        false
     }
 }
 
