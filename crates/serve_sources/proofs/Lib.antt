@@ -6,3 +6,4 @@ pub mod Taking
 pub mod Naming
 pub mod Fronts
 pub mod Targets
+pub mod Staying

@@ -14,7 +14,7 @@ begins text front test = (starts_is Decides-eqb text front _ refl).0 test
 first_differs : (a b : ℕ) (p q s t : List ℕ) → (a ∷ p) ++ s ≡ (b ∷ q) ++ t → a ≡ b
 first_differs a b p q s t e = ap (λ l. slice_index l 0) e
 
-first_of : (c : ℕ) (p front : List ℕ) → starts_with nat_eq front (c ∷ p) ≡ true → slice_index front 0 ≡ c
+pub first_of : (c : ℕ) (p front : List ℕ) → starts_with nat_eq front (c ∷ p) ≡ true → slice_index front 0 ≡ c
 first_of c p front test = ap (λ l. slice_index l 0) (begins front (c ∷ p) test)
 
 -- GET isn't HEAD

@@ -1,5 +1,5 @@
 //! What the first bytes of a connection ask for.
-ghost use Rattle.std.specs.Prelude.{◌≡◌, ◌≢◌, ◌↔◌, Bool, true, false, nat_eq, IfSome, Some};
+ghost use Rattle.std.specs.Prelude.{◌≡◌, ◌≢◌, ◌↔◌, ◌<◌, length, Bool, true, false, nat_eq, IfSome, Some};
 ghost use Rattle.std.specs.List.{starts_with};
 ghost use Rattle.serve_sources.specs.Asking.{IsLive, IsOther, MayCome, is_source, listener_method, may_be_listener, may_be_live, may_be_source, may_name_live, names_live};
 
@@ -95,6 +95,7 @@ impl Asks {
 
         // What is awaited may come, and what isn't awaited doesn't come.
         ensures more { result ≡ Asks.More → MayCome front.now }
+        ensures short { result ≡ Asks.More → length front.now < 8192 }
         ensures begins { may_be_source front.now ≡ true → is_source front.now ≡ false → result ≡ Asks.More }
         ensures file { result ≡ Asks.File → IsOther front.now }
     {

@@ -1,12 +1,22 @@
 //! What always holds of sources' requests.
-ghost use Rattle.std.specs.Prelude.{◌≡◌, ℕ, List};
+ghost use Rattle.std.specs.Prelude.{◌≡◌, ◌++◌, Bool, true, false, ℕ, List};
 ghost use Rattle.httparse.specs.Grammar.{Field};
 ghost use Rattle.http1.specs.Body.{ReadsBody, body_of};
 ghost use Rattle.http1.specs.declared.framing.Framing.{Framing as FramingOf};
 ghost use Rattle.serve_sources.specs.declared.answers.TheConstants.{DONE, LIVE, FULL};
 ghost use Rattle.serve_sources.specs.declared.reply.Reply.{Reply as ReplyOf};
 ghost use Rattle.serve_sources.specs.Answers.{done_text, live_text, full_text};
+ghost use Rattle.serve_sources.specs.Asking.{IsLive, IsOther, is_source};
 ghost use Rattle.serve_sources.specs.Body.{Takes, body_for, limits};
+
+/// What the first bytes of a connection ask for is the same whatever follows: a source stays one, and so does a listener.
+/// After other bytes no source's and no listener's request comes.
+pub fn answers_stay()
+    ensures source { (front more : List ℕ) → is_source front ≡ true → is_source (front ++ more) ≡ true }
+    ensures live { (head : Bool) (front more : List ℕ) → IsLive head front → IsLive head (front ++ more) }
+    ensures no_source { (front more : List ℕ) → IsOther front → is_source (front ++ more) ≡ false }
+    ensures no_listener { (head : Bool) (front more : List ℕ) → IsOther front → ¬ (IsLive head (front ++ more)) }
+{}
 
 /// The constant answers, line by line.
 pub fn answers_are_these()

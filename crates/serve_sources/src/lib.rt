@@ -18,7 +18,7 @@ mod reply;
 pub use answers::{DONE, FULL, LIVE};
 pub use asking::Asks;
 pub use body::{Body, BodyFault, Piece};
-pub use laws::{answers_are_these, bodies_are_taken_whole};
+pub use laws::{answers_are_these, answers_stay, bodies_are_taken_whole};
 pub use offer::Offer;
 pub use password::{Password, PasswordFault};
 pub use refused::Refused;
