@@ -5,5 +5,7 @@ pub mod Saying
 pub mod Taking
 pub mod Naming
 pub mod Fronts
+pub mod Placing
+pub mod Basic
 pub mod Targets
 pub mod Staying

@@ -1,10 +1,10 @@
 -- The credentials of a source: Basic (RFC 7617), whose user name may be any.
-use Rattle.std.specs.Prelude.{ℕ, ◌+◌, Bool, false, not, List, [], length, take, drop, map, nat_le, ◌&&◌, ◌==◌, if◌then◌else◌, Option, Some, None, Result, Ok, Err, position, codes}
+use Rattle.std.specs.Prelude.{◌≡◌, ℕ, ◌+◌, ◌∷◌, ◌++◌, replicate, Bool, false, not, List, [], length, take, drop, map, nat_le, ◌&&◌, ◌==◌, if◌then◌else◌, Option, Some, None, Result, Ok, Err, position, codes}
 use Rattle.std.specs.Char.{to_ascii_lowercase}
 use Rattle.std.specs.Str.{byte, bytes_eq}
 use Rattle.base64.specs.declared.decode.DecodeError.{DecodeError}
 use Rattle.base64.specs.Engines.{standard}
-use Rattle.base64.specs.GeneralPurpose.{decode_of}
+use Rattle.base64.specs.GeneralPurpose.{decode_of, encode_of}
 
 -- the text from this place on
 abbrev pub text_from : Option ℕ → List ℕ → List ℕ
@@ -47,3 +47,12 @@ value_authorizes value password = token_authorizes (token_of value) password
 abbrev pub authorizes : Option (List ℕ) → List ℕ → Bool
 authorizes None password = false
 authorizes (Some value) password = value_authorizes value password
+
+-- RFC 7617, section 2: the scheme, a space or more, and the Base64 of a user name without a colon, a colon and the
+-- password
+pub record IsBasic (user password value : List ℕ) : Type 0 where
+  pub scheme : List ℕ
+  pub spaces : ℕ
+  pub basic : map to_ascii_lowercase scheme ≡ codes "basic"
+  pub text : value ≡ scheme ++ byte " " ∷ (replicate spaces (byte " ") ++ encode_of standard (user ++ byte ":" ∷ password))
+  pub no_colon : position (λ b. b == byte ":") user ≡ None

@@ -1,0 +1,148 @@
+-- A value gives the password if it is Basic credentials with it, and only then.
+use Rattle.std.proofs.Common.{◌≡◌, ℕ, zero, suc, ◌+◌, ◌-◌, ◌/◌, ◌<◌, ◌≤◌, Bool, true, false, cond, not, nat_le, nat_lt, List, [], ◌∷◌, ◌++◌, ◌==◌, ◌&&◌, Option, Some, None, Ok, Err, length, take, drop, map, replicate, get_or, slice_index, codes, inl, inr, arith, refl, ap, sym, ◌∙◌, subst, append_assoc, take-append-drop, append-nil}
+use Rattle.std.specs.Prelude.{Result}
+use Rattle.std.proofs.lemmas.Bool.{and_parts, and_from, cases_lt, eqb-true, eq-eqb, ne_eqb, leb-true, le-leb, cond-true}
+use Rattle.std.proofs.lemmas.List.{take_at, drop_at, take_more, length-take-le, length-append, length-map, map-append, take_all, get_or-take, length-replicate, get_or-replicate}
+use Rattle.std.proofs.lemmas.List.Quantifiers.{position-Some}
+use Rattle.std.proofs.Math.Seq.{drop-cons, take-append_seam}
+use Rattle.std.proofs.lemmas.Slice.Eq.{bytes_eq-Decides}
+use Rattle.std.proofs.lemmas.Str.Ascii.{lowercase_is}
+use Rattle.std.specs.Char.{to_ascii_lowercase}
+use Rattle.std.specs.List.{position}
+use Rattle.std.specs.Str.{bytes_eq}
+use Rattle.base64.specs.declared.decode.DecodeError.{DecodeError}
+use Rattle.base64.specs.Engines.{standard}
+use Rattle.base64.specs.GeneralPurpose.{decode_of, encode_of, IsBytes}
+use Rattle.base64.proofs.EngineFacts.{decode_of-encode_of, decode_of_strict}
+use Rattle.serve_sources.specs.Credentials.{IsBasic, decodes_to, has_password, password_behind, text_from, token_authorizes, token_of, value_authorizes, without_spaces}
+use Rattle.serve_sources.proofs.Placing.{NonePasses, no_place, none_passes, place_is}
+
+-- ---- spaces
+all_same : (x : ℕ) (xs : List ℕ) → ((k : ℕ) → k < length xs → get_or xs k 0 ≡ x) → xs ≡ replicate (length xs) x
+all_same x [] same = refl
+all_same x (y ∷ xs) same =
+    ap (λ l. y ∷ l) (all_same x xs (λ k inside. same (suc k) (omega (arith, inside))))
+    ∙ ap (λ z. z ∷ replicate (length xs) x) (same 0 (omega arith))
+
+is_space : (b : Bool) → not b ≡ false → b ≡ true
+is_space true h = refl
+is_space false h = absurd (cc h)
+
+-- a text is its spaces and the rest
+spaces_first : (text : List ℕ) → (k : ℕ) × (text ≡ replicate k 32 ++ without_spaces text)
+spaces_first text = by_place (position (λ b. not (b == 32)) text) refl
+  where
+    by_place : (place : Option ℕ) → position (λ b. not (b == 32)) text ≡ place → (k : ℕ) × (text ≡ replicate k 32 ++ text_from place text)
+    by_place None is = (
+      length text,
+      all_same 32 text (λ k inside. eqb-true _ _ (is_space _ (none_passes (λ b. not (b == 32)) text is k inside)))
+      ∙ sym (append-nil (replicate (length text) 32)),
+    )
+    by_place (Some at) is =
+        let (inside, other, before) = position-Some (λ b. not (b == 32)) text at 0 is in
+        let size : length (take at text) ≡ at = length-take-le at text (omega (arith, inside)) in
+        let spaces : take at text ≡ replicate (length (take at text)) 32 =
+        all_same 32 (take at text) (λ k within. get_or-take at text k 0 (omega (arith, within, size)) ∙ eqb-true _ _ (is_space _ (before k (omega (arith, within, size))))) in (
+          length (take at text),
+          sym (take-append-drop at text) ∙ ap (λ t. t ++ drop at text) spaces,
+        )
+
+-- ---- the pair
+-- a pair with the password is a user name, a colon and the password
+pair_of : (pair password : List ℕ) → has_password pair password ≡ true → (user : List ℕ) × (pair ≡ user ++ 58 ∷ password) × (position (λ b. b == 58) user ≡ None)
+pair_of pair password has = by_place (position (λ b. b == 58) pair) refl has
+  where
+    by_place : (place : Option ℕ) → position (λ b. b == 58) pair ≡ place → password_behind place pair password ≡ true → (user : List ℕ) × (pair ≡ user ++ 58 ∷ password) × (position (λ b. b == 58) user ≡ None)
+    by_place None is given = absurd (cc given)
+    by_place (Some at) is given =
+        let (inside, colon, before) = position-Some (λ b. b == 58) pair at 0 is in
+        let next : suc at ≡ at + 1 = omega arith in
+        let size : length (take at pair) ≡ at = length-take-le at pair (omega (arith, inside)) in
+        let behind : drop (at + 1) pair ≡ password = (bytes_eq-Decides (drop (at + 1) pair) password).0 given in (
+          take at pair,
+          sym (take-append-drop at pair)
+          ∙ ap (λ t. take at pair ++ t) (drop-cons pair at 0 inside ∙ ap (λ x. x ∷ drop (suc at) pair) (eqb-true _ _ colon) ∙ ap (λ n. 58 ∷ drop n pair) next ∙ ap (λ t. 58 ∷ t) behind),
+          no_place (λ b. b == 58) (take at pair) (λ k within.
+          ap (λ x. x == 58) (get_or-take at pair k 0 (omega (arith, within, size))) ∙ before k (omega (arith, within, size))),
+        )
+
+has_pair : (user password : List ℕ) → position (λ b. b == 58) user ≡ None → has_password (user ++ 58 ∷ password) password ≡ true
+has_pair user password none =
+    let pair : List ℕ = user ++ 58 ∷ password in
+    let whole : pair ≡ (user ++ 58 ∷ []) ++ password = sym (append_assoc user (58 ∷ []) password) in
+    let size : length (user ++ 58 ∷ []) ≡ length user + 1 = length-append user (58 ∷ []) in
+    ap (λ place. password_behind place pair password) (place_is (λ b. b == 58) user 58 password (none_passes (λ b. b == 58) user none) refl)
+    ∙ (bytes_eq-Decides (drop (length user + 1) pair) password).1 (ap (drop (length user + 1)) whole ∙ drop_at (user ++ 58 ∷ []) password (length user + 1) size)
+
+-- ---- the token
+by_option : (place : Option (List ℕ)) (password : List ℕ) → token_authorizes place password ≡ true → (token : List ℕ) × (place ≡ Some token) × (decodes_to (decode_of standard token) password ≡ true)
+by_option None password h = absurd (cc h)
+by_option (Some token) password h = (token, refl, h)
+
+-- what is decoded is the pair
+by_decoded : (decoded : Result (List ℕ) DecodeError) (password : List ℕ) → decodes_to decoded password ≡ true → (pair : List ℕ) × (decoded ≡ Ok pair) × (has_password pair password ≡ true)
+by_decoded (Ok pair) password h = (pair, refl, h)
+by_decoded (Err wrong) password h = absurd (cc h)
+
+-- a value that is chosen was there
+chosen : (b : Bool) (x y : List ℕ) → cond b (Some x) None ≡ Some y → (b ≡ true) × (x ≡ y)
+chosen true x y e = (refl, cc e)
+chosen false x y e = absurd (cc e)
+
+-- no letter is a space
+lower_space : (c : ℕ) → to_ascii_lowercase c ≡ 32 → c ≡ 32
+lower_space c lower =
+    elim (cases_lt c 65) [
+      | inl below ↦ sym ((lowercase_is c).1 below) ∙ lower
+      | inr above ↦ elim (cases_lt 90 c) [
+          | inl beyond ↦ sym ((lowercase_is c).2 beyond) ∙ lower
+          | inr within ↦ let moved : to_ascii_lowercase c ≡ c + 32 = (lowercase_is c).0 (above, within) in absurd (omega (arith, above, moved, lower))
+        ]
+    ]
+
+-- the scheme and its space
+scheme_of : (value : List ℕ) → 6 ≤ length value → map to_ascii_lowercase (take 6 value) ≡ codes "basic " → (scheme : List ℕ) × (take 6 value ≡ scheme ++ 32 ∷ []) × (map to_ascii_lowercase scheme ≡ codes "basic")
+scheme_of value long lower =
+    let scheme : List ℕ = take 5 value in
+    let last : ℕ = get_or value 5 0 in
+    let split : take 6 value ≡ scheme ++ last ∷ [] = take_more value 5 0 (omega (arith, long)) in
+    let both : map to_ascii_lowercase scheme ++ to_ascii_lowercase last ∷ [] ≡ codes "basic" ++ 32 ∷ [] =
+    sym (map-append to_ascii_lowercase scheme (last ∷ [])) ∙ ap (map to_ascii_lowercase) (sym split) ∙ lower in
+    let size : length (map to_ascii_lowercase scheme) ≡ 5 = length-map scheme to_ascii_lowercase ∙ length-take-le 5 value (omega (arith, long)) in
+    let name : map to_ascii_lowercase scheme ≡ codes "basic" =
+    sym (take_at (map to_ascii_lowercase scheme) (to_ascii_lowercase last ∷ []) 5 size) ∙ ap (take 5) both in
+    let space : to_ascii_lowercase last ∷ [] ≡ 32 ∷ [] =
+    sym (drop_at (map to_ascii_lowercase scheme) (to_ascii_lowercase last ∷ []) 5 size) ∙ ap (drop 5) both in
+    (scheme, split ∙ ap (λ c. scheme ++ c ∷ []) (lower_space last (ap (λ l. slice_index l 0) space)), name)
+
+-- the rest of bytes are bytes
+bytes_after : (front rest : List ℕ) → IsBytes (front ++ rest) → IsBytes rest
+bytes_after [] rest bytes i = bytes i
+bytes_after (x ∷ front) rest bytes i = bytes_after front rest (λ k. bytes (suc k)) i
+
+pub only_basic : (password value : List ℕ) → IsBytes value → value_authorizes value password ≡ true → (user : List ℕ) × IsBasic user password value
+only_basic password value bytes given =
+    let (token, is_token, decodes) = by_option (token_of value) password given in
+    let (test, is) = chosen _ (without_spaces (drop 6 value)) token is_token in
+    let (long, lower) = and_parts _ _ test in
+    let (scheme, front, basic) = scheme_of value (leb-true _ _ long) ((bytes_eq-Decides _ _).0 lower) in
+    let (spaces, behind) = spaces_first (drop 6 value) in
+    let whole : value ≡ (scheme ++ 32 ∷ replicate spaces 32) ++ token =
+    sym (take-append-drop 6 value)
+    ∙ ap (λ t. t ++ drop 6 value) front
+    ∙ ap (λ t. (scheme ++ 32 ∷ []) ++ t) (behind ∙ ap (λ t. replicate spaces 32 ++ t) is)
+    ∙ append_assoc scheme (32 ∷ []) (replicate spaces 32 ++ token)
+    ∙ sym (append_assoc scheme (32 ∷ replicate spaces 32) token) in
+    let (pair, decoded, has) = by_decoded (decode_of standard token) password decodes in
+    let encoded : token ≡ encode_of standard pair =
+    decode_of_strict standard token pair (refl, refl) (bytes_after (scheme ++ 32 ∷ replicate spaces 32) token (subst IsBytes whole bytes)) decoded in
+    let (user, split, no_colon) = pair_of pair password has in (
+      user,
+      record {
+        scheme = scheme;
+        spaces = spaces;
+        basic = basic;
+        text = whole ∙ append_assoc scheme (32 ∷ replicate spaces 32) token ∙ ap (λ t. scheme ++ 32 ∷ (replicate spaces 32 ++ t)) (encoded ∙ ap (encode_of standard) split);
+        no_colon = no_colon;
+      },
+    )
