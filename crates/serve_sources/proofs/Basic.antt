@@ -11,8 +11,11 @@ use Rattle.std.specs.Char.{to_ascii_lowercase}
 use Rattle.std.specs.List.{position}
 use Rattle.std.specs.Str.{bytes_eq}
 use Rattle.base64.specs.declared.decode.DecodeError.{DecodeError}
+use Rattle.std.specs.List.{list_all}
+use Rattle.std.proofs.lemmas.List.Folds.{list_all_at}
+use Rattle.base64.specs.Rfc4648.{encode_symbols, padding_len}
 use Rattle.base64.specs.Engines.{standard}
-use Rattle.base64.specs.GeneralPurpose.{decode_of, encode_of, IsBytes}
+use Rattle.base64.specs.GeneralPurpose.{engine_symbols, decode_of, encode_of, IsBytes}
 use Rattle.base64.proofs.EngineFacts.{decode_of-encode_of, decode_of_strict}
 use Rattle.serve_sources.specs.Credentials.{IsBasic, decodes_to, has_password, password_behind, text_from, token_authorizes, token_of, value_authorizes, without_spaces}
 use Rattle.serve_sources.proofs.Placing.{NonePasses, no_place, none_passes, place_is}
@@ -36,7 +39,7 @@ spaces_first text = by_place (position (λ b. not (b == 32)) text) refl
     by_place None is = (
       length text,
       all_same 32 text (λ k inside. eqb-true _ _ (is_space _ (none_passes (λ b. not (b == 32)) text is k inside)))
-      ∙ sym (append-nil (replicate (length text) 32)),
+          ∙ sym (append-nil (replicate (length text) 32)),
     )
     by_place (Some at) is =
         let (inside, other, before) = position-Some (λ b. not (b == 32)) text at 0 is in
@@ -61,9 +64,9 @@ pair_of pair password has = by_place (position (λ b. b == 58) pair) refl has
         let behind : drop (at + 1) pair ≡ password = (bytes_eq-Decides (drop (at + 1) pair) password).0 given in (
           take at pair,
           sym (take-append-drop at pair)
-          ∙ ap (λ t. take at pair ++ t) (drop-cons pair at 0 inside ∙ ap (λ x. x ∷ drop (suc at) pair) (eqb-true _ _ colon) ∙ ap (λ n. 58 ∷ drop n pair) next ∙ ap (λ t. 58 ∷ t) behind),
+              ∙ ap (λ t. take at pair ++ t) (drop-cons pair at 0 inside ∙ ap (λ x. x ∷ drop (suc at) pair) (eqb-true _ _ colon) ∙ ap (λ n. 58 ∷ drop n pair) next ∙ ap (λ t. 58 ∷ t) behind),
           no_place (λ b. b == 58) (take at pair) (λ k within.
-          ap (λ x. x == 58) (get_or-take at pair k 0 (omega (arith, within, size))) ∙ before k (omega (arith, within, size))),
+              ap (λ x. x == 58) (get_or-take at pair k 0 (omega (arith, within, size))) ∙ before k (omega (arith, within, size))),
         )
 
 has_pair : (user password : List ℕ) → position (λ b. b == 58) user ≡ None → has_password (user ++ 58 ∷ password) password ≡ true
@@ -95,9 +98,9 @@ lower_space c lower =
     elim (cases_lt c 65) [
       | inl below ↦ sym ((lowercase_is c).1 below) ∙ lower
       | inr above ↦ elim (cases_lt 90 c) [
-          | inl beyond ↦ sym ((lowercase_is c).2 beyond) ∙ lower
-          | inr within ↦ let moved : to_ascii_lowercase c ≡ c + 32 = (lowercase_is c).0 (above, within) in absurd (omega (arith, above, moved, lower))
-        ]
+        | inl beyond ↦ sym ((lowercase_is c).2 beyond) ∙ lower
+        | inr within ↦ let moved : to_ascii_lowercase c ≡ c + 32 = (lowercase_is c).0 (above, within) in absurd (omega (arith, above, moved, lower))
+      ]
     ]
 
 -- the scheme and its space
@@ -146,3 +149,86 @@ only_basic password value bytes given =
         no_colon = no_colon;
       },
     )
+
+-- ---- the other way
+-- the symbols of Base64 (RFC 4648, section 4)
+abbrev symbols_of_base64 : List ℕ
+symbols_of_base64 = engine_symbols standard
+
+all_symbols : list_all (λ s. not (s == 32)) symbols_of_base64 ≡ true
+all_symbols = refl
+
+-- no symbol of Base64 is a space
+no_space_symbol : (i : ℕ) → i < 64 → (get_or symbols_of_base64 i 0 == 32) ≡ false
+no_space_symbol i inside = by_test (get_or symbols_of_base64 i 0 == 32) refl
+  where
+    by_test : (b : Bool) → (get_or symbols_of_base64 i 0 == 32) ≡ b → (get_or symbols_of_base64 i 0 == 32) ≡ false
+    by_test false is = is
+    by_test true is =
+        let none : list_all (λ s. not (s == 32)) symbols_of_base64 ≡ false =
+        list_all_at (λ s. not (s == 32)) symbols_of_base64 i 0 inside (ap not is) in
+        absurd (cc (none, all_symbols))
+
+-- the encoding of some bytes begins with a symbol
+first_symbol : (x : ℕ) (xs : List ℕ) → (rest : List ℕ) × (encode_symbols symbols_of_base64 (x ∷ xs) ≡ slice_index symbols_of_base64 (x / 4) ∷ rest)
+unfolding encode_symbols
+first_symbol x [] = (_, refl)
+first_symbol x (y ∷ []) = (_, refl)
+first_symbol x (y ∷ z ∷ rest) = (_, refl)
+
+begins_with_symbol : (x : ℕ) (xs : List ℕ) → IsBytes (x ∷ xs) → (s : ℕ) × (rest : List ℕ) × (encode_of standard (x ∷ xs) ≡ s ∷ rest) × ((s == 32) ≡ false)
+begins_with_symbol x xs bytes =
+    let (rest, symbols) = first_symbol x xs in
+    let small : x < 256 = bytes 0 in (
+      slice_index symbols_of_base64 (x / 4),
+      _,
+      ap (λ l. l ++ replicate (padding_len (length (x ∷ xs))) 61) symbols,
+      no_space_symbol (x / 4) (omega (arith, small)),
+    )
+
+-- the text after its spaces
+without_all : (spaces s : ℕ) (rest : List ℕ) → (s == 32) ≡ false → without_spaces (replicate spaces 32 ++ s ∷ rest) ≡ s ∷ rest
+without_all spaces s rest other =
+    let q : ℕ → Bool = λ b. not (b == 32) in
+    let front : List ℕ = replicate spaces 32 in
+    let size : length front ≡ spaces = length-replicate spaces 32 in
+    let place : position q (front ++ s ∷ rest) ≡ Some (length front) =
+    place_is q front s rest
+    (λ k inside. ap q (get_or-replicate spaces k 32 0 (omega (arith, inside, size)))) (ap not other) in
+    ap (λ o. text_from o (front ++ s ∷ rest)) place
+    ∙ drop_at front (s ∷ rest) (length front) refl
+
+-- a list with an element in it
+joined : (user password : List ℕ) → (x : ℕ) × (xs : List ℕ) × (user ++ 58 ∷ password ≡ x ∷ xs)
+joined [] password = (58, password, refl)
+joined (x ∷ user) password = (x, user ++ 58 ∷ password, refl)
+
+pub each_basic : (user password value : List ℕ) → IsBytes (user ++ 58 ∷ password) → IsBasic user password value → value_authorizes value password ≡ true
+each_basic user password value bytes is =
+    let pair : List ℕ = user ++ 58 ∷ password in
+    let (x, xs, split) = joined user password in
+    let (s, rest, encoded, other) = begins_with_symbol x xs (subst IsBytes split bytes) in
+    let token : List ℕ = encode_of standard pair in
+    let begun : token ≡ s ∷ rest = ap (encode_of standard) split ∙ encoded in
+    let behind : List ℕ = replicate is.spaces 32 ++ token in
+    let front : List ℕ = is.scheme ++ 32 ∷ [] in
+    let scheme_size : length is.scheme ≡ 5 = sym (length-map is.scheme to_ascii_lowercase) ∙ ap length is.basic in
+    let size : length front ≡ 6 = length-append is.scheme (32 ∷ []) ∙ ap (λ n. n + 1) scheme_size in
+    let whole : value ≡ front ++ behind = is.text ∙ sym (append_assoc is.scheme (32 ∷ []) behind) in
+    let sizes : length value ≡ length front + length behind = ap length whole ∙ length-append front behind in
+    let long : nat_le 6 (length value) ≡ true = le-leb _ _ (omega (arith, sizes, size)) in
+    let lower : map to_ascii_lowercase (take 6 value) ≡ codes "basic " =
+    ap (λ v. map to_ascii_lowercase (take 6 v)) whole
+    ∙ ap (map to_ascii_lowercase) (take_at front behind 6 size)
+    ∙ map-append to_ascii_lowercase is.scheme (32 ∷ [])
+    ∙ ap (λ t. t ++ 32 ∷ []) is.basic in
+    let left : without_spaces (drop 6 value) ≡ token =
+    ap (λ v. without_spaces (drop 6 v)) whole
+    ∙ ap without_spaces (drop_at front behind 6 size)
+    ∙ ap (λ t. without_spaces (replicate is.spaces 32 ++ t)) begun
+    ∙ without_all is.spaces s rest other
+    ∙ sym begun in
+    ap (λ o. token_authorizes o password)
+    (cond-true _ (Some (without_spaces (drop 6 value))) None (and_from _ _ long ((bytes_eq-Decides _ _).1 lower)) ∙ ap (λ t. Some t) left)
+    ∙ ap (λ decoded. decodes_to decoded password) (decode_of-encode_of standard pair refl bytes)
+    ∙ has_pair user password is.no_colon

@@ -17,7 +17,7 @@ taken_completes (data_came old new bytes more start end taken rest found later) 
     (trailers, found.1.back more (body_of taken trailers) rest left)
 taken_completes (more_must_come old new bytes more used taken rest found later) =
     let (trailers, left) = taken_completes later in
-    (trailers, found.back more (body_of taken trailers) rest left)
+    (trailers, found.continues.back more (body_of taken trailers) rest left)
 taken_completes (end_came old new bytes more used found) = (found.trailers, found.ends more)
 taken_completes (connection_ended body last) =
     ([], subst (λ d. Completes d [] (body_of [] []) []) (sym last) (refl, refl, refl))

@@ -13,6 +13,7 @@ use Rattle.httparse.specs.Grammar.{AllPass, is_uri_byte}
 use Rattle.ogg_http.specs.Target.{has_scheme, path_of, path_from, first_slash}
 use Rattle.serve_sources.specs.Asking.{may_go_on, may_name_live}
 use Rattle.serve_sources.specs.Live.{is_live_path, is_live_target, may_be_live_path, may_be_live_target, may_have_scheme}
+use Rattle.serve_sources.proofs.Placing.{no_place, place_is}
 use Rattle.serve_sources.proofs.Fronts.{began, starts_so}
 
 one_of : (a b c d : Bool) → (a ≡ true) ⊎ ((b ≡ true) ⊎ ((c ≡ true) ⊎ (d ≡ true))) → (a || b || c || d) ≡ true
@@ -99,28 +100,14 @@ no_space target pass k inside =
 
 -- so the first space is the one after it
 first_space : (target rest : List ℕ) → AllPass is_uri_byte target → position (λ b. b == 32) (target ++ 32 ∷ rest) ≡ Some (length target)
-first_space target rest pass =
-    let p : ℕ → Bool = λ b. b == 32 in
-    let whole : length (target ++ 32 ∷ rest) ≡ length target + length (32 ∷ rest) = length-append target (32 ∷ rest) in
-    let at : position_or_len p (target ++ 32 ∷ rest) ≡ length target =
-    position_or_len_is p (target ++ 32 ∷ rest) (length target) 0 (omega (arith, whole))
-    (λ k lt. ap p (get_or-append target (32 ∷ rest) 0 k lt) ∙ no_space target pass k lt)
-    (λ _. ap p (get_or-append_seam target 32 rest 0) ∙ eq-eqb 32 32 refl) in
-    let inside : length target < length (target ++ 32 ∷ rest) = omega (arith, whole) in
-    ap (λ n. cond (nat_lt n (length (target ++ 32 ∷ rest))) (Some n) None) at
-    ∙ cond-true _ (Some (length target)) None (lt-ltb _ _ inside)
+first_space target rest pass = place_is (λ b. b == 32) target 32 rest (no_space target pass) refl
 
 -- and in a part of it there is none
 nowhere : (part more : List ℕ) → AllPass is_uri_byte (part ++ more) → position (λ b. b == 32) part ≡ None
 nowhere part more pass =
-    let p : ℕ → Bool = λ b. b == 32 in
     let whole : length (part ++ more) ≡ length part + length more = length-append part more in
-    let at : position_or_len p part ≡ length part =
-    position_or_len_is p part (length part) 0 (omega arith)
-    (λ k lt. ap p (sym (get_or-append part more 0 k lt)) ∙ no_space (part ++ more) pass k (omega (arith, lt, whole)))
-    (λ h. absurd (omega (arith, h))) in
-    ap (λ n. cond (nat_lt n (length part)) (Some n) None) at
-    ∙ cond-false _ (Some (length part)) None (le-ltb _ _ (omega arith))
+    no_place (λ b. b == 32) part (λ k inside.
+    ap (λ x. x == 32) (sym (get_or-append part more 0 k inside)) ∙ no_space (part ++ more) pass k (omega (arith, inside, whole)))
 
 -- what has come after the method, if a target that names what is live is there in the end
 pub names_on : (come more target after : List ℕ) (n : ℕ) → take n (come ++ more) ≡ target ++ 32 ∷ after → AllPass is_uri_byte target → is_live_target target ≡ true → may_name_live come ≡ true

@@ -1,5 +1,5 @@
 -- The body of a source's request (RFC 9112, sections 6 and 7.1), by the grammar of `http1`.
-use Rattle.std.specs.Prelude.{◌≡◌, ℕ, ◌<◌, ◌≤◌, Bool, true, false, not, ◌&&◌, List, [], ◌++◌, length, drop, slice_range, ⊤}
+use Rattle.std.specs.Prelude.{◌≡◌, ℕ, ◌<◌, ◌≤◌, Bool, true, false, not, ◌&&◌, List, [], ◌++◌, length, drop, slice_range}
 use Rattle.httparse.specs.Grammar.{Field}
 use Rattle.http1.specs.declared.conn.Limits.{Limits}
 use Rattle.http1.specs.declared.decode.Decoder.{Decoder}
@@ -7,8 +7,15 @@ use Rattle.http1.specs.declared.decode.Decoder.TheVariants as Decoding
 use Rattle.http1.specs.declared.framing.Framing.{Framing}
 use Rattle.http1.specs.declared.framing.Framing.TheVariants as Framed
 use Rattle.http1.specs.Body.{body_of, ReadsBody}
-use Rattle.http1.specs.Decoder.{Completes, Continues, decoder_for}
+use Rattle.http1.specs.Decoder.{Completes, Continues, Starves, decoder_for}
+use Rattle.http1.specs.ChunkedDecoder.{IsDone, run}
+use Rattle.http1.specs.declared.chunked.ChunkError.{ChunkError}
+use Rattle.http1.specs.declared.chunked.State.TheVariants.{Failed}
+use Rattle.http1.specs.declared.error.ReadError.{ReadError}
+use Rattle.http1.specs.declared.error.ReadError.TheVariants.{Chunk as ChunkWrong}
 use Rattle.serve_sources.specs.declared.body.Body.{Body}
+use Rattle.serve_sources.specs.declared.body.BodyFault.{BodyFault}
+use Rattle.serve_sources.specs.declared.body.BodyFault.TheVariants.{Chunk, Trailers}
 use Rattle.serve_sources.specs.declared.body.Piece.{Piece}
 use Rattle.serve_sources.specs.declared.body.Piece.TheVariants.{Data, More, End}
 use Rattle.serve_sources.specs.declared.reply.Reply.{Reply}
@@ -32,15 +39,28 @@ abbrev pub body_for : Framing → Reply → Body
 body_for framing reply =
     record { decoder = decoder_for limits framing; framed = is_marked framing; answered = is_final reply }
 
--- the body is chunked
-abbrev pub IsChunked : Decoder → Type 0
-IsChunked (Decoding.Chunked chunks max_len) = ⊤
-IsChunked _ = ⊥
+-- a chunk is at fault, or what follows the last one is
+abbrev pub fault_of : ReadError → BodyFault
+fault_of (ChunkWrong wrong) = Chunk
+fault_of _ = Trailers
+
+-- The cause of a fault: the bytes fail as chunks, or they hold all chunks, and what follows is no trailer section. Only a
+-- chunked body has one.
+abbrev pub HasFault : Decoder → List ℕ → BodyFault → Type 0
+HasFault (Decoding.Chunked chunks max_len) bytes Chunk =
+    (wrong : ChunkError) × ((run chunks bytes).ends.state ≡ Failed wrong)
+HasFault (Decoding.Chunked chunks max_len) bytes Trailers = IsDone (run chunks bytes).ends
+HasFault _ bytes fault = ⊥
 
 -- Of these bytes the first so many are used up, and they hold this data; what the body is made of is this data and then
 -- what is left to come, whatever that will be.
 abbrev pub Gives : Body → List ℕ → Body → ℕ → List ℕ → Type 0
 Gives old bytes new used held = Continues old.decoder bytes new.decoder used held
+
+-- the same without data: there is no more data in these bytes and no end, and all are used up, or else the trailer section
+-- goes on
+abbrev pub Waits : Body → List ℕ → Body → ℕ → Type 0
+Waits old bytes new used = Starves old.decoder bytes new.decoder used
 
 -- the body ends after so many bytes
 pub record Ends (body : Body) (bytes : List ℕ) (used : ℕ) : Type 0 where
@@ -51,7 +71,7 @@ pub record Ends (body : Body) (bytes : List ℕ) (used : ℕ) : Type 0 where
 -- what a call finds
 abbrev pub Finds : Body → List ℕ → Body → Piece → Type 0
 Finds old bytes new (Data start end) = (start < end) × Gives old bytes new end (slice_range bytes start end)
-Finds old bytes new (More used) = Gives old bytes new used []
+Finds old bytes new (More used) = Waits old bytes new used
 Finds old bytes new (End used) = Ends old bytes used
 
 -- the places lie in the bytes

@@ -1,7 +1,7 @@
 //! The body of a source's request, without its framing.
-ghost use Rattle.std.specs.Prelude.{◌≡◌, ◌&&◌, not, length, IfOk, OnErr};
+ghost use Rattle.std.specs.Prelude.{◌≡◌, ◌&&◌, not, length, IfErr, IfOk, OnErr};
 ghost use Rattle.http1.specs.Decoder.{HasNoBody};
-ghost use Rattle.serve_sources.specs.Body.{Finds, IsChunked, LiesWithin, body_for, is_marked, limits, most_trailers};
+ghost use Rattle.serve_sources.specs.Body.{Finds, HasFault, LiesWithin, body_for, fault_of, is_marked, limits, most_trailers};
 
 use crate::reply::Reply;
 use http1::decode::{Decoded, Decoder};
@@ -56,6 +56,15 @@ fn is_marked(framing: Framing) -> bool
     framing != Framing::UntilClose
 }
 
+fn fault_of(error: ReadError) -> BodyFault
+    ensures { result ≡ fault_of error }
+{
+    match error {
+        ReadError::Chunk(_) => BodyFault::Chunk,
+        _ => BodyFault::Trailers,
+    }
+}
+
 impl Body {
     pub(crate) fn new(framing: Framing, reply: Reply) -> Body
         ensures { result ≡ body_for framing reply }
@@ -71,9 +80,9 @@ impl Body {
     pub fn next(&mut self, bytes: &[u8]) -> Result<Piece, BodyFault>
         ensures ok { IfOk result (Finds self.old bytes.now self.new) }
         ensures within { IfOk result (LiesWithin (length bytes.now)) }
-        // If there is a fault, nothing that follows ends this body, and it is a chunked one.
+        // If there is a fault, nothing that follows ends this body.
         ensures err { OnErr result (HasNoBody self.old.decoder bytes.now most_trailers) }
-        ensures chunked { OnErr result (IsChunked self.old.decoder) }
+        ensures cause { IfErr result (HasFault self.old.decoder bytes.now) }
         ensures framed { self.new.framed ≡ self.old.framed }
         ensures answered { self.new.answered ≡ self.old.answered }
     {
@@ -85,8 +94,7 @@ impl Body {
             }),
             Ok(Decoded::NeedMore(used)) => Ok(Piece::More { used }),
             Ok(Decoded::End { len, .. }) => Ok(Piece::End { used: len }),
-            Err(ReadError::Chunk(_)) => Err(BodyFault::Chunk),
-            Err(_) => Err(BodyFault::Trailers),
+            Err(error) => Err(fault_of(error)),
         }
     }
 

@@ -1,5 +1,7 @@
 //! What always holds of sources' requests.
-ghost use Rattle.std.specs.Prelude.{◌≡◌, ◌++◌, Bool, true, false, ℕ, List};
+ghost use Rattle.std.specs.Prelude.{◌≡◌, ◌++◌, ◌∷◌, Bool, true, false, ℕ, List};
+ghost use Rattle.std.specs.Str.{byte};
+ghost use Rattle.base64.specs.GeneralPurpose.{IsBytes};
 ghost use Rattle.httparse.specs.Grammar.{Field};
 ghost use Rattle.http1.specs.Body.{ReadsBody, body_of};
 ghost use Rattle.http1.specs.declared.framing.Framing.{Framing as FramingOf};
@@ -7,6 +9,7 @@ ghost use Rattle.serve_sources.specs.declared.answers.TheConstants.{DONE, LIVE, 
 ghost use Rattle.serve_sources.specs.declared.reply.Reply.{Reply as ReplyOf};
 ghost use Rattle.serve_sources.specs.Answers.{done_text, live_text, full_text};
 ghost use Rattle.serve_sources.specs.Asking.{IsLive, IsOther, is_source};
+ghost use Rattle.serve_sources.specs.Credentials.{IsBasic, value_authorizes};
 ghost use Rattle.serve_sources.specs.Body.{Takes, body_for, limits};
 
 /// What the first bytes of a connection ask for is the same whatever follows: a source stays one, and so does a listener.
@@ -16,6 +19,15 @@ pub fn answers_stay()
     ensures live { (head : Bool) (front more : List ℕ) → IsLive head front → IsLive head (front ++ more) }
     ensures no_source { (front more : List ℕ) → IsOther front → is_source (front ++ more) ≡ false }
     ensures no_listener { (head : Bool) (front more : List ℕ) → IsOther front → ¬ (IsLive head (front ++ more)) }
+{}
+
+/// The value of an `Authorization` field gives the password exactly if it is Basic credentials with this password and any
+/// user name (RFC 7617, section 2).
+pub fn basic_credentials_are_taken()
+    ensures each { (user password value : List ℕ) → IsBytes (user ++ byte ":" ∷ password)
+        → IsBasic user password value → value_authorizes value password ≡ true }
+    ensures only { (password value : List ℕ) → IsBytes value → value_authorizes value password ≡ true
+        → (user : List ℕ) × IsBasic user password value }
 {}
 
 /// The constant answers, line by line.
