@@ -1,15 +1,14 @@
 -- A value gives the password if it is Basic credentials with it, and only then.
-use Rattle.std.proofs.Common.{◌≡◌, ℕ, zero, suc, ◌+◌, ◌-◌, ◌/◌, ◌<◌, ◌≤◌, Bool, true, false, cond, not, nat_le, nat_lt, List, [], ◌∷◌, ◌++◌, ◌==◌, ◌&&◌, Option, Some, None, Ok, Err, length, take, drop, map, replicate, get_or, slice_index, codes, inl, inr, arith, refl, ap, sym, ◌∙◌, subst, append_assoc, take-append-drop, append-nil}
+use Rattle.std.proofs.Common.{◌≡◌, ℕ, suc, ◌+◌, ◌/◌, ◌<◌, ◌≤◌, Bool, true, false, cond, not, nat_le, List, [], ◌∷◌, ◌++◌, ◌==◌, Option, Some, None, Ok, Err, length, take, drop, map, replicate, get_or, slice_index, codes, inl, inr, arith, refl, ap, sym, ◌∙◌, subst, append_assoc, take-append-drop, append-nil}
 use Rattle.std.specs.Prelude.{Result}
-use Rattle.std.proofs.lemmas.Bool.{and_parts, and_from, cases_lt, eqb-true, eq-eqb, ne_eqb, leb-true, le-leb, cond-true}
-use Rattle.std.proofs.lemmas.List.{take_at, drop_at, take_more, length-take-le, length-append, length-map, map-append, take_all, get_or-take, length-replicate, get_or-replicate}
+use Rattle.std.proofs.lemmas.Bool.{and_parts, and_from, cases_lt, eqb-true, leb-true, le-leb, cond-true}
+use Rattle.std.proofs.lemmas.List.{take_at, drop_at, take_more, length-take-le, length-append, length-map, map-append, get_or-take, length-replicate, get_or-replicate}
 use Rattle.std.proofs.lemmas.List.Quantifiers.{position-Some}
-use Rattle.std.proofs.Math.Seq.{drop-cons, take-append_seam}
+use Rattle.std.proofs.Math.Seq.{drop-cons}
 use Rattle.std.proofs.lemmas.Slice.Eq.{bytes_eq-Decides}
 use Rattle.std.proofs.lemmas.Str.Ascii.{lowercase_is}
 use Rattle.std.specs.Char.{to_ascii_lowercase}
 use Rattle.std.specs.List.{position}
-use Rattle.std.specs.Str.{bytes_eq}
 use Rattle.base64.specs.declared.decode.DecodeError.{DecodeError}
 use Rattle.std.specs.List.{list_all}
 use Rattle.std.proofs.lemmas.List.Folds.{list_all_at}
@@ -18,7 +17,7 @@ use Rattle.base64.specs.Engines.{standard}
 use Rattle.base64.specs.GeneralPurpose.{engine_symbols, decode_of, encode_of, IsBytes}
 use Rattle.base64.proofs.EngineFacts.{decode_of-encode_of, decode_of_strict}
 use Rattle.serve_sources.specs.Credentials.{IsBasic, decodes_to, has_password, password_behind, text_from, token_authorizes, token_of, value_authorizes, without_spaces}
-use Rattle.serve_sources.proofs.Placing.{NonePasses, no_place, none_passes, place_is}
+use Rattle.serve_sources.proofs.Placing.{no_place, none_passes, place_is}
 
 -- ---- spaces
 all_same : (x : ℕ) (xs : List ℕ) → ((k : ℕ) → k < length xs → get_or xs k 0 ≡ x) → xs ≡ replicate (length xs) x

@@ -1,5 +1,5 @@
 -- A head names what is live if the parts that were read of it do.
-use Rattle.std.proofs.Common.{◌≡◌, ℕ, Bool, List, sym, ◌∙◌}
+use Rattle.std.proofs.Common.{◌≡◌, ℕ, Bool, List, ◌∙◌}
 use Rattle.httparse.specs.Grammar.{RequestHead}
 use Rattle.ogg_http.specs.Head.{HoldsRequest}
 use Rattle.ogg_http.specs.declared.head.Request.{Request}

@@ -3,7 +3,7 @@ use Rattle.std.proofs.Common.{◌≡◌, ◌≢◌, ℕ, ◌<◌, ◌≤◌, Boo
 use Rattle.std.proofs.lemmas.List.{take_min, take_all, length-take, length-map}
 use Rattle.std.proofs.lemmas.Bool.{cases_lt}
 use Rattle.std.specs.Str.{bytes_eq}
-use Rattle.httparse.specs.Grammar.{Field, RequestHead, ReadsRequest, HasNoRequest, NeverHasRequest, MayBecomeRequest, print_request}
+use Rattle.httparse.specs.Grammar.{Field, RequestHead, ReadsRequest, HasNoRequest, NeverHasRequest}
 use Rattle.httparse.specs.Outcome.{OnPartial, IfComplete, IsCompleteAnd}
 use Rattle.httparse.specs.Spans.{RequestOverflows, RequestExceeds, IsRequestAt, AreFieldsAt, span_bytes, header_bytes, name_and_value}
 use Rattle.httparse.specs.declared.Error.{Error}
@@ -12,14 +12,14 @@ use Rattle.httparse.specs.declared.Status.{Status}
 use Rattle.httparse.specs.declared.Status.TheVariants.{Complete, Partial}
 use Rattle.httparse.specs.declared.spans.HeaderSpan.{HeaderSpan}
 use Rattle.httparse.specs.declared.spans.RequestSpans.{RequestSpans}
-use Rattle.http1.specs.Fields.{Header, known_fields}
+use Rattle.http1.specs.Fields.{known_fields}
 use Rattle.http1.specs.declared.fields.KnownFields.{KnownFields}
 use Rattle.ogg_http.specs.Head.{IsHopeless, head_bytes, most_bytes, most_fields}
 use Rattle.serve_sources.specs.declared.offer.Offer.{Offer}
-use Rattle.serve_sources.specs.Asking.{HasHead}
+use Rattle.serve_sources.specs.Asking.{HasHead, LacksHead}
 use Rattle.serve_sources.specs.Credentials.{authorizes}
 use Rattle.serve_sources.specs.Fields.{only}
-use Rattle.serve_sources.specs.Offer.{IsOffer, Says, Verdict, verdict_by, verdict_of}
+use Rattle.serve_sources.specs.Offer.{IsOffer, Says, verdict_by, verdict_of}
 
 -- the bytes in which a head is looked for
 pub looked_at : (n : ℕ) (bytes : List ℕ) → n ≡ min (length bytes) 8192 → take n bytes ≡ head_bytes bytes
@@ -60,12 +60,15 @@ by_error TooManyHeaders f g = inr (g refl)
 by_error Version f g = inl (f (λ e. cc))
 
 -- after an error no head comes, if not all the limit is there
-pub hopeless : (n : ℕ) (bytes : List ℕ) (e : Error) → n ≡ min (length bytes) 8192 → (e ≢ TooManyHeaders → NeverHasRequest (take n bytes)) → (e ≡ TooManyHeaders → RequestExceeds most_fields (take n bytes)) → RequestOverflows most_fields (take n bytes) → IsHopeless bytes ⊎ (most_bytes ≤ length bytes)
+pub hopeless : (n : ℕ) (bytes : List ℕ) (e : Error) → n ≡ min (length bytes) 8192 → (e ≢ TooManyHeaders → NeverHasRequest (take n bytes)) → (e ≡ TooManyHeaders → RequestExceeds most_fields (take n bytes)) → RequestOverflows most_fields (take n bytes) → LacksHead bytes
 hopeless n bytes e is invalid many over =
-    elim (cases_lt (length bytes) most_bytes) [
-      | inr past ↦ inr past
-      | inl short ↦ inl (subst IsHopeless (all_looked_at n bytes is short) (record { cause = by_error e invalid many; never_read = over }))
-    ]
+    record {
+      none = no_head_fits n bytes is over;
+      cause = elim (cases_lt (length bytes) most_bytes) [
+        | inr past ↦ inr past
+        | inl short ↦ inl (subst IsHopeless (all_looked_at n bytes is short) (record { cause = by_error e invalid many; never_read = over }))
+      ];
+    }
 
 -- there are no more fields than spans
 few : (bytes : List ℕ) (spans : List HeaderSpan) (n : ℕ) (fields : List Field) → AreFieldsAt bytes spans n fields → length spans ≤ most_fields → length fields ≤ most_fields

@@ -1,16 +1,15 @@
 -- What was asked for stays, whatever follows.
-use Rattle.std.proofs.Common.{◌≡◌, ℕ, ◌+◌, ◌-◌, ◌<◌, ◌≤◌, Bool, true, false, cond, nat_eq, List, [], ◌∷◌, ◌++◌, ◌⊎◌, ◌||◌, length, take, drop, min, slice_index, codes, inl, inr, arith, refl, ap, sym, ◌∙◌, subst, append_assoc, append-nil}
+use Rattle.std.proofs.Common.{◌≡◌, ℕ, ◌+◌, ◌-◌, ◌<◌, ◌≤◌, Bool, true, false, cond, nat_eq, List, [], ◌∷◌, ◌++◌, ◌⊎◌, length, take, drop, slice_index, codes, inl, inr, arith, refl, ap, sym, ◌∙◌, subst, append_assoc, append-nil}
 use Rattle.std.proofs.lemmas.Bool.{and_parts, cases_lt, or_cases, or_left, or_right}
 use Rattle.std.proofs.lemmas.List.{take-append-le, take_all, drop-take, drop-append-le, length-append, length-take}
 use Rattle.std.proofs.lemmas.List.Elements.{All-cons, All-nil}
 use Rattle.std.proofs.Math.Seq.{take-append-add}
 use Rattle.std.specs.List.{starts_with}
 use Rattle.httparse.specs.Grammar.{LineEnd, crlf, lf, AllPass, is_token_byte, RequestHead, IsRequestHead, ReadsRequest, print_request, print_blank, print_version, print_end, print_section}
-use Rattle.httparse.specs.Pieces.{Stops}
 use Rattle.httparse.proofs.GrammarLemmas.{print_request-append, request_unique, ReadsRequest-append}
 use Rattle.httparse.proofs.PieceLemmas.{space_ends_token}
 use Rattle.httparse.proofs.RunLemmas.{run_unique}
-use Rattle.ogg_http.specs.Head.{head_bytes, IsHopeless}
+use Rattle.ogg_http.specs.Head.{head_bytes}
 use Rattle.serve_sources.specs.Asking.{HasHead, IsLive, IsOther, AsksOther, LacksHead, asks_live, is_source, listener_method, may_be_listener, may_be_live, may_be_source, may_name_live}
 use Rattle.serve_sources.specs.Live.{is_live_target}
 use Rattle.serve_sources.proofs.Fronts.{began, starts_grown, starts_so}
@@ -61,7 +60,7 @@ head_grows front more =
       | inr long ↦ ([], take-append-le 8192 front more long ∙ sym (append-nil (head_bytes front)))
     ]
 
-has_grown : (front more : List ℕ) (request : RequestHead) → HasHead front request → HasHead (front ++ more) request
+pub has_grown : (front more : List ℕ) (request : RequestHead) → HasHead front request → HasHead (front ++ more) request
 has_grown front more request has =
     let (rest, grown) = head_grows front more in
     (has.0 ++ rest, subst (λ b. ReadsRequest b request (has.0 ++ rest)) (sym grown) (ReadsRequest-append (head_bytes front) request has.0 rest has.1), has.2)
@@ -75,7 +74,7 @@ live_stays head front more live = record {
 }
 
 -- if no head is there within the limit, none comes
-no_head_comes : (front more : List ℕ) → LacksHead front → (request : RequestHead) → HasHead (front ++ more) request → ⊥
+pub no_head_comes : (front more : List ℕ) → LacksHead front → (request : RequestHead) → HasHead (front ++ more) request → ⊥
 no_head_comes front more lacks request has =
     elim (cases_lt (length front) 8192) [
       | inl short ↦
@@ -248,3 +247,6 @@ no_listener_comes head front more other live =
 
 pub no_source_is : (front more : List ℕ) → IsOther front → is_source (front ++ more) ≡ false
 no_source_is front more other = is_false _ (λ source. no_source_comes front more other.no_source other.nor_front source)
+
+pub one_head : (front : List ℕ) (head other : RequestHead) → HasHead front head → HasHead front other → head ≡ other
+one_head front head other a b = (request_unique (head_bytes front) head other a.0 b.0 a.1 b.1).0

@@ -1,7 +1,6 @@
 -- What a caller takes piece by piece is the body of the grammar, however the bytes were cut.
-use Rattle.std.proofs.Common.{◌≡◌, ℕ, List, [], ◌++◌, drop, refl, ap, sym, ◌∙◌, subst}
+use Rattle.std.proofs.Common.{◌≡◌, ℕ, List, [], refl, ap, sym, subst}
 use Rattle.httparse.specs.Grammar.{Field}
-use Rattle.http1.specs.declared.decode.Decoder.TheVariants as Decoding
 use Rattle.http1.specs.declared.framing.Framing.{Framing}
 use Rattle.http1.specs.Body.{body_of, ReadsBody}
 use Rattle.http1.specs.Decoder.{Completes}

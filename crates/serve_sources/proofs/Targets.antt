@@ -1,13 +1,12 @@
 -- A target that has come in part may still name what is live, if the whole one does.
-use Rattle.std.proofs.Common.{◌≡◌, ℕ, zero, suc, ◌+◌, ◌-◌, ◌<◌, ◌≤◌, Bool, true, false, cond, nat_lt, nat_eq, not, List, [], ◌∷◌, ◌++◌, ◌⊎◌, ◌||◌, ◌==◌, Option, Some, None, length, take, drop, map, min, get_or, codes, inl, inr, arith, rules, refl, ap, sym, ◌∙◌, subst, append_assoc, take-append-drop}
-use Rattle.std.proofs.lemmas.Bool.{and_parts, cases_lt, cond_both, ltb-true, lt-ltb, le-ltb, ne_eqb, eq-eqb, cond-true, cond-false}
+use Rattle.std.proofs.Common.{◌≡◌, ℕ, zero, suc, ◌+◌, ◌<◌, ◌≤◌, Bool, true, false, cond, nat_eq, List, [], ◌∷◌, ◌++◌, ◌⊎◌, ◌||◌, ◌==◌, Some, None, length, take, drop, map, min, get_or, codes, inl, inr, arith, refl, ap, sym, ◌∙◌, subst, append_assoc, take-append-drop}
+use Rattle.std.proofs.lemmas.Bool.{and_parts, cases_lt, ltb-true, ne_eqb}
 use Rattle.std.proofs.lemmas.List.{take-append-le, take_at, take-take, length-append, length-take}
-use Rattle.std.proofs.lemmas.List.Sums.{position_or_len_is}
-use Rattle.std.proofs.Math.Seq.{get_or-append_seam, take-append-add}
+use Rattle.std.proofs.Math.Seq.{take-append-add}
 use Rattle.std.proofs.Math.ListN.{get_or-append}
 use Rattle.std.proofs.lemmas.Slice.Eq.{bytes_eq-Decides}
 use Rattle.std.specs.Char.{to_ascii_lowercase}
-use Rattle.std.specs.List.{starts_with, position, position_or_len}
+use Rattle.std.specs.List.{starts_with, position}
 use Rattle.std.specs.Str.{bytes_eq}
 use Rattle.httparse.specs.Grammar.{AllPass, is_uri_byte}
 use Rattle.ogg_http.specs.Target.{has_scheme, path_of, path_from, first_slash}

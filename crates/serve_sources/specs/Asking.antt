@@ -1,7 +1,7 @@
 -- What the first bytes of a connection ask for, by their request line: a method, a space, a target, a space, a version
 -- (RFC 9112, section 3).
 -- Ours: a connection has one request, so no empty line is passed over before it (section 2.2).
-use Rattle.std.specs.Prelude.{◌≡◌, ◌≢◌, ◌≤◌, ℕ, ◌⊎◌, Bool, true, false, List, length, drop, take, map, not, nat_eq, ◌||◌, ◌&&◌, ◌==◌, if◌then◌else◌, Option, Some, None, position, codes}
+use Rattle.std.specs.Prelude.{◌≡◌, ◌≤◌, ℕ, ◌⊎◌, Bool, true, false, List, length, drop, take, map, not, nat_eq, ◌||◌, ◌&&◌, ◌==◌, if◌then◌else◌, Option, Some, None, position, codes}
 use Rattle.std.specs.List.{starts_with}
 use Rattle.std.specs.Str.{byte}
 use Rattle.httparse.specs.Grammar.{RequestHead, ReadsRequest}

@@ -1,12 +1,12 @@
 -- The body of a source's request (RFC 9112, sections 6 and 7.1), by the grammar of `http1`.
-use Rattle.std.specs.Prelude.{◌≡◌, ℕ, ◌<◌, ◌≤◌, Bool, true, false, not, ◌&&◌, List, [], ◌++◌, length, drop, slice_range}
+use Rattle.std.specs.Prelude.{◌≡◌, ℕ, ◌<◌, ◌≤◌, Bool, true, false, List, [], ◌++◌, length, drop, slice_range}
 use Rattle.httparse.specs.Grammar.{Field}
 use Rattle.http1.specs.declared.conn.Limits.{Limits}
 use Rattle.http1.specs.declared.decode.Decoder.{Decoder}
 use Rattle.http1.specs.declared.decode.Decoder.TheVariants as Decoding
 use Rattle.http1.specs.declared.framing.Framing.{Framing}
 use Rattle.http1.specs.declared.framing.Framing.TheVariants as Framed
-use Rattle.http1.specs.Body.{body_of, ReadsBody}
+use Rattle.http1.specs.Body.{body_of}
 use Rattle.http1.specs.Decoder.{Completes, Continues, Starves, decoder_for}
 use Rattle.http1.specs.ChunkedDecoder.{IsDone, run}
 use Rattle.http1.specs.declared.chunked.ChunkError.{ChunkError}

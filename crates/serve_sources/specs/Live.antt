@@ -1,9 +1,9 @@
 -- The target of a live listener's request (RFC 9112, section 3.2). The names are ours.
-use Rattle.std.specs.Prelude.{ℕ, Bool, List, length, take, drop, map, min, nat_eq, ◌||◌, ◌==◌, if◌then◌else◌, Option, Some, None, position, codes}
+use Rattle.std.specs.Prelude.{ℕ, Bool, List, length, take, map, min, nat_eq, ◌||◌, codes}
 use Rattle.std.specs.Char.{to_ascii_lowercase}
 use Rattle.std.specs.List.{starts_with}
-use Rattle.std.specs.Str.{byte, bytes_eq}
-use Rattle.ogg_http.specs.Target.{path_of, has_scheme}
+use Rattle.std.specs.Str.{bytes_eq}
+use Rattle.ogg_http.specs.Target.{path_of}
 
 -- a path with what may follow it: nothing, or a query (RFC 3986, section 3.4), which is ignored
 abbrev pub is_live_path : List ℕ → Bool

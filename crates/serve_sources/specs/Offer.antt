@@ -1,19 +1,19 @@
 -- What comes of a source's request, by its head.
-use Rattle.std.specs.Prelude.{◌≡◌, ◌≤◌, ℕ, ◌⊎◌, Bool, List, length, map, ◌==◌, if◌then◌else◌, Option, Some, None, codes}
+use Rattle.std.specs.Prelude.{◌≡◌, ◌≤◌, ℕ, ⊤, Bool, List, length, map, ◌==◌, if◌then◌else◌, Option, Some, None, codes}
 use Rattle.std.specs.Str.{bytes_eq}
 use Rattle.httparse.specs.Grammar.{RequestHead, print_request}
 use Rattle.httparse.specs.Spans.{name_and_value}
 use Rattle.http1.specs.Fields.{known_fields}
 use Rattle.http1.specs.declared.fields.KnownFields.{KnownFields}
 use Rattle.http1.specs.declared.framing.Framing.{Framing}
-use Rattle.http1.specs.declared.framing.Framing.TheVariants.{NoBody, Length, Chunked, UntilClose}
-use Rattle.ogg_http.specs.Head.{most_bytes, IsAwaited, IsHopeless}
+use Rattle.http1.specs.declared.framing.Framing.TheVariants.{Length}
+use Rattle.ogg_http.specs.Head.{IsAwaited}
 use Rattle.serve_sources.specs.declared.refused.Refused.{Refused}
 use Rattle.serve_sources.specs.declared.refused.Refused.TheVariants.{BadRequest, Unauthorized}
 use Rattle.serve_sources.specs.declared.reply.Reply.{Reply}
 use Rattle.serve_sources.specs.declared.offer.Offer.{Offer}
 use Rattle.serve_sources.specs.declared.offer.Offer.TheVariants as Offered
-use Rattle.serve_sources.specs.Asking.{HasHead}
+use Rattle.serve_sources.specs.Asking.{LacksHead}
 use Rattle.serve_sources.specs.Body.{body_for}
 use Rattle.serve_sources.specs.Credentials.{authorizes}
 use Rattle.serve_sources.specs.Fields.{only}
@@ -68,5 +68,11 @@ Says password head offer = IsOffer (length (print_request head)) (verdict_of pas
 -- there is no head: more may come, or none comes, or none came within the limit
 abbrev pub IsUnread : List ℕ → Offer → Type 0
 IsUnread front Offered.More = IsAwaited front
-IsUnread front (Offered.Refused why) = (why ≡ BadRequest) × (IsHopeless front ⊎ (most_bytes ≤ length front))
+IsUnread front (Offered.Refused why) = (why ≡ BadRequest) × LacksHead front
 IsUnread front _ = ⊥
+
+-- the head lies in so many bytes
+abbrev pub LiesIn : ℕ → Offer → Type 0
+LiesIn count (Offered.Nothing used) = used ≤ count
+LiesIn count (Offered.Body used body answer) = used ≤ count
+LiesIn count _ = ⊤

@@ -1,5 +1,5 @@
 -- The password that a source has to give, and the file that holds it. The file's form is ours.
-use Rattle.std.specs.Prelude.{◌≡◌, ℕ, ◌-◌, Bool, List, length, take, ◌==◌, nat_eq, if◌then◌else◌, Option, Some, None, position, codes}
+use Rattle.std.specs.Prelude.{◌≡◌, ℕ, ◌-◌, List, length, take, ◌==◌, nat_eq, if◌then◌else◌, Option, Some, None, position, codes}
 use Rattle.std.specs.List.{ends_with}
 use Rattle.std.specs.Str.{byte}
 use Rattle.serve_sources.specs.declared.password.Password.{Password}

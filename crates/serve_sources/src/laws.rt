@@ -2,13 +2,13 @@
 ghost use Rattle.std.specs.Prelude.{◌≡◌, ◌++◌, ◌∷◌, Bool, true, false, ℕ, List};
 ghost use Rattle.std.specs.Str.{byte};
 ghost use Rattle.base64.specs.GeneralPurpose.{IsBytes};
-ghost use Rattle.httparse.specs.Grammar.{Field};
+ghost use Rattle.httparse.specs.Grammar.{Field, RequestHead};
 ghost use Rattle.http1.specs.Body.{ReadsBody, body_of};
 ghost use Rattle.http1.specs.declared.framing.Framing.{Framing as FramingOf};
 ghost use Rattle.serve_sources.specs.declared.answers.TheConstants.{DONE, LIVE, FULL};
 ghost use Rattle.serve_sources.specs.declared.reply.Reply.{Reply as ReplyOf};
 ghost use Rattle.serve_sources.specs.Answers.{done_text, live_text, full_text};
-ghost use Rattle.serve_sources.specs.Asking.{IsLive, IsOther, is_source};
+ghost use Rattle.serve_sources.specs.Asking.{HasHead, IsLive, IsOther, LacksHead, is_source};
 ghost use Rattle.serve_sources.specs.Credentials.{IsBasic, value_authorizes};
 ghost use Rattle.serve_sources.specs.Body.{Takes, body_for, limits};
 
@@ -19,6 +19,14 @@ pub fn answers_stay()
     ensures live { (head : Bool) (front more : List ℕ) → IsLive head front → IsLive head (front ++ more) }
     ensures no_source { (front more : List ℕ) → IsOther front → is_source (front ++ more) ≡ false }
     ensures no_listener { (head : Bool) (front more : List ℕ) → IsOther front → ¬ (IsLive head (front ++ more)) }
+{}
+
+/// The head that bytes begin with is one, and stays that whatever follows. Where there is none and the source is refused,
+/// none comes.
+pub fn heads_stay()
+    ensures one { (front : List ℕ) (head other : RequestHead) → HasHead front head → HasHead front other → head ≡ other }
+    ensures stays { (front more : List ℕ) (head : RequestHead) → HasHead front head → HasHead (front ++ more) head }
+    ensures none { (front more : List ℕ) → LacksHead front → (head : RequestHead) → ¬ (HasHead (front ++ more) head) }
 {}
 
 /// The value of an `Authorization` field gives the password exactly if it is Basic credentials with this password and any

@@ -4,11 +4,11 @@
 //! else, which is the file server's. `Offer::of` reads a source's head, and says whether its body is taken; no source is
 //! taken without the `Password` (RFC 7617). `Body::next` takes the framing off the body: chunks, a length, or none.
 //!
-//! Nothing here has a handle, and only `Password::new` takes memory. The caller keeps the bytes that came, and passes them
-//! again with those that follow. That another source is being recorded, and what a page of the body is, it knows too.
+//! Nothing here has a handle, and only `Password::new` takes memory. The caller keeps the bytes that came, and passes
+//! them again with those that follow. Whether another source is recorded, and what the body holds, is for it to know.
 //!
-//! The grammar of heads is `httparse`'s, that of chunks is `http1`'s, and Base64 is `base64`'s. A head has at most 8,192
-//! bytes and 64 fields, as for the file server.
+//! The grammar of heads is `httparse`'s, that of chunks is `http1`'s, and Base64 is `base64`'s. A head has at most
+//! 8,192 bytes and 64 fields, as for the file server.
 //!
 //! Start at `specs/Asking.antt`, then `Offer`, `Framing`, `Credentials` and `Body`. `src/laws.rt` has the laws.
 #![tactic(auto)]
@@ -32,6 +32,7 @@ pub use asking::Asks;
 pub use body::{Body, BodyFault, Piece};
 pub use laws::{
     answers_are_these, answers_stay, basic_credentials_are_taken, bodies_are_taken_whole,
+    heads_stay,
 };
 pub use offer::Offer;
 pub use password::{Password, PasswordFault};

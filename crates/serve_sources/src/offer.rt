@@ -6,7 +6,7 @@ ghost use Rattle.httparse.specs.Spans.{IsHeaderWithin, header_bytes};
 ghost use Rattle.serve_sources.specs.Asking.{HasHead};
 ghost use Rattle.serve_sources.specs.Credentials.{authorizes};
 ghost use Rattle.serve_sources.specs.Fields.{only};
-ghost use Rattle.serve_sources.specs.Offer.{IsOffer, IsUnread, Says, take_framed, verdict_by};
+ghost use Rattle.serve_sources.specs.Offer.{IsOffer, IsUnread, LiesIn, Says, take_framed, verdict_by};
 ghost use Rattle.serve_sources.specs.Password.{password_bytes};
 
 use crate::body::Body;
@@ -109,6 +109,7 @@ impl Offer {
         // Whatever comes, a head has said it, or there is none.
         ensures each { ((head : RequestHead) × HasHead front.now head × Says (password_bytes password.now) head result)
             ⊎ IsUnread front.now result }
+        ensures within { LiesIn (length front.now) result }
     {
         let front = &front[..front.len().min(MOST_BYTES)];
         let mut spans = [EMPTY_HEADER_SPAN; MOST_FIELDS];

@@ -1,4 +1,4 @@
-use Rattle.std.proofs.Common.{◌≡◌, ◌↔◌, ◌≤◌, take, length}
+use Rattle.std.proofs.Common.{◌≡◌, ◌↔◌, take}
 use Rattle.serve_sources.proofs.credentials.is_same.Given as goal
 
 -- there is a difference if the bytes so far differ

@@ -1,11 +1,9 @@
-use Rattle.std.proofs.Common.{◌≡◌, ◌≤◌, take, length, arith, ap, sym, ◌∙◌, subst, Err, inl, inr, refl, codes, map}
+use Rattle.std.proofs.Common.{◌≤◌, take, length, arith, rules, ap, sym, ◌∙◌, subst, Err, inl, inr, refl, codes, map}
 use Rattle.std.specs.Str.{bytes_eq}
 use Rattle.httparse.specs.Grammar.{ReadsRequest}
 use Rattle.httparse.specs.Spans.{IsRequestOf, IsRequestAt, header_bytes}
-use Rattle.serve_sources.specs.Asking.{HasHead}
 use Rattle.serve_sources.specs.Credentials.{authorizes}
 use Rattle.serve_sources.specs.Fields.{only}
-use Rattle.serve_sources.specs.Offer.{Says}
 use Rattle.ogg_http.specs.Head.{most_fields}
 use Rattle.serve_sources.proofs.Saying.{looked_at, partial_so, complete_so, found_so, no_head, no_head_fits, hopeless, has_head, says}
 use Rattle.serve_sources.proofs.offer.Offer.of.Goals as goal
@@ -64,4 +62,16 @@ returns-in-Err-clause-each c =
       refl,
       hopeless c.min.result c.args.front.now c.in-Err.field-0 c.min.ensures c.in-Err.ensures.invalid
           (λ e. c.in-Err.ensures.too_many (ap Err e)) c.in-Err.ensures.no_room,
+    )
+
+pub returns-else-front-lt-MOST_BYTES-clause-each : goal.returns-else-front-lt-MOST_BYTES-clause-each
+returns-else-front-lt-MOST_BYTES-clause-each c =
+    let past : 8192 ≤ length c.args.front.now = search rules in
+    inr (
+      refl,
+      record {
+        none = no_head c.min.result c.args.front.now c.min.ensures
+            (partial_so c.in-Ok-Partial.field-0 _ c.in-Ok-Partial.field-0-is c.in-Ok-Partial.ensures.partial);
+        cause = inr past;
+      },
     )
