@@ -9,3 +9,4 @@ pub mod Placing
 pub mod Basic
 pub mod Targets
 pub mod Staying
+pub mod Refusing

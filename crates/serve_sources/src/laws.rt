@@ -1,5 +1,5 @@
 //! What always holds of sources' requests.
-ghost use Rattle.std.specs.Prelude.{◌≡◌, ◌++◌, ◌∷◌, Bool, true, false, ℕ, List};
+ghost use Rattle.std.specs.Prelude.{◌≡◌, ◌<◌, ◌++◌, ◌∷◌, ◌⊎◌, Bool, true, false, ℕ, List, None, codes, count_by, map};
 ghost use Rattle.std.specs.Str.{byte};
 ghost use Rattle.base64.specs.GeneralPurpose.{IsBytes};
 ghost use Rattle.httparse.specs.Grammar.{Field, RequestHead};
@@ -8,8 +8,16 @@ ghost use Rattle.http1.specs.declared.framing.Framing.{Framing as FramingOf};
 ghost use Rattle.serve_sources.specs.declared.answers.TheConstants.{DONE, LIVE, FULL};
 ghost use Rattle.serve_sources.specs.declared.reply.Reply.{Reply as ReplyOf};
 ghost use Rattle.serve_sources.specs.Answers.{done_text, live_text, full_text};
+ghost use Rattle.httparse.specs.Spans.{name_and_value};
+ghost use Rattle.http1.specs.Fields.{Header, is_framing_field, known_fields};
+ghost use Rattle.serve_sources.specs.declared.offer.Offer.{Offer as OfferOf};
+ghost use Rattle.serve_sources.specs.declared.offer.Offer.TheVariants.{Refused as IsRefused};
+ghost use Rattle.serve_sources.specs.declared.refused.Refused.TheVariants.{BadRequest, Unauthorized};
+ghost use Rattle.serve_sources.specs.Fields.{only};
+ghost use Rattle.serve_sources.specs.Framing.{framing_of};
+ghost use Rattle.serve_sources.specs.Offer.{Says};
 ghost use Rattle.serve_sources.specs.Asking.{HasHead, IsLive, IsOther, LacksHead, is_source};
-ghost use Rattle.serve_sources.specs.Credentials.{IsBasic, value_authorizes};
+ghost use Rattle.serve_sources.specs.Credentials.{IsBasic, authorizes, value_authorizes};
 ghost use Rattle.serve_sources.specs.Body.{Takes, body_for, limits};
 
 /// What the first bytes of a connection ask for is the same whatever follows: a source stays one, and so does a listener.
@@ -19,6 +27,17 @@ pub fn answers_stay()
     ensures live { (head : Bool) (front more : List ℕ) → IsLive head front → IsLive head (front ++ more) }
     ensures no_source { (front more : List ℕ) → IsOther front → is_source (front ++ more) ≡ false }
     ensures no_listener { (head : Bool) (front more : List ℕ) → IsOther front → ¬ (IsLive head (front ++ more)) }
+{}
+
+/// No source is taken without the password, and none whose head has two fields that say where the body ends, be it
+/// `Content-Length` or `Transfer-Encoding`, even if they say the same.
+pub fn sources_are_refused()
+    ensures no_password { (password : List ℕ) (head : RequestHead) (offer : OfferOf)
+        → authorizes (only (codes "authorization") (map name_and_value head.fields)) password ≡ false
+        → Says password head offer
+        → (offer ≡ IsRefused BadRequest) ⊎ (offer ≡ IsRefused Unauthorized) }
+    ensures two_framings { (http11 : Bool) (fields : List Header) → 1 < count_by is_framing_field fields
+        → framing_of http11 (known_fields fields) ≡ None }
 {}
 
 /// The head that bytes begin with is one, and stays that whatever follows. Where there is none and the source is refused,
