@@ -14,7 +14,6 @@ use Rattle.serve_sources.specs.Credentials.{authorizes}
 use Rattle.serve_sources.specs.Fields.{only}
 use Rattle.serve_sources.specs.Framing.{framing_by, framing_of, has_host}
 use Rattle.serve_sources.specs.Offer.{IsOffer, Says, by_framing, verdict_by}
-use Rattle.serve_sources.specs.Reply.{reply_to}
 
 no_body : (framing : Option Framing) (reply : Reply) (used : ℕ) (offer : Offer) → IsOffer used (by_framing framing false reply) offer → (offer ≡ Offered.Refused BadRequest) ⊎ (offer ≡ Offered.Refused Unauthorized)
 no_body None reply used offer is = inl is
