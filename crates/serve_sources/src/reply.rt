@@ -7,7 +7,8 @@ ghost use Rattle.serve_sources.specs.Reply.{is_final, reply_text, reply_to};
 pub enum Reply {
     /// It may send its body, for which it waits.
     GoOn,
-    /// The answer that a client which says `SOURCE` waits for. It has no other.
+    /// The answer that a client which says `SOURCE` in HTTP/1.0 waits for. It has no other. A client that says it in
+    /// HTTP/1.1 reads none; and if an answer is left unread when it closes, its system drops what it sent last.
     Accepted,
     /// Nothing.
     Silent,
@@ -17,8 +18,8 @@ pub enum Reply {
 pub fn reply_to(is_source: bool, http11: bool, expects: bool) -> Reply
     ensures { result ≡ reply_to is_source http11 expects }
 {
-    if http11 && expects {
-        Reply::GoOn
+    if http11 {
+        if expects { Reply::GoOn } else { Reply::Silent }
     } else if is_source {
         Reply::Accepted
     } else {
