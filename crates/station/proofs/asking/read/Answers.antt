@@ -1,0 +1,7 @@
+use Rattle.std.proofs.Common.{ap, ◌∙◌}
+use Rattle.station.specs.Client.{with_stage}
+use Rattle.station.specs.declared.client.Stage.{Stage}
+use Rattle.station.proofs.asking.read.Goals as goal
+
+pub returns : goal.returns
+returns g c = (c.receive-progress.result, c.receive-progress.ensures.step, c.go_to.ensures ∙ ap (λ (stage : Stage). with_stage stage c.args.client.now) c.stage_after.ensures)

@@ -1,0 +1,32 @@
+-- What a connection asks for, and how it is taken. Ours.
+use Rattle.std.specs.Prelude.{◌≡◌, ◌⊎◌, ℕ, Option, Some, Result, Ok, Err, List, [], ◌++◌}
+use Rattle.serve_live.specs.Listening.{ListenerState}
+use Rattle.sessions.specs.Calls.{Steps}
+use Rattle.sessions.specs.Hub.{HubState, Connect, Receive}
+use Rattle.sessions.specs.declared.answers.Progress.{Progress}
+use Rattle.sessions.specs.declared.answers.Progress.TheVariants.{More, Ready}
+use Rattle.sessions.specs.declared.fault.HubFault.{HubFault}
+use Rattle.ogg_serve.specs.Parts.{HubParts}
+use Rattle.station.specs.Client.{ClientState, cut, told, with_stage}
+use Rattle.station.specs.declared.client.Stage.{Stage}
+use Rattle.station.specs.declared.client.Stage.TheVariants.{Reading, Sending, Hearing, Cut}
+
+-- the stage of a connection whose session has taken bytes with this answer
+abbrev pub stage_after : Result Progress HubFault → Stage
+stage_after (Ok More) = Reading
+stage_after (Ok Ready) = Sending
+stage_after (Err fault) = Cut
+
+-- A session was connected, and took what had come of the head.
+pub record IsConnected {D : Type 0} (shows : HubParts D → HubState → Type 0) (old new : HubParts D) (before after : ClientState) : Type 0 where
+  pub id : ℕ
+  pub progress : Result Progress HubFault
+  pub between : HubParts D
+  pub connects : Steps shows old between (λ machine. Connect (Ok id))
+  pub receives : Steps shows between new (λ machine. Receive id before.head progress)
+  pub client : after ≡ record before { stage = stage_after progress; session = Some id; head = [] }
+
+-- It listens: what is said before the first byte is told.
+pub record IsListening (text : List ℕ) (before after : ClientState) : Type 0 where
+  pub listener : ListenerState
+  pub client : after ≡ record (told text before) { stage = Hearing; head = []; listener = Some listener }

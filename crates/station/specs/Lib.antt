@@ -1,0 +1,6 @@
+pub mod Client
+pub mod Patience
+pub mod Giving
+pub mod Asking
+pub mod Keys
+pub mod Places

@@ -1,0 +1,44 @@
+-- How long is waited, and for what. Times are milliseconds. Ours.
+use Rattle.std.specs.Prelude.{ℕ, zero, suc, ◌-◌, Bool, true, false, ◌&&◌, ◌||◌, nat_le, nat_lt, Option, Some, None}
+use Rattle.station.specs.Client.{ClientState}
+use Rattle.station.specs.declared.client.Stage.{Stage}
+use Rattle.station.specs.declared.client.Stage.TheVariants.{Asking, Offering, Waiting, Feeding, Reading, Sending, Hearing, Ending, Cut}
+
+-- A head is complete within 10 seconds, a source sends within 30, and a peer takes bytes within 60, if there are any for
+-- it. Whoever is cut is given no time.
+abbrev pub patience : Stage → Bool → Option ℕ
+patience Asking idle = Some 10000
+patience Offering idle = Some 10000
+patience Waiting idle = Some 10000
+patience Reading idle = Some 10000
+patience Feeding idle = Some 30000
+patience Sending idle = Some 60000
+patience Ending idle = Some 60000
+patience Hearing true = None
+patience Hearing false = Some 60000
+patience Cut idle = Some 0
+
+abbrev pub is_over_by : Option ℕ → ℕ → Bool
+is_over_by None waited = false
+is_over_by (Some most) waited = nat_le most waited
+
+abbrev pub is_overdue : ClientState → ℕ → Bool
+is_overdue client now = is_over_by (patience client.stage client.idle) (now - client.since)
+
+-- A source is refused if another one has the air and still has it after a second: an encoder that begins anew may be here
+-- before its old connection is seen to end.
+abbrev pub is_refused_in : Stage → ℕ → Bool
+is_refused_in Waiting waited = nat_le 1000 waited
+is_refused_in stage waited = false
+
+abbrev pub is_refused : ClientState → ℕ → Bool
+is_refused client now = is_refused_in client.stage (now - client.since)
+
+-- What waits is committed once 64 commands wait, or the oldest has waited for 150 milliseconds.
+abbrev pub is_due : ℕ → ℕ → ℕ → Bool
+is_due waiting since now = nat_le 64 waiting || (nat_lt 0 waiting && nat_le 150 (now - since))
+
+-- how long is waited until then, if something waits
+abbrev pub until_due : ℕ → ℕ → ℕ → Option ℕ
+until_due zero since now = None
+until_due (suc waiting) since now = Some (150 - (now - since))

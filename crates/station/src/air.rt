@@ -1,0 +1,229 @@
+//! The source that is on the air: its bytes, as they come, and what is recorded of them.
+ghost use Rattle.std.specs.Prelude.{◌≡◌, ◌+◌, ◌-◌, ◌≤◌, Err, vec_len};
+ghost use Rattle.ogg_page.specs.Reading.{page_at};
+ghost use Rattle.ogg_page.specs.declared.fault.PageFault.TheVariants.{Short};
+
+use crate::Memory;
+use feed_changes::ChangeOptions;
+use feed_run::Runner;
+use import_mend::Mend;
+use import_record::{ImportRun, RecordFault, Step, Taken};
+use link_chain::StreamState;
+use ogg_command::Command;
+use serve_sources::{Body, Piece};
+use std::alloc::Global;
+use std::io;
+
+/// Who sends the stream that is recorded.
+#[derive(Clone, Copy, Debug, PartialEq, Eq)]
+pub enum Feeder {
+    /// The caller's input.
+    Input,
+    /// The connection with this key.
+    Peer(usize),
+    /// A connection that was closed.
+    Gone,
+}
+
+/// How many bytes of a stream are read at once: a page, and as many again.
+const ROOM: usize = 131_072;
+
+/// What was done with a source's bytes.
+#[derive(Clone, Copy, Debug, PartialEq, Eq)]
+pub enum Took {
+    /// Nothing: more bytes must come.
+    Nothing,
+    /// Bytes of its body went on to the pages.
+    Bytes,
+    /// A step was taken of its stream.
+    Stepped(Step),
+    /// The stream has ended at this offset, and so did what was recorded of it. The last bytes that are of no page are
+    /// told.
+    Ended {
+        offset: u64,
+        junk: Option<Mend>,
+        taken: Taken,
+    },
+}
+
+/// A source: its bytes that have come and aren't taken yet, and what the commands of its next pages depend on.
+#[derive(Drop)]
+pub struct OnAir {
+    feeder: Feeder,
+    import: ImportRun,
+    // none if the bytes are the stream's own
+    body: Option<Body>,
+    pending: Vec<u8>,
+    at: usize,
+    // so many bytes at `at` are of the stream
+    decoded: usize,
+    // what is left of `pending` says nothing before more bytes come
+    starved: bool,
+    // no further byte comes
+    ended: bool,
+    ghost within: { at + decoded ≤ vec_len pending },
+}
+
+impl OnAir {
+    /// A source of which no byte has come. Its streams are begun as the options ask, under serials that aren't among
+    /// these if they are renumbered.
+    pub fn new(
+        alloc: Global,
+        feeder: Feeder,
+        body: Option<Body>,
+        options: ChangeOptions,
+        serials: &[u32],
+    ) -> Result<OnAir, Memory> {
+        let import = ImportRun::new(alloc, ROOM, options, serials)?;
+        Ok(OnAir {
+            feeder,
+            import,
+            body,
+            pending: Vec::new(alloc),
+            at: 0,
+            decoded: 0,
+            starved: false,
+            ended: false,
+        })
+    }
+
+    /// Who sends the stream.
+    pub fn feeder(&self) -> Feeder {
+        self.feeder
+    }
+
+    /// Whether the peer waits for an answer once its body has ended.
+    pub fn wants_answer(&self) -> bool {
+        match &self.body {
+            Some(body) => body.awaits_answer(),
+            None => false,
+        }
+    }
+
+    /// Whether nothing can be done before further bytes come.
+    pub fn is_hungry(&self) -> bool {
+        !self.ended && self.starved && self.decoded == 0 && self.import.waits()
+    }
+
+    /// Further bytes have come. After `Memory` none of them are kept.
+    pub fn push(&mut self, bytes: &[u8]) -> Result<(), Memory> {
+        drop_front(&mut self.pending, self.at);
+        self.at = 0;
+        self.starved = false;
+        self.pending.extend_from_slice(bytes)
+    }
+
+    /// No further byte comes.
+    pub fn end(&mut self) {
+        self.ended = true;
+    }
+
+    /// No further byte comes, and nobody waits for an answer.
+    pub fn lose_feeder(&mut self) {
+        self.feeder = Feeder::Gone;
+        self.ended = true;
+    }
+
+    /// Takes the next page, or the next bytes of the body, or the end.
+    pub fn step<T: Runner>(&mut self, runner: &mut T) -> Result<Took, RecordFault>
+        requires uncounted { (one : T) → T.counted one ≡ 0 }
+    {
+        if !self.import.waits() {
+            return self.take_page(runner);
+        }
+        if self.decoded > 0 {
+            return self.pass_on();
+        }
+        if !self.starved {
+            self.decode();
+            return Ok(Took::Bytes);
+        }
+        if self.ended {
+            return self.take_page(runner);
+        }
+        Ok(Took::Nothing)
+    }
+
+    /// The commands with which the stream goes on in a file that was opened again, whose last link has these streams, and
+    /// all of whose streams have these serials: none if its link is open there.
+    pub fn resume(
+        &mut self,
+        streams: &[StreamState],
+        serials: &[u32],
+    ) -> Result<Vec<Command>, Memory> {
+        self.import.resume(streams, serials)
+    }
+
+    /// Finds the next bytes of the stream among those that have come.
+    fn decode(&mut self)
+        requires { self.old.decoded ≡ 0 }
+    {
+        let bytes = &self.pending[self.at..];
+        let Some(body) = &mut self.body else {
+            self.decoded = bytes.len();
+            self.starved = bytes.is_empty();
+            return;
+        };
+        match body.next(bytes) {
+            Ok(Piece::Data { start, end }) => {
+                self.at += start;
+                self.decoded = end - start;
+            }
+            Ok(Piece::More { used }) => {
+                self.at += used;
+                self.starved = true;
+            }
+            // What follows is no part of the stream.
+            Ok(Piece::End { .. }) | Err(_) => {
+                self.pending.clear();
+                self.at = 0;
+                self.starved = true;
+                self.ended = true;
+            }
+        }
+    }
+
+    /// Passes decoded bytes on to the pages.
+    fn pass_on(&mut self) -> Result<Took, RecordFault>
+        requires { page_at self.old.import.pages.unread ≡ Err Short }
+    {
+        let mut bytes = &self.pending[self.at..self.at + self.decoded];
+        match self.import.read_once(&mut bytes) {
+            Ok(count) => {
+                self.at += count;
+                self.decoded -= count;
+                Ok(Took::Bytes)
+            }
+            Err(_) => Err(RecordFault::Read),
+        }
+    }
+
+    /// Takes the next page that is whole, or passes over what isn't one, or ends the stream.
+    fn take_page<T: Runner>(&mut self, runner: &mut T) -> Result<Took, RecordFault>
+        requires uncounted { (one : T) → T.counted one ≡ 0 }
+    {
+        match self.import.step(runner, &mut io::empty(), &mut io::sink()) {
+            Ok(Step::Ended { junk }) => {
+                let offset = self.import.offset();
+                let taken = self.import.finish(runner, &mut io::sink())?;
+                Ok(Took::Ended {
+                    offset,
+                    junk,
+                    taken,
+                })
+            }
+            Ok(step) => Ok(Took::Stepped(step)),
+            Err(fault) => Err(fault),
+        }
+    }
+}
+
+/// Drops this many bytes at the front.
+fn drop_front(bytes: &mut Vec<u8>, count: usize)
+    requires { count ≤ vec_len bytes.old }
+    ensures { vec_len bytes.new ≡ vec_len bytes.old - count }
+{
+    let left = bytes.len() - count;
+    bytes.as_mut_slice().copy_within(count.., 0);
+    bytes.truncate(left);
+}

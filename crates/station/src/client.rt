@@ -1,0 +1,157 @@
+//! A connection, and how far it has come.
+ghost use Rattle.std.specs.Prelude.{◌≡◌, ◌≢◌, ◌⊎◌, [], Some, drop, OnOk, OnErr};
+ghost use Rattle.station.specs.Client.{cut, fresh, is_over, told, with_stage};
+ghost use Rattle.station.specs.declared.client.Stage.TheVariants.{Ending as EndingOf};
+
+use crate::Memory;
+use serve_live::Listener;
+use std::alloc::Global;
+use std::marker::Model;
+
+/// How far a connection has come.
+#[derive(Clone, Copy, Debug, PartialEq, Eq)]
+pub enum Stage {
+    /// What has come doesn't say yet what it asks for.
+    Asking,
+    /// The head of a source's request comes.
+    Offering,
+    /// A source waits for the air, which another one has.
+    Waiting,
+    /// A source's stream comes.
+    Feeding,
+    /// The hub's session reads its request.
+    Reading,
+    /// The hub's session gives its response.
+    Sending,
+    /// It hears what is recorded.
+    Hearing,
+    /// What is kept for it is its last.
+    Ending,
+    /// It is cut: nothing more is taken or given.
+    Cut,
+}
+
+/// A connection. What is kept of its head, and what was given for it and couldn't be written yet, is in its memory.
+#[derive(Drop)]
+pub struct Client {
+    pub(crate) stage: Stage,
+    // the number of its session in the hub, if it has one
+    pub(crate) session: Option<u64>,
+    // what has come of its head, until it is known what it asks for
+    pub(crate) head: Vec<u8>,
+    // what was to be written, and how much of it was
+    rest: Vec<u8>,
+    sent: usize,
+    pub(crate) listener: Option<Listener>,
+    // since when it has neither sent nor taken a byte, though it could: milliseconds of the caller's clock
+    pub(crate) since: u64,
+    // nothing was left to be sent when it was last asked
+    pub(crate) idle: bool,
+}
+
+impl Model for Client {
+    ghost use Rattle.std.specs.Prelude.{◌≤◌, drop, length};
+    ghost use Rattle.station.specs.Client.{ClientState};
+
+    ghost Value = { ClientState };
+
+    ghost view = { λ c. record {
+      stage = c.stage;
+      session = c.session;
+      head = c.head.items;
+      unsent = drop c.sent c.rest.items;
+      listener = c.listener;
+      since = c.since;
+      idle = c.idle;
+    } };
+
+    ghost invariant = { λ c. c.sent ≤ length c.rest.items };
+}
+
+impl Client {
+    /// A connection that has said nothing.
+    pub fn new(alloc: Global, now: u64) -> Client
+        ensures { result ≡ fresh now }
+    {
+        Client {
+            stage: Stage::Asking,
+            session: None,
+            head: Vec::new(alloc),
+            rest: Vec::new(alloc),
+            sent: 0,
+            listener: None,
+            since: now,
+            idle: true,
+        }
+    }
+
+    /// This text is the next that is written. After `Memory` nothing is changed.
+    pub fn tell(&mut self, text: &[u8]) -> Result<(), Memory>
+        ensures ok { OnOk result (self.new ≡ told text.now self.old) }
+        ensures err { OnErr result (self.new ≡ self.old) }
+    {
+        self.rest.extend_from_slice(text)
+    }
+
+    /// This text is the last that is written. Without memory for it the connection is cut.
+    pub fn tell_last(&mut self, text: &[u8])
+        ensures { (self.new ≡ with_stage EndingOf (told text.now self.old)) ⊎ (self.new ≡ cut self.old) }
+    {
+        match self.tell(text) {
+            Ok(()) => self.stage = Stage::Ending,
+            Err(_) => self.stage = Stage::Cut,
+        }
+    }
+
+    /// It is in this stage from now on.
+    pub(crate) fn go_to(&mut self, stage: Stage)
+        ensures { self.new ≡ with_stage stage self.old }
+    {
+        self.stage = stage;
+    }
+
+    /// It has this session in the hub, which has taken its head, and is in this stage.
+    pub(crate) fn connected(&mut self, id: u64, stage: Stage)
+        ensures { self.new ≡ record self.old { stage = stage; session = Some id; head = [] } }
+    {
+        self.session = Some(id);
+        self.head.clear();
+        self.stage = stage;
+    }
+
+    /// What was given for it and isn't written yet.
+    pub fn unsent(&self) -> &[u8]
+        ensures { result.now ≡ self.now.unsent }
+    {
+        &self.rest[self.sent..]
+    }
+
+    /// The first `count` of the bytes that were given were written: those that couldn't be written before, or these if
+    /// there were none. What is left is kept; without memory for it the connection is cut.
+    pub fn wrote(&mut self, bytes: &[u8], count: usize)
+        ensures again { self.old.unsent ≢ [] → self.new ≡ record self.old { unsent = drop count self.old.unsent } }
+        ensures anew { self.old.unsent ≡ [] → (self.new ≡ record self.old { unsent = drop count bytes.now }) ⊎ (self.new ≡ cut self.old) }
+    {
+        if !self.unsent().is_empty() {
+            self.sent = self.sent.saturating_add(count).min(self.rest.len());
+            return;
+        }
+        self.rest.clear();
+        self.sent = 0;
+        let (_, left) = bytes.split_at(count.min(bytes.len()));
+        if self.rest.extend_from_slice(left).is_err() {
+            self.stage = Stage::Cut;
+        }
+    }
+
+    /// Nothing more is taken, and nothing more is to be written.
+    pub fn is_over(&self) -> bool
+        ensures { result ≡ is_over self.now }
+    {
+        match self.stage {
+            Stage::Cut => true,
+            Stage::Ending => self.unsent().is_empty(),
+            _ => false,
+        }
+    }
+}

@@ -1,0 +1,88 @@
+//! What a connection is to be sent.
+ghost use Rattle.std.specs.Prelude.{◌≡◌, ◌≢◌, ◌≤◌, [], Result, if◌then◌else◌, length, take};
+ghost use Rattle.sessions.specs.Hub.{Given as GivenOf, Pull};
+ghost use Rattle.sessions.specs.Calls.{Steps};
+ghost use Rattle.sessions.specs.declared.fault.HubFault.{HubFault as HubFaultOf};
+ghost use Rattle.ogg_serve.specs.Images.{IfFile, Reads};
+ghost use Rattle.ogg_serve.specs.Showing.{Shows};
+ghost use Rattle.station.specs.Giving.{HasPulled};
+ghost use Rattle.station.specs.declared.client.Stage.TheVariants.{Ending as EndingOf, Sending as SendingOf};
+
+use crate::client::{Client, Stage};
+use disk_model::Disk;
+use ogg_serve::Hub;
+
+/// Gives the first of the bytes that couldn't be written before, and returns how many.
+fn give_again(client: &Client, buffer: &mut [u8]) -> usize
+    ensures bytes { take result buffer.new ≡ take (length buffer.old) client.now.unsent }
+    ensures within { result ≤ length buffer.new }
+{
+    let unsent = client.unsent();
+    let count = unsent.len().min(buffer.len());
+    buffer[..count].copy_from_slice(&unsent[..count]);
+    count
+}
+
+/// Pulls the next bytes of the response of the connection's session.
+fn pull<D: Disk + Drop>(hub: &mut Hub<D>, id: u64, client: &mut Client, buffer: &mut [u8]) -> usize
+    ensures pulled { (answer : Result GivenOf HubFaultOf)
+        × Steps (Shows D.is_honest D.state) hub.old hub.new (λ after. Pull id (length buffer.old) answer)
+        × HasPulled answer client.old result buffer.new client.new }
+    ensures disk { IfFile (Reads D.is_honest D.state D.moment D.images_since D.failures) hub.old.file hub.new.file }
+    ensures within { result ≤ length buffer.new }
+{
+    match hub.pull(id, buffer) {
+        Ok(pulled) => {
+            client.go_to(stage_after(pulled.done));
+            pulled.count
+        }
+        Err(_) => {
+            client.go_to(Stage::Cut);
+            0
+        }
+    }
+}
+
+/// The stage after a pull, by whether nothing is left.
+fn stage_after(done: bool) -> Stage
+    ensures { result ≡ (if done then EndingOf else SendingOf) }
+{
+    if done { Stage::Ending } else { Stage::Sending }
+}
+
+/// Pulls the next bytes that a listener hears. After a fault of the file the connection is cut.
+fn hear<D: Disk + Drop>(hub: &mut Hub<D>, client: &mut Client, buffer: &mut [u8]) -> usize
+    ensures within { result ≤ length buffer.new }
+{
+    let Some(listener) = &mut client.listener else {
+        return 0;
+    };
+    match hub.hear(listener, buffer) {
+        Ok(count) => count,
+        Err(_) => {
+            client.stage = Stage::Cut;
+            0
+        }
+    }
+}
+
+/// Gives the next bytes to be written: those that couldn't be written before, or the next ones of its response, or those
+/// that it hears next. It returns how many these are.
+pub(crate) fn give<D: Disk + Drop>(
+    hub: &mut Hub<D>,
+    client: &mut Client,
+    buffer: &mut [u8],
+) -> usize
+    ensures again { client.old.unsent ≢ [] → (hub.new ≡ hub.old) × (client.new ≡ client.old)
+        × (take result buffer.new ≡ take (length buffer.old) client.old.unsent) }
+    ensures within { result ≤ length buffer.new }
+{
+    if !client.unsent().is_empty() {
+        return give_again(client, buffer);
+    }
+    match (client.stage, client.session) {
+        (Stage::Sending, Some(id)) => pull(hub, id, client, buffer),
+        (Stage::Hearing, _) => hear(hub, client, buffer),
+        _ => 0,
+    }
+}

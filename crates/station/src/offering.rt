@@ -1,0 +1,112 @@
+//! A source is offered: it is refused, or goes on the air.
+ghost use Rattle.std.specs.Prelude.{◌≡◌};
+ghost use Rattle.station.specs.Keys.{OthersStay};
+
+use crate::Memory;
+use crate::air::{Feeder, OnAir};
+use crate::client::Stage;
+use crate::station::Station;
+use disk_model::Disk;
+use feed_changes::ChangeOptions;
+use serve_sources::{Body, DONE, Offer};
+
+impl<D: Disk + Drop> Station<D> {
+    /// Further bytes of the head of a source's request. If another one has the air, it waits.
+    pub(crate) fn offer(&mut self, key: usize, bytes: &[u8], now: u64)
+        ensures others { OthersStay key self.old.clients self.new.clients }
+        ensures live { self.new.live ≡ self.old.live }
+    {
+        let Some(client) = self.clients.get_mut(key) else {
+            return;
+        };
+        if client.head.extend_from_slice(bytes).is_err() {
+            client.stage = Stage::Cut;
+            return;
+        }
+        let Some(password) = &self.options.password else {
+            return;
+        };
+        match Offer::of(client.head.as_slice(), password) {
+            Offer::More => {}
+            Offer::Refused(refused) => client.tell_last(refused.answer()),
+            Offer::Nothing { .. } => client.tell_last(DONE),
+            Offer::Body { .. } if self.air.is_some() => {
+                client.stage = Stage::Waiting;
+                client.since = now;
+            }
+            Offer::Body { used, body, answer } => {
+                if self.take_the_air(key, used, body, answer).is_err() {
+                    self.cut(key);
+                }
+            }
+        }
+    }
+
+    /// The air is free: the first source that waits for it takes it.
+    pub(crate) fn offer_again(&mut self, now: u64) {
+        for key in 0..self.clients.capacity() {
+            if self.waits(key) {
+                self.offer(key, &[], now);
+                return;
+            }
+        }
+    }
+
+    /// Whether this connection is a source that waits for the air.
+    fn waits(&self, key: usize) -> bool {
+        match self.clients.get(key) {
+            Some(client) => client.stage == Stage::Waiting,
+            None => false,
+        }
+    }
+
+    /// The connection is cut.
+    fn cut(&mut self, key: usize)
+        ensures others { OthersStay key self.old.clients self.new.clients }
+        ensures live { self.new.live ≡ self.old.live }
+    {
+        if let Some(client) = self.clients.get_mut(key) {
+            client.stage = Stage::Cut;
+        }
+        self.end_air(Feeder::Peer(key));
+    }
+
+    /// The connection's stream is recorded from now on. Its body follows the head, which has `used` bytes.
+    fn take_the_air(
+        &mut self,
+        key: usize,
+        used: usize,
+        body: Body,
+        answer: &[u8],
+    ) -> Result<(), Memory>
+        ensures others { OthersStay key self.old.clients self.new.clients }
+        ensures live { self.new.live ≡ self.old.live }
+    {
+        self.begin_air(Feeder::Peer(key), Some(body))?;
+        let Some(client) = self.clients.get_mut(key) else {
+            return Ok(());
+        };
+        client.stage = Stage::Feeding;
+        if let Some(air) = &mut self.air {
+            let (_, rest) = client.head.as_slice().split_at(used.min(client.head.len()));
+            air.push(rest)?;
+        }
+        client.head.clear();
+        client.tell(answer)
+    }
+
+    /// A source is on the air from now on. Its streams get serials that the file doesn't have.
+    pub(crate) fn begin_air(&mut self, feeder: Feeder, body: Option<Body>) -> Result<(), Memory>
+        ensures clients { self.new.clients ≡ self.old.clients }
+        ensures live { self.new.live ≡ self.old.live }
+        ensures options { self.new.options ≡ self.old.options }
+    {
+        let options = ChangeOptions {
+            renumber: true,
+            skeletons: self.options.skeletons,
+        };
+        let serials = self.live.hub.serials();
+        self.air = Some(OnAir::new(self.alloc, feeder, body, options, serials)?);
+        Ok(())
+    }
+}

@@ -1,0 +1,181 @@
+//! What is recorded, step by step.
+
+use crate::air::{Feeder, Took};
+use crate::client::Stage;
+use crate::patience::{is_due, until_due};
+use crate::station::Station;
+use disk_model::Disk;
+use feed_codec::Reply;
+use feed_run::Runner;
+use gate_file::OpenFault;
+use import_mend::Mend;
+use import_record::{RecordFault, Step, Taken, run_all};
+use link_chain::StreamState;
+use ogg_command::Command;
+use serve_sources::DONE;
+use std::io;
+
+/// A link has at most this many streams.
+const MOST_STREAMS: usize = 64;
+
+/// What a step has done.
+#[derive(Clone, Copy, Debug, PartialEq, Eq)]
+pub enum Done {
+    /// Nothing: there was nothing to do.
+    Nothing,
+    /// Bytes were taken.
+    Bytes,
+    /// What waited was committed, or couldn't be.
+    Flushed(Reply),
+    /// A step was taken of the source's stream.
+    Stepped(Step),
+    /// The source's stream has ended at this offset.
+    Ended {
+        offset: u64,
+        junk: Option<Mend>,
+        taken: Taken,
+    },
+    /// The source was given up.
+    GivenUp(RecordFault),
+    /// The disk had failed, and the file was opened again.
+    Reopened,
+    /// The disk had failed, and the file couldn't be opened again.
+    Lost(OpenFault),
+    /// The disk has failed again, and nothing was kept since it did before.
+    Failed,
+}
+
+impl<D: Disk + Drop> Station<D> {
+    /// Does what is next to be done for what is recorded: commits what waits, if it is time, or takes the next page of
+    /// the source, or its end. A fault of the disk is answered by one reopening, unless nothing was kept since the one
+    /// before. Call it until it has done `Nothing`.
+    pub fn step(&mut self, now: u64) -> Done {
+        if self.live.hub.is_failed() {
+            return self.reopen(now);
+        }
+        if is_due(self.live.hub.held(), self.waiting_since, now) {
+            return Done::Flushed(self.live.run_flush());
+        }
+        let waited = self.live.hub.held() > 0;
+        let done = self.step_air(now);
+        if !waited {
+            self.waiting_since = now;
+        }
+        done
+    }
+
+    /// Takes a step of the source, if there is one.
+    fn step_air(&mut self, now: u64) -> Done {
+        let Some(air) = &mut self.air else {
+            return Done::Nothing;
+        };
+        match air.step(&mut self.live) {
+            Ok(Took::Nothing) => Done::Nothing,
+            Ok(Took::Bytes) => Done::Bytes,
+            Ok(Took::Stepped(step)) => Done::Stepped(step),
+            Ok(
+                Took::Ended {
+                    offset,
+                    junk,
+                    taken,
+                },
+            ) => {
+                self.leave_the_air(now);
+                Done::Ended {
+                    offset,
+                    junk,
+                    taken,
+                }
+            }
+            Err(fault) => {
+                self.leave_the_air(now);
+                Done::GivenUp(fault)
+            }
+        }
+    }
+
+    /// Nobody is on the air any more. What is open is ended, what waits is committed, and the peer is answered if it
+    /// waits for that.
+    fn leave_the_air(&mut self, now: u64) {
+        let Some(air) = self.air.take() else {
+            return;
+        };
+        self.end_open();
+        if let Feeder::Peer(key) = air.feeder() {
+            if let Some(client) = self.clients.get_mut(key) {
+                if air.wants_answer() {
+                    client.tell_last(DONE);
+                } else {
+                    client.stage = Stage::Ending;
+                }
+            }
+        }
+        self.offer_again(now);
+    }
+
+    /// Ends each stream that the file's last link has open, and commits that. It stops at the first end that is refused.
+    pub fn end_open(&mut self) {
+        for _ in 0..MOST_STREAMS {
+            let Some(serial) = first_open(self.live.hub.streams()) else {
+                break;
+            };
+            match self
+                .live
+                .run_command(&Command::End(serial), &mut io::sink())
+            {
+                Ok(Reply::Refused(_)) | Err(_) => break,
+                Ok(_) => {}
+            }
+        }
+        let _ = self.live.run_flush();
+    }
+
+    /// Opens the file again, if anything was kept since that was done before.
+    fn reopen(&mut self, now: u64) -> Done {
+        let end = self.live.hub.end();
+        if self.reopened == Some(end) {
+            return Done::Failed;
+        }
+        self.reopened = Some(end);
+        match self.live.hub.reopen() {
+            Ok(()) => {
+                self.live.reopened(end);
+                self.resume(now)
+            }
+            Err(fault) => Done::Lost(fault),
+        }
+    }
+
+    /// What is on the air goes on in the file that was opened again.
+    fn resume(&mut self, now: u64) -> Done {
+        let Some(air) = &mut self.air else {
+            return Done::Reopened;
+        };
+        let hub = &self.live.hub;
+        let resumed = match air.resume(hub.streams(), hub.serials()) {
+            Ok(commands) => run_all(&mut self.live, commands.as_slice(), &mut io::sink()),
+            Err(_) => {
+                self.leave_the_air(now);
+                return Done::GivenUp(RecordFault::Memory);
+            }
+        };
+        match resumed {
+            Ok(_) => Done::Reopened,
+            Err(_) => {
+                self.leave_the_air(now);
+                Done::GivenUp(RecordFault::Write)
+            }
+        }
+    }
+
+    /// How many milliseconds may be waited before `step` has something to do, if nothing comes; none if nothing waits.
+    pub fn until_due(&self, now: u64) -> Option<u64> {
+        until_due(self.live.hub.held(), self.waiting_since, now)
+    }
+}
+
+/// The serial of the first stream that hasn't ended.
+fn first_open(streams: &[StreamState]) -> Option<u32> {
+    let stream = streams.iter().find(|stream| !stream.ended)?;
+    Some(stream.serial)
+}
