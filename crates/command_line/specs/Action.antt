@@ -1,7 +1,7 @@
 -- The numbers of what is asked for. Their bounds are ours.
 use Rattle.std.specs.Prelude.{◌≤◌, ℕ, ⊤}
 use Rattle.command_line.specs.declared.action.Action.{Action}
-use Rattle.command_line.specs.declared.action.Action.TheVariants.{Archive, Record, Serve, Live}
+use Rattle.command_line.specs.declared.action.Action.TheVariants.{Archive, Station, Record, Serve, Live}
 
 -- how many commands may share one commit
 abbrev pub IsGroup : ℕ → Type 0
@@ -11,9 +11,14 @@ IsGroup most = (1 ≤ most) × (most ≤ 1024)
 abbrev pub IsCount : ℕ → Type 0
 IsCount count = (1 ≤ count) × (count ≤ 65536)
 
+-- how many connections a station may have at once
+abbrev pub IsRoom : ℕ → Type 0
+IsRoom count = (1 ≤ count) × (count ≤ 16384)
+
 -- each number lies within its bounds
 abbrev pub IsInBounds : Action → Type 0
 IsInBounds (Archive file skeletons most strict seal) = IsGroup most
+IsInBounds (Station file address password_file listeners skeletons) = IsRoom listeners
 IsInBounds (Record file end_open seal most strict) = IsGroup most
 IsInBounds (Serve file address count) = IsCount count
 IsInBounds (Live file address feed count most) = IsCount count × IsGroup most

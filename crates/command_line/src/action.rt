@@ -20,6 +20,15 @@ pub enum Action<'a> {
         strict: bool,
         seal: bool,
     },
+    /// The file for any number of connections to the address, at most `listeners` at once. What comes on standard input
+    /// is recorded into the file meanwhile, and with a password file what connections send.
+    Station {
+        file: &'a str,
+        address: &'a str,
+        password_file: Option<&'a str>,
+        listeners: u32,
+        skeletons: Skeletons,
+    },
     /// The pages of the feed on standard input, with `strict` up to the first refusal.
     Mux {
         strict: bool,

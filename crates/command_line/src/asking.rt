@@ -4,7 +4,7 @@ ghost use Rattle.command_line.specs.Action.{IsCount, IsGroup, IsInBounds};
 
 use crate::action::{Action, Skeletons};
 use crate::building::program;
-use crate::rows::{Bounds, COUNTS, GROUPS};
+use crate::rows::{Bounds, CONNECTIONS, COUNTS, GROUPS};
 use clap::error::ErrorKind;
 use clap::{ArgMatches, Error};
 use std::alloc::{AllocError, Global};
@@ -41,6 +41,7 @@ fn asked<'a>(name: &str, words: &ArgMatches<'a>) -> Option<Action<'a>>
 {
     match name {
         "archive" => archive_of(words),
+        "station" => station_of(words),
         "feed" => Some(feed_of(words)),
         "mux" => Some(mux_of(words)),
         "record" => record_of(words),
@@ -96,6 +97,18 @@ fn archive_of<'a>(words: &ArgMatches<'a>) -> Option<Action<'a>>
         most: group_of(words)?,
         strict: words.get_flag("strict"),
         seal: words.get_flag("seal"),
+    })
+}
+
+fn station_of<'a>(words: &ArgMatches<'a>) -> Option<Action<'a>>
+    ensures { IfSome result IsInBounds }
+{
+    Some(Action::Station {
+        file: words.get_str("FILE")?,
+        address: words.get_str("ADDR")?,
+        password_file: words.get_str("password-file"),
+        listeners: number_of(words, "listeners", CONNECTIONS)?,
+        skeletons: skeletons_of(words),
     })
 }
 

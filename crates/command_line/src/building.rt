@@ -44,6 +44,7 @@ fn argument_of<'a>(alloc: Global, row: &Argument) -> Result<Arg<'a>, AllocError>
         Kind::MaybeNumber(bounds) => Ok(number(argument, bounds)),
         Kind::Flag => Ok(flag(argument, row.name)),
         Kind::FlagWithout(other) => flag(argument, row.name).conflicts_with(other),
+        Kind::Named(value) => Ok(valued(argument, row.name, value, None)),
         Kind::Valued {
             value,
             bounds,

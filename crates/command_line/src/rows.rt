@@ -46,6 +46,8 @@ pub(crate) enum Kind {
     Flag,
     /// `--name`, which may not stand beside this other argument.
     FlagWithout(&'static str),
+    /// `--name TEXT`, where help calls the text by this name.
+    Named(&'static str),
     /// `--name NUMBER`, where help calls the number `value`.
     Valued {
         value: &'static str,
@@ -78,4 +80,10 @@ pub(crate) const GROUPS: Bounds = Bounds {
 pub(crate) const COUNTS: Bounds = Bounds {
     least: 1,
     most: 65536,
+};
+
+/// How many connections a station may have at once.
+pub(crate) const CONNECTIONS: Bounds = Bounds {
+    least: 1,
+    most: 16384,
 };

@@ -151,7 +151,7 @@ fn record_stream(
         Err(_) => Ok(()),
     };
     let kept = end_open(recorder);
-    told.settle(recorder);
+    told.settle(recorder.held(), recorder.is_failed(), recorder.end());
     met.and(ended).and(kept)
 }
 
@@ -183,25 +183,14 @@ fn record_steps(
             return Ok(());
         }
         match import.step(recorder, &mut rt.stdin(), &mut io::sink()) {
-            // Whether it was kept is seen by the recorder.
-            Ok(Step::Flushed(_) | Step::PassedOver) => {}
-            Ok(
-                Step::Page {
-                    offset,
-                    junk,
-                    taken,
-                },
-            ) => {
-                told.mended(junk);
-                told.taken(offset, &taken);
-            }
             Ok(Step::Ended { junk }) => {
                 told.mended(junk);
                 return Ok(());
             }
+            Ok(step) => told.stepped(&step),
             Err(fault) => return Err(Fault::Archive(fault)),
         }
-        told.settle(recorder);
+        told.settle(recorder.held(), recorder.is_failed(), recorder.end());
     }
     Ok(())
 }

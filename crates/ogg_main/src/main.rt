@@ -5,6 +5,7 @@
 #![tactic(auto)]
 
 mod archiving;
+mod broadcasting;
 mod files;
 mod finishing;
 mod indexing;
@@ -12,6 +13,7 @@ mod mends;
 mod recorders;
 mod salvaging;
 mod server;
+mod sockets;
 mod streams;
 mod telling;
 
@@ -74,6 +76,22 @@ fn run(rt: &HostRuntime, action: Action<'_>) -> Result<(), Fault> {
             };
             archiving::archive(rt, file, options)
         }
+        Action::Station {
+            file,
+            address,
+            password_file,
+            listeners,
+            skeletons,
+        } => broadcasting::station(
+            rt,
+            broadcasting::Options {
+                file,
+                address,
+                password_file,
+                listeners,
+                skeletons: made(skeletons),
+            },
+        ),
         Action::Feed {
             mend,
             renumber,

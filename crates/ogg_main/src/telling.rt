@@ -2,14 +2,12 @@
 //! to.
 
 use crate::mends::MendLines;
-use disk_model::FileDisk;
-use fault_lines::Fault;
+use fault_lines::{Fault, write_fault};
 use feed_maker::Mends;
 use import_mend::Mend;
-use import_record::{Taken, Totals, archived_line, progress_line, refused_line};
+use import_record::{RecordFault, Step, Taken, Totals, archived_line, progress_line, refused_line};
 use ogg_command::Refusal;
 use ogg_page::write_whole;
-use ogg_recorder::Recorder;
 use std::io::{IsTerminal, Stderr};
 use std::time::{Duration, Instant};
 
@@ -65,6 +63,29 @@ impl<'a> Told<'a> {
         }
     }
 
+    /// A step of the stream was taken.
+    pub fn stepped(&mut self, step: &Step) {
+        match step {
+            // Whether it was kept is seen by the file.
+            Step::Flushed(_) | Step::PassedOver => {}
+            Step::Page {
+                offset,
+                junk,
+                taken,
+            } => {
+                self.mended(*junk);
+                self.taken(*offset, taken);
+            }
+            Step::Ended { junk } => self.mended(*junk),
+        }
+    }
+
+    /// A source was given up.
+    pub fn given_up(&mut self, fault: RecordFault) {
+        self.erase();
+        let _ = write_fault(&Fault::Archive(fault), &mut self.rt.stderr());
+    }
+
     /// A page that begins at this offset was taken.
     pub fn taken(&mut self, offset: u64, taken: &Taken) {
         self.mended(taken.mend);
@@ -89,11 +110,11 @@ impl<'a> Told<'a> {
     }
 
     /// Unless commands wait, all that was taken is on the disk.
-    pub fn settle(&mut self, recorder: &Recorder<FileDisk>) {
-        if recorder.held() == 0 && !recorder.is_failed() {
+    pub fn settle(&mut self, held: u64, failed: bool, end: u64) {
+        if held == 0 && !failed {
             self.totals.links = self.totals.links.saturating_add(self.links);
             self.totals.packets = self.totals.packets.saturating_add(self.packets);
-            self.totals.bytes = recorder.end();
+            self.totals.bytes = end;
             self.links = 0;
             self.packets = 0;
             self.show();
