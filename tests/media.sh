@@ -6,9 +6,9 @@
 . "$(dirname "$0")/program/common.bash"
 reader=${READ_OGG:-$top/crates/read_ogg/out/read_ogg}
 
-for tool in ffmpeg ffprobe ogginfo oggz oggenc opusenc flac speexenc gst-launch-1.0 mkvmerge mutagen-inspect; do
+for tool in curl oggfwd ices2 ffmpeg ffprobe ogginfo oggz oggenc opusenc flac speexenc gst-launch-1.0 mkvmerge mutagen-inspect; do
     if ! command -v "$tool" >"$work/which"; then
-        apt-get update && apt-get install -y ffmpeg vorbis-tools oggz-tools opus-tools flac speex \
+        apt-get update && apt-get install -y curl ices2 oggfwd ffmpeg vorbis-tools oggz-tools opus-tools flac speex \
             gstreamer1.0-tools gstreamer1.0-plugins-base gstreamer1.0-plugins-good mkvtoolnix python3-mutagen || exit 1
         break
     fi
@@ -258,5 +258,89 @@ check "archived after it: $(cat "$work/err")" grep -q '^archived 1 ' "$work/err"
 "$program" finish "$work/torn.ogg" 1 >"$work/last.ogg"
 packets "$work/last.ogg" >"$work/found"
 check "archived after it: the packets are the same" cmp "$work/vorbis.want" "$work/found"
+
+# Encoders send to a station, one after the other into one file, while others listen. Each link has the packets of what
+# was sent, and sounds like it; so does what a player hears that joined at the first link, over all of them.
+asking() { timeout 30 python3 "$here/asking.py" "$@"; }
+printf 'secret\n' >"$work/password"
+port=$(asking port)
+"$program" station "$work/station.ogg" "127.0.0.1:$port" --password-file "$work/password" </dev/null 2>"$work/station.err" &
+station=$!
+asking wait "$port"
+curl -sN "http://127.0.0.1:$port/live" >"$work/heard.ogg" &
+listener=$!
+links=0
+listed() {
+    for _ in $(seq 300); do
+        curl -s "http://127.0.0.1:$port/" >"$work/listing"
+        [ "$(grep -c '^link' "$work/listing")" = "$links" ] && ! grep -q open "$work/listing" && return 0
+        sleep 0.05
+    done
+    cat "$work/listing"
+    return 1
+}
+sent() { # sent NAME FILE COMMAND ..: the command sends FILE.ogg, and ends well
+    local name=$1 file=$2
+    shift 2
+    timeout 60 "$@" >"$work/out" 2>"$work/err"
+    check "$name: status $?, $(tail -n 1 "$work/err")" [ $? -eq 0 ]
+    links=$((links + 1))
+    check "$name: its link has ended" listed
+    curl -s "http://127.0.0.1:$port/link/$((links - 1))" >"$work/link.ogg"
+    "$program" finish "$work/link.ogg" >"$work/last.ogg"
+    packets "$work/last.ogg" >"$work/found"
+    packets "$work/$file.ogg" >"$work/want"
+    check "$name: the packets are the same" cmp "$work/want" "$work/found"
+    check "$name: it sounds the same" [ "$(sounds "$work/last.ogg" | head -n 1)" = "$(sounds "$work/$file.ogg" | head -n 1)" ]
+}
+to=127.0.0.1:$port
+copies=(-nostdin -loglevel error -re)
+sent "ffmpeg, icecast" vorbis ffmpeg "${copies[@]}" -i "$work/vorbis.ogg" -c copy -f ogg -content_type application/ogg "icecast://source:secret@$to/x"
+sent "ffmpeg, legacy" opus ffmpeg "${copies[@]}" -i "$work/opus.ogg" -c copy -f ogg -content_type application/ogg -legacy_icecast 1 "icecast://source:secret@$to/x"
+sent "ffmpeg, PUT" flac ffmpeg "${copies[@]}" -i "$work/flac.ogg" -c copy -f ogg -method PUT -auth_type basic "http://source:secret@$to/x"
+sent "curl, a file" vorbis curl -sf -u source:secret -T "$work/vorbis.ogg" "http://$to/x"
+sent "curl, chunks" opus bash -c "curl -sf -u source:secret -T - 'http://$to/x' <'$work/opus.ogg'"
+if command -v oggfwd >/dev/null; then
+    sent oggfwd vorbis bash -c "oggfwd 127.0.0.1 $port secret /x <'$work/vorbis.ogg'"
+else
+    echo "no oggfwd: left out"
+fi
+if command -v ices2 >/dev/null; then
+    printf '<ices><background>0</background><logpath>%s</logpath><logfile>ices.log</logfile><consolelog>0</consolelog><stream>' "$work" >"$work/ices.xml"
+    printf '<metadata><name>x</name></metadata><input><module>playlist</module><param name="type">basic</param>' >>"$work/ices.xml"
+    printf '<param name="file">%s</param><param name="once">1</param></input>' "$work/playlist" >>"$work/ices.xml"
+    printf '<instance><hostname>127.0.0.1</hostname><port>%s</port><password>secret</password><mount>/x</mount></instance></stream></ices>\n' "$port" >>"$work/ices.xml"
+    echo "$work/vorbis.ogg" >"$work/playlist"
+    chmod -R a+rX "$work"
+    sent ices2 vorbis ices2 "$work/ices.xml"
+else
+    echo "no ices2: left out"
+fi
+
+not() { ! "$@" >"$work/out" 2>&1; }
+
+# An encoder that is killed, and another one at once.
+ffmpeg "${copies[@]}" -stream_loop -1 -i "$work/vorbis.ogg" -c copy -f ogg -content_type application/ogg "icecast://source:secret@$to/x" 2>"$work/err" &
+encoder=$!
+sleep 1.5
+kill -9 "$encoder"
+wait "$encoder" 2>/dev/null
+links=$((links + 1))
+sent "after a kill" opus curl -sf -u source:secret -T "$work/opus.ogg" "http://$to/x"
+
+# Wrong passwords, each as its program says it.
+check "ffmpeg, a wrong password" not ffmpeg -nostdin -loglevel error -i "$work/vorbis.ogg" -c copy -f ogg "icecast://source:wrong@$to/x"
+check "curl, a wrong password" not curl -sf -u source:wrong -T "$work/vorbis.ogg" "http://$to/x"
+check "after them: nothing more" listed
+
+sleep 0.5
+kill "$listener"
+curl -s "http://$to/all" >"$work/all.ogg"
+check "a listener heard all of it" cmp "$work/all.ogg" "$work/heard.ogg"
+kill "$station"
+wait "$station" 2>/dev/null
+check "the station: no fault" not grep -q fault "$work/station.err"
+"$program" archive "$work/station.ogg" --seal </dev/null 2>"$work/err"
+check "sealed, the file is what was heard" cmp "$work/station.ogg" "$work/heard.ogg"
 
 finish
