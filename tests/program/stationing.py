@@ -194,9 +194,12 @@ def sources(program, work):
         if status == b"401":
             told.check(name + ": how to ask", b"\r\nWWW-Authenticate: Basic realm=" in got)
 
-    # A chunk that is none, and bytes after the last one.
-    got = offer("a chunk of 2^64", request(b"PUT", BASIC, b"Transfer-Encoding: chunked"), b"10000000000000000\r\n", b"200", True) \
-        if False else None
+    # Bytes after the last chunk are no part of the stream, and neither is a chunk that is none.
+    head = request(b"PUT", BASIC, b"Transfer-Encoding: chunked")
+    offer("bytes after the last chunk", head, chunked(b"".join(stream(98, 3)), source) + body, b"200", True)
+    with open(path, "rb") as file:
+        streams, end = found(file.read())
+    told.check("bytes after the last chunk: the last link", struct.unpack("<II", streams[-1]["packets"][0])[0] == 98)
     with station.connect() as one:
         one.sendall(request(b"PUT", BASIC, b"Transfer-Encoding: chunked") + b"10000000000000000\r\n")
         read_all(one)
@@ -375,10 +378,10 @@ def hears(program, work):
                     late.start()
                     listeners.append(late)
     until(lambda: b"open" not in station.ask(b"GET / HTTP/1.0\r\n\r\n"))
-    time.sleep(0.5)
     with open(path, "rb") as file:
         data = file.read()
     streams, end = found(data)
+    until(lambda: all(one.body()[-40:] == data[end - 40 : end] for one in listeners))
     told.check("recorded", len(streams) == 3 and all(one["ended"] for one in streams))
     known = {each for one in streams for each in one["packets"]}
     told.check("heard from the first page on: all as it is recorded", early.body() == data[:end], len(early.body()), end)
@@ -398,7 +401,7 @@ def hears(program, work):
 def kills(program, work, count):
     told, source = Told(), random.Random(11)
     path = os.path.join(work, "kills.ogg")
-    before, links = b"", 0
+    before, heard = b"", 0
     for turn in range(count):
         station = Station(program, path)
         sender = threading.Thread(target=send_until_killed, args=(station, 1000 + turn, source.choice([0, 0.0005, 0.003])), daemon=True)
@@ -422,11 +425,13 @@ def kills(program, work, count):
         told.check("turn %d: open links" % turn, all(one["ended"] for one in streams[:-1]))
         known = {each for one in streams for each in one["packets"]}
         for one in listeners:
+            heard += len(one.body())
             for fault in faults_heard(one.body(), known):
                 told.check("turn %d" % turn, False, fault)
         told.check("turn %d: standard error" % turn, b"fault" not in err and b"mended" not in err, err)
         before = data[:size]
     told.check("something was recorded", len(streams) > count / 2, len(streams))
+    told.check("something was heard", heard > 1000 * count, heard)
     return told.end()
 
 
