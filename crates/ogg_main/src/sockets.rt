@@ -325,7 +325,7 @@ impl Sockets {
         }
         let next = write(socket, station, key, buffer, now);
         if next != Next::Close && station.is_over(key) {
-            return close_softly(socket, buffer);
+            return close_softly(socket);
         }
         if next == Next::Wait && socket.readable && station.wants(key) {
             return Next::Again;
@@ -416,17 +416,12 @@ fn after(error: io::Error, flag: &mut bool) -> Next {
     }
 }
 
-/// All was written. If the peer has sent nothing more, the connection is closed; else what it sends is passed over until
-/// it closes, as a reset could cut off what was written.
-fn close_softly(socket: &mut Socket, buffer: &mut [u8]) -> Next {
-    match (&socket.stream).read(buffer) {
-        Ok(0) | Err(_) => Next::Close,
-        Ok(_) => {
-            socket.closing = true;
-            let _ = socket.stream.shutdown(Shutdown::Write);
-            Next::Again
-        }
-    }
+/// All was written, and the peer is told so. What it still sends is passed over until it closes, or patience is over: a
+/// reset could cut off what was written (RFC 9112, section 9.6).
+fn close_softly(socket: &mut Socket) -> Next {
+    socket.closing = true;
+    let _ = socket.stream.shutdown(Shutdown::Write);
+    Next::Again
 }
 
 /// Passes over what comes.
