@@ -130,7 +130,7 @@ def kills(program, folder, count):
         before = data[:end_before]
         runs += 1
     streams, _ = found(before)
-    if len(streams) < count // 2:
+    if len(streams) < count // 4:
         print(f"only {len(streams)} links in {count} runs")
         wrong += 1
     print(f"{runs} runs, {wrong} wrong")
