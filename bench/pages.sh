@@ -1,5 +1,5 @@
 #!/usr/bin/env bash
-# Reads and checks the pages of large files by `read_ogg` and by a small program over libogg's sync layer, which must
+# Reads and checks the pages of large files by `test_read` and by a small program over libogg's sync layer, which must
 # count the same. It prints the CPU seconds (user and system) of both, each the best of three runs that take turns. Not
 # part of the tests.
 #
@@ -7,7 +7,7 @@
 set -u
 here=$(cd "$(dirname "$0")" && pwd)
 mux=${PROGRAM:-$here/../crates/ogg_main/out/ogg_main}
-reader=${READ_OGG:-$here/../crates/read_ogg/out/read_ogg}
+reader=${READ_OGG:-$here/../crates/test_read/out/test_read}
 work=$(mktemp -d "${TMPDIR:-/tmp}/pages-bench.XXXXXX")
 trap 'rm -rf "$work"' EXIT
 
@@ -24,7 +24,7 @@ cpu() {
     { time "$@" <"$work/pages" >"$file"; } 2>&1 | awk '{ printf "%.3f\n", $1 + $2 }'
 }
 
-printf '%-8s %12s %12s %10s %7s\n' shape 'pages, MB' 'read_ogg, s' 'libogg, s' ratio
+printf '%-8s %12s %12s %10s %7s\n' shape 'pages, MB' 'test_read, s' 'libogg, s' ratio
 status=0
 for shape in "${@:-tiny audio streams frames large}"; do
     for shape in $shape; do

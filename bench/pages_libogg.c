@@ -1,4 +1,4 @@
-// Counts the pages of an Ogg file on standard input, and checks their checksums, by libogg's sync layer, as `read_ogg`
+// Counts the pages of an Ogg file on standard input, and checks their checksums, by libogg's sync layer, as `test_read`
 // does. Prints `pages COUNT END`.
 //
 //     cc -O2 -o pages_libogg pages_libogg.c -logg && ./pages_libogg < FILE.ogg

@@ -1,12 +1,12 @@
 #!/usr/bin/env bash
-# Measures a window over a file of 1 GB, in small and in large pages: `read_ogg window FILE` and a small program over
+# Measures a window over a file of 1 GB, in small and in large pages: `test_read window FILE` and a small program over
 # libogg's sync layer, which must count the same. It prints the CPU seconds (user and system) of both, each the best of
 # three runs that take turns, and the most memory that each had. Not part of the tests.
 #
 #     apt-get install libogg-dev && bench/window.sh [BYTES]      none: 1000000000
 set -u
 here=$(cd "$(dirname "$0")" && pwd)
-reader=${READ_OGG:-$here/../crates/read_ogg/out/read_ogg}
+reader=${READ_OGG:-$here/../crates/test_read/out/test_read}
 work=$(mktemp -d "${TMPDIR:-/tmp}/window-bench.XXXXXX")
 trap 'rm -rf "$work"' EXIT
 bytes=${1:-1000000000}

@@ -4,7 +4,7 @@
 #
 #     tests/media.sh            the last line is 'N passed, M failed'
 . "$(dirname "$0")/program/common.bash"
-reader=${READ_OGG:-$top/crates/read_ogg/out/read_ogg}
+reader=${READ_OGG:-$top/crates/test_read/out/test_read}
 
 for tool in curl oggfwd ices2 ffmpeg ffprobe ogginfo oggz oggenc opusenc flac speexenc gst-launch-1.0 mkvmerge mutagen-inspect; do
     if ! command -v "$tool" >"$work/which"; then

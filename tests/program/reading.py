@@ -1,5 +1,5 @@
 #!/usr/bin/env python3
-"""What `read_ogg` must find, by a plain program of the tests' own; and small files to try both on.
+"""What `test_read` must find, by a plain program of the tests' own; and small files to try both on.
 
     reading.py PROGRAM damage       one byte changed, at every place of a small file, and every cut of it
     reading.py PROGRAM foreign      files that other software makes, and such that none should

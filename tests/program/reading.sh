@@ -1,7 +1,7 @@
 #!/usr/bin/env bash
 # Pages, packets and chains in bytes of all kinds are read by the program and by the tests' own plain program.
 here=$(cd "$(dirname "${BASH_SOURCE[0]}")" && pwd)
-program=${READ_OGG:-$here/../../crates/read_ogg/out/read_ogg}
+program=${READ_OGG:-$here/../../crates/test_read/out/test_read}
 passed=0
 failed=0
 for files in damage foreign random edges; do

@@ -13,12 +13,12 @@ use Rattle.feed_codec.specs.Reply.{line_end}
 use Rattle.feed_codec.specs.FeedFault as F
 use Rattle.feed_codec.specs.declared.fault.RunFault.{RunFault}
 use Rattle.feed_codec.specs.declared.fault.RunFault.TheVariants.{Feed as RunFeed, Write as RunWrite, TooMany as RunTooMany}
-use Rattle.feed_maker.specs.MakingFault as M
-use Rattle.feed_maker.specs.declared.fault.MakingFault.{MakingFault}
-use Rattle.feed_maker.specs.declared.fault.MakingFault.TheVariants.{Page as MakePage, Chain as MakeChain, PacketTooLong, Unfinished as MakeUnfinished, TooLong, Read as MakeRead, Limit, Write as MakeWrite, Memory as MakeMemory}
+use Rattle.import_feed.specs.MakingFault as M
+use Rattle.import_feed.specs.declared.fault.MakingFault.{MakingFault}
+use Rattle.import_feed.specs.declared.fault.MakingFault.TheVariants.{Page as MakePage, Chain as MakeChain, PacketTooLong, Unfinished as MakeUnfinished, TooLong, Read as MakeRead, Limit, Write as MakeWrite, Memory as MakeMemory}
 use Rattle.import_record.specs.RecordFault as R
 use Rattle.ogg_split.specs.SplitFault as S
-use Rattle.sessions.specs.HubFault as H
+use Rattle.serve_machine.specs.HubFault as H
 use Rattle.fault_lines.specs.declared.fault.Fault.{Fault}
 use Rattle.fault_lines.specs.declared.fault.Fault.TheVariants.{File, Locked, Memory, Open, Feed, Write, TooMany, Index, Split, Finish, Make, Archive, Mended, Net, Serve, Failed, Refused, Seal}
 

@@ -6,13 +6,13 @@ ghost use Rattle.feed_codec.specs.Reply.{line_end};
 ghost use Rattle.fault_lines.specs.Fault.{IsOfRun, coded, fault_line, index_rest, make_rest, numbered, open_rest, place};
 
 use feed_codec::{FeedFault, RunFault};
-use feed_maker::MakingFault;
 use gate_file::OpenFault;
+use import_feed::MakingFault;
 use import_record::RecordFault;
 use link_index::IndexFault;
 use ogg_page::{WriteFault, write_whole};
 use ogg_split::SplitFault;
-use sessions::HubFault;
+use serve_machine::HubFault;
 use std::io::Write;
 use text_line::Line;
 use thiserror::Error;

@@ -5,8 +5,8 @@ use Rattle.std.specs.List.{filter, find}
 use Rattle.link_chain.specs.declared.stream_state.StreamState.{StreamState}
 use Rattle.link_chain.specs.Progress.{stream_in, left_whole as whole_stream}
 use Rattle.link_chain.specs.Taking.{fault_of_page}
-use Rattle.gathering.specs.Gathered.{Gathered, without_packet}
-use Rattle.gathering.specs.Kept.{is_too_long, rest_of}
+use Rattle.import_gather.specs.Gathered.{Gathered, without_packet}
+use Rattle.import_gather.specs.Kept.{is_too_long, rest_of}
 use Rattle.std.proofs.lemmas.Bool.{cond-true, cond-false, le-ltb}
 use Rattle.import_mend.specs.Mended.{end_page}
 use Rattle.link_chain.specs.ChainState.{ChainState, is_open}

@@ -2,9 +2,9 @@
 use Rattle.std.proofs.Common.{◌≡◌, ◌≢◌, ℕ, ◌+◌, ◌-◌, ◌^◌, ◌≤◌, ◌<◌, List, [], ◌∷◌, ◌++◌, Option, Some, None, Result, Err, refl, sym, ◌∙◌, subst, arith, inl, inr}
 use Rattle.std.specs.Prelude.{min, sum}
 use Rattle.std.proofs.lemmas.List.Sums.{sum_by-append, sum_by-cons}
-use Rattle.page_reader.specs.Reader.{HasAdvanced, GivesFault, PassesOver, ReaderState}
-use Rattle.page_reader.specs.declared.fault.PageReaderFault.{PageReaderFault}
-use Rattle.page_reader.specs.declared.fault.PageReaderFault.TheVariants.{Page as PageOf}
+use Rattle.import_pages.specs.Reader.{HasAdvanced, GivesFault, PassesOver, ReaderState}
+use Rattle.import_pages.specs.declared.fault.PageReaderFault.{PageReaderFault}
+use Rattle.import_pages.specs.declared.fault.PageReaderFault.TheVariants.{Page as PageOf}
 use Rattle.ogg_page.specs.declared.fault.PageFault.{PageFault}
 use Rattle.import_mend.specs.Found.{FindsNext, PassesAll, PassesOne}
 

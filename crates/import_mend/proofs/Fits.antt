@@ -15,9 +15,9 @@ use Rattle.link_chain.specs.ChainState.{ChainState}
 use Rattle.link_chain.specs.Progress.{stream_in, change_at, left_whole as whole_stream}
 use Rattle.link_chain.specs.Taking.{fault_of_page, leaves_open}
 use Rattle.link_chain.specs.Laws.PageRules.{later_none}
-use Rattle.gathering.specs.Cutting.{first_size}
-use Rattle.gathering.specs.Gathered.{Gathered}
-use Rattle.gathering.specs.Kept.{KeptStream, is_too_long, rest_of, without_rest}
+use Rattle.import_gather.specs.Cutting.{first_size}
+use Rattle.import_gather.specs.Gathered.{Gathered}
+use Rattle.import_gather.specs.Kept.{KeptStream, is_too_long, rest_of, without_rest}
 use Rattle.import_mend.specs.Mended.{behind_rest, ends_some, is_joined, mended, whole_values, with_values}
 use Rattle.import_mend.specs.Steps.{broken_off}
 use Rattle.import_mend.specs.Ways.{number_due}

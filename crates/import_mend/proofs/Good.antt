@@ -11,8 +11,8 @@ use Rattle.ogg_page.specs.ReadingLaws.{fault_is_no_page}
 use Rattle.ogg_page.specs.Window.{LentAt}
 use Rattle.ogg_page.specs.declared.fault.PageFault.{PageFault}
 use Rattle.ogg_page.specs.declared.fault.PageFault.TheVariants.{Short, Pattern, Version, Checksum}
-use Rattle.page_reader.specs.Reader.{Gives, GivesEnd, GivesFault, GivesPage, HasAdvanced, IsFaultOf, IsPassed, ReaderState}
-use Rattle.page_reader.specs.declared.fault.PageReaderFault.TheVariants.{Page as PageOf}
+use Rattle.import_pages.specs.Reader.{Gives, GivesEnd, GivesFault, GivesPage, HasAdvanced, IsFaultOf, IsPassed, ReaderState}
+use Rattle.import_pages.specs.declared.fault.PageReaderFault.TheVariants.{Page as PageOf}
 use Rattle.import_mend.specs.Found.{AreGoodPages, FindsNext, FindsPages, HoldsNone, NoneBefore, PassesAll, PassesOne, StandsAt}
 
 -- ---- a place at which no page begins

@@ -15,9 +15,9 @@ use Rattle.link_chain.specs.LinkLaws.{in_turn}
 use Rattle.link_chain.specs.Taking.{AreTaken, fault_of_page, links_with}
 use Rattle.link_chain.specs.Laws.Grow.{all_filter}
 use Rattle.ogg_command.specs.declared.command.Command.{Command}
-use Rattle.gathering.specs.Cutting.{first_size}
-use Rattle.gathering.specs.Gathered.{Gathered, HasGathered, without_packet}
-use Rattle.gathering.specs.Kept.{is_too_long, rest_of}
+use Rattle.import_gather.specs.Cutting.{first_size}
+use Rattle.import_gather.specs.Gathered.{Gathered, HasGathered, without_packet}
+use Rattle.import_gather.specs.Kept.{is_too_long, rest_of}
 use Rattle.import_mend.specs.Cut.{cut_links}
 use Rattle.import_mend.specs.Gives.{BeginsAgain, EndsEach, EndsStreams, Gives, GivesEnd, GivesRest, Mending, open_streams}
 use Rattle.import_mend.specs.Mended.{end_page, is_joined, whole_values}

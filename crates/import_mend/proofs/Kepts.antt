@@ -13,9 +13,9 @@ use Rattle.ogg_command.specs.declared.command.Command.{Command}
 use Rattle.ogg_command.specs.declared.command.Command.TheVariants.{Begin as BeginOf, Put as PutOf, End as EndOf}
 use Rattle.ogg_command.specs.declared.command.Entry.{Entry}
 use Rattle.ogg_command.specs.declared.command.NewStream.{NewStream}
-use Rattle.ogg_feed.specs.Commands.{entry_of, put_of}
-use Rattle.gathering.specs.Giving.{Follows, bare, begin_if, begins_now, begun_if, link_begin, marked, new_stream, page_end}
-use Rattle.gathering.specs.Kept.{KeptLink, KeptStream, TakenBy, TakesPage, ends_by, has_kept, rest_of, room_of, without_rest}
+use Rattle.import_commands.specs.Commands.{entry_of, put_of}
+use Rattle.import_gather.specs.Giving.{Follows, bare, begin_if, begins_now, begun_if, link_begin, marked, new_stream, page_end}
+use Rattle.import_gather.specs.Kept.{KeptLink, KeptStream, TakenBy, TakesPage, ends_by, has_kept, rest_of, room_of, without_rest}
 use Rattle.import_mend.specs.Origin.{CommandFrom, ComesFrom, HeaderFrom, KeptFrom}
 use Rattle.import_mend.proofs.Runs.{comes_more}
 

@@ -16,8 +16,8 @@ use Rattle.link_chain.specs.Taking.{is_whole_packet}
 use Rattle.link_chain.specs.Laws.Grow.{all_both}
 use Rattle.link_chain.specs.Laws.PageRules.{joining_kept}
 use Rattle.ogg_command.specs.declared.command.Command.{Command}
-use Rattle.gathering.specs.Gathered.{Gathered}
-use Rattle.gathering.specs.Kept.{is_too_long}
+use Rattle.import_gather.specs.Gathered.{Gathered}
+use Rattle.import_gather.specs.Kept.{is_too_long}
 use Rattle.import_mend.specs.Gives.{BeginsAgain, EndsEach, EndsStreams, Gives, Mending, open_streams}
 use Rattle.import_mend.specs.Mended.{end_page, is_joined, mended}
 use Rattle.import_mend.specs.Room.{HasNumber, HasRoom}

@@ -17,10 +17,10 @@ use Rattle.link_chain.specs.Laws.Grow.{all_both, all_filter, all_weaker}
 use Rattle.link_chain.specs.Laws.LastLink.{known_stream, last_is_link}
 use Rattle.link_chain.specs.Laws.OwnSerials.{serial_in, serials_stay}
 use Rattle.ogg_command.specs.declared.command.Command.{Command}
-use Rattle.gathering.specs.Cutting.{CutsInto}
-use Rattle.gathering.specs.Gathered.{Gathered, HasGathered}
-use Rattle.gathering.specs.Giving.{Follows}
-use Rattle.gathering.specs.Kept.{KeptStream, has_kept, is_too_long, rest_of}
+use Rattle.import_gather.specs.Cutting.{CutsInto}
+use Rattle.import_gather.specs.Gathered.{Gathered, HasGathered}
+use Rattle.import_gather.specs.Giving.{Follows}
+use Rattle.import_gather.specs.Kept.{KeptStream, has_kept, is_too_long, rest_of}
 use Rattle.import_mend.specs.Gives.{GathersLeft, Mending}
 use Rattle.import_mend.specs.Losses.{lost_at, lost_in, place_in, with_lost, with_lost_at}
 use Rattle.import_mend.specs.Mended.{behind_rest, ends_some, front_values, is_cut, is_joined, mended, without_values}

@@ -9,7 +9,7 @@ use Rattle.ogg_page.specs.Page.{Page, IsPage}
 use Rattle.ogg_page.specs.Lacing.{ends_open, lace}
 use Rattle.ogg_page.specs.LogicalStream.{is_continued, is_last, joined_bodies, joined_lacing, number_behind}
 use Rattle.ogg_page.specs.StreamLaws.{behind_both, ends_open-at, number_push, some_values}
-use Rattle.gathering.specs.Cutting.{CutsInto}
+use Rattle.import_gather.specs.Cutting.{CutsInto}
 use Rattle.import_mend.specs.Mended.{behind_rest, ends_some, front_values, is_cut, left_whole, mended, whole_values, with_values, without_values}
 use Rattle.import_mend.specs.Origin.{BeginsIn, ComesFrom, GoesOn, RestFrom, begins_fresh}
 use Rattle.import_mend.proofs.Kept.{behind_last, front_fits, joined_behind}

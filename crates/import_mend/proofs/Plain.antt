@@ -8,9 +8,9 @@ use Rattle.ogg_page.specs.Window.{LentAt}
 use Rattle.link_chain.specs.declared.stream_state.StreamState.{StreamState}
 use Rattle.link_chain.specs.Taking.{links_with}
 use Rattle.ogg_command.specs.declared.command.Command.{Command}
-use Rattle.gathering.specs.Gathered.{Gathered, without_packet}
-use Rattle.gathering.specs.Giving.{IsPlain, begin_if}
-use Rattle.gathering.specs.Kept.{KeptLink, is_too_long, waits}
+use Rattle.import_gather.specs.Gathered.{Gathered, without_packet}
+use Rattle.import_gather.specs.Giving.{IsPlain, begin_if}
+use Rattle.import_gather.specs.Kept.{KeptLink, is_too_long, waits}
 use Rattle.import_mend.specs.Cut.{cut_links}
 use Rattle.import_mend.specs.Gives.{BeginsAgain, EndsEach, EndsStreams, Gives, GivesEnd, Mending, open_streams}
 use Rattle.import_mend.specs.Mended.{end_page, is_joined}

@@ -7,7 +7,7 @@ use Rattle.link_chain.specs.declared.stream_state.StreamState.{StreamState}
 use Rattle.link_chain.specs.ChainState.{ChainState, is_open}
 use Rattle.link_chain.specs.Followed.{followed}
 use Rattle.link_chain.specs.Progress.{change_at, left_whole as whole_stream}
-use Rattle.gathering.specs.Gathered.{Gathered}
+use Rattle.import_gather.specs.Gathered.{Gathered}
 use Rattle.import_mend.specs.Gives.{is_unended, open_streams}
 use Rattle.import_mend.specs.Mended.{end_page}
 use Rattle.import_mend.specs.Room.{HasNumber, HasRoom, StillHasRoom}

@@ -16,8 +16,8 @@ use Rattle.link_chain.specs.Taking.{fault_of_page, is_whole_packet, joining_rule
 use Rattle.link_chain.specs.Laws.PageRules.{joining_kept, later_kept, opening_kept}
 use Rattle.link_chain.specs.Laws.Rules.{NoneBroken}
 use Rattle.ogg_command.specs.declared.command.Command.{Command}
-use Rattle.gathering.specs.Gathered.{GathersPage}
-use Rattle.gathering.specs.Kept.{is_too_long}
+use Rattle.import_gather.specs.Gathered.{GathersPage}
+use Rattle.import_gather.specs.Kept.{is_too_long}
 use Rattle.import_mend.specs.Gives.{Gives, Mending}
 use Rattle.import_mend.specs.Losses.{lost_at, lost_in, place_in, with_lost, with_lost_at}
 use Rattle.import_mend.specs.Mended.{ends_some, is_joined, left_whole, mended, whole_values, with_values}

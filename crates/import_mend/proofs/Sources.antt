@@ -21,10 +21,10 @@ use Rattle.link_chain.specs.Laws.OwnSerials.{serial_in, serials_stay}
 use Rattle.link_chain.specs.Laws.PageRules.{joining_kept, opening_kept}
 use Rattle.link_chain.specs.Laws.TakenLinks.{more_lacing, one_lacing}
 use Rattle.ogg_command.specs.declared.command.Command.{Command}
-use Rattle.gathering.specs.Cutting.{CutsInto}
-use Rattle.gathering.specs.Gathered.{Gathered, without_packet}
-use Rattle.gathering.specs.Giving.{Follows, TakesOn}
-use Rattle.gathering.specs.Kept.{KeptLink, KeptStream, entered as kept_entered, rest_of, waits}
+use Rattle.import_gather.specs.Cutting.{CutsInto}
+use Rattle.import_gather.specs.Gathered.{Gathered, without_packet}
+use Rattle.import_gather.specs.Giving.{Follows, TakesOn}
+use Rattle.import_gather.specs.Kept.{KeptLink, KeptStream, entered as kept_entered, rest_of, waits}
 use Rattle.import_mend.specs.Cut.{cut_links}
 use Rattle.import_mend.specs.Gives.{BeginsAgain, EndsEach, EndsOne, EndsStreams, Gives, GivesEnd, Mending, mending, open_streams}
 use Rattle.import_mend.specs.Losses.{lost_at, lost_in, with_new}

@@ -4,9 +4,9 @@ use Rattle.std.specs.Prelude.{◌≡◌, ◌⊎◌, ℕ, ◌+◌, ◌-◌, ◌^�
 use Rattle.ogg_page.specs.Page.{Page, IsPage, page_bytes, page_size}
 use Rattle.ogg_page.specs.Window.{LentAt}
 use Rattle.ogg_page.specs.declared.fault.PageFault.{PageFault}
-use Rattle.page_reader.specs.Reader.{HasAdvanced, PassesOver, ReaderState}
-use Rattle.page_reader.specs.declared.fault.PageReaderFault.{PageReaderFault}
-use Rattle.page_reader.specs.declared.fault.PageReaderFault.TheVariants.{Page as PageOf}
+use Rattle.import_pages.specs.Reader.{HasAdvanced, PassesOver, ReaderState}
+use Rattle.import_pages.specs.declared.fault.PageReaderFault.{PageReaderFault}
+use Rattle.import_pages.specs.declared.fault.PageReaderFault.TheVariants.{Page as PageOf}
 use Rattle.import_mend.specs.declared.mend.Mend.{Mend}
 use Rattle.import_mend.specs.declared.mend.Mend.TheVariants.{Junk}
 

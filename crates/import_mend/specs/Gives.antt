@@ -10,9 +10,9 @@ use Rattle.link_chain.specs.Followed.{after_page}
 use Rattle.link_chain.specs.Progress.{stream_in}
 use Rattle.link_chain.specs.Taking.{unfinished_stream}
 use Rattle.ogg_command.specs.declared.command.Command.{Command}
-use Rattle.gathering.specs.Gathered.{Gathered, GathersPage, HasGathered, without_packet}
-use Rattle.gathering.specs.Giving.{begin_if}
-use Rattle.gathering.specs.Kept.{is_too_long, waits}
+use Rattle.import_gather.specs.Gathered.{Gathered, GathersPage, HasGathered, without_packet}
+use Rattle.import_gather.specs.Giving.{begin_if}
+use Rattle.import_gather.specs.Kept.{is_too_long, waits}
 use Rattle.import_mend.specs.Losses.{with_lost, with_new}
 use Rattle.import_mend.specs.Mended.{end_page, is_joined, mended}
 use Rattle.import_mend.specs.Steps.{after_end, broken_off}

@@ -13,7 +13,7 @@ use Rattle.ogg_command.specs.declared.command.NewStream.{NewStream}
 use Rattle.link_chain.specs.declared.stream_state.StreamState.{StreamState}
 use Rattle.link_chain.specs.Limits.{most_streams}
 use Rattle.link_chain.specs.Progress.{stream_in}
-use Rattle.gathering.specs.Kept.{KeptStream, rest_of}
+use Rattle.import_gather.specs.Kept.{KeptStream, rest_of}
 use Rattle.import_mend.specs.Gives.{Mending}
 use Rattle.import_mend.specs.Losses.{lost_in}
 

@@ -6,8 +6,8 @@ use Rattle.link_chain.specs.declared.stream_state.StreamState.{StreamState}
 use Rattle.link_chain.specs.ChainState.{ChainState, is_open}
 use Rattle.link_chain.specs.Followed.{after_page}
 use Rattle.link_chain.specs.Progress.{stream_in}
-use Rattle.gathering.specs.Gathered.{Gathered, without_packet}
-use Rattle.gathering.specs.Kept.{is_too_long}
+use Rattle.import_gather.specs.Gathered.{Gathered, without_packet}
+use Rattle.import_gather.specs.Kept.{is_too_long}
 use Rattle.import_mend.specs.Mended.{end_page, is_joined, mended}
 use Rattle.import_mend.specs.Telling.{mend_of}
 use Rattle.import_mend.specs.declared.mend.Mend.{Mend}

@@ -11,10 +11,10 @@ use Rattle.link_chain.specs.Links.{pages_with}
 use Rattle.link_chain.specs.Progress.{stream_in}
 use Rattle.link_chain.specs.Taking.{links_with}
 use Rattle.ogg_command.specs.declared.command.Command.{Command}
-use Rattle.gathering.specs.Cutting.{first_size}
-use Rattle.gathering.specs.Gathered.{CanGoOn, Gathered, GathersPage, HasGathered}
-use Rattle.gathering.specs.Kept.{is_too_long}
-use Rattle.gathering.specs.Limits.{longest_packet}
+use Rattle.import_gather.specs.Cutting.{first_size}
+use Rattle.import_gather.specs.Gathered.{CanGoOn, Gathered, GathersPage, HasGathered}
+use Rattle.import_gather.specs.Kept.{is_too_long}
+use Rattle.import_gather.specs.Limits.{longest_packet}
 use Rattle.import_mend.specs.Cut.{cut_links}
 use Rattle.import_mend.specs.Gives.{Gives, Mending, open_streams}
 use Rattle.import_mend.specs.Losses.{lost_in}

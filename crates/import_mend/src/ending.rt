@@ -14,7 +14,7 @@ ghost use Rattle.ogg_command.specs.declared.command.Command.{Command as CommandO
 use crate::Memory;
 use crate::taking::take;
 use crate::writing::write_last;
-use gathering::Gatherer;
+use import_gather::Gatherer;
 use link_chain::{Chain, StreamState, is_open};
 use ogg_command::Command;
 use ogg_page::split_known_page;

@@ -5,8 +5,8 @@ ghost use Rattle.ogg_page.specs.Page.{Page, IsPage, bytes_of_pages};
 ghost use Rattle.ogg_page.specs.Window.{LentAt};
 ghost use Rattle.link_chain.specs.Links.{AreLinks};
 ghost use Rattle.ogg_command.specs.declared.command.Command.{Command};
-ghost use Rattle.gathering.specs.Giving.{IsPlain};
-ghost use Rattle.gathering.specs.Gathered.{Gathered, HasGathered, without_packet};
+ghost use Rattle.import_gather.specs.Giving.{IsPlain};
+ghost use Rattle.import_gather.specs.Gathered.{Gathered, HasGathered, without_packet};
 ghost use Rattle.import_mend.specs.Cut.{cut_links};
 ghost use Rattle.import_mend.specs.Found.{AreGoodPages, FindsNext, FindsPages, HoldsNone};
 ghost use Rattle.import_mend.specs.Gives.{GivesEnd, GivesRest, Mending, open_streams};
@@ -15,9 +15,9 @@ ghost use Rattle.import_mend.specs.Room.{HasRoom};
 ghost use Rattle.import_mend.specs.Ways.{way_of};
 ghost use Rattle.import_mend.specs.Whole.{AreWithin, Becomes, GathersPages, HasMended, IsStart, TakesPage, TakesPages, lost_of, pages_of};
 ghost use Rattle.import_mend.specs.declared.mend.Mend.{Mend};
-ghost use Rattle.page_reader.specs.Reader.{ReaderState};
+ghost use Rattle.import_pages.specs.Reader.{ReaderState};
 
-use gathering::links_are_begun_without_a_skeleton;
+use import_gather::links_are_begun_without_a_skeleton;
 
 /// If the unfinished packet of a stream is dropped, the commands given so far hold what the links hold whose last one
 /// is cut back: its pages without that packet are a link too.

@@ -5,9 +5,9 @@ use Rattle.ogg_page.specs.Reading.{page_at}
 use Rattle.ogg_page.specs.Window.{LentAt}
 use Rattle.ogg_page.specs.declared.fault.PageFault.{PageFault}
 use Rattle.ogg_page.specs.declared.fault.PageFault.TheVariants.{Short}
-use Rattle.page_reader.specs.Reader.{Gives, GivesEnd, GivesFault, GivesPage, HasAdvanced, ReaderState, unlent}
-use Rattle.page_reader.specs.declared.fault.PageReaderFault.{PageReaderFault}
-use Rattle.page_reader.specs.declared.fault.PageReaderFault.TheVariants.{Page as PageOf}
+use Rattle.import_pages.specs.Reader.{Gives, GivesEnd, GivesFault, GivesPage, HasAdvanced, ReaderState, unlent}
+use Rattle.import_pages.specs.declared.fault.PageReaderFault.{PageReaderFault}
+use Rattle.import_pages.specs.declared.fault.PageReaderFault.TheVariants.{Page as PageOf}
 use Rattle.import_mend.specs.Found.{FindsPages, PassesAll, PassesOne}
 
 -- ---- a reader that isn't asked for more

@@ -8,11 +8,11 @@ use Rattle.ogg_command.specs.declared.command.Command.TheVariants.{Begin, Put, E
 use Rattle.feed_codec.specs.declared.item.Record.{Record}
 use Rattle.feed_codec.specs.declared.item.Record.TheVariants.{Command as CommandOf, Flush}
 use Rattle.feed_codec.specs.declared.reply.Reply.{Reply}
-use Rattle.feed_changes.specs.Changed.{ChangeState, HasChangedBeside, IsPlain}
+use Rattle.import_changes.specs.Changed.{ChangeState, HasChangedBeside, IsPlain}
 use Rattle.feed_run.specs.Answering.{AnswersAll}
 use Rattle.feed_run.specs.Counting.{commands_in}
 use Rattle.feed_run.specs.Laws.InTurn.{answers_both}
-use Rattle.gathering.specs.Giving.{IsPlain as IsPlainOf}
+use Rattle.import_gather.specs.Giving.{IsPlain as IsPlainOf}
 use Rattle.import_mend.specs.Gives.{Mending}
 use Rattle.import_mend.specs.Whole.{TakesPages}
 use Rattle.import_mend.specs.declared.mend.Mend.{Mend}

@@ -5,7 +5,7 @@ use Rattle.ogg_page.specs.Window.{LentAt}
 use Rattle.ogg_page.specs.declared.fault.PageFault.TheVariants.{Short}
 use Rattle.feed_codec.specs.declared.item.Record.{Record}
 use Rattle.feed_codec.specs.declared.reply.Reply.{Reply}
-use Rattle.page_reader.specs.Reader.{ReaderState, ReadsOnce}
+use Rattle.import_pages.specs.Reader.{ReaderState, ReadsOnce}
 use Rattle.import_record.specs.Reading.{Steps}
 use Rattle.import_record.specs.Steps.{IntakeState}
 use Rattle.import_record.specs.Whole.{Event}

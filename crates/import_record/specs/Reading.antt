@@ -5,7 +5,7 @@ use Rattle.ogg_page.specs.declared.fault.PageFault.{PageFault}
 use Rattle.feed_codec.specs.declared.item.Record.{Record}
 use Rattle.feed_codec.specs.declared.item.Record.TheVariants.{Flush}
 use Rattle.feed_codec.specs.declared.reply.Reply.{Reply}
-use Rattle.page_reader.specs.Reader.{HasAdvanced, ReaderState}
+use Rattle.import_pages.specs.Reader.{HasAdvanced, ReaderState}
 use Rattle.import_mend.specs.Found.{PassesOne}
 use Rattle.import_record.specs.Steps.{IntakeState, Takes}
 use Rattle.import_record.specs.declared.reading.Step.{Step}

@@ -6,7 +6,7 @@ use Rattle.link_chain.specs.declared.stream_state.StreamState.{StreamState}
 use Rattle.ogg_command.specs.declared.command.Command.{Command}
 use Rattle.ogg_command.specs.declared.command.Command.TheVariants.{Begin as BeginOf, End as EndOf}
 use Rattle.ogg_command.specs.declared.command.NewStream.{NewStream}
-use Rattle.feed_changes.specs.Changed.{HasChangedBeside}
+use Rattle.import_changes.specs.Changed.{HasChangedBeside}
 use Rattle.import_record.specs.Begun.{bare, open_after}
 use Rattle.import_record.specs.Steps.{IntakeState}
 

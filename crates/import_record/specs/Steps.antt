@@ -5,8 +5,8 @@ use Rattle.ogg_page.specs.Page.{Page}
 use Rattle.ogg_command.specs.declared.command.Command.{Command}
 use Rattle.feed_codec.specs.declared.item.Record.{Record}
 use Rattle.feed_codec.specs.declared.reply.Reply.{Reply}
-use Rattle.feed_changes.specs.Changed.{ChangeState, HasChangedBeside, IsPlain}
-use Rattle.feed_changes.specs.declared.options.ChangeOptions.{ChangeOptions}
+use Rattle.import_changes.specs.Changed.{ChangeState, HasChangedBeside, IsPlain}
+use Rattle.import_changes.specs.declared.options.ChangeOptions.{ChangeOptions}
 use Rattle.import_mend.specs.Gives.{GivesEnd, Mending, mend_at_end, mending}
 use Rattle.import_mend.specs.Whole.{TakesPage}
 use Rattle.import_record.specs.Begun.{BegunState, begun_after, begun_of}

@@ -7,7 +7,7 @@ use Rattle.ogg_command.specs.declared.command.Command.{Command}
 use Rattle.feed_codec.specs.declared.item.Record.{Record}
 use Rattle.feed_codec.specs.declared.item.Record.TheVariants.{Flush}
 use Rattle.feed_codec.specs.declared.reply.Reply.{Reply}
-use Rattle.feed_changes.specs.Changed.{HasChangedBeside}
+use Rattle.import_changes.specs.Changed.{HasChangedBeside}
 use Rattle.feed_run.specs.Answering.{AnswersAll}
 use Rattle.feed_run.specs.Counting.{commands_in}
 use Rattle.import_mend.specs.Whole.{HasMended, IsStart}

@@ -1,7 +1,7 @@
 //! The pages of one input, recorded one after the other.
 ghost use Rattle.std.specs.Prelude.{◌≡◌, [], IfOk, IfErr, List};
 ghost use Rattle.ogg_command.specs.declared.command.Command.{Command as CommandOf};
-ghost use Rattle.feed_changes.specs.Changed.{HasChangedBeside};
+ghost use Rattle.import_changes.specs.Changed.{HasChangedBeside};
 ghost use Rattle.import_mend.specs.Whole.{IsStart};
 ghost use Rattle.import_record.specs.Begun.{begun_after, begun_of, none_begun};
 ghost use Rattle.import_record.specs.Running.{HasRun};
@@ -11,9 +11,9 @@ use crate::Memory;
 use crate::answering::{Answered, run_all};
 use crate::begun::{Begun, keep_all_open, keep_all_streams};
 use crate::fault::RecordFault;
-use feed_changes::{ChangeOptions, Changes};
 use feed_run::Runner;
-use gathering::Gatherer;
+use import_changes::{ChangeOptions, Changes};
+use import_gather::Gatherer;
 use import_mend::{Mend, Mender};
 use ogg_command::Command;
 use ogg_page::Page;

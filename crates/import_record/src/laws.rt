@@ -1,7 +1,7 @@
 //! What always holds of recordings.
 ghost use Rattle.std.specs.Prelude.{◌≡◌, ◌+◌, ◌-◌, ◌<◌, ◌^◌, ◌++◌, ◌∷◌, [], ℕ, None, List, length};
 ghost use Rattle.link_chain.specs.declared.stream_state.StreamState.{StreamState as StreamStateOf};
-ghost use Rattle.feed_changes.specs.Changed.{HasChangedBeside};
+ghost use Rattle.import_changes.specs.Changed.{HasChangedBeside};
 ghost use Rattle.import_mend.specs.Found.{AreGoodPages, HoldsNone};
 ghost use Rattle.import_mend.specs.Whole.{IsStart, TakesPages};
 ghost use Rattle.import_record.specs.Pushing.{Call, Feeds, Imports, InputState, bytes_in, events_in};

@@ -1,7 +1,7 @@
 //! A recording that goes on after its file was opened again.
 ghost use Rattle.std.specs.Prelude.{◌≡◌, ◌++◌, ◌∷◌, [], nat_eq, IfOk, OnOk, OnErr};
 ghost use Rattle.std.specs.List.{list_any};
-ghost use Rattle.feed_changes.specs.Changed.{HasChangedBeside};
+ghost use Rattle.import_changes.specs.Changed.{HasChangedBeside};
 ghost use Rattle.import_record.specs.Begun.{open_after};
 ghost use Rattle.import_record.specs.Resuming.{Resumes, begin_of, ends_of, has_open, holds_open, is_left};
 ghost use Rattle.import_record.specs.Steps.{state_of};
@@ -10,7 +10,7 @@ ghost use Rattle.ogg_command.specs.declared.command.Command.{Command as CommandO
 use crate::Memory;
 use crate::begun::{all_bare, keep_all_open};
 use crate::intake::Intake;
-use feed_changes::{ChangeOptions, Changes};
+use import_changes::{ChangeOptions, Changes};
 use link_chain::StreamState;
 use ogg_command::{Begin, Command, Listed, NewStream};
 use std::alloc::Global;

@@ -5,7 +5,7 @@ use crate::sockets::Sockets;
 use crate::telling::Told;
 use disk_model::{FileDisk, FileMode};
 use fault_lines::Fault;
-use feed_maker::Skeletons;
+use import_feed::Skeletons;
 use ogg_page::write_whole;
 use ogg_serve::Hub;
 use station::{Done, Options as StationOptions, Password, Station};

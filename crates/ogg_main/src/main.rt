@@ -19,7 +19,7 @@ mod telling;
 
 use command_line::{Action, Error, Skeletons, action_of, not_text};
 use fault_lines::{Fault, write_fault};
-use feed_maker::{ChangeOptions, Skeletons as SkeletonsOf};
+use import_feed::{ChangeOptions, Skeletons as SkeletonsOf};
 use std::alloc::AllocError;
 use std::process::ExitCode;
 use std::{env, io};

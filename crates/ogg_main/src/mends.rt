@@ -2,7 +2,7 @@
 ghost use Rattle.std.specs.Prelude.{⊤};
 
 use fault_lines::write_mend;
-use feed_maker::{Mend, Mends};
+use import_feed::{Mend, Mends};
 use std::alloc::Global;
 use std::io::Write;
 

@@ -3,7 +3,7 @@
 
 use crate::mends::MendLines;
 use fault_lines::{Fault, write_fault};
-use feed_maker::Mends;
+use import_feed::Mends;
 use import_mend::Mend;
 use import_record::{RecordFault, Step, Taken, Totals, archived_line, progress_line, refused_line};
 use ogg_command::Refusal;

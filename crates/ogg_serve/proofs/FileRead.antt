@@ -13,7 +13,7 @@ use Rattle.history.specs.World.{World, now_in}
 use Rattle.ogg_command.specs.declared.command.Command.{Command}
 use Rattle.ogg_recorder.specs.Recorder.{RecorderState, IsIn, over_disk}
 use Rattle.ogg_recorder.specs.Recovery.{Shows as ShowsImage}
-use Rattle.sessions.specs.Hub.{HubState, Session}
+use Rattle.serve_machine.specs.Hub.{HubState, Session}
 use Rattle.ogg_serve.specs.Images.{IfFile, Reads}
 use Rattle.ogg_serve.specs.Showing.{Commits, ShowsFile}
 

@@ -19,8 +19,8 @@ use Rattle.link_index.specs.Adding.{AddsPages, IndexState, IsIndexOf, IsLeft}
 use Rattle.link_index.specs.declared.fault.IndexFault.{IndexFault}
 use Rattle.link_index.specs.declared.fault.IndexFault.TheVariants.{Page as PageOf, Chain as ChainOf, Memory as MemoryOf}
 use Rattle.ogg_serve.specs.Indexing.{IsOfFront, fault_unadded as hub_fault}
-use Rattle.sessions.specs.declared.fault.HubFault.{HubFault}
-use Rattle.sessions.specs.declared.fault.HubFault.TheVariants.{Source, Memory}
+use Rattle.serve_machine.specs.declared.fault.HubFault.{HubFault}
+use Rattle.serve_machine.specs.declared.fault.HubFault.TheVariants.{Source, Memory}
 
 -- what was added to the index is its pages
 pages_are : (front : List ℕ) (index : IndexState) (a : AddsPages [] front index (Ok tt)) → front ≡ bytes_of_pages a.pages

@@ -8,9 +8,9 @@ use Rattle.serve_live.specs.Listening.{ListenerState}
 use Rattle.serve_live.specs.Live.{Moment}
 use Rattle.serve_live.specs.declared.fault.JoinFault.{JoinFault}
 use Rattle.serve_live.specs.declared.fault.JoinFault.TheVariants.{Source as JoinSource, Memory as JoinMemory}
-use Rattle.sessions.specs.declared.fault.HubFault.{HubFault}
-use Rattle.sessions.specs.declared.fault.HubFault.TheVariants.{Source, Memory}
-use Rattle.sessions.specs.Hub.{HubState}
+use Rattle.serve_machine.specs.declared.fault.HubFault.{HubFault}
+use Rattle.serve_machine.specs.declared.fault.HubFault.TheVariants.{Source, Memory}
+use Rattle.serve_machine.specs.Hub.{HubState}
 use Rattle.ogg_serve.specs.declared.opening.Lost.{Lost}
 use Rattle.ogg_serve.specs.Images.{Reads}
 use Rattle.ogg_serve.specs.Listening.{HearsMore, fault_of_join}

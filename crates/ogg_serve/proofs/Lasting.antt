@@ -12,9 +12,9 @@ use Rattle.ogg_recorder.specs.Recorder.{RecorderState}
 use Rattle.serve_live.specs.Hearing.{IsHearing}
 use Rattle.serve_live.specs.Listening.{ListenerState}
 use Rattle.serve_live.specs.Live.{IsLive, Moment}
-use Rattle.sessions.specs.Hub.{HubState, Event, MayBeFound, hub_step}
-use Rattle.sessions.specs.Run.{Step, AreSteps}
-use Rattle.sessions.specs.Sound.{Extends, HasCommand, IsRecorded, IsSound}
+use Rattle.serve_machine.specs.Hub.{HubState, Event, MayBeFound, hub_step}
+use Rattle.serve_machine.specs.Run.{Step, AreSteps}
+use Rattle.serve_machine.specs.Sound.{Extends, HasCommand, IsRecorded, IsSound}
 use Rattle.ogg_serve.specs.declared.opening.Lost.{Lost}
 use Rattle.ogg_serve.specs.Images.{disk_in}
 use Rattle.ogg_serve.specs.Listening.{ShowsHeard}

@@ -7,8 +7,8 @@ use Rattle.std.proofs.lemmas.Bool.{cases_Bool, cond-true, cond-false}
 use Rattle.std.proofs.lemmas.List.{take_at}
 use Rattle.std.proofs.Math.ListN.{length-set}
 use Rattle.link_index.specs.Adding.{IndexState}
-use Rattle.sending.specs.Sending.{IsLeft, SendingState}
-use Rattle.sessions.specs.Hub.{Session, Phase, Reading, Sending, without_in, phase_in, with_phase_in}
+use Rattle.serve_sending.specs.Sending.{IsLeft, SendingState}
+use Rattle.serve_machine.specs.Hub.{Session, Phase, Reading, Sending, without_in, phase_in, with_phase_in}
 use Rattle.ogg_serve.specs.Indexing.{IsOfFront}
 use Rattle.ogg_serve.specs.Parts.{place_in}
 use Rattle.ogg_serve.specs.Showing.{IsPhase, IsSession, AreSessions}

@@ -9,7 +9,7 @@ use Rattle.gate_file.specs.GateFile.{GateState}
 use Rattle.history.specs.Showing.{IsAsBefore}
 use Rattle.ogg_recorder.specs.Recorder.{RecorderState, IsRecorder, recorder_state, committed}
 use Rattle.ogg_recorder.specs.Recovery.{Commits as CommitsImage}
-use Rattle.sessions.specs.Hub.{HubState, MayBeFound, without_file, reopen_step}
+use Rattle.serve_machine.specs.Hub.{HubState, MayBeFound, without_file, reopen_step}
 use Rattle.ogg_serve.specs.Parts.{lost_file}
 use Rattle.ogg_serve.specs.Showing.{Commits, ShowsFile, ShowsLost, IsOver, KeepsSessions}
 use Rattle.ogg_serve.proofs.Stepping.{shows_good, staged_none}

@@ -5,8 +5,8 @@ use Rattle.std.proofs.lemmas.Bool.{cases_Bool, or_left, or_cases, le-leb, leb-tr
 use Rattle.disk_model.specs.Image.{DiskState}
 use Rattle.link_index.specs.Adding.{IndexState, IsIndexOf}
 use Rattle.ogg_recorder.specs.Recorder.{RecorderState, IsRecorder, committed, staged}
-use Rattle.sessions.specs.Hub.{HubState, IsNewFor, Event, Phase, Reading, Session, close_step, connect_step, hub_step, is_full, with_session, without_in, without_session, phase_in}
-use Rattle.sessions.specs.declared.fault.HubFault.TheVariants.{NoSession}
+use Rattle.serve_machine.specs.Hub.{HubState, IsNewFor, Event, Phase, Reading, Session, close_step, connect_step, hub_step, is_full, with_session, without_in, without_session, phase_in}
+use Rattle.serve_machine.specs.declared.fault.HubFault.TheVariants.{NoSession}
 use Rattle.ogg_serve.specs.declared.opening.Lost.{Lost}
 use Rattle.ogg_serve.specs.declared.session.Session.{Session as SessionParts}
 use Rattle.ogg_serve.specs.Indexing.{IsOfFront}

@@ -3,14 +3,14 @@ use Rattle.std.proofs.Common.{◌≡◌, ◌≢◌, ◌⊎◌, inl, inr, ℕ, Bo
 use Rattle.std.specs.Global.{Vec}
 use Rattle.std.specs.Prelude.{nat_eq}
 use Rattle.std.proofs.lemmas.Bool.{cases_Bool, cond-true, cond-false}
-use Rattle.responses.specs.Response.{Asked, Asks}
-use Rattle.sending.specs.Sending.{SendingState, Gives, IsLeft}
-use Rattle.sessions.specs.Hub.{HubState, Session, Phase, Reading, Sending, Given, is_nothing, with_phase_in, with_phase, without_in, without_session, receive_step, pull_step}
-use Rattle.sessions.specs.declared.answers.Progress.{Progress}
-use Rattle.sessions.specs.declared.answers.Progress.TheVariants.{More, Ready}
-use Rattle.sessions.specs.declared.answers.Pulled.{Pulled}
-use Rattle.sessions.specs.declared.fault.HubFault.{HubFault}
-use Rattle.sessions.specs.declared.fault.HubFault.TheVariants.{NoSession, SessionsFull, Source, Memory, NoFile}
+use Rattle.serve_responses.specs.Response.{Asked, Asks}
+use Rattle.serve_sending.specs.Sending.{SendingState, Gives, IsLeft}
+use Rattle.serve_machine.specs.Hub.{HubState, Session, Phase, Reading, Sending, Given, is_nothing, with_phase_in, with_phase, without_in, without_session, receive_step, pull_step}
+use Rattle.serve_machine.specs.declared.answers.Progress.{Progress}
+use Rattle.serve_machine.specs.declared.answers.Progress.TheVariants.{More, Ready}
+use Rattle.serve_machine.specs.declared.answers.Pulled.{Pulled}
+use Rattle.serve_machine.specs.declared.fault.HubFault.{HubFault}
+use Rattle.serve_machine.specs.declared.fault.HubFault.TheVariants.{NoSession, SessionsFull, Source, Memory, NoFile}
 use Rattle.ogg_serve.specs.Serving.{HeadGets, PhaseGets, PhaseGives, left_after}
 use Rattle.ogg_serve.specs.Showing.{IsPhase}
 use Rattle.ogg_serve.specs.declared.session.Stage.{Stage}

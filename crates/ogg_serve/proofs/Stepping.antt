@@ -21,7 +21,7 @@ use Rattle.ogg_recorder.specs.Recorder.{RecorderState, IsRecorder, recorder_stat
 use Rattle.ogg_recorder.specs.Taking.{HoldsChain}
 use Rattle.ogg_recorder.specs.declared.commanding.Outcome.{Outcome}
 use Rattle.ogg_recorder.specs.declared.commanding.Outcome.TheVariants.{Held as WasHeld, Kept as WasKept}
-use Rattle.sessions.specs.Hub.{HubState, IsAccepted, IsRefused, is_failed, holding, committing, doubting, command_step, flush_step}
+use Rattle.serve_machine.specs.Hub.{HubState, IsAccepted, IsRefused, is_failed, holding, committing, doubting, command_step, flush_step}
 use Rattle.ogg_serve.specs.Showing.{ShowsFile, KeepsSessions}
 
 -- ---- lists

@@ -1,8 +1,8 @@
 -- The calls of a session, as steps.
 use Rattle.std.proofs.Common.{◌≡◌, ℕ, true, Option, Ok, Err, List, get_or, set, sym, subst}
-use Rattle.sessions.specs.Hub.{HubState, Session, Phase, Given, phase_in, with_phase_in, receive_step, pull_step}
-use Rattle.sessions.specs.declared.answers.Progress.{Progress}
-use Rattle.sessions.specs.declared.fault.HubFault.{HubFault}
+use Rattle.serve_machine.specs.Hub.{HubState, Session, Phase, Given, phase_in, with_phase_in, receive_step, pull_step}
+use Rattle.serve_machine.specs.declared.answers.Progress.{Progress}
+use Rattle.serve_machine.specs.declared.fault.HubFault.{HubFault}
 use Rattle.ogg_serve.specs.Serving.{PhaseGets, PhaseGives, left_after}
 use Rattle.ogg_serve.specs.Showing.{IsPhase, AreSessions}
 use Rattle.ogg_serve.specs.declared.session.Session.{Session as SessionParts}

@@ -6,7 +6,7 @@ use Rattle.ogg_page.specs.Page.{Page}
 use Rattle.link_chain.specs.ChainState.{chain_state_of}
 use Rattle.link_chain.specs.Links.{AreLinks}
 use Rattle.ogg_recorder.specs.Recorder.{RecorderState, IsRecorder, committed, staged}
-use Rattle.sessions.specs.Hub.{HubState}
+use Rattle.serve_machine.specs.Hub.{HubState}
 use Rattle.ogg_serve.specs.declared.opening.Lost.{Lost}
 use Rattle.ogg_serve.specs.Showing.{HasLinks, ShowsFile, ShowsPlace}
 

@@ -22,7 +22,7 @@ use Rattle.ogg_recorder.specs.Recorder.{RecorderState, IsIn, over_disk, committe
 use Rattle.ogg_recorder.specs.Recovery.{Commits, Shows, Accepts}
 use Rattle.ogg_recorder.specs.declared.commanding.Outcome.{Outcome}
 use Rattle.ogg_recorder.specs.declared.commanding.Outcome.TheVariants.{Held as WasHeld}
-use Rattle.sending.specs.Sending.{HasFailed}
+use Rattle.serve_sending.specs.Sending.{HasFailed}
 use Rattle.ogg_serve.specs.declared.opening.Lost.{Lost}
 use Rattle.ogg_serve.specs.Parts.{HubParts}
 

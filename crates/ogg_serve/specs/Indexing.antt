@@ -5,8 +5,8 @@ use Rattle.link_chain.specs.declared.chain_fault.ChainFault.{ChainFault}
 use Rattle.link_chain.specs.declared.chain_fault.ChainFault.TheVariants.{Memory as NoMemory}
 use Rattle.link_chain.specs.Taking.{HasRoomFor, fault_of_page}
 use Rattle.link_index.specs.Adding.{AddsPages, IndexState}
-use Rattle.sessions.specs.declared.fault.HubFault.{HubFault}
-use Rattle.sessions.specs.declared.fault.HubFault.TheVariants.{Source, Memory}
+use Rattle.serve_machine.specs.declared.fault.HubFault.{HubFault}
+use Rattle.serve_machine.specs.declared.fault.HubFault.TheVariants.{Source, Memory}
 
 -- the index is that of whole pages that stand in front of these bytes
 pub record IsOfFront (bytes : List ℕ) (index : IndexState) : Type 0 where

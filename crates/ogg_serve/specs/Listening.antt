@@ -7,10 +7,10 @@ use Rattle.serve_live.specs.Listening.{ListenerState}
 use Rattle.serve_live.specs.Live.{IsLive, Moment}
 use Rattle.serve_live.specs.declared.fault.JoinFault.{JoinFault}
 use Rattle.serve_live.specs.declared.fault.JoinFault.TheVariants.{Source as JoinSource, Memory as JoinMemory}
-use Rattle.sessions.specs.Hub.{HubState}
-use Rattle.sessions.specs.Sound.{IsRecorded}
-use Rattle.sessions.specs.declared.fault.HubFault.{HubFault}
-use Rattle.sessions.specs.declared.fault.HubFault.TheVariants.{Source, Memory}
+use Rattle.serve_machine.specs.Hub.{HubState}
+use Rattle.serve_machine.specs.Sound.{IsRecorded}
+use Rattle.serve_machine.specs.declared.fault.HubFault.{HubFault}
+use Rattle.serve_machine.specs.declared.fault.HubFault.TheVariants.{Source, Memory}
 use Rattle.ogg_serve.specs.Parts.{HubParts, hub_parts}
 use Rattle.ogg_serve.specs.Showing.{Shows}
 

@@ -9,7 +9,7 @@ use Rattle.ogg_command.specs.declared.command.Command.{Command}
 use Rattle.ogg_command.specs.declared.refusal.Refusal.{Refusal}
 use Rattle.ogg_recorder.specs.Running.{reply_of, reply_of_flush}
 use Rattle.ogg_recorder.specs.declared.commanding.Outcome.{Outcome}
-use Rattle.sessions.specs.Hub.{HubState, command_step, flush_step}
+use Rattle.serve_machine.specs.Hub.{HubState, command_step, flush_step}
 use Rattle.ogg_serve.specs.Images.{IfFile, Records, Flushes}
 use Rattle.ogg_serve.specs.Parts.{HubParts, OnlyFile}
 use Rattle.ogg_serve.specs.Showing.{Shows}

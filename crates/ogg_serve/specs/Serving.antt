@@ -5,13 +5,13 @@ use Rattle.ogg_page.specs.Page.{Page}
 use Rattle.ogg_page.specs.Window.{KeepsSource}
 use Rattle.link_chain.specs.Links.{AreLinks}
 use Rattle.link_index.specs.Adding.{IndexState}
-use Rattle.responses.specs.Response.{Asked, Asks, IsResponse}
-use Rattle.sending.specs.Sending.{HasFailed, IsLeft, SendingState}
-use Rattle.sessions.specs.Hub.{Phase, Reading, Sending, Given, Session, is_nothing, without_in}
-use Rattle.sessions.specs.declared.answers.Progress.{Progress}
-use Rattle.sessions.specs.declared.answers.Progress.TheVariants.{More, Ready}
-use Rattle.sessions.specs.declared.fault.HubFault.{HubFault}
-use Rattle.sessions.specs.declared.fault.HubFault.TheVariants.{NoSession, SessionsFull, Source, Memory, NoFile}
+use Rattle.serve_responses.specs.Response.{Asked, Asks, IsResponse}
+use Rattle.serve_sending.specs.Sending.{HasFailed, IsLeft, SendingState}
+use Rattle.serve_machine.specs.Hub.{Phase, Reading, Sending, Given, Session, is_nothing, without_in}
+use Rattle.serve_machine.specs.declared.answers.Progress.{Progress}
+use Rattle.serve_machine.specs.declared.answers.Progress.TheVariants.{More, Ready}
+use Rattle.serve_machine.specs.declared.fault.HubFault.{HubFault}
+use Rattle.serve_machine.specs.declared.fault.HubFault.TheVariants.{NoSession, SessionsFull, Source, Memory, NoFile}
 use Rattle.ogg_serve.specs.Indexing.{IsOfFront}
 
 -- ---- what is received

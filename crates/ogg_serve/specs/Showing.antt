@@ -7,8 +7,8 @@ use Rattle.gate_file.specs.Commit.{CommitsTo}
 use Rattle.gate_file.specs.Gate.{EachImage}
 use Rattle.link_chain.specs.Links.{AreLinks}
 use Rattle.ogg_recorder.specs.Recorder.{RecorderState, committed, staged}
-use Rattle.sending.specs.Sending.{IsLeft}
-use Rattle.sessions.specs.Hub.{HubState, MayBeFound, Phase, Reading, Sending, Session}
+use Rattle.serve_sending.specs.Sending.{IsLeft}
+use Rattle.serve_machine.specs.Hub.{HubState, MayBeFound, Phase, Reading, Sending, Session}
 use Rattle.ogg_serve.specs.declared.opening.Lost.{Lost}
 use Rattle.ogg_serve.specs.declared.session.Session.{Session as SessionParts}
 use Rattle.ogg_serve.specs.declared.session.Stage.{Stage}

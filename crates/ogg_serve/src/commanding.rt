@@ -1,6 +1,6 @@
 //! Commands go to the recorder of a hub, if there is a file.
 ghost use Rattle.std.specs.Prelude.{◌≡◌, ◌≢◌, ◌≤◌, ℕ, None, Some, Err, Option, length, IsSome, IfErr};
-ghost use Rattle.sessions.specs.Hub.{HubState, command_step, flush_step, group_step};
+ghost use Rattle.serve_machine.specs.Hub.{HubState, command_step, flush_step, group_step};
 ghost use Rattle.ogg_recorder.specs.Recorder.{RecorderState, recorder_state};
 ghost use Rattle.ogg_serve.specs.declared.opening.Lost.{Lost};
 ghost use Rattle.ogg_serve.specs.Images.{IfFile, Records, Flushes};

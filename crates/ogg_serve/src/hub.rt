@@ -3,8 +3,8 @@ ghost use Rattle.std.specs.Prelude.{◌≡◌, ◌≢◌, ◌↔◌, ◌⊎◌, 
 ghost use Rattle.ogg_page.specs.Page.{Page};
 ghost use Rattle.link_chain.specs.Links.{AreLinks};
 ghost use Rattle.ogg_recorder.specs.Recorder.{RecorderState, committed};
-ghost use Rattle.sessions.specs.Hub.{HubState, IsNew, IsNewFor, Connect, Receive, Pull, Close, Record, Flush, Group, Reopen, most_sessions};
-ghost use Rattle.sessions.specs.Calls.{Steps, found_by, given_in};
+ghost use Rattle.serve_machine.specs.Hub.{HubState, IsNew, IsNewFor, Connect, Receive, Pull, Close, Record, Flush, Group, Reopen, most_sessions};
+ghost use Rattle.serve_machine.specs.Calls.{Steps, found_by, given_in};
 ghost use Rattle.ogg_serve.specs.Parts.{HasNoPlace, OnlyFile, OnlySessions, next_of, place_in};
 ghost use Rattle.ogg_serve.specs.Images.{IfFile, Records, Flushes, Reads, Fails, Reopens, disk_in};
 
@@ -19,7 +19,7 @@ use gate_file::OpenFault;
 use link_index::Index;
 use ogg_page::PageBuffer;
 use ogg_recorder::{Outcome, Recorder};
-use sessions::{HubFault, Progress, Pulled, SeenAsHub};
+use serve_machine::{HubFault, Progress, Pulled, SeenAsHub};
 use std::alloc::{AllocError as Memory, Global};
 use std::marker::Model;
 

@@ -4,13 +4,13 @@ ghost use Rattle.ogg_page.specs.Page.{Page as PageValue};
 ghost use Rattle.ogg_page.specs.Window.{KeepsSource};
 ghost use Rattle.link_chain.specs.Links.{AreLinks};
 ghost use Rattle.link_index.specs.Adding.{IndexState, IsIndexOf};
-ghost use Rattle.sending.specs.Sending.{HasFailed};
+ghost use Rattle.serve_sending.specs.Sending.{HasFailed};
 ghost use Rattle.ogg_serve.specs.Indexing.{IsOfFront, LacksRoom, fault_unadded};
 
 use link_chain::ChainFault;
 use link_index::{Index, links_are_indexed};
 use ogg_page::{PageSource, Window};
-use sessions::HubFault;
+use serve_machine::HubFault;
 
 /// A file has fewer bytes than this.
 const LENGTHS: u64 = 1 << 63;

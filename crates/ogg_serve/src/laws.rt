@@ -12,9 +12,9 @@ ghost use Rattle.serve_live.specs.Listening.{ListenerState};
 ghost use Rattle.serve_live.specs.Live.{IsLive, Moment};
 ghost use Rattle.serve_live.specs.Places.{IsPlaceIn};
 ghost use Rattle.serve_live.specs.declared.listener.JoinPlace.{JoinPlace as JoinPlaceOf};
-ghost use Rattle.sessions.specs.Hub.{HubState, Event, hub_step};
-ghost use Rattle.sessions.specs.Run.{Step, AreSteps};
-ghost use Rattle.sessions.specs.Sound.{HasCommand, IsRecorded, IsSound};
+ghost use Rattle.serve_machine.specs.Hub.{HubState, Event, hub_step};
+ghost use Rattle.serve_machine.specs.Run.{Step, AreSteps};
+ghost use Rattle.serve_machine.specs.Sound.{HasCommand, IsRecorded, IsSound};
 ghost use Rattle.ogg_serve.specs.Images.{disk_in};
 ghost use Rattle.ogg_serve.specs.Listening.{ShowsHeard, waiting_at};
 ghost use Rattle.ogg_serve.specs.Parts.{HubParts};
@@ -25,7 +25,7 @@ use serve_live::{
     listeners_hear_what_they_should, places_are_moments, sessions_hear_what_is_committed,
     what_is_live_is_a_chain,
 };
-use sessions::committed_bytes_grow;
+use serve_machine::committed_bytes_grow;
 
 /// A listener goes on hearing what it should, whichever calls of the hub come: what it was given stays the front of
 /// what is heard of the committed bytes, which grow.

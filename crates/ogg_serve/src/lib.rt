@@ -1,7 +1,7 @@
 //! A hub: one file that is recorded and served at the same time.
 //!
 //! A `Hub` owns a recorder and the sessions of the clients that fetch its file. Each of its calls is one step of the
-//! machine that crate `sessions` describes. So the laws of that machine hold of whatever calls come, in any order.
+//! machine that crate `serve_machine` describes. So the laws of that machine hold of whatever calls come, in any order.
 //!
 //! A session keeps the head of its request until it is complete, and then its response: a text, and a place in the
 //! committed bytes. The call that completes a head brings an index of the file up to the end of the committed bytes,
@@ -36,4 +36,4 @@ pub use laws::{
 };
 pub use ogg_recorder::Outcome;
 pub use serve_live::{JoinPlace, Listener};
-pub use sessions::{HubFault, Progress, Pulled};
+pub use serve_machine::{HubFault, Progress, Pulled};

@@ -8,11 +8,11 @@ ghost use Rattle.ogg_page.specs.Window.{KeepsSource};
 ghost use Rattle.link_chain.specs.Links.{AreLinks};
 ghost use Rattle.link_index.specs.Adding.{IsIndexOf};
 ghost use Rattle.ogg_recorder.specs.Recorder.{committed};
-ghost use Rattle.sending.specs.Sending.{HasFailed};
+ghost use Rattle.serve_sending.specs.Sending.{HasFailed};
 ghost use Rattle.serve_live.specs.Hearing.{IsHearing};
 ghost use Rattle.serve_live.specs.Live.{Moment};
 ghost use Rattle.serve_live.specs.Places.{IsPlaceIn};
-ghost use Rattle.sessions.specs.Hub.{HubState};
+ghost use Rattle.serve_machine.specs.Hub.{HubState};
 ghost use Rattle.ogg_serve.specs.declared.opening.Lost.{Lost};
 ghost use Rattle.ogg_serve.specs.Images.{IfFile, Reads, Fails};
 ghost use Rattle.ogg_serve.specs.Indexing.{IsOfFront};
@@ -30,7 +30,7 @@ use link_index::Index;
 use ogg_page::{PageBuffer, PageSource, Window};
 use ogg_recorder::Recorder;
 use serve_live::{JoinFault, JoinPlace, Listener, listeners_hear_what_they_should};
-use sessions::HubFault;
+use serve_machine::HubFault;
 use std::alloc::Global;
 
 /// How a hub reports that a listener can't join.

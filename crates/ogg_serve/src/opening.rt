@@ -1,6 +1,6 @@
 //! A disk is given back and opened again.
 ghost use Rattle.std.specs.Prelude.{◌≡◌, ◌≤◌, Ok, Err, None, Some, Option, IsSome, length, IfOk, IfErr};
-ghost use Rattle.sessions.specs.Hub.{HubState, reopen_step, without_file};
+ghost use Rattle.serve_machine.specs.Hub.{HubState, reopen_step, without_file};
 ghost use Rattle.ogg_serve.specs.Parts.{lost_file};
 ghost use Rattle.ogg_serve.specs.Images.{Reopens, disk_in};
 ghost use Rattle.ogg_serve.specs.Showing.{IsOver, ShowsFile, ShowsLost, ShowsPlace, KeepsSessions};

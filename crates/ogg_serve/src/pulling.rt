@@ -1,16 +1,16 @@
 //! What a session pulls: the rest of its response.
 ghost use Rattle.std.specs.Prelude.{◌≡◌, ◌≢◌, ◌↔◌, ◌≤◌, ℕ, List, None, Err, true, IfOk, IfErr, length, vec_capacity};
 ghost use Rattle.ogg_page.specs.Window.{KeepsSource};
-ghost use Rattle.sending.specs.Sending.{HasFailed};
-ghost use Rattle.sessions.specs.Calls.{given_in};
-ghost use Rattle.sessions.specs.Hub.{HubState, Phase, Session as SessionOf, phase_of, pull_step};
+ghost use Rattle.serve_sending.specs.Sending.{HasFailed};
+ghost use Rattle.serve_machine.specs.Calls.{given_in};
+ghost use Rattle.serve_machine.specs.Hub.{HubState, Phase, Session as SessionOf, phase_of, pull_step};
 ghost use Rattle.ogg_serve.specs.Parts.{AreInOrder, IdsRise, place_in};
 ghost use Rattle.ogg_serve.specs.Serving.{PhaseGives};
 ghost use Rattle.ogg_serve.specs.Showing.{AreSessions, IsPhase};
 
 use crate::session::{Session, Stage, end_after, place_of};
 use ogg_page::{PageSource, Window};
-use sessions::{HubFault, Pulled};
+use serve_machine::{HubFault, Pulled};
 
 /// Fills the buffer with the first bytes of a session's rest. There is no rest before the session's head is complete.
 pub(crate) fn pull_stage<S: PageSource>(

@@ -4,8 +4,8 @@ ghost use Rattle.std.specs.Prelude.{◌≡◌, ◌≢◌, ◌↔◌, ◌⊎◌, 
 ghost use Rattle.ogg_page.specs.Page.{Page};
 ghost use Rattle.link_chain.specs.Links.{AreLinks};
 ghost use Rattle.ogg_recorder.specs.Recorder.{committed};
-ghost use Rattle.sessions.specs.Calls.{given_in};
-ghost use Rattle.sessions.specs.Hub.{HubState, Session as SessionOf, phase_of, pull_step, receive_step};
+ghost use Rattle.serve_machine.specs.Calls.{given_in};
+ghost use Rattle.serve_machine.specs.Hub.{HubState, Session as SessionOf, phase_of, pull_step, receive_step};
 ghost use Rattle.ogg_serve.specs.declared.opening.Lost.{Lost};
 ghost use Rattle.ogg_serve.specs.Images.{IfFile, Reads, Fails};
 ghost use Rattle.ogg_serve.specs.Indexing.{IsOfFront};
@@ -20,7 +20,7 @@ use disk_model::Disk;
 use link_index::Index;
 use ogg_page::{PageBuffer, Window};
 use ogg_recorder::Recorder;
-use sessions::{HubFault, Progress, Pulled};
+use serve_machine::{HubFault, Progress, Pulled};
 use std::alloc::Global;
 
 /// A window over the file, if there is one.

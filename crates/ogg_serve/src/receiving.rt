@@ -1,8 +1,8 @@
 //! What a session receives: the head of its request, to which a response is made.
 ghost use Rattle.std.specs.Prelude.{◌≡◌, ◌≢◌, ◌↔◌, ◌⊎◌, ◌+◌, ◌++◌, ◌<◌, ℕ, List, None, Err, Option, true, IfOk, IfErr, length, option_map, vec_len, vec_capacity};
-ghost use Rattle.responses.specs.Response.{Asked, Asks, IsResponse, asked_by};
-ghost use Rattle.sending.specs.Sending.{IsLeft};
-ghost use Rattle.sessions.specs.Hub.{HubState, Phase, Session as SessionOf, phase_of, receive_step};
+ghost use Rattle.serve_responses.specs.Response.{Asked, Asks, IsResponse, asked_by};
+ghost use Rattle.serve_sending.specs.Sending.{IsLeft};
+ghost use Rattle.serve_machine.specs.Hub.{HubState, Phase, Session as SessionOf, phase_of, receive_step};
 ghost use Rattle.ogg_serve.specs.Indexing.{IsOfFront};
 ghost use Rattle.ogg_serve.specs.Parts.{AreInOrder, IdsRise, place_in};
 ghost use Rattle.ogg_serve.specs.Serving.{HeadGets, PhaseGets, Indexes, fault_in};
@@ -13,9 +13,9 @@ use crate::session::{Session, Stage, end_after, place_of};
 use link_index::Index;
 use ogg_http::{HeadRead, Request};
 use ogg_page::{PageSource, Window};
-use responses::find_head;
-use sending::Sending;
-use sessions::{HubFault, Progress};
+use serve_machine::{HubFault, Progress};
+use serve_responses::find_head;
+use serve_sending::Sending;
 use std::alloc::Global;
 
 /// The response to a request, or to what is no request, over all bytes of the source.

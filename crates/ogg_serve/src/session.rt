@@ -1,15 +1,15 @@
 //! The sessions of a hub.
 ghost use Rattle.std.specs.Prelude.{vec_len, vec_capacity, ◌≡◌, ◌<◌, ◌+◌, ◌++◌, ◌∷◌, [], ℕ, List};
 ghost use Rattle.link_index.specs.Adding.{IndexState};
-ghost use Rattle.sessions.specs.Hub.{Event, HubState, Session as SessionOf, Reading, hub_step, without_in};
+ghost use Rattle.serve_machine.specs.Hub.{Event, HubState, Session as SessionOf, Reading, hub_step, without_in};
 ghost use Rattle.ogg_serve.specs.declared.session.Session.{Session as SessionParts};
 ghost use Rattle.ogg_serve.specs.Indexing.{IsOfFront};
 ghost use Rattle.ogg_serve.specs.Parts.{AreInOrder, IdsRise, place_in};
 ghost use Rattle.ogg_serve.specs.Serving.{left_after};
 ghost use Rattle.ogg_serve.specs.Showing.{AreSessions};
 
-use sending::{Sending, rests_of_responses_stay};
-use sessions::{HubFault, committed_bytes_grow};
+use serve_machine::{HubFault, committed_bytes_grow};
+use serve_sending::{Sending, rests_of_responses_stay};
 use std::alloc::Global;
 
 /// How far a session has come.

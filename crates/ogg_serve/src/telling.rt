@@ -2,7 +2,7 @@
 ghost use Rattle.std.specs.Prelude.{◌≡◌, ◌++◌, List, None, Option, is_some, length};
 ghost use Rattle.ogg_page.specs.Page.{Page};
 ghost use Rattle.link_chain.specs.ChainState.{chain_state_of};
-ghost use Rattle.sessions.specs.Hub.{HubState, is_failed};
+ghost use Rattle.serve_machine.specs.Hub.{HubState, is_failed};
 ghost use Rattle.ogg_serve.specs.declared.opening.Lost.{Lost as LostOf};
 ghost use Rattle.ogg_serve.specs.Parts.{failed_in, length_in, serials_in, streams_in};
 ghost use Rattle.ogg_serve.specs.Showing.{HasLinks, Shows, ShowsPlace};

@@ -12,10 +12,10 @@ use Rattle.feed_codec.specs.declared.version.Version.{Version}
 use Rattle.feed_run.specs.Run.{Streams, RunState, Steps, StopsBy, StopsAt}
 use Rattle.gate_file.specs.declared.fault.OpenFault.{OpenFault}
 use Rattle.ogg_serve.specs.Running.{Progress, Answers, waiting_in}
-use Rattle.sessions.specs.Hub.{HubState, Event, Record, Flush, Reopen, hub_step}
-use Rattle.sessions.specs.Calls.{found_by}
-use Rattle.sessions.specs.Run.{Step, AreSteps, session_of}
-use Rattle.sessions.specs.Sound.{Extends}
+use Rattle.serve_machine.specs.Hub.{HubState, Event, Record, Flush, Reopen, hub_step}
+use Rattle.serve_machine.specs.Calls.{found_by}
+use Rattle.serve_machine.specs.Run.{Step, AreSteps, session_of}
+use Rattle.serve_machine.specs.Sound.{Extends}
 use Rattle.serving.specs.declared.feeding.Step.{Step as FeedStep}
 use Rattle.serving.specs.declared.feeding.Step.TheVariants.{Done, End, Lost}
 use Rattle.serving.specs.Feeding.{FollowsIf, HasStepped, HasAnswered, Reopened, says_failed}

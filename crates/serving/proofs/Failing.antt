@@ -16,8 +16,8 @@ use Rattle.ogg_serve.specs.Images.{IfFile, Fails, Flushes, Reads, Records, disk_
 use Rattle.ogg_serve.specs.Parts.{HubParts, OnlyFile}
 use Rattle.ogg_serve.specs.Running.{Progress, Answers, waiting_in}
 use Rattle.ogg_serve.specs.Showing.{ShowsPlace}
-use Rattle.sending.specs.Sending.{HasFailed}
-use Rattle.sessions.specs.Hub.{HubState}
+use Rattle.serve_sending.specs.Sending.{HasFailed}
+use Rattle.serve_machine.specs.Hub.{HubState}
 use Rattle.serving.specs.declared.feeding.Step.{Step as FeedStep}
 use Rattle.serving.specs.declared.feeding.Step.TheVariants.{Done, End, Lost as LostOf}
 use Rattle.serving.specs.Feeding.{FeedState, FollowsIf, HasStepped, HasAnswered, Reopened, feed_state, says_failed, step_at}

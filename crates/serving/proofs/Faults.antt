@@ -1,11 +1,11 @@
 -- Which faults a session of the hub may get, and what they leave of it.
 use Rattle.std.proofs.Common.{◌≡◌, ◌≢◌, ℕ, Bool, true, false, Option, Some, None, Result, Ok, Err, List, refl, sym, ◌∙◌, ap, subst}
 use Rattle.std.specs.Prelude.{IsSome, ⊤}
-use Rattle.sessions.specs.declared.answers.Progress.{Progress}
-use Rattle.sessions.specs.declared.answers.Progress.TheVariants.{Ready}
-use Rattle.sessions.specs.declared.fault.HubFault.{HubFault}
-use Rattle.sessions.specs.declared.fault.HubFault.TheVariants.{NoSession, SessionsFull, Source, Memory, NoFile}
-use Rattle.sessions.specs.Hub.{HubState, Phase, Reading, Sending, Given, Close, Receive, Pull, hub_step, phase_of, without_session, close_step, head_step, receive_step, send_step, pull_step}
+use Rattle.serve_machine.specs.declared.answers.Progress.{Progress}
+use Rattle.serve_machine.specs.declared.answers.Progress.TheVariants.{Ready}
+use Rattle.serve_machine.specs.declared.fault.HubFault.{HubFault}
+use Rattle.serve_machine.specs.declared.fault.HubFault.TheVariants.{NoSession, SessionsFull, Source, Memory, NoFile}
+use Rattle.serve_machine.specs.Hub.{HubState, Phase, Reading, Sending, Given, Close, Receive, Pull, hub_step, phase_of, without_session, close_step, head_step, receive_step, send_step, pull_step}
 use Rattle.serving.specs.Pieces.{LeftBy}
 use Rattle.serving.specs.Serving.{MayMeet}
 

@@ -1,9 +1,9 @@
 -- The calls of one session leave the others, and the file.
 use Rattle.std.proofs.Common.{◌≡◌, ◌≢◌, ℕ, Some, List, [], ◌++◌, refl, sym, ◌∙◌, ap, append-nil, append_assoc}
-use Rattle.sessions.specs.Hub.{HubState, Event, hub_step, phase_of}
-use Rattle.sessions.specs.Own.{AreNumbered, KeepsFile}
-use Rattle.sessions.specs.Run.{session_of}
-use Rattle.sessions.specs.Sound.{Extends}
+use Rattle.serve_machine.specs.Hub.{HubState, Event, hub_step, phase_of}
+use Rattle.serve_machine.specs.Own.{AreNumbered, KeepsFile}
+use Rattle.serve_machine.specs.Run.{session_of}
+use Rattle.serve_machine.specs.Sound.{Extends}
 use Rattle.serving.specs.Keeping.{KeepsAll, KeepsOthers, OnlyServes}
 
 -- what the laws of sessions say

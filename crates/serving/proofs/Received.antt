@@ -2,11 +2,11 @@
 use Rattle.std.proofs.Common.{◌≡◌, ◌+◌, ◌≤◌, ℕ, Option, Some, Ok, List, [], ◌++◌, length, refl, sym, ◌∙◌, ap, subst, inl, inr, arith, append-nil, length-append}
 use Rattle.std.specs.Io.KnownBytes.{Consumes, IsAtEnd}
 use Rattle.std.proofs.KnownBytes.{Consumes-nil, Consumes-trans}
-use Rattle.responses.specs.Response.{IsResponse}
-use Rattle.sessions.specs.declared.answers.Progress.{Progress}
-use Rattle.sessions.specs.declared.answers.Progress.TheVariants.{More, Ready}
-use Rattle.sessions.specs.Hub.{HubState, Reading, Receive, hub_step, phase_of}
-use Rattle.sessions.specs.Own.{HasReceived}
+use Rattle.serve_responses.specs.Response.{IsResponse}
+use Rattle.serve_machine.specs.declared.answers.Progress.{Progress}
+use Rattle.serve_machine.specs.declared.answers.Progress.TheVariants.{More, Ready}
+use Rattle.serve_machine.specs.Hub.{HubState, Reading, Receive, hub_step, phase_of}
+use Rattle.serve_machine.specs.Own.{HasReceived}
 use Rattle.serving.specs.Pieces.{HasHead, HasEnded, HasReadSome}
 use Rattle.serving.specs.Keeping.{OnlyServes}
 use Rattle.serving.specs.Serving.{HasNoHead}

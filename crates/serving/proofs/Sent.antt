@@ -5,9 +5,9 @@ use Rattle.std.proofs.KnownBytes.{Appends-nil, Appends-trans}
 use Rattle.std.proofs.lemmas.List.{take-append-drop, length-take-le, length-drop}
 use Rattle.std.proofs.Math.Seq.{take-append-add}
 use Rattle.ogg_page.specs.Output.{WritesPrefix}
-use Rattle.responses.specs.Response.{IsResponse}
-use Rattle.sessions.specs.Hub.{HubState, Sending, phase_of}
-use Rattle.sessions.specs.declared.fault.HubFault.{HubFault}
+use Rattle.serve_responses.specs.Response.{IsResponse}
+use Rattle.serve_machine.specs.Hub.{HubState, Sending, phase_of}
+use Rattle.serve_machine.specs.declared.fault.HubFault.{HubFault}
 use Rattle.serving.specs.declared.pieces.Served.{Served}
 use Rattle.serving.specs.declared.pieces.Served.TheVariants.{Whole, NoHead, Cut}
 use Rattle.serving.specs.Pieces.{HasHead, HasRead, HasSent, HasTried, piece}

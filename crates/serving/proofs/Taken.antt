@@ -5,8 +5,8 @@ use Rattle.disk_model.specs.Image.{DiskState}
 use Rattle.feed_codec.specs.declared.fault.RunFault.{RunFault}
 use Rattle.feed_run.specs.Run.{Outcome}
 use Rattle.ogg_serve.specs.Parts.{HubParts}
-use Rattle.sessions.specs.Hub.{HubState}
-use Rattle.sessions.specs.Own.{KeepsFile}
+use Rattle.serve_machine.specs.Hub.{HubState}
+use Rattle.serve_machine.specs.Own.{KeepsFile}
 use Rattle.serving.specs.Feeding.{FeedState, feed_state, step_at}
 use Rattle.serving.specs.Keeping.{KeepsAll}
 use Rattle.serving.specs.Steps.{GoesOn, StepsIf, TakesSteps}

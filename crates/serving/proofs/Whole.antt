@@ -1,8 +1,8 @@
 -- A connection as a whole.
 use Rattle.std.proofs.Common.{◌≡◌, ℕ, Bool, Option, None, Result, List, sym, ◌∙◌, ap, subst}
-use Rattle.sessions.specs.declared.fault.HubFault.{HubFault}
-use Rattle.sessions.specs.Hub.{HubState, phase_of}
-use Rattle.sessions.specs.Run.{IsUnused}
+use Rattle.serve_machine.specs.declared.fault.HubFault.{HubFault}
+use Rattle.serve_machine.specs.Hub.{HubState, phase_of}
+use Rattle.serve_machine.specs.Run.{IsUnused}
 use Rattle.serving.specs.declared.pieces.Served.{Served}
 use Rattle.serving.specs.Keeping.{KeepsOthers, OnlyServes}
 use Rattle.serving.specs.Serving.{Gets}

@@ -3,8 +3,8 @@ use Rattle.std.proofs.Common.{◌≡◌, ℕ, ◌+◌, ◌<◌, ◌≤◌, ◌-�
 use Rattle.std.specs.Io.KnownBytes.{Appends}
 use Rattle.std.proofs.lemmas.List.{take-append-drop, take-append-le, length-drop}
 use Rattle.ogg_page.specs.Output.{WritesPrefix}
-use Rattle.sessions.specs.Hub.{HubState, Given, is_nothing}
-use Rattle.sessions.specs.Own.{HasPulled}
+use Rattle.serve_machine.specs.Hub.{HubState, Given, is_nothing}
+use Rattle.serve_machine.specs.Own.{HasPulled}
 
 -- nothing is left
 none_left : (rest : List ℕ) → is_nothing rest ≡ true → rest ≡ []

@@ -9,8 +9,8 @@ use Rattle.gate_file.specs.declared.fault.OpenFault.{OpenFault}
 use Rattle.ogg_command.specs.declared.refusal.Refusal.TheVariants.{Disk}
 use Rattle.ogg_serve.specs.Images.{Reopens, disk_in}
 use Rattle.ogg_serve.specs.Running.{Progress, Answers, waiting_in}
-use Rattle.sessions.specs.Hub.{reopen_step}
-use Rattle.sessions.specs.Calls.{found_by}
+use Rattle.serve_machine.specs.Hub.{reopen_step}
+use Rattle.serve_machine.specs.Calls.{found_by}
 use Rattle.serving.specs.declared.feeding.Step.{Step}
 use Rattle.serving.specs.declared.feeding.Step.TheVariants.{Done, End, Lost}
 

@@ -1,8 +1,8 @@
 -- What a connection, and a feed that is recorded meanwhile, leave of a hub. Ours.
 use Rattle.std.specs.Prelude.{◌≡◌, ◌≢◌, ℕ}
-use Rattle.sessions.specs.Hub.{HubState, phase_of}
-use Rattle.sessions.specs.Own.{AreNumbered, KeepsFile}
-use Rattle.sessions.specs.Sound.{Extends}
+use Rattle.serve_machine.specs.Hub.{HubState, phase_of}
+use Rattle.serve_machine.specs.Own.{AreNumbered, KeepsFile}
+use Rattle.serve_machine.specs.Sound.{Extends}
 
 -- The other sessions are in the phases in which they were, and each session has a number that was given. The committed
 -- bytes stay in front.

@@ -2,10 +2,10 @@
 use Rattle.std.specs.Prelude.{◌≡◌, ◌≢◌, ℕ, Bool, true, false, Option, Some, None, IsSome, Result, Ok, Err, List, take, drop, length, ◌<◌, ◌≤◌}
 use Rattle.std.specs.Io.KnownBytes.{Appends, Consumes, IsAtEnd}
 use Rattle.ogg_page.specs.Output.{WritesPrefix}
-use Rattle.responses.specs.Response.{IsResponse}
-use Rattle.sessions.specs.declared.fault.HubFault.{HubFault}
-use Rattle.sessions.specs.declared.fault.HubFault.TheVariants.{NoSession, SessionsFull, Source, Memory, NoFile}
-use Rattle.sessions.specs.Hub.{HubState, Phase, Sending, phase_of}
+use Rattle.serve_responses.specs.Response.{IsResponse}
+use Rattle.serve_machine.specs.declared.fault.HubFault.{HubFault}
+use Rattle.serve_machine.specs.declared.fault.HubFault.TheVariants.{NoSession, SessionsFull, Source, Memory, NoFile}
+use Rattle.serve_machine.specs.Hub.{HubState, Phase, Sending, phase_of}
 use Rattle.serving.specs.Serving.{HasNoHead}
 use Rattle.serving.specs.declared.pieces.Served.{Served}
 use Rattle.serving.specs.declared.pieces.Served.TheVariants.{Whole, NoHead, Cut}

@@ -4,15 +4,15 @@ use Rattle.disk_model.specs.Image.{DiskState}
 use Rattle.feed_codec.specs.declared.fault.RunFault.{RunFault}
 use Rattle.feed_run.specs.Run.{Outcome, streams}
 use Rattle.ogg_serve.specs.Parts.{HubParts}
-use Rattle.sessions.specs.Hub.{HubState}
-use Rattle.sessions.specs.Own.{KeepsFile}
+use Rattle.serve_machine.specs.Hub.{HubState}
+use Rattle.serve_machine.specs.Own.{KeepsFile}
 use Rattle.serving.specs.Feeding.{FeedState, HasStepped, feed_state, lasting, step_at}
 use Rattle.serving.specs.Pieces.{piece}
 use Rattle.serving.specs.Serving.{GetsFront, GetsNothing, GetsWhole, MayMeet}
 use Rattle.serving.specs.declared.feeding.Step.{Step}
 use Rattle.serving.specs.declared.pieces.Served.{Served}
 use Rattle.serving.specs.declared.pieces.Served.TheVariants.{Whole, NoHead, Cut}
-use Rattle.sessions.specs.declared.fault.HubFault.{HubFault}
+use Rattle.serve_machine.specs.declared.fault.HubFault.{HubFault}
 
 module _ {D : Type 0} (is_honest : D → Type 0) (state : D → DiskState) (moment : D → ℕ) (images_since : D → ℕ → List ℕ → Type 0)
     (failures : D → ℕ) {R W : Type 0} (remaining : R → Option (List ℕ)) (contents : W → Option (List ℕ)) where

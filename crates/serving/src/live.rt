@@ -2,9 +2,9 @@
 ghost use Rattle.std.specs.Prelude.{◌≡◌, ◌≤◌, ℕ, List, [], Some, None, Err, true, false};
 ghost use Rattle.ogg_page.specs.Page.{Page};
 ghost use Rattle.link_chain.specs.Links.{AreLinks};
-ghost use Rattle.sending.specs.Sending.{HasFailed};
-ghost use Rattle.sessions.specs.Hub.{HubState, Reading, is_full, phase_of};
-ghost use Rattle.sessions.specs.Own.{AreNumbered};
+ghost use Rattle.serve_sending.specs.Sending.{HasFailed};
+ghost use Rattle.serve_machine.specs.Hub.{HubState, Reading, is_full, phase_of};
+ghost use Rattle.serve_machine.specs.Own.{AreNumbered};
 ghost use Rattle.ogg_serve.specs.Images.{failures_in};
 ghost use Rattle.ogg_serve.specs.Showing.{Shows};
 ghost use Rattle.serving.specs.Keeping.{KeepsAll, KeepsOthers};
@@ -17,7 +17,7 @@ use crate::serve::MOST_PIECES;
 use crate::trying::Tries;
 use disk_model::Disk;
 use ogg_serve::{Hub, HubFault};
-use sessions::{
+use serve_machine::{
     calls_move_their_session, committed_bytes_grow, other_sessions_stay, sessions_are_numbered,
 };
 use std::io::{Read, Write};

@@ -2,7 +2,7 @@
 ghost use Rattle.std.specs.Prelude.{◌≡◌, ℕ, List, [], Some, Err, false};
 ghost use Rattle.ogg_page.specs.Page.{Page};
 ghost use Rattle.link_chain.specs.Links.{AreLinks};
-ghost use Rattle.sessions.specs.Hub.{HubState, Reading, Sending, phase_of};
+ghost use Rattle.serve_machine.specs.Hub.{HubState, Reading, Sending, phase_of};
 ghost use Rattle.ogg_serve.specs.Images.{IfFile, Fails, Reads};
 ghost use Rattle.ogg_serve.specs.Showing.{Shows};
 ghost use Rattle.serving.specs.Pieces.{HasRead, HasSent, HasTried};
@@ -11,7 +11,9 @@ ghost use Rattle.serving.specs.Keeping.{OnlyServes};
 use crate::trying::Tries;
 use disk_model::Disk;
 use ogg_serve::{Hub, HubFault};
-use sessions::{Progress, calls_move_their_session, other_sessions_stay, sessions_are_numbered};
+use serve_machine::{
+    Progress, calls_move_their_session, other_sessions_stay, sessions_are_numbered,
+};
 use std::io::{Read, Write};
 
 /// The greatest number of bytes that are read or written at once.

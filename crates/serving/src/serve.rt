@@ -2,8 +2,8 @@
 ghost use Rattle.std.specs.Prelude.{◌≡◌, ℕ, List, [], Some, None, Err, true, false};
 ghost use Rattle.ogg_page.specs.Page.{Page};
 ghost use Rattle.link_chain.specs.Links.{AreLinks};
-ghost use Rattle.sessions.specs.Hub.{HubState, Reading, is_full, phase_of};
-ghost use Rattle.sessions.specs.Own.{AreNumbered};
+ghost use Rattle.serve_machine.specs.Hub.{HubState, Reading, is_full, phase_of};
+ghost use Rattle.serve_machine.specs.Own.{AreNumbered};
 ghost use Rattle.ogg_serve.specs.Images.{IfFile, Fails, Reads};
 ghost use Rattle.ogg_serve.specs.Showing.{Shows};
 ghost use Rattle.serving.specs.Keeping.{OnlyServes};
@@ -13,7 +13,7 @@ use crate::pieces::{Served, read_head, send_piece};
 use crate::trying::Tries;
 use disk_model::Disk;
 use ogg_serve::{Hub, HubFault};
-use sessions::{calls_move_their_session, other_sessions_stay, sessions_are_numbered};
+use serve_machine::{calls_move_their_session, other_sessions_stay, sessions_are_numbered};
 use std::io::{Read, Write};
 
 /// A number of pieces that no response reaches.

@@ -1,12 +1,12 @@
 -- What a connection is owed.
 use Rattle.std.proofs.Common.{◌≡◌, ◌≢◌, ◌⊎◌, ℕ, true, false, Bool, Option, Some, None, Result, Ok, Err, List, [], ◌∷◌, ◌++◌, ◌≤◌, length, take, drop, refl, sym, ◌∙◌, ap, subst, inl, inr, append-nil, if◌then◌else◌}
 use Rattle.std.proofs.lemmas.List.{take-append-drop, drop-append-le}
-use Rattle.responses.specs.Response.{IsResponse}
-use Rattle.sessions.specs.Hub.{Event, Given, HubState, Phase, Pull, Reading, Receive, Sending, hub_step, is_nothing, phase_of}
-use Rattle.sessions.specs.Own.{HasPulled as HasGiven, HasReceived}
-use Rattle.sessions.specs.Run.{session_of}
-use Rattle.sessions.specs.declared.fault.HubFault.{HubFault}
-use Rattle.sessions.specs.declared.answers.Progress.TheVariants.{Ready}
+use Rattle.serve_responses.specs.Response.{IsResponse}
+use Rattle.serve_machine.specs.Hub.{Event, Given, HubState, Phase, Pull, Reading, Receive, Sending, hub_step, is_nothing, phase_of}
+use Rattle.serve_machine.specs.Own.{HasPulled as HasGiven, HasReceived}
+use Rattle.serve_machine.specs.Run.{session_of}
+use Rattle.serve_machine.specs.declared.fault.HubFault.{HubFault}
+use Rattle.serve_machine.specs.declared.answers.Progress.TheVariants.{Ready}
 use Rattle.station.specs.Client.{ClientState, cut, with_stage}
 use Rattle.station.specs.Giving.{HasPulled, Owes, OwesIn, OwesRest, phase_of_client}
 use Rattle.station.specs.declared.client.Stage.{Stage}

@@ -1,11 +1,11 @@
 -- What a connection asks for, and how it is taken. Ours.
 use Rattle.std.specs.Prelude.{◌≡◌, ◌⊎◌, ℕ, Option, Some, Result, Ok, Err, List, [], ◌++◌}
 use Rattle.serve_live.specs.Listening.{ListenerState}
-use Rattle.sessions.specs.Calls.{Steps}
-use Rattle.sessions.specs.Hub.{HubState, Connect, Receive}
-use Rattle.sessions.specs.declared.answers.Progress.{Progress}
-use Rattle.sessions.specs.declared.answers.Progress.TheVariants.{More, Ready}
-use Rattle.sessions.specs.declared.fault.HubFault.{HubFault}
+use Rattle.serve_machine.specs.Calls.{Steps}
+use Rattle.serve_machine.specs.Hub.{HubState, Connect, Receive}
+use Rattle.serve_machine.specs.declared.answers.Progress.{Progress}
+use Rattle.serve_machine.specs.declared.answers.Progress.TheVariants.{More, Ready}
+use Rattle.serve_machine.specs.declared.fault.HubFault.{HubFault}
 use Rattle.ogg_serve.specs.Parts.{HubParts}
 use Rattle.station.specs.Client.{ClientState, cut, told, with_stage}
 use Rattle.station.specs.declared.client.Stage.{Stage}

@@ -1,7 +1,7 @@
 -- What a connection is given to be written. Ours.
 use Rattle.std.specs.Prelude.{◌≡◌, ℕ, Bool, if◌then◌else◌, Option, Some, None, Result, Ok, Err, List, [], ◌++◌, take, drop}
-use Rattle.sessions.specs.Hub.{Given, HubState, Phase, Sending, phase_of}
-use Rattle.sessions.specs.declared.fault.HubFault.{HubFault}
+use Rattle.serve_machine.specs.Hub.{Given, HubState, Phase, Sending, phase_of}
+use Rattle.serve_machine.specs.declared.fault.HubFault.{HubFault}
 use Rattle.station.specs.Client.{ClientState, cut, with_stage}
 use Rattle.station.specs.declared.client.Stage.{Stage}
 use Rattle.station.specs.declared.client.Stage.TheVariants.{Sending as SendingOf, Ending}

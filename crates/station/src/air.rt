@@ -4,8 +4,8 @@ ghost use Rattle.ogg_page.specs.Reading.{page_at};
 ghost use Rattle.ogg_page.specs.declared.fault.PageFault.TheVariants.{Short};
 
 use crate::Memory;
-use feed_changes::ChangeOptions;
 use feed_run::Runner;
+use import_changes::ChangeOptions;
 use import_mend::Mend;
 use import_record::{ImportRun, RecordFault, Step, Taken};
 use link_chain::StreamState;

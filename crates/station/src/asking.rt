@@ -1,10 +1,10 @@
 //! What a connection asks for.
 ghost use Rattle.std.specs.Prelude.{◌≡◌, ◌⊎◌, ◌++◌, Result};
 ghost use Rattle.ogg_serve.specs.Showing.{Shows};
-ghost use Rattle.sessions.specs.Calls.{Steps};
-ghost use Rattle.sessions.specs.Hub.{Receive};
-ghost use Rattle.sessions.specs.declared.answers.Progress.{Progress as ProgressOf};
-ghost use Rattle.sessions.specs.declared.fault.HubFault.{HubFault as HubFaultOf};
+ghost use Rattle.serve_machine.specs.Calls.{Steps};
+ghost use Rattle.serve_machine.specs.Hub.{Receive};
+ghost use Rattle.serve_machine.specs.declared.answers.Progress.{Progress as ProgressOf};
+ghost use Rattle.serve_machine.specs.declared.fault.HubFault.{HubFault as HubFaultOf};
 ghost use Rattle.station.specs.Asking.{IsConnected, stage_after};
 ghost use Rattle.station.specs.Client.{cut, with_stage};
 
@@ -13,8 +13,8 @@ use crate::live_hub::LiveHub;
 use disk_model::Disk;
 use ogg_serve::Hub;
 use serve_live::Listener;
+use serve_machine::{HubFault, Progress};
 use serve_sources::{Asks, LIVE};
-use sessions::{HubFault, Progress};
 
 /// Adds bytes to the head, and says what it asks for. Without memory for them the connection is cut.
 pub(crate) fn ask(client: &mut Client, bytes: &[u8]) -> Asks

@@ -1,8 +1,8 @@
 //! What a connection is to be sent.
 ghost use Rattle.std.specs.Prelude.{◌≡◌, ◌≢◌, ◌≤◌, [], Result, if◌then◌else◌, length, take};
-ghost use Rattle.sessions.specs.Hub.{Given as GivenOf, Pull};
-ghost use Rattle.sessions.specs.Calls.{Steps};
-ghost use Rattle.sessions.specs.declared.fault.HubFault.{HubFault as HubFaultOf};
+ghost use Rattle.serve_machine.specs.Hub.{Given as GivenOf, Pull};
+ghost use Rattle.serve_machine.specs.Calls.{Steps};
+ghost use Rattle.serve_machine.specs.declared.fault.HubFault.{HubFault as HubFaultOf};
 ghost use Rattle.ogg_serve.specs.Images.{IfFile, Reads};
 ghost use Rattle.ogg_serve.specs.Showing.{Shows};
 ghost use Rattle.station.specs.Giving.{HasPulled};

@@ -1,15 +1,15 @@
 //! What always holds of the connections of a station.
 ghost use Rattle.std.specs.Prelude.{◌≡◌, ◌≢◌, ◌⊎◌, ◌++◌, ◌≤◌, ℕ, List, [], Some, Ok, Result, drop, length, take};
-ghost use Rattle.responses.specs.Response.{IsResponse};
-ghost use Rattle.sessions.specs.Hub.{Event, Given, HubState, Pull, Reading, Receive, hub_step, phase_of};
-ghost use Rattle.sessions.specs.Run.{session_of};
-ghost use Rattle.sessions.specs.declared.answers.Progress.TheVariants.{Ready};
-ghost use Rattle.sessions.specs.declared.fault.HubFault.{HubFault as HubFaultOf};
+ghost use Rattle.serve_responses.specs.Response.{IsResponse};
+ghost use Rattle.serve_machine.specs.Hub.{Event, Given, HubState, Pull, Reading, Receive, hub_step, phase_of};
+ghost use Rattle.serve_machine.specs.Run.{session_of};
+ghost use Rattle.serve_machine.specs.declared.answers.Progress.TheVariants.{Ready};
+ghost use Rattle.serve_machine.specs.declared.fault.HubFault.{HubFault as HubFaultOf};
 ghost use Rattle.station.specs.Client.{ClientState, cut};
 ghost use Rattle.station.specs.Giving.{HasPulled, Owes};
 ghost use Rattle.station.specs.declared.client.Stage.TheVariants.{Sending as SendingOf};
 
-use sessions::{calls_move_their_session, other_sessions_stay};
+use serve_machine::{calls_move_their_session, other_sessions_stay};
 
 /// A connection that is served by a session is owed its response, byte for byte, from the call that completes its head
 /// on. What is given to it and written is the front of what it is owed, and what is kept or still to be pulled is the

@@ -7,7 +7,7 @@ use crate::air::{Feeder, OnAir};
 use crate::client::Stage;
 use crate::station::Station;
 use disk_model::Disk;
-use feed_changes::ChangeOptions;
+use import_changes::ChangeOptions;
 use serve_sources::{Body, DONE, Offer};
 
 impl<D: Disk + Drop> Station<D> {

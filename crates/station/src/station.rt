@@ -14,7 +14,7 @@ use crate::giving::give;
 use crate::live_hub::LiveHub;
 use crate::patience::{is_overdue, is_refused};
 use disk_model::Disk;
-use feed_changes::Skeletons;
+use import_changes::Skeletons;
 use ogg_serve::Hub;
 use serve_sources::{Asks, Password, Refused};
 use slab::Slab;

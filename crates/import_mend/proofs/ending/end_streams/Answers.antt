@@ -7,7 +7,7 @@ use Rattle.link_chain.specs.Places.{HaveOwnSerials}
 use Rattle.link_chain.specs.Progress.{stream_in}
 use Rattle.link_chain.specs.declared.stream_state.StreamState.{StreamState}
 use Rattle.ogg_command.specs.declared.command.Command.{Command}
-use Rattle.gathering.specs.Gathered.{Gathered}
+use Rattle.import_gather.specs.Gathered.{Gathered}
 use Rattle.import_mend.specs.Gives.{is_unended, open_streams}
 use Rattle.import_mend.proofs.Ends.{ends_none, ends_one, one_less}
 use Rattle.import_mend.proofs.Rooms.{all_closed, found_is_open, none_ended, number_of, one_ended}

@@ -1,5 +1,5 @@
 use Rattle.std.proofs.Common.{Err, subst}
-use Rattle.page_reader.specs.Reader.{HasAdvanced}
+use Rattle.import_pages.specs.Reader.{HasAdvanced}
 use Rattle.import_mend.proofs.Finding.{none_passed, one_passed}
 use Rattle.import_mend.proofs.import.find_page.Goals as goal
 

@@ -4,9 +4,9 @@ use Rattle.ogg_page.specs.Page.{Page, IsPage}
 use Rattle.ogg_page.specs.PageLaws.{page_fits}
 use Rattle.link_chain.specs.Taking.{fault_of_page}
 use Rattle.ogg_command.specs.declared.command.Command.{Command}
-use Rattle.gathering.specs.Gathered.{Gathered, GathersPage}
+use Rattle.import_gather.specs.Gathered.{Gathered, GathersPage}
 use Rattle.import_mend.specs.Gives.{GathersLeft}
-use Rattle.gathering.specs.Kept.{is_too_long}
+use Rattle.import_gather.specs.Kept.{is_too_long}
 use Rattle.import_mend.specs.Mended.{is_joined, mended}
 use Rattle.import_mend.specs.Steps.{broken_off}
 use Rattle.import_mend.proofs.Fits.{mended_fits, mended_is_short, broken_length}

@@ -4,8 +4,8 @@ use Rattle.ogg_page.specs.Page.{Page, IsPage, page_bytes, page_size}
 use Rattle.link_chain.specs.Followed.{after_page}
 use Rattle.link_chain.specs.Taking.{fault_of_page}
 use Rattle.ogg_command.specs.declared.command.Command.{Command}
-use Rattle.gathering.specs.Gathered.{GathersPage}
-use Rattle.gathering.specs.Kept.{is_too_long}
+use Rattle.import_gather.specs.Gathered.{GathersPage}
+use Rattle.import_gather.specs.Kept.{is_too_long}
 use Rattle.import_mend.specs.Mended.{mended}
 use Rattle.import_mend.proofs.Kept.{mended_is_page}
 use Rattle.import_mend.proofs.ReadBack.{written, read_well, same_page}

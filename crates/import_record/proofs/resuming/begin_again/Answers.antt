@@ -3,7 +3,7 @@ use Rattle.std.specs.List.{AllByRecursion}
 use Rattle.ogg_command.specs.declared.command.Command.{Command}
 use Rattle.ogg_command.specs.declared.command.Command.TheVariants.{Begin as BeginOf}
 use Rattle.ogg_command.specs.declared.command.NewStream.{NewStream}
-use Rattle.feed_changes.specs.Changed.{HasChangedBeside, IsPlain}
+use Rattle.import_changes.specs.Changed.{HasChangedBeside, IsPlain}
 use Rattle.import_record.specs.Resuming.{begin_of}
 use Rattle.import_record.proofs.resuming.begin_again.Goals as goal
 

@@ -2,7 +2,7 @@ use Rattle.std.proofs.Common.{[], IfOk, ap, sym, ◌∙◌, subst, arith}
 use Rattle.link_chain.specs.Links.{AreLinks}
 use Rattle.link_index.specs.Adding.{IsIndexOf}
 use Rattle.serve_live.specs.Hearing.{IsHearing}
-use Rattle.sessions.specs.declared.fault.HubFault.TheVariants.{Source}
+use Rattle.serve_machine.specs.declared.fault.HubFault.TheVariants.{Source}
 use Rattle.ogg_serve.proofs.Fronts.{later_failed}
 use Rattle.ogg_serve.proofs.Heard.{same_fault}
 use Rattle.ogg_serve.proofs.listening.join_in.Goals as goal

@@ -1,7 +1,7 @@
 use Rattle.std.proofs.Common.{◌≡◌, ℕ, List, Option, ◌++◌, sym, ◌∙◌, subst, ap, take, option_map, inr}
 use Rattle.std.proofs.lemmas.List.{take_at}
 use Rattle.ogg_http.specs.declared.head.Request.{Request}
-use Rattle.responses.specs.Response.{Asks, asked_by}
+use Rattle.serve_responses.specs.Response.{Asks, asked_by}
 use Rattle.ogg_serve.proofs.Stages.{head_fault}
 use Rattle.ogg_serve.proofs.receiving.receive_head.Goals.{in-Bad, in-Whole}
 use Rattle.ogg_serve.proofs.receiving.receive_head.Goals as goal

@@ -1,7 +1,7 @@
 use Rattle.std.proofs.Common.{◌≡◌, Option, Some, None, true, Err, refl, sym, ◌∙◌, ap, subst, arith}
 use Rattle.link_chain.specs.Laws.Walked.{no_fault_there}
-use Rattle.sessions.specs.Hub.{Phase, receive_step}
-use Rattle.sessions.specs.declared.fault.HubFault.TheVariants.{NoSession}
+use Rattle.serve_machine.specs.Hub.{Phase, receive_step}
+use Rattle.serve_machine.specs.declared.fault.HubFault.TheVariants.{NoSession}
 use Rattle.ogg_serve.specs.Indexing.{IsOfFront}
 use Rattle.ogg_serve.specs.Parts.{AreInOrder, IdsRise, place_in}
 use Rattle.ogg_serve.proofs.Listed.{found, not_found, place_inside, written_back}

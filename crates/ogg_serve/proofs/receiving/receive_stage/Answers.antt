@@ -1,5 +1,5 @@
 use Rattle.std.proofs.Common.{Option, Ok, subst}
-use Rattle.sending.specs.Sending.{SendingState}
+use Rattle.serve_sending.specs.Sending.{SendingState}
 use Rattle.ogg_serve.specs.Serving.{HeadGets}
 use Rattle.ogg_serve.proofs.Stages.{gets_more, gets_response, gets_fault}
 use Rattle.ogg_serve.proofs.receiving.receive_stage.Goals as goal

@@ -1,5 +1,5 @@
 use Rattle.std.proofs.Common.{option_map, refl}
-use Rattle.responses.specs.Response.{asked_by, response}
+use Rattle.serve_responses.specs.Response.{asked_by, response}
 use Rattle.ogg_serve.proofs.receiving.respond.Goals as goal
 
 pub returns-in-Ok-of-clause-response : goal.returns-in-Ok-of-clause-response

@@ -1,5 +1,5 @@
 use Rattle.std.proofs.Common.{◌+◌, List, [], ◌++◌, ◌∷◌, refl, sym, subst}
-use Rattle.sessions.specs.Hub.{Session, Reading}
+use Rattle.serve_machine.specs.Hub.{Session, Reading}
 use Rattle.ogg_serve.specs.Parts.{AreInOrder}
 use Rattle.ogg_serve.specs.Showing.{AreSessions}
 use Rattle.ogg_serve.specs.declared.session.Session.{Session as SessionParts}

@@ -1,6 +1,6 @@
 use Rattle.std.proofs.Common.{◌≡◌, Some, None, List, sym, ap, subst, ◌∙◌, arith}
 use Rattle.link_chain.specs.Laws.Walked.{no_fault_there}
-use Rattle.sessions.specs.Hub.{without_in}
+use Rattle.serve_machine.specs.Hub.{without_in}
 use Rattle.ogg_serve.specs.Parts.{AreInOrder, place_in}
 use Rattle.ogg_serve.specs.Showing.{AreSessions}
 use Rattle.ogg_serve.specs.declared.session.Session.{Session as SessionParts}

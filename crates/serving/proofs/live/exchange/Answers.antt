@@ -1,8 +1,8 @@
 use Rattle.std.proofs.Common.{None, Some, Err, suc, refl, inl, ap, subst, arith}
 use Rattle.ogg_serve.specs.Images.{failures_in}
-use Rattle.sessions.specs.Hub.{phase_of}
-use Rattle.sessions.specs.declared.fault.HubFault.{HubFault}
-use Rattle.sessions.specs.declared.fault.HubFault.TheVariants.{Source}
+use Rattle.serve_machine.specs.Hub.{phase_of}
+use Rattle.serve_machine.specs.declared.fault.HubFault.{HubFault}
+use Rattle.serve_machine.specs.declared.fault.HubFault.TheVariants.{Source}
 use Rattle.serving.specs.Pieces.{LeftBy}
 use Rattle.serving.proofs.Failing.{was_read, has_failed, has_file, failed_later}
 use Rattle.serving.proofs.Faults.{same_fault}

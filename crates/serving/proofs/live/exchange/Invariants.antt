@@ -1,6 +1,6 @@
 use Rattle.std.proofs.Common.{◌≡◌, ◌≤◌, Some, [], false}
 use Rattle.ogg_serve.specs.Images.{failures_in}
-use Rattle.sessions.specs.Hub.{HubState, Reading, phase_of}
+use Rattle.serve_machine.specs.Hub.{HubState, Reading, phase_of}
 use Rattle.ogg_serve.specs.Showing.{Shows}
 use Rattle.serving.specs.Keeping.{KeepsOthers}
 use Rattle.serving.specs.Steps.{TakesSteps}

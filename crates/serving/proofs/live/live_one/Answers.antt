@@ -1,8 +1,8 @@
 use Rattle.std.proofs.Common.{ℕ, List, Ok, refl, sym, ap, subst}
 use Rattle.link_chain.specs.Links.{AreLinks}
 use Rattle.ogg_serve.specs.Images.{failures_in}
-use Rattle.sending.specs.Sending.{HasFailed}
-use Rattle.sessions.specs.Hub.{Connect, Close}
+use Rattle.serve_sending.specs.Sending.{HasFailed}
+use Rattle.serve_machine.specs.Hub.{Connect, Close}
 use Rattle.serving.proofs.Moves.{only_serves, others_both, committed_is}
 use Rattle.serving.proofs.Taken.{led, followed}
 use Rattle.serving.proofs.Whole.{connected, others_of}

@@ -1,9 +1,9 @@
 use Rattle.std.proofs.Common.{ℕ, Ok, Err, List, refl, sym, ◌∙◌, ap, subst, arith}
 use Rattle.std.proofs.lemmas.List.{length-take-le}
 use Rattle.link_chain.specs.Links.{AreLinks}
-use Rattle.sessions.specs.declared.answers.Progress.TheVariants.{More, Ready}
-use Rattle.sessions.specs.declared.fault.HubFault.TheVariants.{Source}
-use Rattle.sessions.specs.Hub.{Receive, Reading}
+use Rattle.serve_machine.specs.declared.answers.Progress.TheVariants.{More, Ready}
+use Rattle.serve_machine.specs.declared.fault.HubFault.TheVariants.{Source}
+use Rattle.serve_machine.specs.Hub.{Receive, Reading}
 use Rattle.serving.proofs.Faults.{receives as met, same_fault}
 use Rattle.serving.proofs.Moves.{only_serves, both, committed_is}
 use Rattle.serving.proofs.OnlyRead.{unread, read_on, failed_on}

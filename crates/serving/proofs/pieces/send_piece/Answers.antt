@@ -1,6 +1,6 @@
 use Rattle.std.proofs.Common.{Ok, Err, refl, subst}
-use Rattle.sessions.specs.Calls.{given_in}
-use Rattle.sessions.specs.Hub.{Pull, Sending}
+use Rattle.serve_machine.specs.Calls.{given_in}
+use Rattle.serve_machine.specs.Hub.{Pull, Sending}
 use Rattle.serving.specs.Pieces.{piece}
 use Rattle.std.specs.Io.KnownBytes.{Appends}
 use Rattle.serving.proofs.Faults.{pulls as met}

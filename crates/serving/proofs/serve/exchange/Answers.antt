@@ -1,5 +1,5 @@
 use Rattle.std.proofs.Common.{None, Some, Err, ap, arith}
-use Rattle.sessions.specs.declared.fault.HubFault.TheVariants.{Source}
+use Rattle.serve_machine.specs.declared.fault.HubFault.TheVariants.{Source}
 use Rattle.serving.proofs.Faults.{same_fault}
 use Rattle.serving.proofs.Moves.{both, has_file_is}
 use Rattle.serving.proofs.OnlyRead.{read_on, failed_on}

@@ -1,5 +1,5 @@
 use Rattle.std.proofs.Common.{◌≡◌, Some, [], false}
-use Rattle.sessions.specs.Hub.{HubState, Reading, phase_of}
+use Rattle.serve_machine.specs.Hub.{HubState, Reading, phase_of}
 use Rattle.ogg_serve.specs.Images.{IfFile, Reads}
 use Rattle.ogg_serve.specs.Showing.{Shows}
 use Rattle.serving.specs.Keeping.{OnlyServes}

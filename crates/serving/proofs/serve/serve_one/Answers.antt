@@ -1,7 +1,7 @@
 use Rattle.std.proofs.Common.{ℕ, List, Ok, refl, sym, ap, subst}
 use Rattle.link_chain.specs.Links.{AreLinks}
 use Rattle.ogg_serve.specs.Images.{IfFile, Reads}
-use Rattle.sessions.specs.Hub.{Connect, Close}
+use Rattle.serve_machine.specs.Hub.{Connect, Close}
 use Rattle.serving.proofs.Moves.{only_serves, both, committed_is}
 use Rattle.serving.proofs.OnlyRead.{unread, read_inside, failed_inside}
 use Rattle.serving.proofs.Whole.{connected, all_of}

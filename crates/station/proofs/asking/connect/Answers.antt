@@ -1,6 +1,6 @@
 use Rattle.std.proofs.Common.{inl, inr, ap, ◌∙◌, subst, ℕ, List, Some, []}
-use Rattle.sessions.specs.Calls.{Steps}
-use Rattle.sessions.specs.Hub.{Receive}
+use Rattle.serve_machine.specs.Calls.{Steps}
+use Rattle.serve_machine.specs.Hub.{Receive}
 use Rattle.ogg_serve.specs.Showing.{Shows}
 use Rattle.station.specs.Client.{ClientState}
 use Rattle.station.specs.declared.client.Stage.{Stage}

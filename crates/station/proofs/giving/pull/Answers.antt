@@ -1,5 +1,5 @@
 use Rattle.std.proofs.Common.{Ok, Err, refl, ap, ◌∙◌}
-use Rattle.sessions.specs.Calls.{given_in}
+use Rattle.serve_machine.specs.Calls.{given_in}
 use Rattle.station.specs.Client.{with_stage}
 use Rattle.station.specs.declared.client.Stage.{Stage}
 use Rattle.station.proofs.giving.pull.Goals as goal

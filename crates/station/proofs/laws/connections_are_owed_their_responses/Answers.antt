@@ -1,4 +1,4 @@
-use Rattle.sessions.specs.declared.answers.Progress.TheVariants.{Ready}
+use Rattle.serve_machine.specs.declared.answers.Progress.TheVariants.{Ready}
 use Rattle.station.proofs.Owed.{begins, keeps, others, pulls, writes}
 use Rattle.station.proofs.laws.connections_are_owed_their_responses.Goals as goal
 

@@ -1,8 +1,8 @@
 use Rattle.std.proofs.Common.{◌++◌, List, refl, ◌∙◌, ap, append_assoc}
 use Rattle.ogg_command.specs.declared.command.Command.{Command}
-use Rattle.gathering.specs.Gathered.{Gathered}
-use Rattle.gathering.specs.Giving.{begin_if}
-use Rattle.gathering.specs.Kept.{waits}
+use Rattle.import_gather.specs.Gathered.{Gathered}
+use Rattle.import_gather.specs.Giving.{begin_if}
+use Rattle.import_gather.specs.Kept.{waits}
 use Rattle.import_mend.proofs.mender.Mender.end.Goals as goal
 
 pub returns-clause-gives : goal.returns-clause-gives

@@ -1,7 +1,7 @@
 use Rattle.std.proofs.Common.{◌≡◌, false, List, ◌++◌, Ok, refl, ◌∙◌, ap, inl, append_assoc}
 use Rattle.link_chain.specs.ChainState.{is_open}
 use Rattle.ogg_command.specs.declared.command.Command.{Command}
-use Rattle.gathering.specs.Gathered.{Gathered}
+use Rattle.import_gather.specs.Gathered.{Gathered}
 use Rattle.import_mend.proofs.Ends.{ends_all}
 use Rattle.import_mend.proofs.mender.Mender.restart.Goals as goal
 

@@ -1,5 +1,5 @@
 use Rattle.std.proofs.Common.{◌∙◌}
-use Rattle.sessions.specs.Hub.{Record}
+use Rattle.serve_machine.specs.Hub.{Record}
 use Rattle.ogg_serve.proofs.Sessions.{goes_on}
 use Rattle.ogg_serve.proofs.hub.Hub.command.Goals as goal
 

@@ -1,5 +1,5 @@
 use Rattle.std.proofs.Common.{◌∙◌}
-use Rattle.sessions.specs.Hub.{Flush}
+use Rattle.serve_machine.specs.Hub.{Flush}
 use Rattle.ogg_serve.proofs.Sessions.{goes_on}
 use Rattle.ogg_serve.proofs.hub.Hub.flush.Goals as goal
 

@@ -1,5 +1,5 @@
 use Rattle.std.proofs.Common.{Some, ◌∙◌}
-use Rattle.sessions.specs.Hub.{Reopen}
+use Rattle.serve_machine.specs.Hub.{Reopen}
 use Rattle.ogg_serve.proofs.Sessions.{goes_on}
 use Rattle.ogg_serve.proofs.hub.Hub.reopen.Goals as goal
 

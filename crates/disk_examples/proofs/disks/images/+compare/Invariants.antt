@@ -1,4 +1,0 @@
-use Rattle.disk_examples.proofs.disks.images.+compare.Given as goal
-
-abbrev pub decreases-compare : goal.decreases-compare
-decreases-compare l = l.more

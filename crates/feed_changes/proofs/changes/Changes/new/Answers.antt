@@ -1,6 +1,0 @@
-use Rattle.std.proofs.Common.{[]}
-use Rattle.feed_changes.proofs.Steps.{no_commands}
-use Rattle.feed_changes.proofs.changes.Changes.new.Goals as goal
-
-pub returns-clause-changed : goal.returns-clause-changed
-returns-clause-changed c = no_commands [] _ c.new.ensures

@@ -1,7 +1,0 @@
-use Rattle.std.specs.List.{AllZip}
-use Rattle.feed_changes.specs.Steps.{IsDescribedUnder}
-use Rattle.feed_changes.proofs.describing.all_described.Given as goal
-
--- the streams so far are described
-abbrev pub invariant-loop-stream : goal.invariant-loop-stream
-invariant-loop-stream l = AllZip (IsDescribedUnder l.names l.said) l.yielded l.now.items

@@ -1,5 +1,0 @@
-use Rattle.feed_changes.proofs.Own.{have_their_own}
-use Rattle.feed_changes.proofs.laws.renumbered_streams_have_their_own_serials.Goals as goal
-
-pub returns : goal.returns
-returns c = have_their_own

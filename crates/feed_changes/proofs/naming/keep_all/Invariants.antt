@@ -1,7 +1,0 @@
-use Rattle.std.proofs.Common.{take}
-use Rattle.feed_changes.specs.Naming.{KeepsAll, serials_of}
-use Rattle.feed_changes.proofs.naming.keep_all.Given as goal
-
--- the streams so far keep their serials if they may
-abbrev pub invariant-loop-stream : goal.invariant-loop-stream
-invariant-loop-stream l = KeepsAll l.given.listed l.names.items (serials_of (take l.stream-index l.streams))

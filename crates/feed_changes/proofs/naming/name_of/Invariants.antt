@@ -1,7 +1,0 @@
-use Rattle.std.proofs.Common.{◌≡◌, drop}
-use Rattle.feed_changes.specs.Naming.{name_of}
-use Rattle.feed_changes.proofs.naming.name_of.Given as goal
-
--- none of the names so far is of the serial
-abbrev pub invariant-loop-name : goal.invariant-loop-name
-invariant-loop-name l = name_of (drop l.name-index l.names) l.serial ≡ name_of l.names l.serial

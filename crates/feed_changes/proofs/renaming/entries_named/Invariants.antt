@@ -1,7 +1,0 @@
-use Rattle.std.proofs.Common.{◌≡◌}
-use Rattle.feed_changes.specs.Naming.{entries_named}
-use Rattle.feed_changes.proofs.renaming.entries_named.Given as goal
-
--- the packets so far are under the serials that their streams have now
-abbrev pub invariant-loop-entry : goal.invariant-loop-entry
-invariant-loop-entry l = l.now.items ≡ entries_named l.names l.yielded

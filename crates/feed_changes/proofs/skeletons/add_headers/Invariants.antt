@@ -1,6 +1,0 @@
-use Rattle.std.proofs.Common.{◌≡◌, ◌++◌}
-use Rattle.feed_changes.proofs.skeletons.add_headers.Given as goal
-
--- the headers so far are appended
-abbrev pub invariant-loop-header : goal.invariant-loop-header
-invariant-loop-header l = l.said.items ≡ l.fn.said.items ++ l.yielded

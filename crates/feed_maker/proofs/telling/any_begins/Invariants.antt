@@ -1,8 +1,0 @@
-use Rattle.std.proofs.Common.{◌≡◌, drop}
-use Rattle.std.specs.List.{list_any}
-use Rattle.feed_maker.specs.Mending.{begins}
-use Rattle.feed_maker.proofs.telling.any_begins.Given as goal
-
--- none of the commands so far begins a link
-abbrev pub invariant-loop-command : goal.invariant-loop-command
-invariant-loop-command l = list_any begins (drop l.command-index l.commands) ≡ list_any begins l.commands

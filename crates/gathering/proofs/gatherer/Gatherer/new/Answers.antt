@@ -1,8 +1,0 @@
-use Rattle.gathering.specs.Gathered.{Gathered}
-use Rattle.gathering.proofs.Gathering.{nothing_taken}
-use Rattle.gathering.proofs.gatherer.Gatherer.new.Goals as goal
-
-pub returns-clause-gathered : goal.returns-clause-gathered
-returns-clause-gathered c =
-    let made : Gathered = record { chain = c.new.result.chain; link = c.new-2.result } in
-    nothing_taken made c.new.ensures c.new-2.ensures

@@ -1,7 +1,0 @@
-use Rattle.std.proofs.Common.{◌≡◌, map}
-use Rattle.ogg_feed.specs.Commands.{entry_of}
-use Rattle.gathering.proofs.giving.entries_of.Given as goal
-
--- the packets so far are entries
-abbrev pub invariant-loop-packet : goal.invariant-loop-packet
-invariant-loop-packet l = l.entries.items ≡ map (entry_of l.page) l.yielded

@@ -1,5 +1,0 @@
-use Rattle.gathering.proofs.Gathering.{all_given}
-use Rattle.gathering.proofs.laws.gathered_commands_hold_the_recording.Goals as goal
-
-pub returns : goal.returns
-returns c = all_given

@@ -1,7 +1,0 @@
-use Rattle.std.proofs.Common.{◌≡◌, ◌++◌, map, take, drop}
-use Rattle.gathering.specs.Kept.{without_rest}
-use Rattle.gathering.proofs.streams.drop_rest.Given as goal
-
--- the streams so far are without it
-abbrev pub invariant-loop-stream : goal.invariant-loop-stream
-invariant-loop-stream l = l.streams ≡ map (without_rest l.serial) (take l.stream-index l.initial.streams) ++ drop l.stream-index l.initial.streams

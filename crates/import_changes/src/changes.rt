@@ -1,0 +1,242 @@
+//! Commands changed one after the other.
+ghost use Rattle.std.specs.Prelude.{◌≡◌, ◌++◌, ◌∷◌, [], ℕ, List, true, false, map, Ok, Some, None, OnOk, OnErr, IfOk};
+ghost use Rattle.std.specs.List.{AllByRecursion};
+ghost use Rattle.ogg_command.specs.declared.command.Command.{Command as CommandOf};
+ghost use Rattle.import_changes.specs.Changed.{HasChanged, HasChangedBeside, IsPlain};
+ghost use Rattle.import_changes.specs.Naming.{entries_named, name_of};
+ghost use Rattle.import_changes.specs.Options.{is_none};
+
+use crate::describing::{all_described, head_said};
+use crate::naming::{free_serial, name_all, name_of};
+use crate::options::ChangeOptions;
+use crate::renaming::{entries_named, give_all, give_with, streams_named, take_all};
+use crate::skeletons::{made_for, staying};
+use link_chain::Serials;
+use ogg_command::{Begin, Command, Listed, Memory, NewStream, Put, SkeletonHead};
+use std::alloc::{AllocError, Global};
+use std::marker::Model;
+
+/// What is changed, and what must be known for that of the streams so far.
+#[derive(Debug, Drop)]
+pub struct Changes {
+    alloc: Global,
+    options: ChangeOptions,
+    // the serials that were taken before, and those that streams have now
+    given: Serials,
+    // all serials below this one are among them
+    low: u32,
+    // of the last link: the serial that a stream had, and the one that it has now
+    names: Vec<(u32, u32)>,
+}
+
+impl Model for Changes {
+    ghost use Rattle.import_changes.specs.Changed.{ChangeState};
+    ghost use Rattle.import_changes.specs.Naming.{IsLow};
+    ghost use Rattle.std.specs.Prelude.{[]};
+
+    ghost Value = { ChangeState };
+
+    ghost view = { λ c. record { options = c.options; given = c.given.listed; names = c.names.items } };
+
+    ghost invariant = { λ c. IsLow c.given.listed [] c.low };
+}
+
+impl Changes {
+    ghost use Rattle.std.specs.Map.{values_of};
+    ghost use Rattle.import_changes.specs.Naming.{IsLow};
+    ghost use Rattle.import_changes.specs.Steps.{AreNamedFor, Begins, BeginsDescribed, BeginsPlain, Names, end_of, option_list, put_of};
+
+    /// No commands yet. No memory is taken.
+    pub fn new(alloc: Global, options: ChangeOptions) -> Changes
+        ensures changed { HasChanged result [] [] }
+        ensures options { result.options ≡ options }
+    {
+        Changes {
+            alloc,
+            options,
+            given: Serials::new(alloc),
+            low: 0,
+            names: Vec::new(alloc),
+        }
+    }
+
+    /// Before the first command: no stream gets one of these serials, as those of the file that is recorded into. With
+    /// `renumber` a stream that has one of them gets another; a Skeleton that is made never has one. After `Memory` all
+    /// is as before.
+    pub fn avoid(&mut self, serials: &[u32]) -> Result<(), Memory>
+        ensures changed { OnOk result ((taken : List ℕ) → HasChangedBeside taken self.old [] []
+            → HasChangedBeside (taken ++ serials.now) self.new [] []) }
+        ensures options { self.new.options ≡ self.old.options }
+        ensures err { OnErr result (self.new ≡ self.old) }
+    {
+        take_all(&mut self.given, serials)?;
+        Ok(())
+    }
+
+    /// Names the streams of a new link that stay. Returns the serial below which all are taken then.
+    fn name(&mut self, stay: &[NewStream]) -> Result<u32, Memory>
+        ensures names { OnOk result (Names self.old self.new stay.now) }
+        ensures low { IfOk result (IsLow self.new.given (values_of self.new.names)) }
+        ensures options { self.new.options ≡ self.old.options }
+    {
+        let names = &mut self.names;
+        if self.options.renumber {
+            name_all(&self.given, names, stay, self.low)
+        } else {
+            // Nothing is avoided, so each is named by its own serial.
+            match name_all(&Serials::new(self.alloc), names, stay, 0) {
+                Ok(low) => Ok(low),
+                Err(refused) => Err(refused),
+            }
+        }
+    }
+
+    /// Begins these streams without a Skeleton that is made. They are named, and the serials below `low` are taken.
+    fn begin_plain(
+        &mut self,
+        skeleton: Option<SkeletonHead>,
+        stay: Vec<NewStream>,
+        low: u32,
+    ) -> Result<Command, Memory>
+        requires { AreNamedFor self.old stay.items low }
+        ensures begins { IfOk result (λ now. BeginsPlain self.old self.new skeleton stay.items now) }
+        ensures options { self.new.options ≡ self.old.options }
+    {
+        let streams = match streams_named(self.alloc, self.names.as_slice(), stay) {
+            Ok(streams) => streams,
+            Err(refused) => return Err(refused),
+        };
+        match give_all(&mut self.given, streams.as_slice()) {
+            Ok(()) => {}
+            Err(refused) => return Err(refused),
+        }
+        self.low = low;
+        Ok(Command::Begin(Begin {
+            skeleton,
+            streams: Listed::of(streams),
+        }))
+    }
+
+    /// Begins these streams with a Skeleton that says what the Skeletons with these packets say. The new Skeleton's
+    /// serial is the first free one from `from` on. The streams are named, and the serials below `low` are taken.
+    fn begin_described(
+        &mut self,
+        from: u32,
+        said: &[Listed<u8>],
+        stay: Vec<NewStream>,
+        low: u32,
+    ) -> Result<Command, Memory>
+        requires { AreNamedFor self.old stay.items low }
+        ensures begins { IfOk result (λ now. BeginsDescribed from said.now self.old self.new stay.items now) }
+        ensures options { self.new.options ≡ self.old.options }
+    {
+        let serial = match free_serial(&self.given, self.names.as_slice(), from) {
+            Ok(serial) => serial,
+            Err(taken) => return Err(taken),
+        };
+        let streams = match all_described(self.alloc, said, self.names.as_slice(), stay) {
+            Ok(streams) => streams,
+            Err(refused) => return Err(refused),
+        };
+        match give_with(&mut self.given, serial, streams.as_slice()) {
+            Ok(()) => {}
+            Err(refused) => return Err(refused),
+        }
+        self.low = low;
+        Ok(Command::Begin(Begin {
+            skeleton: Some(head_said(said, serial)),
+            streams: Listed::of(streams),
+        }))
+    }
+
+    /// A link's streams begin: those that stay, under other serials if theirs are to be changed.
+    fn begin(&mut self, begin: Begin) -> Result<Command, Memory>
+        ensures begins { IfOk result (λ now. Begins self.old self.new begin now) }
+        ensures options { self.new.options ≡ self.old.options }
+    {
+        let skeletons = self.options.skeletons;
+        let (stay, said) = staying(self.alloc, skeletons, begin.streams.into_vec())?;
+        let low = match self.name(stay.as_slice()) {
+            Ok(low) => low,
+            Err(refused) => return Err(refused),
+        };
+        match made_for(skeletons, stay.as_slice()) {
+            Some(from) => self.begin_described(from, said.as_slice(), stay, low),
+            None => self.begin_plain(begin.skeleton, stay, low),
+        }
+    }
+
+    /// The put with the packets that are of the last link's streams, if there are any.
+    fn put(&self, put: Put) -> Result<Option<Command>, Memory>
+        ensures { IfOk result (λ now. now ≡ put_of (entries_named self.now.names put.entries)) }
+    {
+        let now = entries_named(self.alloc, self.names.as_slice(), put.entries.into_vec())?;
+        if now.is_empty() {
+            return Ok(None);
+        }
+        Ok(Some(Command::Put(Put {
+            entries: Listed::of(now),
+        })))
+    }
+
+    /// The end of the stream that had this serial, if the last link has it.
+    fn end(&self, serial: u32) -> Option<Command>
+        ensures { result ≡ end_of (name_of self.now.names serial) }
+    {
+        match name_of(self.names.as_slice(), serial) {
+            Some(now) => Some(Command::End(now)),
+            None => None,
+        }
+    }
+
+    /// The command that this one becomes, if it isn't left out. After `Memory` change no further command.
+    pub fn change(&mut self, command: Command) -> Result<Option<Command>, Memory>
+        ensures changed { IfOk result (λ now. (taken : List ℕ) (commands given : List CommandOf)
+            → HasChangedBeside taken self.old commands given → IsPlain command
+            → HasChangedBeside taken self.new (commands ++ command ∷ []) (given ++ option_list now)) }
+        ensures options { self.new.options ≡ self.old.options }
+        ensures same { is_none self.old.options ≡ true → result ≡ Ok (Some command) }
+    {
+        if self.options.is_none() {
+            return Ok(Some(command));
+        }
+        match command {
+            Command::Begin(begin) => match self.begin(begin) {
+                Ok(now) => Ok(Some(now)),
+                Err(refused) => Err(refused),
+            },
+            Command::Put(put) => match self.put(put) {
+                Ok(now) => Ok(now),
+                Err(refused) => Err(refused),
+            },
+            Command::End(serial) => Ok(self.end(serial)),
+        }
+    }
+
+    /// The commands that these become. After `Memory`, which comes only if something is changed, change no further
+    /// command.
+    pub fn apply(&mut self, commands: Vec<Command>) -> Result<Vec<Command>, Memory>
+        ensures changed { IfOk result (λ now. (taken : List ℕ) (before given : List CommandOf)
+            → HasChangedBeside taken self.old before given → AllByRecursion IsPlain commands.items
+            → HasChangedBeside taken self.new (before ++ commands.items) (given ++ now.items)) }
+        ensures options { self.new.options ≡ self.old.options }
+        ensures same { is_none self.old.options ≡ true → IfOk result (λ now. now.items ≡ commands.items) }
+        ensures full { OnErr result (is_none self.old.options ≡ false) }
+    {
+        if self.options.is_none() {
+            return Ok(commands);
+        }
+        let mut now = Vec::new(self.alloc);
+        for command in commands {
+            match self.change(command) {
+                Ok(Some(changed)) => match now.push(changed) {
+                    Ok(()) => {}
+                    Err(_) => return Err(AllocError),
+                },
+                Ok(None) => {}
+                Err(refused) => return Err(refused),
+            }
+        }
+        Ok(now)
+    }
+}

@@ -1,0 +1,117 @@
+//! Streams and packets under the serials that their streams have now.
+ghost use Rattle.std.specs.Prelude.{◌≡◌, ◌++◌, ◌∷◌, ◌≤◌, ◌<◌, length, map, IfOk, OnOk, OnErr};
+ghost use Rattle.ogg_command.specs.declared.command.NewStream.{NewStream as NewStreamOf};
+ghost use Rattle.import_changes.specs.Naming.{entries_named, named, serials_of, stream_named};
+
+use crate::naming::name_of;
+use link_chain::Serials;
+use ogg_command::{Entry, Memory, NewStream};
+use std::alloc::Global;
+
+/// The stream under the serial that it has now.
+pub fn stream_named(names: &[(u32, u32)], stream: NewStream) -> NewStream
+    ensures { result ≡ stream_named names.now stream }
+{
+    let serial = name_of(names, stream.serial).unwrap_or(stream.serial);
+    NewStream {
+        serial,
+        headers: stream.headers,
+        media: stream.media,
+        fields: stream.fields,
+        rate: stream.rate,
+        base_granule: stream.base_granule,
+        preroll: stream.preroll,
+        shift: stream.shift,
+    }
+}
+
+/// The streams under the serials that they have now.
+pub fn streams_named(
+    alloc: Global,
+    names: &[(u32, u32)],
+    streams: Vec<NewStream>,
+) -> Result<Vec<NewStream>, Memory>
+    ensures { IfOk result (λ now. now.items ≡ map (stream_named names.now) streams.items) }
+{
+    let mut now = Vec::new(alloc);
+    for stream in streams {
+        now.push(stream_named(names, stream))?;
+    }
+    Ok(now)
+}
+
+/// The packets under the serials that their streams have now, without the packets that are of none of the streams.
+pub fn entries_named(
+    alloc: Global,
+    names: &[(u32, u32)],
+    entries: Vec<Entry>,
+) -> Result<Vec<Entry>, Memory>
+    ensures { IfOk result (λ now. now.items ≡ entries_named names.now entries.items) }
+{
+    let mut now = Vec::new(alloc);
+    for entry in entries {
+        match name_of(names, entry.serial) {
+            Some(serial) => now.push(Entry {
+                serial,
+                position: entry.position,
+                packet: entry.packet,
+            })?,
+            None => {}
+        }
+    }
+    Ok(now)
+}
+
+/// Adds the serials of these streams to those that are taken, for which there is room.
+fn give_reserved(given: &mut Serials, streams: &[NewStream])
+    requires { length streams.now ≤ given.old.room }
+    ensures { given.new.listed ≡ given.old.listed ++ serials_of streams.now }
+{
+    for stream in streams {
+        given.push_reserved(stream.serial);
+    }
+}
+
+/// Adds the serials of these streams to those that are taken. After `Memory` none is added.
+pub fn give_all(given: &mut Serials, streams: &[NewStream]) -> Result<(), Memory>
+    ensures ok { OnOk result (given.new.listed ≡ given.old.listed ++ serials_of streams.now) }
+    ensures err { OnErr result (given.new.listed ≡ given.old.listed) }
+{
+    match given.reserve(streams.len()) {
+        Ok(()) => {}
+        Err(refused) => return Err(refused),
+    }
+    give_reserved(given, streams);
+    Ok(())
+}
+
+/// Adds a Skeleton's serial, and then those of these streams, to those that are taken. After `Memory` none is added.
+pub fn give_with(given: &mut Serials, serial: u32, streams: &[NewStream]) -> Result<(), Memory>
+    ensures ok { OnOk result (given.new.listed ≡ given.old.listed ++ serial ∷ serials_of streams.now) }
+    ensures err { OnErr result (given.new.listed ≡ given.old.listed) }
+{
+    // A `Begin` has few streams, so the sum doesn't overflow.
+    match given.reserve(streams.len().saturating_add(1)) {
+        Ok(()) => {}
+        Err(refused) => return Err(refused),
+    }
+    given.push_reserved(serial);
+    give_reserved(given, streams);
+    Ok(())
+}
+
+/// Adds these serials to those that are taken. After `Memory` none is added.
+pub fn take_all(given: &mut Serials, serials: &[u32]) -> Result<(), Memory>
+    ensures ok { OnOk result (given.new.listed ≡ given.old.listed ++ serials.now) }
+    ensures err { OnErr result (given.new.listed ≡ given.old.listed) }
+    ensures full { OnErr result (given.old.room < length serials.now) }
+{
+    match given.reserve(serials.len()) {
+        Ok(()) => {}
+        Err(refused) => return Err(refused),
+    }
+    for serial in serials {
+        given.push_reserved(*serial);
+    }
+    Ok(())
+}

@@ -1,0 +1,7 @@
+use Rattle.std.proofs.Common.{◌≡◌, map}
+use Rattle.import_commands.specs.Commands.{entry_of}
+use Rattle.import_gather.proofs.giving.entries_of.Given as goal
+
+-- the packets so far are entries
+abbrev pub invariant-loop-packet : goal.invariant-loop-packet
+invariant-loop-packet l = l.entries.items ≡ map (entry_of l.page) l.yielded

@@ -1,0 +1,17 @@
+use Rattle.std.proofs.Common.{◌≡◌, ◌<◌, ℕ, List, length, get_or, ◌∙◌, ap, arith}
+use Rattle.std.specs.Prelude.{slice_set}
+use Rattle.std.proofs.lemmas.List.{get_or_default}
+use Rattle.std.proofs.lemmas.List.Edits.{map_over_more}
+use Rattle.import_gather.specs.Kept.{KeptStream, without_rest}
+use Rattle.import_gather.proofs.streams.drop_rest.Goals as goal
+
+pub loop-stream-preserved : goal.loop-stream-preserved
+loop-stream-preserved c =
+    let streams : List KeptStream = c.args.streams.now in
+    let now : List KeptStream = c.loop-stream.streams in
+    let i : ℕ = c.loop-stream.stream-index in
+    let stream : KeptStream = get_or now i c.stream-item.result in
+    let inside : i < length streams = c.loop-stream-test.true in
+    let own : stream ≡ get_or now i stream = get_or_default now i c.stream-item.result stream (omega (arith, c.loop-stream.auto.streams, inside)) in
+    ap (slice_set now i) c.drop_rest.ensures
+    ∙ map_over_more (without_rest c.args.serial) streams now i stream inside c.loop-stream.invariant own

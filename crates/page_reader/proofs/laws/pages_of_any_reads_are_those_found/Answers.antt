@@ -1,5 +1,0 @@
-use Rattle.page_reader.proofs.Run.{all_given}
-use Rattle.page_reader.proofs.laws.pages_of_any_reads_are_those_found.Goals as goal
-
-pub returns : goal.returns
-returns c = λ state bytes lent end last fits run. all_given lent state bytes end last fits run

@@ -1,5 +1,0 @@
-use Rattle.responses.proofs.OneResponse.{one_response}
-use Rattle.responses.proofs.laws.responses_are_unambiguous.Goals as goal
-
-pub returns : goal.returns
-returns c = one_response c.bytes_are_one_chain.ensures.links

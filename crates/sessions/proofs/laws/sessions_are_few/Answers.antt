@@ -1,7 +1,0 @@
-use Rattle.sessions.specs.Hub.{most_sessions}
-use Rattle.sessions.proofs.Few.{few, few_of_new}
-use Rattle.sessions.proofs.Rooms.{same_room}
-use Rattle.sessions.proofs.laws.sessions_are_few.Goals as goal
-
-pub returns : goal.returns
-returns c = record { few = few; new = few_of_new most_sessions; new_for = few_of_new; room = same_room }

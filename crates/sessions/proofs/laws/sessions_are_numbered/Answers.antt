@@ -1,6 +1,0 @@
-use Rattle.sessions.specs.Hub.{most_sessions}
-use Rattle.sessions.proofs.Numbered.{at_first, kept, unused}
-use Rattle.sessions.proofs.laws.sessions_are_numbered.Goals as goal
-
-pub returns : goal.returns
-returns c = record { new = at_first most_sessions; new_for = at_first; kept = kept; unused = unused }

@@ -1,5 +1,0 @@
-use Rattle.sessions.proofs.StreamRest.{stream_rest_is}
-use Rattle.sessions.proofs.rests.stream_rests_are_found.Goals as goal
-
-pub returns : goal.returns
-returns c = stream_rest_is c.longest_prefix_of_pages_is_unique.ensures c.pages_are_found_in_turn.ensures
