@@ -18,4 +18,4 @@ mod walking;
 
 pub use laws::rests_of_responses_stay;
 pub use ogg_page::Memory;
-pub use serve_sending::Sending;
+pub use sending::Sending;
