@@ -1,9 +1,10 @@
 //! Pages of a source, lent one at a time.
-ghost use Rattle.std.specs.Prelude.{◌≡◌, ◌≤◌};
+ghost use Rattle.std.specs.Prelude.{◌≡◌, ◌≤◌, []};
 ghost use Rattle.std.specs.Borrow.{sem, Lends};
 ghost use Rattle.std.specs.Io.BufRead.{Rests};
 ghost use Rattle.ogg_page.specs.Window.{WindowState, window, answer, HasMoved};
 ghost use Rattle.ogg_page.specs.LentPage.{lent_value, lent_answer};
+ghost use Rattle.ogg_page.specs.PageInWork.{started};
 ghost use Rattle.ogg_page.specs.contracts.window.Window.{the_row};
 
 use crate::buffer::PageBuffer;
@@ -150,9 +151,10 @@ impl<S: PageSource> Window<S> {
         &mut self.source
     }
 
-    /// The source and the buffer, given back.
+    /// The source and the buffer, given back. The buffer is then as after a `start` with no values.
     pub fn into_parts(self) -> (S, PageBuffer)
-        ensures { result.0 ≡ self.source }
+        ensures source { result.0 ≡ self.source }
+        ensures buffer { result.1 ≡ started [] }
     {
         (self.source, PageBuffer::over(self.room))
     }

@@ -14,7 +14,7 @@ returns-in-Err-end_of-clause-any_moment_err g c = λ honest.
     let first = c.measure.new.disk in
     let src = ap (λ w. w.source) c.new-window.ensures ∙ c.of.ensures in
     let from : c.new-window.result.source.disk ≡ first = ap (λ s. s.disk) src in
-    let to : c.walk-walked.new.window.source.disk ≡ c.into_disk-disk.result = ap (λ s. s.disk) (sym c.into_parts-source.ensures) ∙ sym c.into_disk-disk.ensures in
+    let to : c.walk-walked.new.window.source.disk ≡ c.into_disk-disk.result = ap (λ s. s.disk) (sym c.into_parts-source.ensures.source) ∙ sym c.into_disk-disk.ensures in
     let walked = subst (λ x. OnlyReads d.is_honest d.state d.moment d.images_since first x) to
     (subst (λ x. OnlyReads d.is_honest d.state d.moment d.images_since x c.walk-walked.new.window.source.disk) from c.walk-walked.ensures.source.only) in
     let reads = reads_then d.is_honest d.state d.moment d.images_since _ _ _ walked c.end_of.ensures.reads in
@@ -29,7 +29,7 @@ returns-in-Ok-end_of-clause-any_moment g c = λ honest.
     let first = c.measure.new.disk in
     let src = ap (λ w. w.source) c.new-window.ensures ∙ c.of.ensures in
     let from : c.new-window.result.source.disk ≡ first = ap (λ s. s.disk) src in
-    let to : c.walk-walked.new.window.source.disk ≡ c.into_disk-disk.result = ap (λ s. s.disk) (sym c.into_parts-source.ensures) ∙ sym c.into_disk-disk.ensures in
+    let to : c.walk-walked.new.window.source.disk ≡ c.into_disk-disk.result = ap (λ s. s.disk) (sym c.into_parts-source.ensures.source) ∙ sym c.into_disk-disk.ensures in
     let walked = subst (λ x. OnlyReads d.is_honest d.state d.moment d.images_since first x) to
     (subst (λ x. OnlyReads d.is_honest d.state d.moment d.images_since x c.walk-walked.new.window.source.disk) from c.walk-walked.ensures.source.only) in
     let reads = reads_then d.is_honest d.state d.moment d.images_since _ _ _ walked c.end_of.ensures.reads in
@@ -46,7 +46,7 @@ returns-in-Ok-end_of-clause-seen g c = λ honest.
     let size = c.in-Ok.size in
     let src = ap (λ w. w.source) c.new-window.ensures ∙ c.of.ensures in
     let from : c.new-window.result.source.disk ≡ first = ap (λ s. s.disk) src in
-    let to : c.walk-walked.new.window.source.disk ≡ c.into_disk-disk.result = ap (λ s. s.disk) (sym c.into_parts-source.ensures) ∙ sym c.into_disk-disk.ensures in
+    let to : c.walk-walked.new.window.source.disk ≡ c.into_disk-disk.result = ap (λ s. s.disk) (sym c.into_parts-source.ensures.source) ∙ sym c.into_disk-disk.ensures in
     let walked = subst (λ x. OnlyReads d.is_honest d.state d.moment d.images_since first x) to
     (subst (λ x. OnlyReads d.is_honest d.state d.moment d.images_since x c.walk-walked.new.window.source.disk) from c.walk-walked.ensures.source.only) in
     let ok = c.in-Ok.ensures.ok honest in
