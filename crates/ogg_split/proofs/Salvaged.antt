@@ -154,3 +154,34 @@ one_list bytes from (x ∷ xs) (y ∷ ys) a b =
         let size : x.length ≡ y.length = same_length bytes x y a.each.0 b.each.0 place in
         let next : AreGoodFrom (x.offset + x.length) bytes ys = subst (λ n. AreGoodFrom n bytes ys) (omega (arith, place, size)) (tail_good bytes from y ys b) in
         ap (λ (r : GoodPage). r ∷ xs) (same_range x y place size) ∙ ap (λ (l : List GoodPage). y ∷ l) (more next)
+
+-- ---- how many are left
+-- the good pages are the same from a later place on, if no page begins in between
+pub from_later : (bytes : List ℕ) (from to : ℕ) (ranges : List GoodPage) → from ≤ to → NoneFrom bytes from to → AreGoodFrom from bytes ranges → AreGoodFrom to bytes ranges
+from_later bytes from to ranges le none good = record {
+  in_order = order ranges good.in_order good.each;
+  each = good.each;
+  no_other = λ place page low outside stands. good.no_other place page (omega (arith, low, le)) outside stands;
+}
+  where
+    order : (ranges : List GoodPage) → AreInOrder from ranges → AllByRecursion (IsRange bytes) ranges → AreInOrder to ranges
+    order [] in_order each = tt
+    order (x ∷ xs) in_order each = (by_place (cases_lt x.offset to), in_order.1)
+      where
+        by_place : (x.offset < to) ⊎ (to ≤ x.offset) → to ≤ x.offset
+        by_place (inl lt) = absurd (none x.offset each.0.0 in_order.0 lt each.0.1)
+        by_place (inr ge) = ge
+
+-- if the first page stands here, the good pages are one more than those after it
+pub first_of : (bytes : List ℕ) (from at size : ℕ) (page : Page) (ranges : List GoodPage) → from ≤ at → NoneFrom bytes from at → StandsAt bytes at page → size ≡ page_size page
+    → AreGoodFrom from bytes ranges → (later : List GoodPage) × AreGoodFrom (at + size) bytes later × (length ranges ≡ 1 + length later)
+first_of bytes from at size page [] le none stands sized good = absurd (good.no_other at page le tt stands)
+first_of bytes from at size page (x ∷ xs) le none stands sized good = by_place (cases_lt x.offset at) (cases_lt at x.offset)
+  where
+    by_place : (x.offset < at) ⊎ (at ≤ x.offset) → (at < x.offset) ⊎ (x.offset ≤ at) → (later : List GoodPage) × AreGoodFrom (at + size) bytes later × (length (x ∷ xs) ≡ 1 + length later)
+    by_place (inl lt) q = absurd (none x.offset good.each.0.0 good.in_order.0 lt good.each.0.1)
+    by_place (inr ge) (inl lt) = absurd (good.no_other at page le (inl lt, none_there (x.offset + x.length) at xs (omega arith) good.in_order.1) stands)
+    by_place (inr ge) (inr gt) =
+        let place : x.offset ≡ at = omega (arith, ge, gt) in
+        let long : x.length ≡ size = same_length bytes x (record { offset = at; length = size }) good.each.0 (page, stands, sized) place in
+        (xs, subst (λ n. AreGoodFrom n bytes xs) (omega (arith, place, long)) (tail_good bytes from x xs good), omega arith)
