@@ -105,6 +105,7 @@ impl Shape {
         ensures ok { OnOk result (out.new.items ≡ out.old.items ++ command_bytes self.now.chain command.now) }
         ensures err { OnErr result (out.new.items ≡ out.old.items) }
         ensures full { OnErr result (vec_capacity out.old < vec_len out.old + length (command_bytes self.now.chain command.now)) }
+        ensures capacity { vec_capacity out.old ≤ vec_capacity out.new }
     {
         lay_command(&self.chain, command, out)
     }

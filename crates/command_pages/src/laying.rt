@@ -29,6 +29,7 @@ pub fn lay_command(chain: &Chain, command: &Command, out: &mut Vec<u8>) -> Resul
     ensures ok { OnOk result (out.new.items ≡ out.old.items ++ command_bytes chain.now.chain command.now) }
     ensures err { OnErr result (out.new.items ≡ out.old.items) }
     ensures full { OnErr result (vec_capacity out.old < vec_len out.old + length (command_bytes chain.now.chain command.now)) }
+    ensures capacity { vec_capacity out.old ≤ vec_capacity out.new }
 {
     match command {
         Command::Begin(begin) => lay_begin(begin.skeleton, begin.streams.as_slice(), out),
@@ -57,6 +58,7 @@ fn lay_end(streams: &[StreamState], serial: u32, out: &mut Vec<u8>) -> Result<()
     ensures ok { (chain : ChainState) → chain.streams ≡ streams.now → OnOk result (out.new.items ≡ out.old.items ++ bytes_of_pages (end_page chain serial ∷ [])) }
     ensures err { OnErr result (out.new.items ≡ out.old.items) }
     ensures full { OnErr result (vec_capacity out.old < vec_len out.old + fixed_size) }
+    ensures capacity { vec_capacity out.old ≤ vec_capacity out.new }
 {
     write_page(&end_head(streams, serial), &[], &[], out)
 }
@@ -69,6 +71,7 @@ fn lay_put(streams: &[StreamState], entries: &[Entry], out: &mut Vec<u8>) -> Res
     ensures ok { OnOk result (out.new.items ≡ out.old.items ++ bytes_of_pages (pages_of_runs streams.now (runs_of entries.now))) }
     ensures err { OnErr result (out.new.items ≡ out.old.items) }
     ensures full { OnErr result (vec_capacity out.old < vec_len out.old + size_of_pages (pages_of_runs streams.now (runs_of entries.now))) }
+    ensures capacity { vec_capacity out.old ≤ vec_capacity out.new }
 {
     // The array is cleared before it is filled, so a link of few streams has a small one.
     if streams.len() <= FEW_STREAMS {
@@ -94,6 +97,7 @@ fn lay_by(
     ensures ok { OnOk result (out.new.items ≡ out.old.items ++ bytes_of_pages (pages_of_runs streams.now (runs_of entries.now))) }
     ensures err { OnErr result (out.new.items ≡ out.old.items) }
     ensures full { OnErr result (vec_capacity out.old < vec_len out.old + size_of_pages (pages_of_runs streams.now (runs_of entries.now))) }
+    ensures capacity { vec_capacity out.old ≤ vec_capacity out.new }
 {
     let len = out.len();
     let (copy, _) = copy.split_at_mut(streams.len());
@@ -114,6 +118,7 @@ fn lay_runs(streams: &mut [StreamState], entries: &[Entry], out: &mut Vec<u8>) -
     ensures ok { OnOk result (out.new.items ≡ out.old.items ++ bytes_of_pages (pages_of_runs streams.old (runs_of entries.now))) }
     ensures kept { (added : List ℕ) × (out.new.items ≡ out.old.items ++ added) }
     ensures full { OnErr result (vec_capacity out.old < vec_len out.old + size_of_pages (pages_of_runs streams.old (runs_of entries.now))) }
+    ensures capacity { vec_capacity out.old ≤ vec_capacity out.new }
 {
     let mut rest = entries;
     let mut place = 0;
@@ -142,6 +147,7 @@ fn lay_begin(
     ensures ok { OnOk result (out.new.items ≡ out.old.items ++ bytes_of_pages (pages_of_begin skeleton streams.now)) }
     ensures err { OnErr result (out.new.items ≡ out.old.items) }
     ensures full { OnErr result (vec_capacity out.old < vec_len out.old + size_of_pages (pages_of_begin skeleton streams.now)) }
+    ensures capacity { vec_capacity out.old ≤ vec_capacity out.new }
 {
     let size = size_of_begin(skeleton, streams);
     out.reserve(size as usize)?;
@@ -154,6 +160,7 @@ fn lay_parts(skeleton: Option<SkeletonHead>, streams: &[NewStream], out: &mut Ve
     requires fits { BeginFits skeleton streams.now }
     requires room { vec_len out.old + size_of_pages (pages_of_begin skeleton streams.now) ≤ vec_capacity out.old }
     ensures items { out.new.items ≡ out.old.items ++ bytes_of_pages (pages_of_begin skeleton streams.now) }
+    ensures capacity { vec_capacity out.old ≤ vec_capacity out.new }
 {
     match skeleton {
         None => lay_streams(streams, out),
@@ -167,6 +174,7 @@ fn lay_streams(streams: &[NewStream], out: &mut Vec<u8>)
     requires few { list_any has_many_headers streams.now ≡ false }
     requires room { vec_len out.old + size_of_pages (flat_map first_pages streams.now ++ flat_map header_pages streams.now) ≤ vec_capacity out.old }
     ensures items { out.new.items ≡ out.old.items ++ bytes_of_pages (flat_map first_pages streams.now ++ flat_map header_pages streams.now) }
+    ensures capacity { vec_capacity out.old ≤ vec_capacity out.new }
 {
     lay_firsts(streams, out);
     lay_others(streams, out);
@@ -177,6 +185,7 @@ fn lay_described(head: &SkeletonHead, streams: &[NewStream], out: &mut Vec<u8>)
     requires fits { BeginFits (Some head.now) streams.now }
     requires room { vec_len out.old + size_of_pages (pages_of_begin (Some head.now) streams.now) ≤ vec_capacity out.old }
     ensures items { out.new.items ≡ out.old.items ++ bytes_of_pages (pages_of_begin (Some head.now) streams.now) }
+    ensures capacity { vec_capacity out.old ≤ vec_capacity out.new }
 {
     lay_fishead(head, out);
     lay_firsts(streams, out);

@@ -176,6 +176,7 @@ pub fn lay_skeleton_end(serial: u32, streams: usize, out: &mut Vec<u8>)
     requires links { streams ≤ most_streams }
     requires room { vec_len out.old + size_of_pages (skeleton_end serial (streams + 1)) ≤ vec_capacity out.old }
     ensures items { out.new.items ≡ out.old.items ++ bytes_of_pages (skeleton_end serial (streams + 1)) }
+    ensures capacity { vec_capacity out.old ≤ vec_capacity out.new }
 {
     lay_packet(serial, streams as u32 + 1, LAST, &[], out);
 }
