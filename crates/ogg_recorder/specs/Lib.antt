@@ -4,3 +4,4 @@ pub mod Taking
 pub mod Recorder
 pub mod Answer
 pub mod Running
+pub mod Small

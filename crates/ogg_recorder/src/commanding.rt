@@ -15,6 +15,7 @@ ghost use Rattle.history.specs.World.{World, happens};
 ghost use Rattle.history.specs.History.{IsStep};
 ghost use Rattle.ogg_recorder.specs.Recovery.{Links, Shows, Accepts};
 ghost use Rattle.ogg_recorder.specs.Recorder.{RecorderState, IsIn, recorder_state, committed, staged};
+ghost use Rattle.ogg_recorder.specs.Small.{is_small};
 ghost use Rattle.ogg_recorder.specs.Answer.{Tells, kept_by, call_of, command_step, flush_step};
 
 use crate::Recorder;
@@ -61,6 +62,9 @@ impl<D: Disk> Recorder<D> {
             → decision self.old.chain command.now ≡ Err refusal → result ≡ Err refusal }
         ensures otherwise { self.old.file.failed ≡ false → IsOk (decision self.old.chain command.now)
             → IfErr result (λ refusal. (refusal ≡ Refusal.Memory) ⊎ (refusal ≡ Refusal.Disk)) }
+        // A small command takes no memory.
+        ensures memory { (size : ℕ) → decision self.old.chain command.now ≡ Ok size → is_small command.now size ≡ true
+            → result ≢ Err Refusal.Memory }
         ensures accepted { OnOk result ((self.old.file.failed ≡ false) × IsOk (decision self.old.chain command.now)) }
         ensures same { IfErr result (λ refusal. refusal ≢ Refusal.Disk → self.new ≡ self.old) }
         ensures faulted { IfErr result (λ refusal. refusal ≡ Refusal.Disk → (self.new.file.failed ≡ true)

@@ -8,6 +8,7 @@ ghost use Rattle.gate_file.specs.Found.{HasEnd, IsDamagedAt, found_bytes};
 ghost use Rattle.gate_file.specs.Gate.{EndsAt};
 ghost use Rattle.ogg_recorder.specs.Taking.{HoldsChain, IsWholeChain, IsBrokenAt, IsUnfinished};
 
+use crate::staging::SmallPage;
 use crate::taking::PageTaker;
 use chain_rules::Shape;
 use disk_model::Disk;
@@ -20,6 +21,7 @@ pub(crate) struct FoundChain<D: Disk> {
     pub(crate) found: Found<D>,
     pub(crate) shape: Shape,
     pub(crate) buffer: PageBuffer,
+    pub(crate) small: SmallPage,
 }
 
 /// Finds the committed bytes and the chain of their pages. It writes nothing.
@@ -54,6 +56,10 @@ pub(crate) fn find_chain<D: Disk>(alloc: Global, disk: D) -> Result<FoundChain<D
         Ok(buffer) => buffer,
         Err(Memory) => return Err((OpenFault::Memory, disk)),
     };
+    let small = match SmallPage::new(alloc) {
+        Ok(small) => small,
+        Err(Memory) => return Err((OpenFault::Memory, disk)),
+    };
     let mut taker = PageTaker::new(alloc);
     let (found, buffer) = match GateFile::find_with(disk, buffer, &mut taker) {
         Ok(found) => found,
@@ -65,6 +71,7 @@ pub(crate) fn find_chain<D: Disk>(alloc: Global, disk: D) -> Result<FoundChain<D
             found,
             shape,
             buffer,
+            small,
         }),
         Err(fault) => Err((fault, found.give_back())),
     }

@@ -20,6 +20,7 @@ ghost use Rattle.ogg_recorder.specs.Taking.{HoldsChain, IsBrokenAt, IsUnfinished
 ghost use Rattle.ogg_recorder.specs.Recorder.{RecorderState, IsRecorder, IsIn, recorder_state, over_disk, committed, staged};
 
 use crate::opening::{FoundChain, find_chain};
+use crate::staging::SmallPage;
 use chain_rules::{Serials, Shape, StreamState};
 use disk_model::{Disk, DiskFault};
 use gate_file::{GateFile, OpenFault};
@@ -36,8 +37,8 @@ pub struct Recorder<D: Disk> {
     pub(crate) shape: Shape,
     // room for one page
     pub(crate) buffer: PageBuffer,
-    // the last small page that was made, and a byte after it
-    pub(crate) small: Vec<u8>,
+    // room for a small page and the byte after it
+    pub(crate) small: SmallPage,
     pub(crate) tail: u64,
     pub(crate) kept: u64,
     pub(crate) held: u64,
@@ -106,6 +107,7 @@ impl<D: Disk> Recorder<D> {
             found,
             shape,
             buffer,
+            small,
         } = match find_chain(alloc, disk) {
             Ok(found) => found,
             Err(fault) => return Err(fault),
@@ -116,7 +118,7 @@ impl<D: Disk> Recorder<D> {
                 file,
                 shape,
                 buffer,
-                small: Vec::new(alloc),
+                small,
                 tail,
                 kept: 0,
                 held: 0,

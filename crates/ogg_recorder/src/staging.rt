@@ -1,5 +1,5 @@
 //! The pages of a command are staged after those that wait.
-ghost use Rattle.std.specs.Prelude.{◌≡◌, ◌↔◌, ◌⊎◌, ◌+◌, ◌-◌, ◌^◌, ◌<◌, ◌≤◌, ◌++◌, ◌∷◌, [], true, false, List, ℕ, length, Some, OnOk, IsOk, IsErr, Err};
+ghost use Rattle.std.specs.Prelude.{◌≡◌, ◌↔◌, ◌⊎◌, ◌+◌, ◌-◌, ◌^◌, ◌<◌, ◌≤◌, ◌++◌, ◌∷◌, [], true, false, List, ℕ, length, Some, OnOk, IsOk, IsErr, Ok, Err, vec_capacity};
 ghost use Rattle.std.specs.List.{AllByRecursion};
 ghost use Rattle.disk_model.specs.Clock.{LeavesOnly};
 ghost use Rattle.disk_model.specs.Fault.{HasCause};
@@ -10,14 +10,63 @@ ghost use Rattle.gate_file.specs.GateFile.{committed, staged_bytes};
 ghost use Rattle.chain_rules.specs.Decision.{decision};
 ghost use Rattle.chain_rules.specs.Encoding.{command_bytes, pages_of_command};
 ghost use Rattle.chain_rules.specs.Shape.{HasRoom};
+ghost use Rattle.ogg_recorder.specs.Small.{is_small, most_small};
 
-use chain_rules::{Command, CommandPages, Shape};
+use chain_rules::{Command, CommandPages, Shape, command_adds_its_packets};
 use disk_model::{Disk, DiskFault};
 use gate_file::{GateFile, Memory};
 use ogg_page::PageBuffer;
+use std::alloc::Global;
+use std::marker::Model;
 
-/// A page of at most this many bytes is appended to a vector that is kept, and isn't made in the buffer.
+/// A page of at most this many bytes is made in room that is kept, and isn't made in the buffer.
 const SMALL: u64 = 4_096;
+
+/// Room for the page of a small command and the byte after it, taken once.
+#[derive(Drop)]
+pub(crate) struct SmallPage {
+    bytes: Vec<u8>,
+}
+
+impl Model for SmallPage {
+    ghost use Rattle.std.specs.Prelude.{List, ℕ, ◌<◌, vec_capacity};
+    ghost use Rattle.ogg_recorder.specs.Small.{most_small};
+
+    ghost Value = { List ℕ };
+
+    ghost view = { λ s. s.bytes.items };
+
+    ghost invariant = { λ s. most_small < vec_capacity s.bytes };
+}
+
+impl SmallPage {
+    /// Takes the room.
+    pub(crate) fn new(alloc: Global) -> Result<SmallPage, Memory> {
+        let bytes = Vec::with_capacity(alloc, SMALL as usize + 1)?;
+        Ok(SmallPage { bytes })
+    }
+
+    /// Makes the pages of a command, and a closed byte after them. It takes no memory.
+    fn make(&mut self, shape: &Shape, command: &Command)
+        requires kept { IsOk (decision shape.now.chain command.now) }
+        requires small { length (command_bytes shape.now.chain command.now) ≤ most_small }
+        ensures { self.new ≡ command_bytes shape.now.chain command.now ++ 0 ∷ [] }
+    {
+        make_closed(shape, command, &mut self.bytes);
+    }
+
+    /// The page that was made, and the byte after it.
+    fn as_slice(&self) -> &[u8]
+        ensures { result.now ≡ self.now }
+    {
+        self.bytes.as_slice()
+    }
+
+    /// The allocator of the room.
+    fn allocator(&self) -> Global {
+        *self.bytes.allocator()
+    }
+}
 
 /// Why the pages of a command aren't staged.
 pub(crate) enum Unstaged {
@@ -27,17 +76,17 @@ pub(crate) enum Unstaged {
 }
 
 /// Makes the room for a command in the chain, and stages its pages, which have this many bytes. All memory is taken
-/// before the first call of the disk. The one page of a small command is made in `small`, and other pages in turn in
-/// the buffer.
+/// before the first call of the disk. The one page of a small command is made in `small`, which takes no memory, and
+/// other pages in turn in the buffer.
 pub(crate) fn stage_command<D: Disk>(
     file: &mut GateFile<D>,
     shape: &mut Shape,
     command: &Command,
     size: u64,
     buffer: &mut PageBuffer,
-    small: &mut Vec<u8>,
+    small: &mut SmallPage,
 ) -> Result<(), Unstaged>
-    requires kept { IsOk (decision shape.old.chain command.now) }
+    requires kept { decision shape.old.chain command.now ≡ Ok size }
     requires are { AllByRecursion IsPage (pages_of_command shape.old.chain command.now) }
     requires some { 0 < length (pages_of_command shape.old.chain command.now) }
     requires good { file.old.failed ≡ false }
@@ -45,6 +94,7 @@ pub(crate) fn stage_command<D: Disk>(
     ensures chain { shape.new.chain ≡ shape.old.chain }
     ensures room { OnOk result (HasRoom shape.new command.now) }
     ensures memory { result ≡ Err Unstaged.Memory → file.new ≡ file.old }
+    ensures small { result ≡ Err Unstaged.Memory → is_small command.now size ≡ false }
     ensures failed { result ≡ Err Unstaged.Disk → file.new.failed ≡ true }
     ensures good { OnOk result (file.new.failed ≡ false) }
     ensures whole { OnOk result (file.new.whole ≡ true) }
@@ -61,21 +111,19 @@ pub(crate) fn stage_command<D: Disk>(
     ensures cause { result ≡ Err Unstaged.Disk → (D.failures file.old.disk < D.failures file.new.disk)
         ⊎ (D.failures file.new.disk ≡ 2 ^ 64 - 1) }
 {
+    command_adds_its_packets();
     match shape.prepare(command) {
         Ok(()) => {}
         Err(Memory) => return Err(Unstaged::Memory),
     }
     if is_small(command, size) {
-        match make_closed(shape, command, small) {
-            Ok(()) => {}
-            Err(Memory) => return Err(Unstaged::Memory),
-        }
+        small.make(shape, command);
         match file.stage_last(small.as_slice()) {
             Ok(()) => Ok(()),
             Err(DiskFault) => Err(Unstaged::Disk),
         }
     } else {
-        let mut pages = match shape.pages(*small.allocator(), command) {
+        let mut pages = match shape.pages(small.allocator(), command) {
             Ok(pages) => pages,
             Err(Memory) => return Err(Unstaged::Memory),
         };
@@ -87,23 +135,26 @@ pub(crate) fn stage_command<D: Disk>(
 }
 
 /// Whether a command whose pages have this many bytes has one page, and a small one.
-fn is_small(command: &Command, size: u64) -> bool {
+fn is_small(command: &Command, size: u64) -> bool
+    ensures { result ≡ is_small command.now size }
+{
     match command {
         Command::Begin(_) => false,
         Command::Put(put) => put.entries.len() == 1 && size <= SMALL,
-        Command::End(_) => true,
+        Command::End(_) => size <= SMALL,
     }
 }
 
-/// Makes the pages of a command, and a closed byte after them.
-fn make_closed(shape: &Shape, command: &Command, bytes: &mut Vec<u8>) -> Result<(), Memory>
-    requires { IsOk (decision shape.now.chain command.now) }
-    ensures { OnOk result (bytes.new.items ≡ command_bytes shape.now.chain command.now ++ 0 ∷ []) }
+/// Makes the pages of a command in a vector that has room for them, and a closed byte after them.
+fn make_closed(shape: &Shape, command: &Command, bytes: &mut Vec<u8>)
+    requires kept { IsOk (decision shape.now.chain command.now) }
+    requires room { length (command_bytes shape.now.chain command.now) < vec_capacity bytes.old }
+    ensures items { bytes.new.items ≡ command_bytes shape.now.chain command.now ++ 0 ∷ [] }
+    ensures capacity { vec_capacity bytes.old ≤ vec_capacity bytes.new }
 {
     bytes.clear();
-    shape.lay(command, bytes)?;
-    bytes.push(0)?;
-    Ok(())
+    shape.lay(command, bytes).unwrap();
+    bytes.push_reserved(0);
 }
 
 /// Stages pages, made one at a time in the buffer. A closed byte follows the last of them.

@@ -1,0 +1,24 @@
+-- Small commands.
+use Rattle.std.proofs.Common.{◌≡◌, ◌≤◌, ◌&&◌, ℕ, Bool, true, false, refl}
+use Rattle.std.specs.Prelude.{nat_eq, nat_le, length}
+use Rattle.std.proofs.lemmas.Bool.{leb-true}
+use Rattle.chain_rules.specs.Shape.{ShapeState, HasRoom}
+use Rattle.ogg_command.specs.declared.command.Command.{Command}
+use Rattle.ogg_command.specs.declared.command.Command.TheVariants.{Begin as BeginOf, Put as PutOf, End as EndOf}
+use Rattle.ogg_recorder.proofs.Lasting.{never}
+use Rattle.ogg_recorder.specs.Small.{is_small, most_small}
+
+both : (a b : Bool) → a && b ≡ true → b ≡ true
+both true b e = e
+both false b e = absurd (never e)
+
+pub small_size : (command : Command) (size : ℕ) → is_small command size ≡ true → size ≤ most_small
+small_size (BeginOf begin) size e = absurd (never e)
+small_size (PutOf put) size e = leb-true size most_small (both (nat_eq (length put.entries) 1) (nat_le size most_small) e)
+small_size (EndOf serial) size e = leb-true size most_small e
+
+-- if there was no room in the chain, it was for a new link
+pub prepared_small : (shape : ShapeState) (command : Command) (size : ℕ) → (HasRoom shape command → ⊥) → is_small command size ≡ false
+prepared_small shape (BeginOf begin) size none = refl
+prepared_small shape (PutOf put) size none = absurd (none tt)
+prepared_small shape (EndOf serial) size none = absurd (none tt)
