@@ -5,6 +5,7 @@ pub mod Lengths
 pub mod Opened
 pub mod Passed
 pub mod Refused
+mod Reopened
 mod Small
 pub mod Stepping
 pub mod Taken

@@ -82,6 +82,10 @@ impl<D: Disk> Recorder<D> {
         ensures untouched { IfErr result (λ e. e.0 ≢ OpenFault.Disk → D.is_honest disk
             → (D.state e.1).contents ≡ (D.state disk).contents) }
 
+        // What a recorder left in any history is refused only for want of memory, or by the disk.
+        ensures reopens { IfErr result (λ e. (first : Recording) (w : World CommandOf) → StandsIn Shows add first w (D.state disk)
+            → D.is_honest disk → (e.0 ≡ OpenFault.Disk) ⊎ (e.0 ≡ OpenFault.Memory)) }
+
         // Every image since the call began commits to what an image at its start commits to.
         ensures any_moment { IfOk result (λ r. D.is_honest disk
             → LeavesOnly D.moment D.images_since disk r.file.disk (IsAsBefore Commits (D.state disk))) }

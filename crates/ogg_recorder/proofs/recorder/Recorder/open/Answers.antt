@@ -5,6 +5,7 @@ use Rattle.link_chain.specs.Recording.{Holds}
 use Rattle.ogg_recorder.specs.Taking.{HoldsChain}
 use Rattle.gate_file.specs.Gate.{EachImage}
 use Rattle.ogg_recorder.proofs.Opened.{shows_earlier, opened_earlier, images_have, is_opened, is_in_opened, finds, holds_of}
+use Rattle.ogg_recorder.proofs.Reopened.{reopened}
 use Rattle.ogg_recorder.proofs.recorder.Recorder.open.Goals as goal
 
 pub invariant_of-result : goal.invariant_of-result
@@ -77,3 +78,13 @@ returns-in-Err-ready-clause-cause g c = (
   omega (arith, c.in-Ok.ensures.later, c.in-Err-ready.ensures.later_err),
   λ disk. ⊎_elim (λ rises. inl (omega (arith, c.in-Ok.ensures.later, rises))) inr c.in-Err-ready.ensures.cause.1,
 )
+
+pub returns-in-Err-clause-reopens : goal.returns-in-Err-clause-reopens
+returns-in-Err-clause-reopens g c = λ first w stands honest.
+    reopened (g.D.Disk.state c.args.disk) first w c.in-Err.fault.0 (g.met.D.Disk.laws c.args.disk honest).contents_is_image stands
+    (λ offset fault is. c.in-Err.ensures.damaged offset fault is honest)
+    (λ offset fault is. c.in-Err.ensures.broken offset fault is honest)
+    (λ serial is. c.in-Err.ensures.unfinished serial is honest)
+
+pub returns-in-Err-ready-clause-reopens : goal.returns-in-Err-ready-clause-reopens
+returns-in-Err-ready-clause-reopens g c = λ first w stands honest. inl c.in-Err-ready.ensures.cause.0
