@@ -1,5 +1,5 @@
 //! The text and the body of a response.
-ghost use Rattle.std.specs.Prelude.{◌≡◌, ◌+◌, ◌≤◌, ℕ, List, Option, Some, None, length, option_copied, IfOk};
+ghost use Rattle.std.specs.Prelude.{◌≡◌, ◌⊎◌, ◌+◌, ◌≤◌, ◌<◌, ◌++◌, [], ℕ, List, Option, Some, None, length, option_copied, IfOk, OnOk, OnErr, vec_len, vec_capacity};
 ghost use Rattle.link_index.specs.Listing.{listing};
 ghost use Rattle.ogg_http.specs.Answer.{AnswerFits, answer_head};
 ghost use Rattle.ogg_http.specs.Range.{LiesIn};
@@ -50,13 +50,47 @@ fn listed(alloc: Global, index: &Index, whole: bool) -> Result<Sending, Memory>
     ensures body { IfOk result (λ sending. sending.body ≡ Body.Nothing) }
 {
     let mut lines = Vec::new(alloc);
-    index.write_listing(&mut lines)?;
     let mut text = Vec::new(alloc);
-    response_head(&Answer::Listing(lines.len() as u64), &mut text)?;
-    if whole {
-        text.extend_from_slice(lines.as_slice())?;
+    match append_listed(index, whole, &mut lines, &mut text) {
+        Ok(()) => Ok(Sending::new(text, Body::Nothing)),
+        Err(memory) => Err(memory),
     }
-    Ok(Sending::new(text, Body::Nothing))
+}
+
+/// Appends the text of a response that lists the index, with or without its content, by way of a vector for the
+/// lines. After `Memory` the text may have its head.
+fn append_listed(
+    index: &Index,
+    whole: bool,
+    lines: &mut Vec<u8>,
+    text: &mut Vec<u8>,
+) -> Result<(), Memory>
+    requires none { lines.old.items ≡ [] }
+    ensures text { OnOk result (text.new.items
+        ≡ text.old.items ++ listing_text (listing index.now.chain.chain.length_of index.now.entries) whole) }
+    // There was no room for the lines, or none for the head, or after it none for the lines.
+    ensures full { OnErr result
+        ((vec_capacity lines.old < vec_len lines.old + length (listing index.now.chain.chain.length_of index.now.entries))
+        ⊎ (vec_capacity text.old < vec_len text.old
+        + length (answer_head (Answer.Listing (length (listing index.now.chain.chain.length_of index.now.entries)))))
+        ⊎ (vec_capacity text.new < vec_len text.new + length (listing index.now.chain.chain.length_of index.now.entries))) }
+{
+    match index.write_listing(lines) {
+        Ok(()) => {}
+        Err(memory) => return Err(memory),
+    }
+    match response_head(&Answer::Listing(lines.len() as u64), text) {
+        Ok(()) => {}
+        Err(memory) => return Err(memory),
+    }
+    if whole {
+        match text.reserve(lines.len()) {
+            Ok(()) => {}
+            Err(memory) => return Err(memory),
+        }
+        text.extend_from_slice(lines.as_slice()).unwrap();
+    }
+    Ok(())
 }
 
 /// How many bytes were found.
