@@ -1,6 +1,5 @@
 //! The parts of a page that are left of it.
-ghost use Rattle.std.specs.Prelude.{◌≡◌, ◌≤◌, ◌*◌, length, sum};
-ghost use Rattle.ogg_page.specs.Sizes.{most_values, full_value};
+ghost use Rattle.std.specs.Prelude.{◌≡◌, ◌≤◌, length};
 ghost use Rattle.import_mend.specs.Mended.{front_values, whole_values};
 
 use ogg_page::FULL_VALUE;
@@ -34,17 +33,4 @@ pub fn whole_values(lacing: &[u8]) -> usize
         }
     }
     count
-}
-
-/// How many bytes the lacing values stand for.
-pub fn size_of(values: &[u8]) -> usize
-    requires { length values.now ≤ most_values }
-    ensures value { result ≡ sum values.now }
-    ensures bound { result ≤ full_value * length values.now }
-{
-    let mut size = 0;
-    for value in values {
-        size += usize::from(*value);
-    }
-    size
 }

@@ -4,7 +4,8 @@ ghost use Rattle.ogg_page.specs.Page.{IsPage, page_bytes};
 ghost use Rattle.ogg_page.specs.Sizes.{most_values};
 ghost use Rattle.import_mend.specs.Mended.{behind_rest, last_page, mended};
 
-use crate::cutting::{front_values, size_of, whole_values};
+use crate::cutting::{front_values, whole_values};
+use import_pages::size_of_values;
 use ogg_page::{CONTINUED, LAST, Memory, Page, PageHead, write_page};
 
 /// Lacing values, and the bytes that they stand for.
@@ -45,7 +46,7 @@ fn behind_values<'a>(lacing: &'a [u8], body: &'a [u8], count: usize) -> Part<'a>
     let (front, others) = lacing.split_at(count);
     Part {
         lacing: others,
-        body: body.split_at(size_of(front)).1,
+        body: body.split_at(size_of_values(front)).1,
     }
 }
 
@@ -62,7 +63,7 @@ fn first_values<'a>(lacing: &'a [u8], body: &'a [u8], count: usize) -> Part<'a>
     let (front, _) = lacing.split_at(count);
     Part {
         lacing: front,
-        body: body.split_at(size_of(front)).0,
+        body: body.split_at(size_of_values(front)).0,
     }
 }
 

@@ -55,11 +55,11 @@ pub(crate) fn wants_more(bytes: &[u8]) -> bool
         return true;
     }
     let (lacing, body) = behind.split_at(count);
-    body.len() < sum_of(lacing)
+    body.len() < size_of_values(lacing)
 }
 
-/// The sum of the lacing values.
-fn sum_of(lacing: &[u8]) -> usize
+/// How many bytes the lacing values stand for. There are at most 255.
+pub fn size_of_values(lacing: &[u8]) -> usize
     requires { length lacing.now ≤ most_values }
     ensures value { result ≡ sum lacing.now }
     ensures bound { result ≤ full_value * length lacing.now }

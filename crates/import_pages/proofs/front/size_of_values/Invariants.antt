@@ -1,5 +1,5 @@
 use Rattle.std.proofs.Common.{◌≡◌, ◌≤◌, ◌*◌, take, sum}
-use Rattle.import_pages.proofs.front.sum_of.Given as goal
+use Rattle.import_pages.proofs.front.size_of_values.Given as goal
 
 -- the values so far are added up
 abbrev pub invariant-loop-value : goal.invariant-loop-value
