@@ -3,3 +3,4 @@ pub mod Turns
 pub mod Ends
 pub mod Sources
 pub mod MendedSteps
+pub mod Plain

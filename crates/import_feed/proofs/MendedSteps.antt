@@ -1,19 +1,23 @@
 -- What each step of a mended feed leaves.
-use Rattle.std.proofs.Common.{◌≡◌, ℕ, ◌+◌, Bool, true, false, if◌then◌else◌, Option, Some, None, Ok, Err, List, [], ◌∷◌, ◌++◌, length, refl, sym, ◌∙◌, ap, subst, arith, append-nil, append_assoc, length-append}
+use Rattle.std.proofs.Common.{◌≡◌, ℕ, ◌+◌, Bool, true, false, if◌then◌else◌, Option, Ok, Err, List, [], ◌∷◌, ◌++◌, length, refl, sym, ◌∙◌, ap, subst, arith, append-nil, length-append}
 use Rattle.std.specs.Prelude.{Result, ◌-◌, ◌^◌, min, IfOk, IfErr}
 use Rattle.std.specs.List.{AllByRecursion, filter, flat_map}
 use Rattle.std.specs.Io.KnownBytes.{Appends}
 use Rattle.std.proofs.lemmas.List.Concat.{flat_map-append}
 use Rattle.ogg_page.specs.Output.{WritesPrefix}
 use Rattle.ogg_command.specs.declared.command.Command.{Command}
+use Rattle.import_gather.specs.Gathered.{Gathered}
+use Rattle.import_mend.specs.Gives.{GivesEnd, Mending as Mended, mend_at_end}
+use Rattle.import_mend.specs.Importing.{mending_of}
+use Rattle.import_mend.specs.Whole.{IsStart}
 use Rattle.import_mend.specs.declared.mend.Mend.{Mend}
 use Rattle.import_mend.specs.declared.import.Import.{Import}
 use Rattle.import_mend.specs.declared.import.Step.{Step}
 use Rattle.import_changes.specs.Changed.{ChangeState, HasChanged, IsPlain}
 use Rattle.import_changes.specs.declared.options.ChangeOptions.{ChangeOptions}
 use Rattle.feed_codec.specs.Record.{announcement}
-use Rattle.import_feed.specs.Feed.{Fits, GivesNot, HasTooLong, feed_of, records_of}
-use Rattle.import_feed.specs.Mending.{AreJoined, AreSteps, AreTold, BreaksMended, ClosesMended, ClosesWell, EndsMended, FinishesMended, GivesMended, GivesMendedNot, GivesNoMore}
+use Rattle.import_feed.specs.Feed.{Fits, GivesNot, feed_of, records_of}
+use Rattle.import_feed.specs.Mending.{AreJoined, AreSteps, AreTold, BreaksMended, ClosesWell, EndsMended, FinishesMended, GivesMended, GivesMendedNot, GivesNoMore}
 use Rattle.import_feed.specs.Mending.{HasMended, HaveEnded, ImportStep, IsChangedAs, IsImportStep, IsMendedFeed, IsMendingStart, IsNextFault, MendsFeed, StillMends, StopsMended}
 use Rattle.import_feed.specs.Mending.{StopsReading, TakesAllMended, TakesStep, Telling, TurnsMended, begun_in, commands_of, has_page, mended_by, told_by, told_of}
 use Rattle.import_feed.specs.Turn.{of_input}
@@ -22,6 +26,7 @@ use Rattle.import_feed.specs.declared.mending.Mending.{Mending}
 use Rattle.import_feed.specs.declared.fault.MakingFault.{MakingFault}
 use Rattle.import_feed.specs.declared.fault.MakingFault.TheVariants.{Page, Chain, PacketTooLong, Unfinished, TooLong, Read, Limit, Write, Memory}
 use Rattle.import_feed.proofs.Lists.{both, later_of}
+use Rattle.import_feed.proofs.Plain.{EndsArePlain, PagesArePlain, PagesHaveLinks, end_plain, steps_plain}
 use Rattle.import_feed.proofs.Turns.{none_prefix, not_given, prefix_written, whole_prefix, written_more}
 
 -- ---- lists
@@ -42,10 +47,6 @@ joined_of first last (s ∷ next ∷ steps) (old, is, are) = (is, are.0, joined_
 
 push_of : {X : Type 0} (f : ImportStep → List X) (steps : List ImportStep) (s : ImportStep) → flat_map f (steps ++ s ∷ []) ≡ flat_map f steps ++ f s
 push_of f steps s = flat_map-append f steps (s ∷ []) ∙ ap (λ l. flat_map f steps ++ l) (append-nil (f s))
-
-front_of : {X : Type 0} (P : X → Type 0) (xs ys : List X) → AllByRecursion P (xs ++ ys) → AllByRecursion P xs
-front_of P [] ys all = tt
-front_of P (x ∷ xs) ys (p, all) = (p, front_of P xs ys all)
 
 abbrev one_if : Bool → ℕ
 one_if b = if b then 1 else 0
@@ -69,12 +70,15 @@ count_push (t ∷ steps) s = by (has_page t) (count_push steps s)
 -- the same of a state whose changes and counts are the same
 moved : {M : Type 0} (tells : M → Telling → M → Type 0) (options : ChangeOptions) (before now : Option (List ℕ)) (unaware aware : M) (last : Import)
     (old new : Mending) (steps : List ImportStep) (given : List Command) → HasMended tells options before now unaware aware last old steps given
-    → new.changes ≡ old.changes → new.made ≡ old.made → HasMended tells options before now unaware aware last new steps given
-moved tells options before now unaware aware last old new steps given has changes made = record {
+    → mending_of new.import ≡ mending_of old.import → new.changes ≡ old.changes → new.made ≡ old.made
+    → HasMended tells options before now unaware aware last new steps given
+moved tells options before now unaware aware last old new steps given has import changes made = record {
   first = has.first;
+  start = has.start;
+  reached = import ∙ has.reached;
   are = has.are;
   told = has.told;
-  changed = λ plain. subst (λ (s : ChangeState). HasChanged s (commands_of steps) given) (sym changes) (has.changed plain);
+  changed = subst (λ (s : ChangeState). HasChanged s (commands_of steps) given) (sym changes) has.changed;
   asked = ap (λ (s : ChangeState). s.options) changes ∙ has.asked;
   fits = has.fits;
   written = has.written;
@@ -88,23 +92,40 @@ changed_on : {M : Type 0} (tells : M → Telling → M → Type 0) (options : Ch
     → HasMended tells options before now unaware aware last old steps given → mid ≡ old.changes
     → ((earlier given : List Command) → HasChanged mid earlier given → AllByRecursion IsPlain commands
     → HasChanged state (earlier ++ commands) (given ++ more))
-    → AllByRecursion IsPlain (commands_of steps ++ commands) → HasChanged state (commands_of steps ++ commands) (given ++ more)
+    → AllByRecursion IsPlain commands → HasChanged state (commands_of steps ++ commands) (given ++ more)
 changed_on tells options before now unaware aware last old mid state steps given commands more has same changes plain =
-    changes (commands_of steps) given
-    (subst (λ (s : ChangeState). HasChanged s (commands_of steps) given) (sym same) (has.changed (front_of IsPlain (commands_of steps) commands plain)))
-    (later_of IsPlain (commands_of steps) commands plain)
+    changes (commands_of steps) given (subst (λ (s : ChangeState). HasChanged s (commands_of steps) given) (sym same) has.changed) plain
 
 abbrev pub step_of : Mending → Mending → Step → List Command → ImportStep
 step_of old mid step commands = record { old = old.import; new = mid.import; step = step; commands = commands }
 
+-- its commands begin links without a Skeleton
+pub step_plain : {M : Type 0} (tells : M → Telling → M → Type 0) (options : ChangeOptions) (before now : Option (List ℕ)) (unaware aware : M)
+    (old mid : Mending) (step : Step) (commands : List Command) → PagesArePlain
+    → StillMends tells options before now unaware aware old.import old → TakesStep old mid step commands → AllByRecursion IsPlain commands
+step_plain tells options before now unaware aware old mid step commands law still t =
+    let steps : List ImportStep = still.steps in
+    let s : ImportStep = step_of old mid step commands in
+    later_of IsPlain (commands_of steps) commands
+    (subst (AllByRecursion IsPlain) (push_of (λ (s : ImportStep). s.commands) steps s)
+    (steps_plain law still.has.first mid.import (steps ++ s ∷ []) still.has.start
+    (steps_on still.has.first old.import mid.import steps s still.has.are refl t.is refl)))
+
+-- so do those of the end
+pub rest_plain : {M : Type 0} (tells : M → Telling → M → Type 0) (options : ChangeOptions) (before now : Option (List ℕ)) (unaware aware : M)
+    (last : Import) (old : Mending) (closed : Gathered) (commands : List Command) → PagesHaveLinks → EndsArePlain
+    → StillMends tells options before now unaware aware last old → GivesEnd old.import.gatherer closed commands → AllByRecursion IsPlain commands
+rest_plain tells options before now unaware aware last old closed commands has law still ends =
+    end_plain has law still.has.first last old.import closed still.steps commands still.has.start still.has.are still.has.reached ends
+
 pub turn_mended : {M : Type 0} (tells : M → Telling → M → Type 0) (options : ChangeOptions) (before now0 now1 : Option (List ℕ)) (unaware aware0 aware1 : M)
     (old mid after new : Mending) (step : Step) (commands : List Command)
-    → (still : StillMends tells options before now0 unaware aware0 old.import old) → TakesStep old mid step commands
+    → (still : StillMends tells options before now0 unaware aware0 old.import old) → TakesStep old mid step commands → AllByRecursion IsPlain commands
     → AreTold tells aware0 (mended_by step.junk ++ (mended_by step.mend ++ begun_in commands)) aware1
     → GivesMended mid after commands now0 now1 → new.import ≡ after.import → new.changes ≡ after.changes → new.made.commands ≡ after.made.commands
     → new.made.pages ≡ min (length (filter has_page (still.steps ++ step_of old mid step commands ∷ []))) (2 ^ 64 - 1)
     → (next : StillMends tells options before now1 unaware aware1 new.import new) × (next.steps ≡ still.steps ++ step_of old mid step commands ∷ [])
-turn_mended tells options before now0 now1 unaware aware0 aware1 old mid after new step commands still t told g import changes count pages =
+turn_mended tells options before now0 now1 unaware aware0 aware1 old mid after new step commands still t plain told g import changes count pages =
     let steps : List ImportStep = still.steps in
     let given : List Command = still.given in
     let has : HasMended tells options before now0 unaware aware0 old.import old steps given = still.has in
@@ -115,14 +136,14 @@ turn_mended tells options before now0 now1 unaware aware0 aware1 old mid after n
         given = given ++ more;
         has = record {
           first = has.first;
+          start = has.start;
+          reached = refl;
           are = steps_on has.first old.import new.import steps s has.are refl t.is (sym (import ∙ g.import));
           told = subst (λ l. AreTold tells unaware l aware1) (sym (push_of told_of steps s))
               (told_on tells (told_by steps) (told_of s) unaware aware0 aware1 has.told told);
-          changed = λ plain.
-              subst (λ c. HasChanged new.changes c (given ++ more)) (sym (push_of (λ (s : ImportStep). s.commands) steps s))
+          changed = subst (λ c. HasChanged new.changes c (given ++ more)) (sym (push_of (λ (s : ImportStep). s.commands) steps s))
               (subst (λ (q : ChangeState). HasChanged q (commands_of steps ++ commands) (given ++ more)) (sym changes)
-              (changed_on tells options before now0 unaware aware0 old.import old mid.changes after.changes steps given commands more has t.changes g.changed
-              (subst (AllByRecursion IsPlain) (push_of (λ (s : ImportStep). s.commands) steps s) plain)));
+              (changed_on tells options before now0 unaware aware0 old.import old mid.changes after.changes steps given commands more has t.changes g.changed plain));
           asked = ap (λ (q : ChangeState). q.options) changes ∙ g.options ∙ ap (λ (q : ChangeState). q.options) t.changes ∙ has.asked;
           fits = both Fits given more has.fits g.fits;
           written = written_more before now0 now1 given more has.written g.written;
@@ -149,9 +170,9 @@ stops_here tells options before now0 now1 unaware aware0 aware1 last old told st
       rest = [];
       told = told_by still.steps ++ told;
       are_told = told_on tells (told_by still.steps) told unaware aware0 aware1 has.told telling;
-      changed = λ plain. nothing_more (commands_of still.steps) (λ c. IsChangedAs options c still.given) (record {
+      changed = nothing_more (commands_of still.steps) (λ c. IsChangedAs options c still.given) (record {
         state = old.changes;
-        changed = has.changed (front_of IsPlain (commands_of still.steps) [] plain);
+        changed = has.changed;
         asked = has.asked;
       });
       written = whole_prefix before now1 (feed_of still.given) (subst (λ n. Appends before n (feed_of still.given)) (sym same) has.written);
@@ -160,8 +181,8 @@ stops_here tells options before now0 now1 unaware aware0 aware1 last old told st
 breaks_on : {M : Type 0} (tells : M → Telling → M → Type 0) (options : ChangeOptions) (fault : MakingFault) (before now0 now1 : Option (List ℕ)) (unaware aware0 aware1 : M)
     (last : Import) (old mid : Mending) (told : List Telling) (commands : List Command)
     → (still : StillMends tells options before now0 unaware aware0 last old) → mid.changes ≡ old.changes → AreTold tells aware0 told aware1
-    → (n : GivesMendedNot mid commands now0 now1 fault) → BreaksMended tells options before now1 unaware aware1 (still.given ++ n.more)
-breaks_on tells options fault before now0 now1 unaware aware0 aware1 last old mid told commands still same telling n =
+    → AllByRecursion IsPlain commands → (n : GivesMendedNot mid commands now0 now1 fault) → BreaksMended tells options before now1 unaware aware1 (still.given ++ n.more)
+breaks_on tells options fault before now0 now1 unaware aware0 aware1 last old mid told commands still same telling plain n =
     let has : HasMended tells options before now0 unaware aware0 last old still.steps still.given = still.has in
     record {
       steps = still.steps;
@@ -169,7 +190,7 @@ breaks_on tells options fault before now0 now1 unaware aware0 aware1 last old mi
       rest = commands;
       told = told_by still.steps ++ told;
       are_told = told_on tells (told_by still.steps) told unaware aware0 aware1 has.told telling;
-      changed = λ plain. record {
+      changed = record {
         state = n.state;
         changed = changed_on tells options before now0 unaware aware0 last old mid.changes n.state still.steps still.given commands n.more has same n.changed plain;
         asked = n.options ∙ ap (λ (q : ChangeState). q.options) same ∙ has.asked;
@@ -180,49 +201,49 @@ breaks_on tells options fault before now0 now1 unaware aware0 aware1 last old mi
 pub stops_giving : {M : Type 0} (tells : M → Telling → M → Type 0) (options : ChangeOptions) (fault : MakingFault) (before now0 now1 : Option (List ℕ)) (unaware aware0 aware1 : M)
     (last : Import) (old mid : Mending) (told : List Telling) (commands : List Command)
     → StillMends tells options before now0 unaware aware0 last old → mid.changes ≡ old.changes → AreTold tells aware0 told aware1
-    → GivesNoMore mid commands now0 now1 fault → StopsMended tells options fault before now1 unaware aware1
-stops_giving tells options Limit before now0 now1 unaware aware0 aware1 last old mid told commands still same telling n = (
+    → AllByRecursion IsPlain commands → GivesNoMore mid commands now0 now1 fault → StopsMended tells options fault before now1 unaware aware1
+stops_giving tells options Limit before now0 now1 unaware aware0 aware1 last old mid told commands still same telling plain n = (
   still.given ++ n.more,
-  breaks_on tells options Limit before now0 now1 unaware aware0 aware1 last old mid told commands still same telling n,
+  breaks_on tells options Limit before now0 now1 unaware aware0 aware1 last old mid told commands still same telling plain n,
   λ all. n.not.1 (later_of Fits still.given n.more all),
 )
-stops_giving tells options Write before now0 now1 unaware aware0 aware1 last old mid told commands still same telling n =
-    (still.given ++ n.more, breaks_on tells options Write before now0 now1 unaware aware0 aware1 last old mid told commands still same telling n)
-stops_giving tells options Memory before now0 now1 unaware aware0 aware1 last old mid told commands still same telling n =
+stops_giving tells options Write before now0 now1 unaware aware0 aware1 last old mid told commands still same telling plain n =
+    (still.given ++ n.more, breaks_on tells options Write before now0 now1 unaware aware0 aware1 last old mid told commands still same telling plain n)
+stops_giving tells options Memory before now0 now1 unaware aware0 aware1 last old mid told commands still same telling plain n =
     (still.given, stops_here tells options before now0 now1 unaware aware0 aware1 last old told still n telling)
-stops_giving tells options (Page at fault) before now0 now1 unaware aware0 aware1 last old mid told commands still same telling n = absurd n
-stops_giving tells options (Chain at fault) before now0 now1 unaware aware0 aware1 last old mid told commands still same telling n = absurd n
-stops_giving tells options (PacketTooLong at) before now0 now1 unaware aware0 aware1 last old mid told commands still same telling n = absurd n
-stops_giving tells options (Unfinished at serial) before now0 now1 unaware aware0 aware1 last old mid told commands still same telling n = absurd n
-stops_giving tells options (TooLong at) before now0 now1 unaware aware0 aware1 last old mid told commands still same telling n = absurd n
-stops_giving tells options (Read at) before now0 now1 unaware aware0 aware1 last old mid told commands still same telling n = absurd n
+stops_giving tells options (Page at fault) before now0 now1 unaware aware0 aware1 last old mid told commands still same telling plain n = absurd n
+stops_giving tells options (Chain at fault) before now0 now1 unaware aware0 aware1 last old mid told commands still same telling plain n = absurd n
+stops_giving tells options (PacketTooLong at) before now0 now1 unaware aware0 aware1 last old mid told commands still same telling plain n = absurd n
+stops_giving tells options (Unfinished at serial) before now0 now1 unaware aware0 aware1 last old mid told commands still same telling plain n = absurd n
+stops_giving tells options (TooLong at) before now0 now1 unaware aware0 aware1 last old mid told commands still same telling plain n = absurd n
+stops_giving tells options (Read at) before now0 now1 unaware aware0 aware1 last old mid told commands still same telling plain n = absurd n
 
 pub turn_stops : {M : Type 0} (tells : M → Telling → M → Type 0) (options : ChangeOptions) (fault : MakingFault) (before now0 now1 : Option (List ℕ)) (unaware aware0 aware1 : M)
     (old mid new : Mending) (told : List Telling) (commands : List Command)
     → StillMends tells options before now0 unaware aware0 old.import old → mid.changes ≡ old.changes → AreTold tells aware0 told aware1
-    → GivesNoMore mid commands now0 now1 fault → TurnsMended tells options (Err fault) before now1 unaware aware1 new
-turn_stops tells options Limit before now0 now1 unaware aware0 aware1 old mid new told commands still same telling n =
-    stops_giving tells options Limit before now0 now1 unaware aware0 aware1 old.import old mid told commands still same telling n
-turn_stops tells options Write before now0 now1 unaware aware0 aware1 old mid new told commands still same telling n =
-    stops_giving tells options Write before now0 now1 unaware aware0 aware1 old.import old mid told commands still same telling n
-turn_stops tells options Memory before now0 now1 unaware aware0 aware1 old mid new told commands still same telling n =
-    stops_giving tells options Memory before now0 now1 unaware aware0 aware1 old.import old mid told commands still same telling n
-turn_stops tells options (Page at fault) before now0 now1 unaware aware0 aware1 old mid new told commands still same telling n = absurd n
-turn_stops tells options (Chain at fault) before now0 now1 unaware aware0 aware1 old mid new told commands still same telling n = absurd n
-turn_stops tells options (PacketTooLong at) before now0 now1 unaware aware0 aware1 old mid new told commands still same telling n = absurd n
-turn_stops tells options (Unfinished at serial) before now0 now1 unaware aware0 aware1 old mid new told commands still same telling n = absurd n
-turn_stops tells options (TooLong at) before now0 now1 unaware aware0 aware1 old mid new told commands still same telling n = absurd n
-turn_stops tells options (Read at) before now0 now1 unaware aware0 aware1 old mid new told commands still same telling n = absurd n
+    → AllByRecursion IsPlain commands → GivesNoMore mid commands now0 now1 fault → TurnsMended tells options (Err fault) before now1 unaware aware1 new
+turn_stops tells options Limit before now0 now1 unaware aware0 aware1 old mid new told commands still same telling plain n =
+    stops_giving tells options Limit before now0 now1 unaware aware0 aware1 old.import old mid told commands still same telling plain n
+turn_stops tells options Write before now0 now1 unaware aware0 aware1 old mid new told commands still same telling plain n =
+    stops_giving tells options Write before now0 now1 unaware aware0 aware1 old.import old mid told commands still same telling plain n
+turn_stops tells options Memory before now0 now1 unaware aware0 aware1 old mid new told commands still same telling plain n =
+    stops_giving tells options Memory before now0 now1 unaware aware0 aware1 old.import old mid told commands still same telling plain n
+turn_stops tells options (Page at fault) before now0 now1 unaware aware0 aware1 old mid new told commands still same telling plain n = absurd n
+turn_stops tells options (Chain at fault) before now0 now1 unaware aware0 aware1 old mid new told commands still same telling plain n = absurd n
+turn_stops tells options (PacketTooLong at) before now0 now1 unaware aware0 aware1 old mid new told commands still same telling plain n = absurd n
+turn_stops tells options (Unfinished at serial) before now0 now1 unaware aware0 aware1 old mid new told commands still same telling plain n = absurd n
+turn_stops tells options (TooLong at) before now0 now1 unaware aware0 aware1 old mid new told commands still same telling plain n = absurd n
+turn_stops tells options (Read at) before now0 now1 unaware aware0 aware1 old mid new told commands still same telling plain n = absurd n
 
 pub next_fails : {M : Type 0} (tells : M → Telling → M → Type 0) (options : ChangeOptions) (fault : MakingFault) (before now : Option (List ℕ)) (unaware aware : M)
-    (old new : Mending) → StillMends tells options before now unaware aware old.import old → IsNextFault fault → new.changes ≡ old.changes → new.made ≡ old.made
+    (old new : Mending) → StillMends tells options before now unaware aware old.import old → IsNextFault fault old.import new.import → new.changes ≡ old.changes → new.made ≡ old.made
     → TurnsMended tells options (Err fault) before now unaware aware new
 next_fails tells options (Read at) before now unaware aware old new still is changes made = record {
   last = old.import;
   still = record {
     steps = still.steps;
     given = still.given;
-    has = moved tells options before now unaware aware old.import old new still.steps still.given still.has changes made;
+    has = moved tells options before now unaware aware old.import old new still.steps still.given still.has is changes made;
   };
 }
 next_fails tells options Memory before now unaware aware old new still is changes made =
@@ -237,21 +258,29 @@ next_fails tells options Write before now unaware aware old new still is changes
 
 -- ---- the end
 pub closes_well : {M : Type 0} (tells : M → Telling → M → Type 0) (options : ChangeOptions) (before now0 now1 : Option (List ℕ)) (unaware aware0 aware1 : M)
-    (last : Import) (old mid new : Mending) (mend : Option Mend) (commands : List Command)
+    (last : Import) (old mid new : Mending) (mend : Option Mend) (commands : List Command) (offset : ℕ) (closed : Gathered)
     → (still : StillMends tells options before now0 unaware aware0 last old) → mid.changes ≡ old.changes → mid.made ≡ old.made
-    → AreTold tells aware0 (mended_by mend ++ begun_in commands) aware1 → GivesMended mid new commands now0 now1
+    → AreTold tells aware0 (mended_by mend ++ begun_in commands) aware1 → mend ≡ mend_at_end offset old.import.gatherer.chain
+    → GivesEnd old.import.gatherer closed commands → AllByRecursion IsPlain commands → GivesMended mid new commands now0 now1
     → ClosesWell tells options before now1 unaware aware1 still.steps old new
-closes_well tells options before now0 now1 unaware aware0 aware1 last old mid new mend commands still changes made telling g =
+closes_well tells options before now0 now1 unaware aware0 aware1 last old mid new mend commands offset closed still changes made telling mended ends plain g =
     let has : HasMended tells options before now0 unaware aware0 last old still.steps still.given = still.has in
     record {
       feed = record {
         steps = still.steps;
-        joined = joined_of has.first last still.steps has.are;
+        first = has.first;
+        last = last;
+        start = has.start;
+        are = has.are;
         end = mend;
         rest = commands;
+        offset = offset;
+        end_is = mended ∙ ap (λ (m : Mended). mend_at_end offset m.gathered.chain) has.reached;
+        closed = closed;
+        ends = subst (λ (m : Mended). GivesEnd m.gathered closed commands) has.reached ends;
         told = told_on tells (told_by still.steps) (mended_by mend ++ begun_in commands) unaware aware0 aware1 has.told telling;
         given = still.given ++ g.more;
-        changed = λ plain. record {
+        changed = record {
           state = new.changes;
           changed = changed_on tells options before now0 unaware aware0 last old mid.changes new.changes still.steps still.given commands g.more has changes g.changed plain;
           asked = g.options ∙ ap (λ (q : ChangeState). q.options) changes ∙ has.asked;
@@ -328,16 +357,18 @@ mended_false tells options true before now unaware aware mending is turns = cc
 
 -- ---- the beginning
 pub starts_mended : {M : Type 0} (tells : M → Telling → M → Type 0) (options : ChangeOptions) (before now : Option (List ℕ)) (mends : M) (start new : Mending)
-    → IsMendingStart options start → new.changes ≡ start.changes → new.made ≡ start.made → Appends before now announcement
+    → IsMendingStart options start → new.import ≡ start.import → new.changes ≡ start.changes → new.made ≡ start.made → Appends before now announcement
     → StillMends tells options before now mends mends new.import new
-starts_mended tells options before now mends start new is changes made written = record {
+starts_mended tells options before now mends start new is import changes made written = record {
   steps = [];
   given = [];
   has = record {
     first = new.import;
+    start = subst (λ (i : Import). IsStart (mending_of i)) (sym import) is.start;
+    reached = refl;
     are = refl;
     told = refl;
-    changed = λ plain. subst (λ (q : ChangeState). HasChanged q [] []) (sym changes) is.changed;
+    changed = subst (λ (q : ChangeState). HasChanged q [] []) (sym changes) is.changed;
     asked = ap (λ (q : ChangeState). q.options) changes ∙ is.asked;
     fits = tt;
     written = subst (Appends before now) (sym (append-nil announcement)) written;
@@ -354,7 +385,7 @@ no_feed tells options before now mends changed written = record {
   rest = [];
   told = [];
   are_told = refl;
-  changed = λ plain. changed;
+  changed = changed;
   written = subst (WritesPrefix before now) (sym (append-nil announcement)) written;
 }
 

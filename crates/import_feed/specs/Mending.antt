@@ -3,11 +3,12 @@ use Rattle.std.specs.Prelude.{◌≡◌, ℕ, ◌+◌, ◌-◌, ◌^◌, min, Bo
 use Rattle.std.specs.List.{AllByRecursion, filter, flat_map, list_any}
 use Rattle.std.specs.Io.KnownBytes.{Appends}
 use Rattle.ogg_page.specs.Output.{WritesPrefix}
-use Rattle.ogg_page.specs.Page.{Page as PageValue, IsPage}
 use Rattle.ogg_command.specs.declared.command.Command.{Command}
 use Rattle.ogg_command.specs.declared.command.Command.TheVariants.{Begin as BeginOf, Put as PutOf, End as EndOf}
-use Rattle.import_mend.specs.Gives.{mending as mending_of}
-use Rattle.import_mend.specs.Whole.{TakesPage}
+use Rattle.import_gather.specs.Gathered.{Gathered}
+use Rattle.import_mend.specs.Gives.{GivesEnd, mend_at_end}
+use Rattle.import_mend.specs.Importing.{IsStep, mending_of}
+use Rattle.import_mend.specs.Whole.{IsStart}
 use Rattle.import_mend.specs.declared.mend.Mend.{Mend}
 use Rattle.import_mend.specs.declared.import.Import.{Import}
 use Rattle.import_mend.specs.declared.import.Step.{Step}
@@ -17,7 +18,7 @@ use Rattle.import_feed.specs.Feed.{Fits, GivesNot, HasTooLong, feed_of, records_
 use Rattle.import_feed.specs.declared.made.Made.{Made}
 use Rattle.import_feed.specs.declared.mending.Mending.{Mending}
 use Rattle.import_feed.specs.declared.fault.MakingFault.{MakingFault}
-use Rattle.import_feed.specs.declared.fault.MakingFault.TheVariants.{Page, Chain, PacketTooLong, Unfinished, TooLong, Read, Limit, Write, Memory}
+use Rattle.import_feed.specs.declared.fault.MakingFault.TheVariants.{TooLong, Read, Limit, Write, Memory}
 
 -- ---- the steps of an import
 -- a step, and the commands that it gave
@@ -27,11 +28,9 @@ pub record ImportStep : Type 0 where
   pub step : Step
   pub commands : List Command
 
--- what the import says of a step with a page
+-- what the import says of it
 abbrev pub IsImportStep : ImportStep → Type 0
-IsImportStep s =
-    s.step.is_page ≡ true → (offset : ℕ) × (page : PageValue) × IsPage page
-    × TakesPage offset page (mending_of s.old.mender.losses s.old.gatherer) (mending_of s.new.mender.losses s.new.gatherer) s.step.mend s.commands
+IsImportStep s = IsStep s.old s.new s.step s.commands
 
 -- step after step, from the first import to the last
 abbrev pub AreSteps : Import → List ImportStep → Import → Type 0
@@ -90,26 +89,35 @@ has_page s = s.step.is_page
 -- records of these are written.
 pub record HasMended {M : Type 0} (tells : M → Telling → M → Type 0) (options : ChangeOptions) (before now : Option (List ℕ)) (unaware aware : M) (last : Import) (mending : Mending) (steps : List ImportStep) (given : List Command) : Type 0 where
   pub first : Import
+  pub start : IsStart (mending_of first)
   pub are : AreSteps first steps last
+  pub reached : mending_of mending.import ≡ mending_of last
   pub told : AreTold tells unaware (told_by steps) aware
-  pub changed : AllByRecursion IsPlain (commands_of steps) → HasChanged mending.changes (commands_of steps) given
+  pub changed : HasChanged mending.changes (commands_of steps) given
   pub asked : mending.changes.options ≡ options
   pub fits : AllByRecursion Fits given
   pub written : Appends before now (feed_of given)
   pub pages : mending.made.pages ≡ min (length (filter has_page steps)) (2 ^ 64 - 1)
   pub counted : mending.made.commands ≡ min (length given) (2 ^ 64 - 1)
 
--- The import was finished after these steps, and all that it gave is written. Which commands a sound import gives stands
--- in its crate; that none of them begins a link with a Skeleton is all that is wanted of them.
+-- The import was finished after these steps, and all that it gave is written. Which commands such an import gives stands
+-- in its crate.
 pub record IsMendedFeed {M : Type 0} (tells : M → Telling → M → Type 0) (options : ChangeOptions) (before now : Option (List ℕ)) (unaware aware : M) : Type 0 where
   pub steps : List ImportStep
-  pub joined : AreJoined steps
+  pub first : Import
+  pub last : Import
+  pub start : IsStart (mending_of first)
+  pub are : AreSteps first steps last
   -- what was mended at the end, and the commands that still waited
   pub end : Option Mend
   pub rest : List Command
+  pub offset : ℕ
+  pub end_is : end ≡ mend_at_end offset (mending_of last).gathered.chain
+  pub closed : Gathered
+  pub ends : GivesEnd (mending_of last).gathered closed rest
   pub told : AreTold tells unaware (told_by steps ++ (mended_by end ++ begun_in rest)) aware
   pub given : List Command
-  pub changed : AllByRecursion IsPlain (commands_of steps ++ rest) → IsChangedAs options (commands_of steps ++ rest) given
+  pub changed : IsChangedAs options (commands_of steps ++ rest) given
   pub fits : AllByRecursion Fits given
   pub written : Appends before now (feed_of given)
 
@@ -134,7 +142,7 @@ pub record BreaksMended {M : Type 0} (tells : M → Telling → M → Type 0) (o
   pub rest : List Command
   pub told : List Telling
   pub are_told : AreTold tells unaware told aware
-  pub changed : AllByRecursion IsPlain (commands_of steps ++ rest) → IsChangedAs options (commands_of steps ++ rest) given
+  pub changed : IsChangedAs options (commands_of steps ++ rest) given
   pub written : WritesPrefix before now (feed_of given)
 
 -- why a mended feed ended early. No page is a reason: a reader that failed is one, and then all before it is written.
@@ -149,6 +157,7 @@ StopsMended tells options fault before now unaware aware = ⊥
 -- ---- one step after the other
 -- no step was taken
 pub record IsMendingStart (options : ChangeOptions) (mending : Mending) : Type 0 where
+  pub start : IsStart (mending_of mending.import)
   pub changed : HasChanged mending.changes [] []
   pub asked : mending.changes.options ≡ options
   pub no_pages : mending.made.pages ≡ 0
@@ -202,11 +211,11 @@ pub record StopsReading {M : Type 0} (tells : M → Telling → M → Type 0) (o
   pub last : Import
   pub still : StillMends tells options before now unaware aware last mending
 
--- why no step is taken
-abbrev pub IsNextFault : MakingFault → Type 0
-IsNextFault (Read at) = ⊤
-IsNextFault Memory = ⊤
-IsNextFault fault = ⊥
+-- why no step is taken: if the reader failed, the import can be finished as before
+abbrev pub IsNextFault : MakingFault → Import → Import → Type 0
+IsNextFault (Read at) old new = mending_of new ≡ mending_of old
+IsNextFault Memory old new = ⊤
+IsNextFault fault old new = ⊥
 
 abbrev pub TurnsMended : {M : Type 0} → (M → Telling → M → Type 0) → ChangeOptions → Result Bool MakingFault → Option (List ℕ) → Option (List ℕ) → M → M → Mending → Type 0
 TurnsMended tells options (Ok true) before now unaware aware mending = StillMends tells options before now unaware aware mending.import mending

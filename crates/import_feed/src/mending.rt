@@ -10,7 +10,9 @@ use crate::giving::give;
 use crate::made::Made;
 use crate::telling::{Mends, tell_end, tell_step};
 use import_changes::{ChangeOptions, Changes};
-use import_mend::{Import, ImportFault, Step};
+use import_mend::{
+    Import, ImportFault, Step, commands_begin_links_without_a_skeleton, commands_hold_sound_links,
+};
 use ogg_command::Command;
 use std::alloc::Global;
 use std::io::{Read, Take, Write};
@@ -50,7 +52,7 @@ impl Mending {
     /// Reads up to the next page. Returns what was done, and the commands that the page completes.
     fn next<R: Read>(&mut self, reader: &mut Take<R>) -> Result<(Step, Vec<Command>), MakingFault>
         ensures ok { IfOk result (λ next. TakesStep self.old self.new next.0 next.1.items) }
-        ensures err { IfErr result (λ fault. IsNextFault fault × (self.new.changes ≡ self.old.changes) × (self.new.made ≡ self.old.made)) }
+        ensures err { IfErr result (λ fault. IsNextFault fault self.old.import self.new.import × (self.new.changes ≡ self.old.changes) × (self.new.made ≡ self.old.made)) }
     {
         let mut commands = Vec::new(self.alloc);
         match self.import.next(reader, &mut commands) {
@@ -91,6 +93,7 @@ impl Mending {
             → StillMends M.tells options before (W.contents writer.old) unaware mends.old self.old.import self.old
             → TurnsMended M.tells options result before (W.contents writer.new) unaware mends.new self.new }
     {
+        commands_begin_links_without_a_skeleton();
         let (step, commands) = match self.next(reader) {
             Ok(next) => next,
             Err(fault) => return Err(fault),
@@ -117,6 +120,8 @@ impl Mending {
             → (still : StillMends M.tells options before (W.contents writer.old) unaware mends.old last self.old)
             → ClosesMended M.tells options result before (W.contents writer.new) unaware mends.new still.steps self.old self.new }
     {
+        commands_begin_links_without_a_skeleton();
+        commands_hold_sound_links();
         let mut commands = Vec::new(self.alloc);
         let mend = match self.import.finish(&mut commands) {
             Ok(mend) => mend,

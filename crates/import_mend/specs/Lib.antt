@@ -11,3 +11,4 @@ pub mod Found
 pub mod Origin
 pub mod Room
 pub mod Telling
+pub mod Importing

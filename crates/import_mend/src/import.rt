@@ -1,11 +1,11 @@
 //! Any bytes into the commands of a sound chain, one page after the other.
-ghost use Rattle.std.specs.Prelude.{◌≡◌, ◌++◌, ℕ, List, IfOk, OnOk, OnErr, Ok, Err, true, false, Some, None};
-ghost use Rattle.ogg_page.specs.Page.{Page as PageValue, IsPage};
+ghost use Rattle.std.specs.Prelude.{◌≡◌, ◌++◌, ℕ, List, IfOk, OnOk, OnErr, Ok, Err, false, None};
 ghost use Rattle.link_chain.specs.ChainState.{is_open};
 ghost use Rattle.import_mend.specs.Found.{FindsNext, junk_before, offset_found};
-ghost use Rattle.import_mend.specs.Gives.{GivesEnd, mend_at_end, mending};
+ghost use Rattle.import_mend.specs.Gives.{GivesEnd, mend_at_end};
+ghost use Rattle.import_mend.specs.Importing.{IsStep, mending_of};
 ghost use Rattle.import_mend.specs.Room.{HasRoom};
-ghost use Rattle.import_mend.specs.Whole.{IsStart, TakesPage};
+ghost use Rattle.import_mend.specs.Whole.{IsStart};
 ghost use Rattle.import_pages.specs.Reader.{started};
 ghost use Rattle.ogg_command.specs.declared.command.Command.{Command as CommandOf};
 
@@ -45,7 +45,7 @@ pub struct Import {
 impl Import {
     /// Makes the memory of one page.
     pub fn new(alloc: Global) -> Result<Import, Memory>
-        ensures start { IfOk result (λ import. IsStart (mending import.mender.losses import.gatherer)) }
+        ensures start { IfOk result (λ import. IsStart (mending_of import)) }
         ensures pages { IfOk result (λ import. import.pages ≡ started) }
         ensures junk { IfOk result (λ import. import.junk ≡ 0) }
     {
@@ -65,20 +65,15 @@ impl Import {
         reader: &mut R,
         commands: &mut Vec<Command>,
     ) -> Result<Step, ImportFault>
-        ensures mends { IfOk result (λ step. step.is_page ≡ true → (offset : ℕ) × (page : PageValue) × IsPage page
-            × (self.new.pages.lent ≡ Some (offset, page)) × (more : List CommandOf) × (commands.new.items ≡ commands.old.items ++ more)
-            × TakesPage offset page (mending self.old.mender.losses self.old.gatherer) (mending self.new.mender.losses self.new.gatherer)
-            step.mend more) }
+        ensures steps { IfOk result (λ step. (more : List CommandOf) × (commands.new.items ≡ commands.old.items ++ more)
+            × IsStep self.old self.new step more) }
         ensures finds { IfOk result (λ step. self.old.pages.outcome ≡ None → (junk : ℕ)
             × FindsNext self.old.pages (R.remaining reader.old) (Ok tt) self.new.pages (R.remaining reader.new) self.old.junk junk
             × (step.junk ≡ junk_before (offset_found self.new.pages.lent self.new.pages.offset) junk) × (self.new.junk ≡ 0)) }
         ensures reads { OnErr result (result ≡ Err ImportFault.Read → (commands.new.items ≡ commands.old.items)
-            × (self.new.gatherer ≡ self.old.gatherer) × (self.new.mender.losses ≡ self.old.mender.losses)
+            × (mending_of self.new ≡ mending_of self.old)
             × (self.old.pages.outcome ≡ None → FindsNext self.old.pages (R.remaining reader.old) (Err PageReaderFault.Read) self.new.pages
             (R.remaining reader.new) self.old.junk self.new.junk)) }
-        ensures ends { IfOk result (λ step. step.is_page ≡ false → (commands.new.items ≡ commands.old.items)
-            × (self.new.gatherer ≡ self.old.gatherer) × (self.new.mender.losses ≡ self.old.mender.losses)
-            × (step.mend ≡ None) × (self.new.pages.lent ≡ None)) }
     {
         find_page(&mut self.pages, reader, &mut self.junk)?;
         let junk = take_junk(&self.pages, &mut self.junk);

@@ -1,5 +1,4 @@
-use Rattle.std.proofs.Common.{sym, ◌∙◌, ℕ, List, Option, subst, Err}
-use Rattle.import_changes.specs.declared.options.ChangeOptions.{ChangeOptions}
+use Rattle.std.proofs.Common.{sym, ◌∙◌, subst, Err}
 use Rattle.import_feed.specs.Mending.{EndsMended, StopsReading, TakesAllMended}
 use Rattle.import_feed.proofs.MendedSteps.{ends_reading, mended_whole, read_stops}
 use Rattle.import_feed.proofs.mended.finish_mended.Goals as goal

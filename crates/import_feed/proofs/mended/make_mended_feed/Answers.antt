@@ -21,7 +21,7 @@ returns-clause-made g c =
     mended_made g.M.Mends.tells c.args.options c.finish_mended.result _ _ c.args.mends.now _
     (c.finish_mended.ensures c.args.options _ c.args.mends.now
     (c.mend_all-outcome.ensures c.args.options _ c.args.mends.now
-    (starts_mended g.M.Mends.tells c.args.options _ _ c.args.mends.now c.in-Ok.mending _ c.in-Ok.ensures.ok refl refl
+    (starts_mended g.M.Mends.tells c.args.options _ _ c.args.mends.now c.in-Ok.mending _ c.in-Ok.ensures.ok refl refl refl
     c.in-Ok-announce.ensures.ok)))
 
 pub returns-clause-stopped : goal.returns-clause-stopped
@@ -29,5 +29,5 @@ returns-clause-stopped g c =
     mended_stopped g.M.Mends.tells c.args.options c.finish_mended.result _ _ c.args.mends.now _
     (c.finish_mended.ensures c.args.options _ c.args.mends.now
     (c.mend_all-outcome.ensures c.args.options _ c.args.mends.now
-    (starts_mended g.M.Mends.tells c.args.options _ _ c.args.mends.now c.in-Ok.mending _ c.in-Ok.ensures.ok refl refl
+    (starts_mended g.M.Mends.tells c.args.options _ _ c.args.mends.now c.in-Ok.mending _ c.in-Ok.ensures.ok refl refl refl
     c.in-Ok-announce.ensures.ok)))
