@@ -1,4 +1,5 @@
 mod Alike
+mod ComesOut
 mod Cuts
 mod Dropped
 mod Ends
@@ -22,3 +23,6 @@ mod Sound
 mod Sources
 mod Taken
 mod Values
+mod Waiting
+mod WaitsOn
+mod WholeRuns

@@ -90,7 +90,7 @@ nothing [] e = refl
 nothing (x ∷ l) e = absurd (omega (arith, e))
 
 -- of a stream with no unfinished packet nothing is kept
-finished_rest : (links : List (List Page)) (g : Gathered) (given : List Command) (serial : ℕ) (stream : StreamState) → HasGathered links g given → stream_in g.chain.streams serial ≡ Some stream → stream.finished ≡ true →
+pub finished_rest : (links : List (List Page)) (g : Gathered) (given : List Command) (serial : ℕ) (stream : StreamState) → HasGathered links g given → stream_in g.chain.streams serial ≡ Some stream → stream.finished ≡ true →
     rest_of serial g.link.streams ≡ []
 finished_rest links g given serial stream h known finished =
     let own : List Page = pages_with serial (last_link links) in
@@ -142,7 +142,7 @@ later_has false seen page number stream rest segments packets left is goes fresh
       | inr own ↦ all_have (not (leaves_open m (whole_stream stream))) (fresh_has seen page false number segments packets left own zero c)
     ]
 
-mended_position : (joined : Bool) (number : ℕ) (page : Page) → (mended joined number page).position ≡ page.position
+pub mended_position : (joined : Bool) (number : ℕ) (page : Page) → (mended joined number page).position ≡ page.position
 mended_position joined number page =
     left_has (λ (p : Page). p.position) (behind_rest joined page) refl
     ∙ either_has (λ (p : Page). p.position) (is_cut joined page) (record (without_values (front_values page.lacing) page) { flags = page.flags - 1 }) page refl
@@ -181,7 +181,7 @@ broken_found : (joined : Bool) (serial other : ℕ) (g : Gathered) → (other �
 broken_found true serial other g ne = refl
 broken_found false serial other g ne = other_found serial other whole_stream g.chain.streams (λ s. refl) ne
 
-broken_rest : (joined : Bool) (serial other : ℕ) (g : Gathered) → (other ≡ serial → ⊥) → rest_of other (broken_off joined serial g).link.streams ≡ rest_of other g.link.streams
+pub broken_rest : (joined : Bool) (serial other : ℕ) (g : Gathered) → (other ≡ serial → ⊥) → rest_of other (broken_off joined serial g).link.streams ≡ rest_of other g.link.streams
 broken_rest true serial other g ne = refl
 broken_rest false serial other g ne = rest_dropped serial other g.link.streams ne
 

@@ -12,3 +12,4 @@ pub mod Origin
 pub mod Room
 pub mod Telling
 pub mod Importing
+pub mod Runs

@@ -1,10 +1,12 @@
 //! What always holds of pages that are mended, over a whole input.
-ghost use Rattle.std.specs.Prelude.{◌≡◌, ◌+◌, ◌-◌, ◌<◌, ◌^◌, ◌++◌, [], ℕ, Some, None, Ok, List, Option, length};
+ghost use Rattle.std.specs.Prelude.{◌≡◌, ◌+◌, ◌-◌, ◌<◌, ◌^◌, ◌++◌, ◌∷◌, [], ℕ, Some, None, Ok, List, Option, true, false, length};
 ghost use Rattle.std.specs.List.{AllByRecursion};
 ghost use Rattle.ogg_page.specs.Page.{Page, IsPage, bytes_of_pages};
+ghost use Rattle.ogg_page.specs.LogicalStream.{is_first};
 ghost use Rattle.ogg_page.specs.Window.{LentAt};
 ghost use Rattle.link_chain.specs.Links.{AreLinks};
 ghost use Rattle.ogg_command.specs.declared.command.Command.{Command};
+ghost use Rattle.ogg_command.specs.declared.command.Entry.{Entry};
 ghost use Rattle.import_gather.specs.Giving.{IsPlain};
 ghost use Rattle.import_gather.specs.Gathered.{Gathered, HasGathered, without_packet};
 ghost use Rattle.import_mend.specs.Cut.{cut_links};
@@ -12,6 +14,7 @@ ghost use Rattle.import_mend.specs.Found.{AreGoodPages, FindsNext, FindsPages, H
 ghost use Rattle.import_mend.specs.Gives.{GivesEnd, GivesRest, Mending, open_streams};
 ghost use Rattle.import_mend.specs.Origin.{CommandFrom};
 ghost use Rattle.import_mend.specs.Room.{HasRoom};
+ghost use Rattle.import_mend.specs.Runs.{AreRun, ArePut, ComeOut, HoldWhole, is_left_out, packets_in, packets_of, run_of, waiting_in};
 ghost use Rattle.import_mend.specs.Ways.{way_of};
 ghost use Rattle.import_mend.specs.Whole.{AreWithin, Becomes, GathersPages, HasMended, IsStart, TakesPage, TakesPages, lost_of, pages_of};
 ghost use Rattle.import_mend.specs.declared.mend.Mend.{Mend};
@@ -82,6 +85,29 @@ pub fn packets_come_from_the_input()
     ensures end { (pages : List LentAt) (start new : Mending) (mends : List (Option Mend)) (last : Gathered) (given more : List Command)
         → AllByRecursion IsPage (pages_of pages) → IsStart start → TakesPages pages start new mends given → GivesEnd new.gathered last more
         → AllByRecursion (CommandFrom (pages_of pages)) (given ++ more) }
+{}
+
+/// Where nothing is told, nothing is lost: each packet that lies whole in a run of pages comes out, in order. It is put
+/// with the position of the page in which it ends, unless it is a header, which waits for its link's `Begin`.
+pub fn whole_packets_come_out()
+    ensures run { (serial : ℕ) (earlier run : List LentAt) (start old new : Mending) (told mends : List (Option Mend)) (before given : List Command)
+        → AllByRecursion IsPage (pages_of run) → IsStart start → TakesPages earlier start old told before → TakesPages run old new mends given
+        → AreRun serial run mends
+        → (entries : List Entry) × HoldWhole serial (run_of serial run mends) entries × ArePut serial entries old.gathered.link.begun given
+        × ComeOut serial (packets_of entries) old.gathered.link new.gathered.link given }
+    ensures one { (serial : ℕ) (pages : List Page) (entries others : List Entry) → HoldWhole serial pages entries → HoldWhole serial pages others
+        → entries ≡ others }
+    // The one packet of a stream's first page is its first header.
+    ensures first { (offset : ℕ) (page : Page) (earlier : List LentAt) (start old new : Mending) (told : List (Option Mend)) (mend : Option Mend)
+        (before given : List Command) → IsStart start → TakesPages earlier start old told before → TakesPage offset page old new mend given
+        → is_first page ≡ true → is_left_out mend ≡ false → ComeOut page.serial (page.body ∷ []) old.gathered.link new.gathered.link given }
+    // What waits comes out before anything else of its stream, whatever pages follow, and at the end all of it does.
+    ensures waits { (serial : ℕ) (earlier pages : List LentAt) (start old new : Mending) (told mends : List (Option Mend)) (before given : List Command)
+        → IsStart start → TakesPages earlier start old told before → TakesPages pages old new mends given
+        → (packets : List (List ℕ)) × ComeOut serial packets old.gathered.link new.gathered.link given }
+    ensures end { (serial : ℕ) (pages : List LentAt) (start new : Mending) (mends : List (Option Mend)) (last : Gathered) (given more : List Command)
+        → IsStart start → TakesPages pages start new mends given → GivesEnd new.gathered last more
+        → waiting_in serial new.gathered.link.streams ≡ packets_in serial more }
 {}
 
 /// After any pages each open stream can be ended, as `Mender::end` and `Import::finish` then do.

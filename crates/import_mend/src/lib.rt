@@ -28,7 +28,7 @@ pub use import::{Import, Step};
 pub use laws::{
     a_packet_is_dropped_from_the_links, commands_begin_links_without_a_skeleton,
     commands_hold_sound_links, open_streams_can_be_ended, packets_come_from_the_input,
-    pages_found_are_the_good_pages, sound_bitstreams_are_not_changed,
+    pages_found_are_the_good_pages, sound_bitstreams_are_not_changed, whole_packets_come_out,
 };
 pub use mend::Mend;
 pub use mender::Mender;
