@@ -6,10 +6,10 @@ use Rattle.std.specs.Map.{keys_of, values_of}
 use Rattle.std.proofs.lemmas.List.Folds.{list_any-append}
 use Rattle.ogg_command.specs.declared.command.NewStream.{NewStream}
 use Rattle.import_changes.specs.Changed.{ChangeState}
-use Rattle.import_changes.specs.Naming.{AreNamed, AreOnlyOf, IsLow, is_had, named, serials_of, stream_named}
+use Rattle.import_changes.specs.Naming.{AreNamed, AreOnlyOf, IsLow, named, serials_of, stream_named}
 use Rattle.import_changes.specs.Steps.{AreNamedFor, IsDescribedUnder, Names}
 use Rattle.import_changes.proofs.Begins.{described_serials}
-use Rattle.import_changes.proofs.Renumbers.{clash, names_are}
+use Rattle.import_changes.proofs.Renumbers.{names_are}
 use Rattle.import_changes.proofs.Steps.{named_serials}
 
 or_more : (a b c : Bool) → (a || c) ≡ true → ((a || b) || c) ≡ true

@@ -1,6 +1,6 @@
 -- Streams that are renumbered share no serial.
-use Rattle.std.proofs.Common.{◌≡◌, ℕ, Bool, true, false, List, [], ◌∷◌, ◌++◌, refl, sym, ◌∙◌, ap, subst, map}
-use Rattle.std.specs.Prelude.{nat_eq, ◌||◌}
+use Rattle.std.proofs.Common.{◌≡◌, ℕ, Bool, true, false, List, [], ◌∷◌, ◌++◌, refl, sym, ◌∙◌, ap, subst}
+use Rattle.std.specs.Prelude.{nat_eq}
 use Rattle.std.specs.List.{AllByRecursion, AllZip, IsDistinct, flat_map, list_any}
 use Rattle.std.proofs.lemmas.Bool.{or_parts}
 use Rattle.std.proofs.lemmas.List.{map-append}
@@ -10,7 +10,7 @@ use Rattle.ogg_command.specs.declared.command.Command.{Command}
 use Rattle.import_changes.specs.declared.options.ChangeOptions.{ChangeOptions}
 use Rattle.import_changes.specs.declared.options.Skeletons.{Skeletons}
 use Rattle.import_changes.specs.declared.options.Skeletons.TheVariants.{Kept, LeftOut, Made}
-use Rattle.import_changes.specs.Options.{is_none, is_none_with}
+use Rattle.import_changes.specs.Options.{is_none_with}
 use Rattle.import_changes.specs.Renumbered.{IsRenumberedStream, avoided, serials}
 use Rattle.import_changes.specs.Links.{ChangedFrom, IsBefore, IsChangedLink, the_others, those}
 use Rattle.import_changes.specs.Changed.{AreDistinctInLinks, ChangeState, HasChangedBeside, HaveTheirOwn, IsNotOf}

@@ -1,9 +1,8 @@
 -- Bytes that have come are the same to a page reader as bytes that its reader still has.
-use Rattle.std.proofs.Common.{◌≡◌, ◌≢◌, ℕ, ◌+◌, ◌-◌, ◌^◌, ◌<◌, List, [], ◌∷◌, ◌++◌, length, Option, Some, None, Result, Ok, Err, refl, sym, ◌∙◌, ap, subst, arith, append_assoc, append-nil, length-append, inl}
+use Rattle.std.proofs.Common.{◌≡◌, ◌≢◌, ℕ, ◌+◌, ◌-◌, ◌^◌, List, [], ◌∷◌, ◌++◌, length, Option, Some, None, Result, Ok, Err, refl, sym, ◌∙◌, ap, subst, arith, append_assoc, append-nil, length-append, inl}
 use Rattle.std.specs.Prelude.{min, sum}
 use Rattle.ogg_page.specs.Reading.{page_at}
 use Rattle.ogg_page.specs.Window.{LentAt}
-use Rattle.ogg_page.specs.declared.fault.PageFault.{PageFault}
 use Rattle.ogg_page.specs.declared.fault.PageFault.TheVariants.{Short}
 use Rattle.import_pages.specs.Reader.{Gives, GivesEnd, GivesFault, GivesPage, HasAdvanced, ReaderState, unlent}
 use Rattle.import_pages.specs.declared.fault.PageReaderFault.{PageReaderFault}

@@ -1,18 +1,15 @@
 -- An input whose bytes come piece by piece: the pages that are taken, and what is recorded of them.
-use Rattle.std.proofs.Common.{◌≡◌, ◌≢◌, ℕ, List, [], ◌∷◌, ◌++◌, Option, Some, None, Result, Ok, Err, refl, sym, ◌∙◌, ap, subst, append_assoc, append-nil}
+use Rattle.std.proofs.Common.{◌≡◌, ℕ, List, [], ◌∷◌, ◌++◌, Option, Some, None, Ok, refl, sym, ◌∙◌, ap, subst, append_assoc, append-nil}
 use Rattle.std.specs.Prelude.{⊤}
-use Rattle.ogg_page.specs.Reading.{page_at}
 use Rattle.ogg_page.specs.Window.{LentAt}
-use Rattle.ogg_page.specs.declared.fault.PageFault.TheVariants.{Short}
 use Rattle.feed_codec.specs.declared.item.Record.{Record}
 use Rattle.feed_codec.specs.declared.reply.Reply.{Reply}
 use Rattle.import_pages.specs.Reader.{HasAdvanced, ReaderState}
-use Rattle.import_mend.specs.Found.{PassesOne}
 use Rattle.import_mend.specs.declared.mend.Mend.{Mend}
 use Rattle.import_record.specs.Steps.{IntakeState, Takes}
 use Rattle.import_record.specs.Whole.Event.{Flushing, Taking, Resuming}
 use Rattle.import_record.specs.Whole.{Done, Event, Records, flush_then, nothing_done, page_then, pages_in}
-use Rattle.import_record.specs.Pushing.{Call, Comes, Drains, Feeds, Imports, InputState, IsStepped, bytes_in, event_of, events_in}
+use Rattle.import_record.specs.Pushing.{Call, Drains, Feeds, Imports, InputState, IsStepped, bytes_in, event_of, events_in}
 use Rattle.import_record.specs.Pushing.Call.{Came, Stepped}
 use Rattle.import_record.specs.declared.intake.Taken.{Taken}
 use Rattle.import_record.specs.declared.reading.Step.{Step}

@@ -1,5 +1,5 @@
 -- Commands that were run in turn, and one more.
-use Rattle.std.proofs.Common.{◌≡◌, ◌<◌, ◌≤◌, ◌+◌, ℕ, Option, List, [], ◌∷◌, ◌++◌, length, take, drop, map, refl, sym, ap, ◌∙◌, subst, arith}
+use Rattle.std.proofs.Common.{◌≡◌, ◌<◌, ◌+◌, ℕ, Option, List, [], ◌∷◌, ◌++◌, length, take, drop, refl, sym, ap, ◌∙◌, subst, arith}
 use Rattle.std.proofs.lemmas.List.{map-append}
 use Rattle.std.proofs.KnownBytes.{Appends-nil, Appends-trans}
 use Rattle.std.specs.Io.KnownBytes.{Appends}
@@ -10,7 +10,7 @@ use Rattle.feed_codec.specs.declared.item.Record.TheVariants.{Command as Command
 use Rattle.feed_codec.specs.declared.reply.Reply.{Reply}
 use Rattle.feed_run.specs.Answering.{AnswersAll}
 use Rattle.feed_run.specs.Laws.InTurn.{as_many, one_more}
-use Rattle.import_record.specs.Running.{HasRun, RunsAll, StopsAt, answered_by, answered_with, nothing, records_of}
+use Rattle.import_record.specs.Running.{HasRun, StopsAt, answered_by, answered_with, nothing, records_of}
 use Rattle.import_record.specs.declared.answering.Answered.{Answered}
 
 records_more : (commands : List Command) (command : Command) → records_of (commands ++ command ∷ []) ≡ records_of commands ++ CommandOf command ∷ []

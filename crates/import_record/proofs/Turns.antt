@@ -1,12 +1,11 @@
 -- Pages that are taken in turn, with flushes between them.
-use Rattle.std.proofs.Common.{◌≡◌, ℕ, Bool, true, false, Option, List, [], ◌∷◌, ◌++◌, map, refl, sym, ap, ◌∙◌, subst, append_assoc, append-nil}
+use Rattle.std.proofs.Common.{◌≡◌, ℕ, Bool, true, false, Option, List, [], ◌∷◌, ◌++◌, refl, sym, ap, ◌∙◌, subst, append_assoc, append-nil}
 use Rattle.std.specs.List.{AllByRecursion}
 use Rattle.ogg_page.specs.Window.{LentAt}
 use Rattle.link_chain.specs.declared.stream_state.StreamState.{StreamState}
 use Rattle.ogg_command.specs.declared.command.Command.{Command}
 use Rattle.ogg_command.specs.declared.command.Command.TheVariants.{Begin, Put, End}
 use Rattle.feed_codec.specs.declared.item.Record.{Record}
-use Rattle.feed_codec.specs.declared.item.Record.TheVariants.{Command as CommandOf, Flush}
 use Rattle.feed_codec.specs.declared.reply.Reply.{Reply}
 use Rattle.import_changes.specs.Changed.{ChangeState, HasChangedBeside, IsPlain}
 use Rattle.feed_run.specs.Answering.{AnswersAll}
@@ -21,7 +20,7 @@ use Rattle.import_record.specs.Begun.{BegunState, streams_after}
 use Rattle.import_record.specs.Resuming.{ResumesIf, begin_of, ends_of, holds_open}
 use Rattle.import_record.specs.Steps.{Become, IntakeState}
 use Rattle.import_record.proofs.Kept.{streams_both}
-use Rattle.import_record.specs.Whole.{Done, Event, GivesOn, GoOn, Records, flush_then, nothing_done, page_then, pages_in}
+use Rattle.import_record.specs.Whole.{Done, Event, GivesOn, GoOn, Records, pages_in}
 use Rattle.import_record.specs.Whole.Event.{Flushing, Taking, Resuming}
 
 -- ---- changes

@@ -1,7 +1,6 @@
 -- The input's last link, as long as streams of it are open: what is kept of it, so that it can be begun again. Ours.
-use Rattle.std.specs.Prelude.{ℕ, Bool, not, nat_eq, None, pos, List, [], ◌∷◌, map}
+use Rattle.std.specs.Prelude.{ℕ, Bool, not, nat_eq, pos, List, [], ◌∷◌, map}
 use Rattle.std.specs.List.{filter}
-use Rattle.ogg_command.specs.declared.command.Begin.{Begin}
 use Rattle.ogg_command.specs.declared.command.Command.{Command}
 use Rattle.ogg_command.specs.declared.command.Command.TheVariants.{Begin as BeginOf, Put as PutOf, End as EndOf}
 use Rattle.ogg_command.specs.declared.command.NewStream.{NewStream}

@@ -1,7 +1,6 @@
 -- What a step over an input that is read does. Ours.
-use Rattle.std.specs.Prelude.{◌≡◌, ℕ, Option, Some, None, Result, Ok, Err, List, []}
+use Rattle.std.specs.Prelude.{◌≡◌, ℕ, Option, Some, None, Ok, List, []}
 use Rattle.ogg_page.specs.Window.{LentAt}
-use Rattle.ogg_page.specs.declared.fault.PageFault.{PageFault}
 use Rattle.feed_codec.specs.declared.item.Record.{Record}
 use Rattle.feed_codec.specs.declared.item.Record.TheVariants.{Flush}
 use Rattle.feed_codec.specs.declared.reply.Reply.{Reply}

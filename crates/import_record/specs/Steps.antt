@@ -1,5 +1,5 @@
 -- What a step of a recording does. Ours.
-use Rattle.std.specs.Prelude.{◌≡◌, ℕ, Option, List, ◌++◌, ⊤}
+use Rattle.std.specs.Prelude.{◌≡◌, ℕ, Option, List, ◌++◌}
 use Rattle.std.specs.List.{AllByRecursion}
 use Rattle.ogg_page.specs.Page.{Page}
 use Rattle.ogg_command.specs.declared.command.Command.{Command}

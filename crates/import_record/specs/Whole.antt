@@ -10,7 +10,7 @@ use Rattle.feed_codec.specs.declared.reply.Reply.{Reply}
 use Rattle.import_changes.specs.Changed.{HasChangedBeside}
 use Rattle.feed_run.specs.Answering.{AnswersAll}
 use Rattle.feed_run.specs.Counting.{commands_in}
-use Rattle.import_mend.specs.Whole.{HasMended, IsStart}
+use Rattle.import_mend.specs.Whole.{HasMended}
 use Rattle.import_mend.specs.declared.mend.Mend.{Mend}
 use Rattle.ogg_page.specs.Page.{Page}
 use Rattle.import_record.specs.Resuming.{Resumes, begin_of, ends_of, holds_open}

@@ -1,6 +1,4 @@
-use Rattle.std.proofs.Common.{subst, sym}
 use Rattle.std.specs.Map.{values_of}
-use Rattle.import_changes.specs.Naming.{IsFreeFrom}
 use Rattle.import_changes.proofs.Names.{all_of_low, first_of_low}
 use Rattle.import_changes.proofs.naming.first_free.Goals as goal
 

@@ -1,4 +1,4 @@
-use Rattle.std.proofs.Common.{◌∙◌, ◌++◌, ap, refl}
+use Rattle.std.proofs.Common.{◌∙◌, ◌++◌, ap}
 use Rattle.import_changes.specs.Changed.{ChangeState}
 use Rattle.import_changes.proofs.Steps.{taken_more}
 use Rattle.import_changes.proofs.changes.Changes.avoid.Goals as goal

@@ -1,4 +1,4 @@
-use Rattle.std.proofs.Common.{◌≡◌, ◌++◌, [], List, ℕ, map, sym, ◌∙◌, ap, subst}
+use Rattle.std.proofs.Common.{◌++◌, [], List, ℕ, map, sym, ◌∙◌, ap, subst}
 use Rattle.ogg_command.specs.declared.command.NewStream.{NewStream}
 use Rattle.import_changes.specs.Changed.{ChangeState}
 use Rattle.import_changes.specs.Naming.{IsLow, serials_of, stream_named}

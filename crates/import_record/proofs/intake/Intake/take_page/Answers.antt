@@ -1,4 +1,4 @@
-use Rattle.std.proofs.Common.{◌≡◌, ◌++◌, [], ℕ, List, refl, ap, ◌∙◌, subst}
+use Rattle.std.proofs.Common.{◌≡◌, ◌++◌, ℕ, List, refl, ap, ◌∙◌, subst}
 use Rattle.ogg_command.specs.declared.command.Command.{Command}
 use Rattle.import_mend.specs.Whole.{lost_of}
 use Rattle.import_record.specs.Begun.{begun_after, begun_of}
