@@ -1,5 +1,5 @@
 -- What was asked for stays, whatever follows.
-use Rattle.std.proofs.Common.{◌≡◌, ℕ, ◌+◌, ◌-◌, ◌<◌, ◌≤◌, Bool, true, false, cond, nat_eq, List, [], ◌∷◌, ◌++◌, ◌⊎◌, length, take, drop, slice_index, codes, inl, inr, arith, refl, ap, sym, ◌∙◌, subst, append_assoc, append-nil}
+use Rattle.std.proofs.Common.{◌≡◌, ℕ, ◌+◌, ◌-◌, ◌<◌, ◌≤◌, Bool, true, false, cond, nat_eq, List, [], ◌∷◌, ◌++◌, ◌⊎◌, Option, Some, None, ◌&&◌, ◌==◌, not, map, length, take, drop, slice_index, codes, inl, inr, arith, refl, ap, sym, ◌∙◌, subst, append_assoc, append-nil}
 use Rattle.std.proofs.lemmas.Bool.{and_parts, cases_lt, or_cases, or_left, or_right}
 use Rattle.std.proofs.lemmas.List.{take-append-le, take_all, drop-take, drop-append-le, length-append, length-take}
 use Rattle.std.proofs.lemmas.List.Elements.{All-cons, All-nil}
@@ -10,8 +10,11 @@ use Rattle.httparse.proofs.GrammarLemmas.{print_request-append, request_unique, 
 use Rattle.httparse.proofs.PieceLemmas.{space_ends_token}
 use Rattle.httparse.proofs.RunLemmas.{run_unique}
 use Rattle.ogg_http.specs.Head.{head_bytes}
-use Rattle.serve_sources.specs.Asking.{HasHead, IsLive, IsOther, AsksOther, LacksHead, asks_live, is_source, listener_method, may_be_listener, may_be_live, may_be_source, may_name_live}
-use Rattle.serve_sources.specs.Live.{is_live_target}
+use Rattle.serve_sources.specs.Asking.{HasHead, IsOther, IsOwn, AsksOther, LacksHead, named, named_by, is_source, listener_method, may_be_listener, may_be_own, may_be_source, may_name_own}
+use Rattle.ogg_http.specs.Fields.{count_of}
+use Rattle.httparse.specs.Spans.{name_and_value}
+use Rattle.serve_sources.specs.Own.{own_of}
+use Rattle.serve_sources.specs.declared.own.OwnResource.{OwnResource}
 use Rattle.serve_sources.proofs.Fronts.{began, starts_grown, starts_so}
 use Rattle.serve_sources.proofs.Methods.{begins, first_of, one_method}
 use Rattle.serve_sources.proofs.Targets.{names_on}
@@ -65,12 +68,12 @@ has_grown front more request has =
     let (rest, grown) = head_grows front more in
     (has.0 ++ rest, subst (λ b. ReadsRequest b request (has.0 ++ rest)) (sym grown) (ReadsRequest-append (head_bytes front) request has.0 rest has.1), has.2)
 
-pub live_stays : (head : Bool) (front more : List ℕ) → IsLive head front → IsLive head (front ++ more)
-live_stays head front more live = record {
-  method = starts_grown front (listener_method head) more live.method;
-  request = live.request;
-  has = has_grown front more live.request live.has;
-  asks = live.asks;
+pub own_stays : (resource : OwnResource) (head : Bool) (front more : List ℕ) → IsOwn resource head front → IsOwn resource head (front ++ more)
+own_stays resource head front more own = record {
+  method = starts_grown front (listener_method head) more own.method;
+  request = own.request;
+  has = has_grown front more own.request own.has;
+  names = own.names;
 }
 
 -- if no head is there within the limit, none comes
@@ -129,9 +132,9 @@ starts_in_head text front within starts =
     starts_so (take 8192 text) front (take (8192 - length front) behind)
     (ap (take 8192) (begins text front starts) ∙ ap (λ k. take k (front ++ behind)) whole ∙ take-append-add front behind (8192 - length front))
 
--- if a live head comes after this method, the line may name what is live
-named_in_line : (c : ℕ) (p front more : List ℕ) (request : RequestHead) → 13 < c → length p ≤ 100 → AllPass is_token_byte (c ∷ p) → starts_with nat_eq front ((c ∷ p) ++ 32 ∷ []) ≡ true → HasHead (front ++ more) request → is_live_target request.target ≡ true → may_name_live (drop (length (c ∷ p) + 1) front) ≡ true
-named_in_line c p front more request visible few pass starts has live =
+-- if a head comes after this method that names this, the line may name it
+named_in_line : (resource : OwnResource) (c : ℕ) (p front more : List ℕ) (request : RequestHead) → 13 < c → length p ≤ 100 → AllPass is_token_byte (c ∷ p) → starts_with nat_eq front ((c ∷ p) ++ 32 ∷ []) ≡ true → HasHead (front ++ more) request → own_of request.target ≡ Some resource → may_name_own (drop (length (c ∷ p) + 1) front) ≡ true
+named_in_line resource c p front more request visible few pass starts has own =
     let n : ℕ = length (c ∷ p) + 1 in
     let word : List ℕ = (c ∷ p) ++ 32 ∷ [] in
     let size : length word ≡ n = length-append (c ∷ p) (32 ∷ []) in
@@ -141,9 +144,9 @@ named_in_line c p front more request visible few pass starts has live =
     no_line_end_first request.blank c (p ++ 32 ∷ []) text _ visible (first_of c (p ++ 32 ∷ []) text begun) (has.1.1 ∙ print_request-append request has.0) in
     let (after, line) = behind_method (c ∷ p) text request has.0 pass plain has.1 begun in
     let sizes : length front ≡ length word + length (drop (length word) front) = ap length (begins front word starts) ∙ length-append word (drop (length word) front) in
-    names_on (drop n front) more request.target after (8192 - n)
+    names_on resource (drop n front) more request.target after (8192 - n)
     (sym (drop_front n front more (omega (arith, size, sizes)) (omega (arith, few))) ∙ line)
-    has.1.0.target.1 live
+    has.1.0.target.1 own
 
 -- ---- other requests
 is_false : (b : Bool) → (b ≡ true → ⊥) → b ≡ false
@@ -173,22 +176,31 @@ head_is_token =
     let P : ℕ → Type 0 = λ b. is_token_byte b ≡ true in
     All-cons P 72 (codes "EAD") refl (All-cons P 69 (codes "AD") refl (All-cons P 65 (codes "D") refl (All-cons P 68 [] refl (All-nil P))))
 
--- the line of a live head that comes may be live
-line_may : (head : Bool) (front more : List ℕ) → IsLive head (front ++ more) → may_be_live front ≡ true
-line_may false front more live =
-    elim (began front more (codes "GET ") live.method) [
-      | inl whole ↦ by_first (may_be_listener front) (starts_with nat_eq front (codes "GET ")) (may_name_live (drop 4 front)) _ whole
-          (named_in_line 71 (codes "ET") front more live.request (omega arith) (omega arith) get_is_token whole live.has (and_parts _ _ live.asks).0)
-      | inr part ↦ ap (λ l. cond l true (cond (starts_with nat_eq front (codes "GET ")) (may_name_live (drop 4 front))
-          (cond (starts_with nat_eq front (codes "HEAD ")) (may_name_live (drop 5 front)) false))) (or_left _ _ part.1)
+-- what a head names, its target names
+by_target : (strict : Bool) (found : Option OwnResource) (resource : OwnResource) → cond strict None found ≡ Some resource → found ≡ Some resource
+by_target true found resource e = absurd (cc e)
+by_target false found resource e = e
+
+target_names : (resource : OwnResource) (request : RequestHead) → named_by request ≡ Some resource → own_of request.target ≡ Some resource
+target_names resource request e =
+    by_target ((request.minor == 1) && not (count_of (codes "host") (map name_and_value request.fields) == 1)) (own_of request.target) resource e
+
+-- the line of such a head that comes may be one
+line_may : (resource : OwnResource) (head : Bool) (front more : List ℕ) → IsOwn resource head (front ++ more) → may_be_own front ≡ true
+line_may resource false front more own =
+    elim (began front more (codes "GET ") own.method) [
+      | inl whole ↦ by_first (may_be_listener front) (starts_with nat_eq front (codes "GET ")) (may_name_own (drop 4 front)) _ whole
+          (named_in_line resource 71 (codes "ET") front more own.request (omega arith) (omega arith) get_is_token whole own.has (target_names resource own.request own.names))
+      | inr part ↦ ap (λ l. cond l true (cond (starts_with nat_eq front (codes "GET ")) (may_name_own (drop 4 front))
+          (cond (starts_with nat_eq front (codes "HEAD ")) (may_name_own (drop 5 front)) false))) (or_left _ _ part.1)
     ]
-line_may true front more live =
-    elim (began front more (codes "HEAD ") live.method) [
-      | inl whole ↦ by_second (may_be_listener front) (starts_with nat_eq front (codes "GET ")) (starts_with nat_eq front (codes "HEAD ")) (may_name_live (drop 4 front)) (may_name_live (drop 5 front)) false
+line_may resource true front more own =
+    elim (began front more (codes "HEAD ") own.method) [
+      | inl whole ↦ by_second (may_be_listener front) (starts_with nat_eq front (codes "GET ")) (starts_with nat_eq front (codes "HEAD ")) (may_name_own (drop 4 front)) (may_name_own (drop 5 front)) false
           (is_false _ (λ other. absurd (cc (one_method front false true other whole)))) whole
-          (named_in_line 72 (codes "EAD") front more live.request (omega arith) (omega arith) head_is_token whole live.has (and_parts _ _ live.asks).0)
-      | inr part ↦ ap (λ l. cond l true (cond (starts_with nat_eq front (codes "GET ")) (may_name_live (drop 4 front))
-          (cond (starts_with nat_eq front (codes "HEAD ")) (may_name_live (drop 5 front)) false))) (or_right _ _ part.1)
+          (named_in_line resource 72 (codes "EAD") front more own.request (omega arith) (omega arith) head_is_token whole own.has (target_names resource own.request own.names))
+      | inr part ↦ ap (λ l. cond l true (cond (starts_with nat_eq front (codes "GET ")) (may_name_own (drop 4 front))
+          (cond (starts_with nat_eq front (codes "HEAD ")) (may_name_own (drop 5 front)) false))) (or_right _ _ part.1)
     ]
 
 -- a head has more bytes than a method and a space
@@ -219,12 +231,12 @@ method_size false = omega arith
 method_size true = omega arith
 
 -- the head that is there stays the one that is there
-head_stays : (head : Bool) (front more : List ℕ) → AsksOther front → IsLive head (front ++ more) → ⊥
-head_stays head front more (request, has, none) live =
-    let same : request ≡ live.request =
-    (request_unique (head_bytes (front ++ more)) request live.request _ _ (has_grown front more request has).1 live.has.1).0 in
-    elim (began front more (listener_method head) live.method) [
-      | inl whole ↦ none head whole (ap asks_live same ∙ live.asks)
+head_stays : (resource : OwnResource) (head : Bool) (front more : List ℕ) → AsksOther front → IsOwn resource head (front ++ more) → ⊥
+head_stays resource head front more (request, has, none) own =
+    let same : request ≡ own.request =
+    (request_unique (head_bytes (front ++ more)) request own.request _ _ (has_grown front more request has).1 own.has.1).0 in
+    elim (began front more (listener_method head) own.method) [
+      | inl whole ↦ none resource head whole (ap named_by same ∙ own.names)
       | inr part ↦
           absurd (omega (
             arith,
@@ -237,12 +249,12 @@ head_stays head front more (request, has, none) live =
           ))
     ]
 
-pub no_listener_comes : (head : Bool) (front more : List ℕ) → IsOther front → IsLive head (front ++ more) → ⊥
-no_listener_comes head front more other live =
+pub no_own_comes : (resource : OwnResource) (head : Bool) (front more : List ℕ) → IsOther front → IsOwn resource head (front ++ more) → ⊥
+no_own_comes resource head front more other own =
     elim other.cause [
-      | inl line ↦ absurd (cc (sym (line_may head front more live) ∙ line))
-      | inr (inl asks) ↦ head_stays head front more asks live
-      | inr (inr lacks) ↦ no_head_comes front more lacks live.request live.has
+      | inl line ↦ absurd (cc (sym (line_may resource head front more own) ∙ line))
+      | inr (inl asks) ↦ head_stays resource head front more asks own
+      | inr (inr lacks) ↦ no_head_comes front more lacks own.request own.has
     ]
 
 pub no_source_is : (front more : List ℕ) → IsOther front → is_source (front ++ more) ≡ false

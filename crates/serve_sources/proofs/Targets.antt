@@ -1,7 +1,8 @@
--- A target that has come in part may still name what is live, if the whole one does.
-use Rattle.std.proofs.Common.{◌≡◌, ℕ, zero, suc, ◌+◌, ◌<◌, ◌≤◌, Bool, true, false, cond, nat_eq, List, [], ◌∷◌, ◌++◌, ◌⊎◌, ◌||◌, ◌==◌, Some, None, length, take, drop, map, min, get_or, codes, inl, inr, arith, refl, ap, sym, ◌∙◌, subst, append_assoc, take-append-drop}
-use Rattle.std.proofs.lemmas.Bool.{and_parts, cases_lt, ltb-true, ne_eqb}
-use Rattle.std.proofs.lemmas.List.{take-append-le, take_at, take-take, length-append, length-take}
+-- A target that has come in part may still name something, if the whole one does.
+use Rattle.std.proofs.Common.{◌≡◌, ℕ, zero, suc, ◌+◌, ◌<◌, ◌≤◌, Bool, true, false, cond, nat_eq, List, [], ◌∷◌, ◌++◌, ◌⊎◌, ◌||◌, ◌&&◌, ◌==◌, Some, None, length, take, drop, map, min, get_or, codes, inl, inr, arith, refl, ap, sym, ◌∙◌, subst, append_assoc, take-append-drop}
+use Rattle.std.proofs.lemmas.Bool.{and_parts, cases_lt, ltb-true, ne_eqb, or_left, or_right}
+use Rattle.std.specs.Option.{is_some}
+use Rattle.std.proofs.lemmas.List.{take-append-le, take_at, take-take, drop-append-le, length-append, length-take}
 use Rattle.std.proofs.Math.Seq.{take-append-add}
 use Rattle.std.proofs.Math.ListN.{get_or-append}
 use Rattle.std.proofs.lemmas.Slice.Eq.{bytes_eq-Decides}
@@ -10,10 +11,44 @@ use Rattle.std.specs.List.{starts_with, position}
 use Rattle.std.specs.Str.{bytes_eq}
 use Rattle.httparse.specs.Grammar.{AllPass, is_uri_byte}
 use Rattle.ogg_http.specs.Target.{has_scheme, path_of, path_from, first_slash}
-use Rattle.serve_sources.specs.Asking.{may_go_on, may_name_live}
-use Rattle.serve_sources.specs.Live.{is_live_path, is_live_target, may_be_live_path, may_be_live_target, may_have_scheme}
+use Rattle.serve_sources.specs.Asking.{may_go_on, may_name_own}
+use Rattle.serve_sources.specs.declared.own.OwnResource.{OwnResource}
+use Rattle.serve_sources.specs.declared.own.OwnResource.TheVariants.{Live, Player, Status}
+use Rattle.serve_sources.specs.Own.{ends_path, is_at, may_be_at, may_be_own_path, may_be_own_target, may_have_scheme, own_at, own_of}
 use Rattle.serve_sources.proofs.Placing.{no_place, place_is}
-use Rattle.serve_sources.proofs.Fronts.{began, starts_so}
+use Rattle.serve_sources.proofs.Fronts.{began}
+use Rattle.serve_sources.proofs.Methods.{begins}
+
+-- what ends a path ends it when more has come
+ends_front : (rest more : List ℕ) → ends_path (rest ++ more) ≡ true → ends_path rest ≡ true
+ends_front [] more h = refl
+ends_front (b ∷ rest) more h = h
+
+and_both : (a b : Bool) → a ≡ true → b ≡ true → (a && b) ≡ true
+and_both true b _ h = h
+and_both false b h _ = h
+
+-- a path that is this one in the end may be it
+at_on : (name path more : List ℕ) → is_at name (path ++ more) ≡ true → may_be_at name path ≡ true
+at_on name path more at =
+    let parts = and_parts _ _ at in
+    elim (began path more name parts.0) [
+      | inl whole ↦
+          let size : length path ≡ length name + length (drop (length name) path) =
+          ap length (begins path name whole) ∙ length-append name (drop (length name) path) in
+          let rests : drop (length name) (path ++ more) ≡ drop (length name) path ++ more =
+          drop-append-le (length name) path more (omega (arith, size)) in
+          or_right _ _ (and_both _ _ whole (ends_front (drop (length name) path) more (ap ends_path (sym rests) ∙ parts.1)))
+      | inr part ↦ or_left _ _ part.1
+    ]
+
+-- the path at which something stands is one of these
+which_of : (a b c d : Bool) (resource : OwnResource) → cond (a || b) (Some Live) (cond c (Some Player) (cond d (Some Status) None)) ≡ Some resource → (a ≡ true) ⊎ ((b ≡ true) ⊎ ((c ≡ true) ⊎ (d ≡ true)))
+which_of true b c d resource e = inl refl
+which_of false true c d resource e = inr (inl refl)
+which_of false false true d resource e = inr (inr (inl refl))
+which_of false false false true resource e = inr (inr (inr refl))
+which_of false false false false resource e = absurd (cc e)
 
 one_of : (a b c d : Bool) → (a ≡ true) ⊎ ((b ≡ true) ⊎ ((c ≡ true) ⊎ (d ≡ true))) → (a || b || c || d) ≡ true
 one_of true b c d h = refl
@@ -25,38 +60,20 @@ one_of false false false false (inr (inl h)) = h
 one_of false false false false (inr (inr (inl h))) = h
 one_of false false false false (inr (inr (inr h))) = h
 
-which_of : (a b c d : Bool) → (a || b || c || d) ≡ true → (a ≡ true) ⊎ ((b ≡ true) ⊎ ((c ≡ true) ⊎ (d ≡ true)))
-which_of true b c d h = inl refl
-which_of false true c d h = inr (inl refl)
-which_of false false true d h = inr (inr (inl refl))
-which_of false false false true h = inr (inr (inr refl))
-which_of false false false false h = absurd (cc h)
-
 -- the same of paths
-path_on : (path more : List ℕ) → is_live_path (path ++ more) ≡ true → may_be_live_path path ≡ true
-path_on path more live =
-    let plain : Bool = bytes_eq (path ++ more) (codes "/live") in
-    let named : Bool = bytes_eq (path ++ more) (codes "/live.ogg") in
-    let asked : Bool = starts_with nat_eq (path ++ more) (codes "/live?") in
-    let both : Bool = starts_with nat_eq (path ++ more) (codes "/live.ogg?") in
-    one_of (starts_with nat_eq (codes "/live.ogg?") path) (starts_with nat_eq (codes "/live?") path)
-    (starts_with nat_eq path (codes "/live?")) (starts_with nat_eq path (codes "/live.ogg?"))
-    (elim (which_of plain named asked both live) [
-      | inl h ↦ inr (inl (starts_so (codes "/live?") path (more ++ codes "?")
-          (ap (λ t. t ++ codes "?") (sym ((bytes_eq-Decides (path ++ more) (codes "/live")).0 h)) ∙ append_assoc path more (codes "?"))))
-      | inr (inl h) ↦ inl (starts_so (codes "/live.ogg?") path (more ++ codes "?")
-          (ap (λ t. t ++ codes "?") (sym ((bytes_eq-Decides (path ++ more) (codes "/live.ogg")).0 h)) ∙ append_assoc path more (codes "?")))
-      | inr (inr (inl h)) ↦ by_query (began path more (codes "/live?") h)
-      | inr (inr (inr h)) ↦ by_named_query (began path more (codes "/live.ogg?") h)
+path_on : (resource : OwnResource) (path more : List ℕ) → own_at (path ++ more) ≡ Some resource → may_be_own_path path ≡ true
+path_on resource path more own =
+    let live : List ℕ = codes "/live" in
+    let named : List ℕ = codes "/live.ogg" in
+    let player : List ℕ = codes "/player" in
+    let status : List ℕ = codes "/status" in
+    one_of (may_be_at live path) (may_be_at named path) (may_be_at player path) (may_be_at status path)
+    (elim (which_of (is_at live (path ++ more)) (is_at named (path ++ more)) (is_at player (path ++ more)) (is_at status (path ++ more)) resource own) [
+      | inl h ↦ inl (at_on live path more h)
+      | inr (inl h) ↦ inr (inl (at_on named path more h))
+      | inr (inr (inl h)) ↦ inr (inr (inl (at_on player path more h)))
+      | inr (inr (inr h)) ↦ inr (inr (inr (at_on status path more h)))
     ])
-  where
-    by_query : (starts_with nat_eq path (codes "/live?") ≡ true) ⊎ ((length path < 6) × (starts_with nat_eq (codes "/live?") path ≡ true)) → (starts_with nat_eq (codes "/live.ogg?") path ≡ true) ⊎ ((starts_with nat_eq (codes "/live?") path ≡ true) ⊎ ((starts_with nat_eq path (codes "/live?") ≡ true) ⊎ (starts_with nat_eq path (codes "/live.ogg?") ≡ true)))
-    by_query (inl whole) = inr (inr (inl whole))
-    by_query (inr part) = inr (inl part.1)
-
-    by_named_query : (starts_with nat_eq path (codes "/live.ogg?") ≡ true) ⊎ ((length path < 10) × (starts_with nat_eq (codes "/live.ogg?") path ≡ true)) → (starts_with nat_eq (codes "/live.ogg?") path ≡ true) ⊎ ((starts_with nat_eq (codes "/live?") path ≡ true) ⊎ ((starts_with nat_eq path (codes "/live?") ≡ true) ⊎ (starts_with nat_eq path (codes "/live.ogg?") ≡ true)))
-    by_named_query (inl whole) = inr (inr (inr whole))
-    by_named_query (inr part) = inl part.1
 
 either : (a b : Bool) → (a ≡ true) ⊎ (b ≡ true) → (a || b) ≡ true
 either true b h = refl
@@ -81,15 +98,15 @@ scheme_on target more scheme =
     (ap (map to_ascii_lowercase) part ∙ map_take to_ascii_lowercase count (take 7 (target ++ more)) ∙ ap (take count) whole ∙ sym (map_take to_ascii_lowercase count (codes "http://")))
 
 -- and of targets
-pub target_on : (target more : List ℕ) → is_live_target (target ++ more) ≡ true → may_be_live_target target ≡ true
-target_on target more live = by_scheme (has_scheme (target ++ more)) refl
+pub target_on : (resource : OwnResource) (target more : List ℕ) → own_of (target ++ more) ≡ Some resource → may_be_own_target target ≡ true
+target_on resource target more own = by_scheme (has_scheme (target ++ more)) refl
   where
-    by_scheme : (scheme : Bool) → has_scheme (target ++ more) ≡ scheme → may_be_live_target target ≡ true
+    by_scheme : (scheme : Bool) → has_scheme (target ++ more) ≡ scheme → may_be_own_target target ≡ true
     by_scheme true is = either _ _ (inr (scheme_on target more is))
     by_scheme false is =
         let plain : path_of (target ++ more) ≡ target ++ more =
         ap (λ b. cond b (path_from (first_slash (drop 7 (target ++ more))) (drop 7 (target ++ more))) (target ++ more)) is in
-        either _ _ (inl (path_on target more (ap is_live_path (sym plain) ∙ live)))
+        either _ _ (inl (path_on resource target more (ap own_at (sym plain) ∙ own)))
 
 -- a byte of a target is no space
 no_space : (target : List ℕ) → AllPass is_uri_byte target → (k : ℕ) → k < length target → (get_or target k 0 == 32) ≡ false
@@ -108,9 +125,9 @@ nowhere part more pass =
     no_place (λ b. b == 32) part (λ k inside.
     ap (λ x. x == 32) (sym (get_or-append part more 0 k inside)) ∙ no_space (part ++ more) pass k (omega (arith, inside, whole)))
 
--- what has come after the method, if a target that names what is live is there in the end
-pub names_on : (come more target after : List ℕ) (n : ℕ) → take n (come ++ more) ≡ target ++ 32 ∷ after → AllPass is_uri_byte target → is_live_target target ≡ true → may_name_live come ≡ true
-names_on come more target after n reads pass live =
+-- what has come after the method, if a target that names something is there in the end
+pub names_on : (resource : OwnResource) (come more target after : List ℕ) (n : ℕ) → take n (come ++ more) ≡ target ++ 32 ∷ after → AllPass is_uri_byte target → own_of target ≡ Some resource → may_name_own come ≡ true
+names_on resource come more target after n reads pass own =
     let sizes : length (target ++ 32 ∷ after) ≡ length target + length (32 ∷ after) = length-append target (32 ∷ after) in
     let enough : length target < n = omega (arith, ap length reads, sizes, length-take-most n (come ++ more)) in
     elim (cases_lt (length target) (length come)) [
@@ -127,8 +144,8 @@ names_on come more target after n reads pass live =
           let place : position (λ b. b == 32) come ≡ Some (length target) =
           ap (position (λ b. b == 32)) whole ∙ first_space target (drop (length target + 1) come) pass in
           ap (λ o. may_go_on o come) place
-          ∙ ap is_live_target (ap (take (length target)) whole ∙ take_at target (32 ∷ drop (length target + 1) come) (length target) refl)
-          ∙ live
+          ∙ ap (λ t. is_some (own_of t)) (ap (take (length target)) whole ∙ take_at target (32 ∷ drop (length target + 1) come) (length target) refl)
+          ∙ ap is_some own
       | inr within ↦
           let part : come ≡ take (length come) target =
           sym (take_at come more (length come) refl)
@@ -138,7 +155,7 @@ names_on come more target after n reads pass live =
           let whole : target ≡ come ++ drop (length come) target =
           sym (take-append-drop (length come) target) ∙ ap (λ t. t ++ drop (length come) target) (sym part) in
           ap (λ o. may_go_on o come) (nowhere come (drop (length come) target) (subst (AllPass is_uri_byte) whole pass))
-          ∙ target_on come (drop (length come) target) (ap is_live_target (sym whole) ∙ live)
+          ∙ target_on resource come (drop (length come) target) (ap own_of (sym whole) ∙ own)
     ]
   where
     length-take-most : (m : ℕ) (xs : List ℕ) → length (take m xs) ≤ m

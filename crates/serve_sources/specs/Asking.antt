@@ -8,7 +8,9 @@ use Rattle.httparse.specs.Grammar.{RequestHead, ReadsRequest}
 use Rattle.httparse.specs.Spans.{name_and_value}
 use Rattle.ogg_http.specs.Fields.{count_of}
 use Rattle.ogg_http.specs.Head.{head_bytes, most_bytes, most_fields, IsAwaited, IsHopeless}
-use Rattle.serve_sources.specs.Live.{is_live_target, may_be_live_target}
+use Rattle.std.specs.Option.{is_some}
+use Rattle.serve_sources.specs.declared.own.OwnResource.{OwnResource}
+use Rattle.serve_sources.specs.Own.{own_of, may_be_own_target}
 
 -- a source's method and the space after it: PUT (RFC 9110, section 9.3.4), or SOURCE as encoders have it
 abbrev pub is_source : List ℕ → Bool
@@ -23,26 +25,26 @@ abbrev pub listener_method : Bool → List ℕ
 listener_method false = codes "GET "
 listener_method true = codes "HEAD "
 
--- the bytes after the method may still become a target that names what is live, or it has come and does
+-- the bytes after the method may still become a target that the station answers itself, or it has come and is one
 abbrev pub may_go_on : Option ℕ → List ℕ → Bool
-may_go_on None target = may_be_live_target target
-may_go_on (Some end) target = is_live_target (take end target)
+may_go_on None target = may_be_own_target target
+may_go_on (Some end) target = is_some (own_of (take end target))
 
 -- the same of all bytes after the method
-abbrev pub may_name_live : List ℕ → Bool
-may_name_live target = may_go_on (position (λ b. b == byte " ") target) target
+abbrev pub may_name_own : List ℕ → Bool
+may_name_own target = may_go_on (position (λ b. b == byte " ") target) target
 
 -- more bytes may make this a listener's method
 abbrev pub may_be_listener : List ℕ → Bool
 may_be_listener front =
     starts_with nat_eq (listener_method false) front || starts_with nat_eq (listener_method true) front
 
--- more bytes may make this the request line of a live listener, or they have made it
-abbrev pub may_be_live : List ℕ → Bool
-may_be_live front =
+-- more bytes may make this the request line of such a listener, or they have made it
+abbrev pub may_be_own : List ℕ → Bool
+may_be_own front =
     if may_be_listener front then true
-    else if starts_with nat_eq front (listener_method false) then may_name_live (drop 4 front)
-    else if starts_with nat_eq front (listener_method true) then may_name_live (drop 5 front)
+    else if starts_with nat_eq front (listener_method false) then may_name_own (drop 4 front)
+    else if starts_with nat_eq front (listener_method true) then may_name_own (drop 5 front)
     else false
 
 -- the bytes begin with this head, and it isn't past the limits
@@ -50,30 +52,32 @@ abbrev pub HasHead : List ℕ → RequestHead → Type 0
 HasHead front request =
     (rest : List ℕ) × ReadsRequest (head_bytes front) request rest × (length request.fields ≤ most_fields)
 
--- the head names what is live, and has one Host field if it is of HTTP/1.1 (section 3.2)
-abbrev pub names_live : List ℕ → Bool → ℕ → Bool
-names_live target http11 hosts = is_live_target target && not (http11 && not (hosts == 1))
+-- what a target names in a head of this version with this number of Host fields: HTTP/1.1 has exactly one (section 3.2)
+abbrev pub named : List ℕ → Bool → ℕ → Option OwnResource
+named target http11 hosts = if http11 && not (hosts == 1) then None else own_of target
 
-abbrev pub asks_live : RequestHead → Bool
-asks_live request =
-    names_live request.target (request.minor == 1) (count_of (codes "host") (map name_and_value request.fields))
+-- what a head names of all that the station answers itself
+abbrev pub named_by : RequestHead → Option OwnResource
+named_by request =
+    named request.target (request.minor == 1) (count_of (codes "host") (map name_and_value request.fields))
 
--- a whole head asks for what is live, by GET or by HEAD
-pub record IsLive (head : Bool) (front : List ℕ) : Type 0 where
+-- a whole head asks for this, by GET or by HEAD
+pub record IsOwn (resource : OwnResource) (head : Bool) (front : List ℕ) : Type 0 where
   pub method : starts_with nat_eq front (listener_method head) ≡ true
   pub request : RequestHead
   pub has : HasHead front request
-  pub asks : asks_live request ≡ true
+  pub names : named_by request ≡ Some resource
 
 -- a source's or a listener's request may still come
 abbrev pub MayCome : List ℕ → Type 0
-MayCome front = (may_be_source front ≡ true) ⊎ ((may_be_live front ≡ true) × IsAwaited front)
+MayCome front = (may_be_source front ≡ true) ⊎ ((may_be_own front ≡ true) × IsAwaited front)
 
 -- a whole head asks for something else
 abbrev pub AsksOther : List ℕ → Type 0
 AsksOther front =
     (request : RequestHead) × HasHead front request
-    × ((head : Bool) → starts_with nat_eq front (listener_method head) ≡ true → asks_live request ≡ true → ⊥)
+    × ((resource : OwnResource) (head : Bool)
+    → starts_with nat_eq front (listener_method head) ≡ true → named_by request ≡ Some resource → ⊥)
 
 -- there is no head, and none comes, or none came within the limit
 pub record LacksHead (front : List ℕ) : Type 0 where
@@ -85,4 +89,4 @@ pub record LacksHead (front : List ℕ) : Type 0 where
 pub record IsOther (front : List ℕ) : Type 0 where
   pub no_source : is_source front ≡ false
   pub nor_front : may_be_source front ≡ false
-  pub cause : (may_be_live front ≡ false) ⊎ (AsksOther front ⊎ LacksHead front)
+  pub cause : (may_be_own front ≡ false) ⊎ (AsksOther front ⊎ LacksHead front)

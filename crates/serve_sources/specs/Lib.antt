@@ -1,5 +1,5 @@
 pub mod Asking
-pub mod Live
+pub mod Own
 pub mod Answers
 pub mod Credentials
 pub mod Password

@@ -1,9 +1,10 @@
 //! What the first bytes of a connection ask for.
 ghost use Rattle.std.specs.Prelude.{◌≡◌, ◌≢◌, ◌↔◌, ◌<◌, length, Bool, true, false, nat_eq, IfSome, Some};
+ghost use Rattle.serve_sources.specs.declared.own.OwnResource.{OwnResource};
 ghost use Rattle.std.specs.List.{starts_with};
-ghost use Rattle.serve_sources.specs.Asking.{IsLive, IsOther, MayCome, is_source, listener_method, may_be_listener, may_be_live, may_be_source, may_name_live, names_live};
+ghost use Rattle.serve_sources.specs.Asking.{IsOther, IsOwn, MayCome, is_source, listener_method, may_be_listener, may_be_own, may_be_source, may_name_own, named};
 
-use crate::live::{is_live_target, may_be_live_target};
+use crate::own::{OwnResource, may_be_own_target, own_of};
 use crate::places::place_of;
 use ogg_http::{HeadRead, read_head};
 
@@ -14,8 +15,8 @@ pub enum Asks {
     More,
     /// A source: the request's method is PUT or SOURCE.
     Source,
-    /// What is recorded now, without an end: `GET` or `HEAD` of `/live` or `/live.ogg`.
-    Live { head: bool },
+    /// What the station answers itself: `GET` or `HEAD` of its path.
+    Own { resource: OwnResource, head: bool },
     /// Anything else. The file server answers it, byte for byte.
     File,
 }
@@ -32,12 +33,12 @@ fn may_be_source(front: &[u8]) -> bool
     b"PUT ".starts_with(front) || b"SOURCE ".starts_with(front)
 }
 
-fn may_name_live(target: &[u8]) -> bool
-    ensures { result ≡ may_name_live target.now }
+fn may_name_own(target: &[u8]) -> bool
+    ensures { result ≡ may_name_own target.now }
 {
     match place_of(b' ', target) {
-        Some(end) => is_live_target(&target[..end]),
-        None => may_be_live_target(target),
+        Some(end) => own_of(&target[..end]).is_some(),
+        None => may_be_own_target(target),
     }
 }
 
@@ -47,38 +48,49 @@ fn may_be_listener(front: &[u8]) -> bool
     b"GET ".starts_with(front) || b"HEAD ".starts_with(front)
 }
 
-fn may_be_live(front: &[u8]) -> bool
-    ensures { result ≡ may_be_live front.now }
+fn may_be_own(front: &[u8]) -> bool
+    ensures { result ≡ may_be_own front.now }
 {
     if may_be_listener(front) {
         true
     } else if front.starts_with(b"GET ") {
-        may_name_live(&front[4..])
+        may_name_own(&front[4..])
     } else if front.starts_with(b"HEAD ") {
-        may_name_live(&front[5..])
+        may_name_own(&front[5..])
     } else {
         false
     }
 }
 
-fn names_live(target: &[u8], http11: bool, hosts: u32) -> bool
-    ensures { result ≡ names_live target.now http11 hosts }
+fn named(target: &[u8], http11: bool, hosts: u32) -> Option<OwnResource>
+    ensures { result ≡ named target.now http11 hosts }
 {
-    is_live_target(target) && !(http11 && hosts != 1)
+    if http11 && hosts != 1 {
+        None
+    } else {
+        own_of(target)
+    }
 }
 
-/// What a whole head asks for that isn't a source's, if it names what is live or not.
-fn asks_whole(front: &[u8], names_live: bool) -> Asks
+/// What a whole head asks for that isn't a source's, if it names this of what the station answers itself.
+fn asks_whole(front: &[u8], named: Option<OwnResource>) -> Asks
     ensures never { (result ≢ Asks.More) × (result ≢ Asks.Source) }
-    ensures live { (head : Bool) → (result ≡ Asks.Live head) ↔
-        ((starts_with nat_eq front.now (listener_method head) ≡ true) × (names_live ≡ true)) }
+    ensures own { (resource : OwnResource) (head : Bool) → (result ≡ Asks.Own resource head) ↔
+        ((starts_with nat_eq front.now (listener_method head) ≡ true) × (named ≡ Some resource)) }
 {
-    if !names_live {
-        Asks::File
-    } else if front.starts_with(b"GET ") {
-        Asks::Live { head: false }
+    let Some(resource) = named else {
+        return Asks::File;
+    };
+    if front.starts_with(b"GET ") {
+        Asks::Own {
+            resource,
+            head: false,
+        }
     } else if front.starts_with(b"HEAD ") {
-        Asks::Live { head: true }
+        Asks::Own {
+            resource,
+            head: true,
+        }
     } else {
         Asks::File
     }
@@ -91,7 +103,7 @@ impl Asks {
         ensures source { (result ≡ Asks.Source) ↔ (is_source front.now ≡ true) }
 
         // A listener is known once its head is whole, and only then.
-        ensures live { (head : Bool) → (result ≡ Asks.Live head) ↔ IsLive head front.now }
+        ensures own { (resource : OwnResource) (head : Bool) → (result ≡ Asks.Own resource head) ↔ IsOwn resource head front.now }
 
         // What is awaited may come, and what isn't awaited doesn't come.
         ensures more { result ≡ Asks.More → MayCome front.now }
@@ -107,10 +119,10 @@ impl Asks {
         }
         match read_head(front) {
             HeadRead::Whole(request) => {
-                let names = names_live(request.target, request.http11, request.hosts);
-                asks_whole(front, names)
+                let named = named(request.target, request.http11, request.hosts);
+                asks_whole(front, named)
             }
-            HeadRead::Partial if may_be_live(front) => Asks::More,
+            HeadRead::Partial if may_be_own(front) => Asks::More,
             _ => Asks::File,
         }
     }

@@ -16,7 +16,8 @@ ghost use Rattle.serve_sources.specs.declared.refused.Refused.TheVariants.{BadRe
 ghost use Rattle.serve_sources.specs.Fields.{only};
 ghost use Rattle.serve_sources.specs.Framing.{framing_of};
 ghost use Rattle.serve_sources.specs.Offer.{Says};
-ghost use Rattle.serve_sources.specs.Asking.{HasHead, IsLive, IsOther, LacksHead, is_source};
+ghost use Rattle.serve_sources.specs.Asking.{HasHead, IsOther, IsOwn, LacksHead, is_source};
+ghost use Rattle.serve_sources.specs.declared.own.OwnResource.{OwnResource};
 ghost use Rattle.serve_sources.specs.Credentials.{IsBasic, authorizes, value_authorizes};
 ghost use Rattle.serve_sources.specs.Body.{Takes, body_for, limits};
 
@@ -24,9 +25,9 @@ ghost use Rattle.serve_sources.specs.Body.{Takes, body_for, limits};
 /// After other bytes no source's and no listener's request comes.
 pub fn answers_stay()
     ensures source { (front more : List ℕ) → is_source front ≡ true → is_source (front ++ more) ≡ true }
-    ensures live { (head : Bool) (front more : List ℕ) → IsLive head front → IsLive head (front ++ more) }
+    ensures own { (resource : OwnResource) (head : Bool) (front more : List ℕ) → IsOwn resource head front → IsOwn resource head (front ++ more) }
     ensures no_source { (front more : List ℕ) → IsOther front → is_source (front ++ more) ≡ false }
-    ensures no_listener { (head : Bool) (front more : List ℕ) → IsOther front → ¬ (IsLive head (front ++ more)) }
+    ensures no_own { (resource : OwnResource) (head : Bool) (front more : List ℕ) → IsOther front → ¬ (IsOwn resource head (front ++ more)) }
 {}
 
 /// No source is taken without the password, and none whose head has two fields that say where the body ends, be it

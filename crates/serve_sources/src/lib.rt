@@ -1,7 +1,7 @@
 //! Heads and bodies of source clients: encoders that send an Ogg bitstream to a station over HTTP (RFC 9110, RFC 9112).
 //!
-//! `Asks::of` says what the first bytes of a connection ask for: a source's request, what is recorded now, or anything
-//! else, which is the file server's. `Offer::of` reads a source's head, and says whether its body is taken; no source is
+//! `Asks::of` says what the first bytes of a connection ask for: a source's request, what the station answers itself, or
+//! anything else, which is the file server's. `Offer::of` reads a source's head, and says whether its body is taken; no source is
 //! taken without the `Password` (RFC 7617). `Body::next` takes the framing off the body: chunks, a length, or none.
 //!
 //! Nothing here has a handle, and only `Password::new` takes memory. The caller keeps the bytes that came, and passes
@@ -20,8 +20,8 @@ mod credentials;
 mod fields;
 mod framing;
 mod laws;
-mod live;
 mod offer;
+mod own;
 mod password;
 mod places;
 mod refused;
@@ -35,5 +35,6 @@ pub use laws::{
     heads_stay,
 };
 pub use offer::Offer;
+pub use own::OwnResource;
 pub use password::{Password, PasswordFault};
 pub use refused::Refused;
