@@ -7,19 +7,28 @@
 //! Start at `specs/Response.antt`, then `Player`. `src/laws.rt` has the laws.
 #![tactic(auto)]
 
+mod escape;
+mod heard;
 mod laws;
+mod log;
 mod numbers;
 mod page;
 mod pieces;
 mod player;
+mod reply;
 mod response;
 mod sample;
 mod status;
 mod value;
+mod visit;
 
+pub use escape::append_shown;
+pub use heard::{request_line, value_of};
 pub use laws::fronts_are_these;
 pub use numbers::{Mends, Numbers};
 pub use page::PLAYER;
 pub use player::{PLAYER_FRONT, append_player};
+pub use reply::{Reply, fresh, reply_after};
 pub use status::{STATUS_FRONT, append_status};
 pub use std::alloc::AllocError as Memory;
+pub use visit::Visit;
