@@ -1,6 +1,6 @@
 -- Parts of a line of the log that others wrote. They are escaped as Apache's httpd does ("Log Files", "Security Warning"
 -- of mod_log_config) and nginx does (log_format, escape=default).
-use Rattle.std.specs.Prelude.{ℕ, ◌+◌, ◌/◌, ◌%◌, ◌≤◌, ◌<◌, nat_lt, nat_le, ◌==◌, ◌||◌, if◌then◌else◌, List, [], ◌∷◌, ◌++◌, Option, Some, None, option_map, length, codes}
+use Rattle.std.specs.Prelude.{ℕ, ◌+◌, ◌/◌, ◌%◌, ◌^◌, ◌≤◌, ◌<◌, nat_lt, ◌==◌, ◌||◌, if◌then◌else◌, List, [], ◌∷◌, ◌++◌, Option, Some, None, option_map, length, codes}
 use Rattle.std.specs.List.{flat_map}
 use Rattle.std.specs.Str.{byte}
 
@@ -16,7 +16,7 @@ abbrev pub escape : ℕ → List ℕ
 escape b =
     if b == byte "\"" then codes "\\\""
     else if b == byte "\\" then codes "\\\\"
-    else if nat_lt b 32 || nat_le 127 b then hex_text b
+    else if nat_lt b 32 || nat_lt 126 b then hex_text b
     else b ∷ []
 
 abbrev pub escaped : List ℕ → List ℕ
@@ -29,6 +29,9 @@ shown_text text = if length text == 0 then codes "-" else escaped text
 -- printable ASCII (RFC 20, section 4)
 abbrev pub IsPrintable : ℕ → Type 0
 IsPrintable b = (32 ≤ b) × (b < 127)
+
+abbrev pub IsByte : ℕ → Type 0
+IsByte b = b < 2 ^ 8
 
 -- what a reader finds in quotes: all before the first quote that no backslash stands before, and what follows it
 abbrev pub with_front : List ℕ → Option (List ℕ × List ℕ) → Option (List ℕ × List ℕ)

@@ -35,7 +35,7 @@ fn append_byte(out: &mut Vec<u8>, byte: u8) -> Result<(), Memory>
         out.extend_from_slice(b"\\\"")
     } else if byte == b'\\' {
         out.extend_from_slice(b"\\\\")
-    } else if byte < 32 || byte >= 127 {
+    } else if byte < 32 || byte > 126 {
         append_hex(out, byte)
     } else {
         out.extend_from_slice(&[byte])
