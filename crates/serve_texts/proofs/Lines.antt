@@ -9,15 +9,10 @@ more_lines (suc lines) name text some =
     let e : lines ≡ suc lines - 1 = omega arith in
     ap (λ n. value_at (value_among n name) name (line_end text) text) e
 
-first_of : (a b : Bool) (x y z : List ℕ) → a ≡ false → b ≡ true → cond a x (cond b y z) ≡ y
-first_of true b x y z h g = absurd (cc h)
-first_of false true x y z h g = refl
-first_of false false x y z h g = absurd (cc g)
-
-second_of : (a b : Bool) (x y z : List ℕ) → a ≡ false → b ≡ false → cond a x (cond b y z) ≡ z
-second_of true b x y z h g = absurd (cc h)
-second_of false true x y z h g = absurd (cc g)
-second_of false false x y z h g = refl
+third_of : (a b : Bool) (x y z : List ℕ) → a ≡ false → b ≡ false → cond a x (cond b y z) ≡ z
+third_of true b x y z h g = absurd (cc h)
+third_of false true x y z h g = absurd (cc g)
+third_of false false x y z h g = refl
 
 -- the same of a line that has come
 at_line : (lines end : ℕ) (name text line : List ℕ) → lines ≢ 0 → line_end text ≡ Some end → line ≡ trimmed (take end text) → value_among lines name text ≡ cond (length line == 0) [] (cond (is_field name line) (trimmed (drop (length name) line)) (value_among (lines - 1) name (drop (end + 1) text)))
@@ -26,12 +21,7 @@ at_line lines end name text line some here is =
     ∙ ap (λ o. value_at (value_among (lines - 1) name) name o text) here
     ∙ ap (λ l. cond (length l == 0) [] (cond (is_field name l) (trimmed (drop (length name) l)) (value_among (lines - 1) name (drop (end + 1) text)))) (sym is)
 
-pub in_line : (lines end : ℕ) (name text line : List ℕ) → lines ≢ 0 → line_end text ≡ Some end → line ≡ trimmed (take end text) → (length line == 0) ≡ false → is_field name line ≡ true → value_among lines name text ≡ trimmed (drop (length name) line)
-in_line lines end name text line some here is full named =
-    at_line lines end name text line some here is
-    ∙ first_of (length line == 0) (is_field name line) [] (trimmed (drop (length name) line)) (value_among (lines - 1) name (drop (end + 1) text)) full named
-
 pub after_it : (lines end : ℕ) (name text line : List ℕ) → lines ≢ 0 → line_end text ≡ Some end → line ≡ trimmed (take end text) → (length line == 0) ≡ false → is_field name line ≡ false → value_among lines name text ≡ value_among (lines - 1) name (drop (end + 1) text)
 after_it lines end name text line some here is full other =
     at_line lines end name text line some here is
-    ∙ second_of (length line == 0) (is_field name line) [] (trimmed (drop (length name) line)) (value_among (lines - 1) name (drop (end + 1) text)) full other
+    ∙ third_of (length line == 0) (is_field name line) [] (trimmed (drop (length name) line)) (value_among (lines - 1) name (drop (end + 1) text)) full other

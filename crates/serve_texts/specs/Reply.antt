@@ -1,6 +1,9 @@
 -- What a line of the log has of a response, from its bytes as they are sent (RFC 9112, sections 4 and 6).
-use Rattle.std.specs.Prelude.{ℕ, ◌+◌, ◌-◌, ◌*◌, ◌/◌, ◌%◌, ◌^◌, min, Bool, true, false, nat_le, nat_lt, ◌==◌, ◌&&◌, if◌then◌else◌, List, [], ◌∷◌, length}
+use Rattle.std.specs.Prelude.{◌≢◌, ◌<◌, ◌++◌, codes, ℕ, ◌+◌, ◌-◌, ◌*◌, ◌/◌, ◌%◌, ◌^◌, min, Bool, true, false, nat_le, nat_lt, ◌==◌, ◌&&◌, if◌then◌else◌, List, [], ◌∷◌, length}
 use Rattle.std.specs.Char.{is_ascii_digit}
+use Rattle.std.specs.List.{All, flat_map}
+use Rattle.ogg_http.specs.Answer.{line}
+use Rattle.serve_texts.specs.Status.{three_digits}
 use Rattle.serve_texts.specs.declared.reply.Reply.{Reply}
 
 -- nothing was sent
@@ -23,10 +26,12 @@ next_status seen status b =
 abbrev pub is_interim : ℕ → Bool
 is_interim status = status / 100 == 1
 
+-- a head of this status was sent, and so many bytes of content
+abbrev pub replied : ℕ → ℕ → Reply
+replied status content = record { seen = 12; status = status; ending = 4; in_content = true; content = content }
+
 abbrev pub after_head : ℕ → Reply
-after_head status =
-    if is_interim status then fresh
-    else record { seen = 12; status = status; ending = 4; in_content = true; content = 0 }
+after_head status = if is_interim status then fresh else replied status 0
 
 -- one more byte of a head
 abbrev pub next : Reply → ℕ → Reply
@@ -45,3 +50,18 @@ abbrev pub reply_after : Reply → List ℕ → Reply
 reply_after reply [] = reply
 reply_after reply (b ∷ rest) =
     if reply.in_content then counted reply (length (b ∷ rest)) else reply_after (next reply b) rest
+
+-- The same of whole responses, for the laws.
+
+-- no part of a line end
+abbrev pub IsText : ℕ → Type 0
+IsText b = (b ≢ 13) × (b ≢ 10)
+
+-- a line of a head that isn't the empty one at its end
+abbrev pub IsFieldLine : List ℕ → Type 0
+IsFieldLine text = (0 < length text) × All IsText text
+
+-- a status line, fields, an empty line and content (RFC 9112, sections 2.1 and 4)
+abbrev pub response_bytes : ℕ → List ℕ → List (List ℕ) → List ℕ → List ℕ
+response_bytes status reason fields content =
+    line (codes "HTTP/1.1 " ++ (three_digits status ++ reason)) ++ (flat_map line fields ++ (line [] ++ content))

@@ -1,5 +1,5 @@
 //! What a line of the log has of a request's head.
-ghost use Rattle.std.specs.Prelude.{◌≡◌, ◌≤◌, drop, length};
+ghost use Rattle.std.specs.Prelude.{◌≡◌, ◌≤◌, ◌<◌, ◌+◌, drop, length};
 ghost use Rattle.serve_texts.specs.Heard.{after_line, is_field, is_request_line, line_end, request_line, trimmed, value_among, value_of};
 
 /// The greatest number of fields that are looked at.
@@ -47,30 +47,40 @@ fn rest_from(at: usize, text: &[u8]) -> &[u8]
     &text[at..]
 }
 
+fn rest_after(end: usize, text: &[u8]) -> &[u8]
+    requires { end < length text.now }
+    ensures { result.now ≡ drop (end + 1) text.now }
+{
+    &text[end + 1..]
+}
+
 fn value_among<'a>(lines: u32, name: &[u8], text: &'a [u8]) -> &'a [u8]
     ensures { result.now ≡ value_among lines name.now text.now }
 {
-    if lines == 0 {
-        return b"";
+    let mut left = lines;
+    let mut rest = text;
+    while left > 0 {
+        let Some(end) = line_end(rest) else {
+            return b"";
+        };
+        let line = trimmed(&rest[..end]);
+        if line.is_empty() {
+            return b"";
+        }
+        if is_field(name, line) {
+            return trimmed(rest_from(name.len(), line));
+        }
+        rest = rest_after(end, rest);
+        left -= 1;
     }
-    let Some(end) = line_end(text) else {
-        return b"";
-    };
-    let line = trimmed(&text[..end]);
-    if line.is_empty() {
-        b""
-    } else if is_field(name, line) {
-        trimmed(rest_from(name.len(), line))
-    } else {
-        value_among(lines - 1, name, rest_from(end + 1, text))
-    }
+    b""
 }
 
 fn after_line(head: &[u8]) -> &[u8]
     ensures { result.now ≡ after_line (line_end head.now) head.now }
 {
     match line_end(head) {
-        Some(end) => rest_from(end + 1, head),
+        Some(end) => rest_after(end, head),
         None => b"",
     }
 }

@@ -1,11 +1,13 @@
 //! What always holds of what a station says.
-ghost use Rattle.std.specs.Prelude.{◌≡◌, ◌++◌, ◌∷◌, ℕ, List, Some};
+ghost use Rattle.std.specs.Prelude.{◌≡◌, ◌<◌, ◌≤◌, ◌^◌, ◌++◌, ◌∷◌, ℕ, List, Some, length};
 ghost use Rattle.std.specs.List.{All};
 ghost use Rattle.std.specs.Str.{byte};
 ghost use Rattle.serve_texts.specs.Escape.{IsByte, IsPrintable, escaped, until_quote};
 ghost use Rattle.serve_texts.specs.Player.{player_front};
+ghost use Rattle.serve_texts.specs.Reply.{IsFieldLine, IsText, fresh, replied, reply_after, response_bytes};
 ghost use Rattle.serve_texts.specs.Status.{status_front};
 ghost use Rattle.serve_texts.specs.declared.player.TheConstants.{PLAYER_FRONT};
+ghost use Rattle.serve_texts.specs.declared.reply.Reply.{Reply as ReplyOf};
 ghost use Rattle.serve_texts.specs.declared.status.TheConstants.{STATUS_FRONT};
 
 /// The constant lines of the responses.
@@ -20,4 +22,17 @@ pub fn parts_are_quoted()
     ensures printable { (text : List ℕ) → All IsByte text → All IsPrintable (escaped text) }
     ensures found { (text rest : List ℕ) → All IsByte text
         → until_quote (escaped text ++ byte "\"" ∷ rest) ≡ Some (escaped text, rest) }
+{}
+
+/// Of a response, its status and the length of its content are found, however its bytes are cut. A response of a status
+/// from 100 to 199 is passed over.
+pub fn responses_are_read()
+    ensures pieces { (reply : ReplyOf) (first more : List ℕ) → reply.content < 2 ^ 64
+        → reply_after (reply_after reply first) more ≡ reply_after reply (first ++ more) }
+    ensures whole { (status : ℕ) (reason : List ℕ) (fields : List (List ℕ)) (content : List ℕ)
+        → 200 ≤ status → status < 1000 → All IsText reason → All IsFieldLine fields → length content < 2 ^ 64
+        → reply_after fresh (response_bytes status reason fields content) ≡ replied status (length content) }
+    ensures interim { (status : ℕ) (reason : List ℕ) (fields : List (List ℕ)) (more : List ℕ)
+        → 100 ≤ status → status < 200 → All IsText reason → All IsFieldLine fields
+        → reply_after fresh (response_bytes status reason fields more) ≡ reply_after fresh more }
 {}

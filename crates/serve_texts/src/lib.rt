@@ -24,7 +24,7 @@ mod visit;
 
 pub use escape::append_shown;
 pub use heard::{request_line, value_of};
-pub use laws::{fronts_are_these, parts_are_quoted};
+pub use laws::{fronts_are_these, parts_are_quoted, responses_are_read};
 pub use numbers::{Mends, Numbers};
 pub use page::PLAYER;
 pub use player::{PLAYER_FRONT, append_player};

@@ -124,11 +124,15 @@ live.addEventListener("play", () => {
   wanted = true;
 });
 
-// A pause lets go of the stream, so that it goes on with what is recorded then.
+// Lets go of the stream. What is played next is what is recorded then.
+function letGo() {
+  live.src = "/live";
+}
+
 live.addEventListener("pause", () => {
   if (live.ended || live.error) return;
   wanted = false;
-  live.load();
+  letGo();
 });
 
 function playAgain() {
@@ -136,7 +140,7 @@ function playAgain() {
   retry = setTimeout(() => {
     retry = 0;
     if (!wanted) return;
-    live.load();
+    letGo();
     live.play().catch(() => {});
   }, 3000);
 }

@@ -95,19 +95,25 @@ fn each_metric_has_its_help_its_kind_and_its_samples(rt: HostRuntime) -> Result<
     append_status(&mut head, &NUMBERS, true)?;
     let mut out = Vec::new(rt.alloc());
     append_status(&mut out, &NUMBERS, false)?;
-    let mut rest = out.as_slice().strip_prefix(head.as_slice()).unwrap_or(b"");
+    let text = out.as_slice().strip_prefix(head.as_slice()).unwrap_or(b"");
+    // What stands after the last line feed is no line.
+    let mut is_over = false;
     let mut before = None;
-    let mut samples = 0;
-    while let Some(end) = rest.iter().position(|b| *b == b'\n') {
-        let line = line_of(&rest[..end]);
+    let mut samples = 0u64;
+    for part in text.split(|b| *b == b'\n') {
+        assert!(rt; !is_over);
+        if part.is_empty() {
+            is_over = true;
+            continue;
+        }
+        let line = line_of(part);
         assert!(rt; follows(before, line));
         if let Some(Line::Sample(_, _)) = line {
-            samples += 1;
+            samples = samples.saturating_add(1);
         }
         before = line;
-        rest = &rest[end + 1..];
     }
-    assert!(rt; rest.is_empty());
+    assert!(rt; is_over);
     assert!(rt; samples == 26);
     Ok(())
 }

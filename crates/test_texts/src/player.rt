@@ -1,19 +1,16 @@
 //! The player, and the policy that lets it run.
 use base64::engine::general_purpose::STANDARD;
+use memchr::memmem::find;
 use serve_texts::{PLAYER, PLAYER_FRONT, append_player};
 use sha2::{Digest, Sha256};
 use std::alloc::{AllocError, Global};
 use std::test::Fail;
 
-fn place_of(needle: &[u8], text: &[u8]) -> Option<usize> {
-    text.windows(needle.len()).position(|part| part == needle)
-}
-
 /// What stands between the two, if each stands in the text.
 fn between<'a>(before: &[u8], after: &[u8], text: &'a [u8]) -> Option<&'a [u8]> {
-    let start = place_of(before, text)? + before.len();
+    let start = find(text, before)?.saturating_add(before.len());
     let rest = text.get(start..)?;
-    let end = place_of(after, rest)?;
+    let end = find(rest, after)?;
     rest.get(..end)
 }
 
@@ -39,7 +36,7 @@ fn the_policy_has_the_hashes_of_the_style_and_of_the_script(rt: HostRuntime) -> 
         let text = between(before, after, PLAYER).unwrap_or(b"");
         assert!(rt; !text.is_empty());
         let source = source_of(rt.alloc(), directive, text)?;
-        assert!(rt; place_of(source.as_slice(), PLAYER_FRONT).is_some());
+        assert!(rt; find(PLAYER_FRONT, source.as_slice()).is_some());
     }
     Ok(())
 }
@@ -58,7 +55,7 @@ fn the_page_is_small_and_has_nothing_from_elsewhere(rt: HostRuntime) {
         b" onclick=",
     ];
     for &text in &foreign {
-        assert!(rt; place_of(text, PLAYER).is_none());
+        assert!(rt; find(PLAYER, text).is_none());
     }
 }
 
@@ -74,7 +71,7 @@ fn it_plays_without_its_script(rt: HostRuntime) {
         b"<a href=\"/status\">",
     ];
     for &text in &needed {
-        assert!(rt; place_of(text, PLAYER).is_some());
+        assert!(rt; find(PLAYER, text).is_some());
     }
 }
 

@@ -1,4 +1,5 @@
 //! The status, as a whole.
+use memchr::memmem::find;
 use serve_texts::{Mends, Numbers, append_status};
 use std::test::Fail;
 
@@ -136,7 +137,7 @@ fn milliseconds_are_written_as_seconds(rt: HostRuntime) -> Result<(), Fail> {
         numbers.commit_milliseconds = commit_milliseconds;
         let mut out = Vec::new(rt.alloc());
         append_status(&mut out, &numbers, false)?;
-        assert!(rt; out.as_slice().windows(line.len()).any(|part| part == line));
+        assert!(rt; find(out.as_slice(), line).is_some());
     }
     Ok(())
 }
@@ -148,6 +149,6 @@ fn nothing_on_the_air_is_0(rt: HostRuntime) -> Result<(), Fail> {
     let mut out = Vec::new(rt.alloc());
     append_status(&mut out, &numbers, false)?;
     let line: &[u8] = b"\nkudzuturret_on_air 0\n";
-    assert!(rt; out.as_slice().windows(line.len()).any(|part| part == line));
+    assert!(rt; find(out.as_slice(), line).is_some());
     Ok(())
 }
