@@ -2,3 +2,4 @@ pub mod Values
 pub mod Lines
 pub mod Escaping
 pub mod Replying
+pub mod Lining

@@ -1,8 +1,10 @@
 //! What always holds of what a station says.
-ghost use Rattle.std.specs.Prelude.{◌≡◌, ◌<◌, ◌≤◌, ◌^◌, ◌++◌, ◌∷◌, ℕ, List, Some, length};
+ghost use Rattle.std.specs.Prelude.{◌≡◌, ◌<◌, ◌≤◌, ◌^◌, ◌++◌, ◌∷◌, ℕ, List, Some, codes, length};
 ghost use Rattle.std.specs.List.{All};
 ghost use Rattle.std.specs.Str.{byte};
 ghost use Rattle.serve_texts.specs.Escape.{IsByte, IsPrintable, escaped, until_quote};
+ghost use Rattle.httpdate.specs.declared.date.HttpDate.{HttpDate as Date};
+ghost use Rattle.serve_texts.specs.Log.{log_line};
 ghost use Rattle.serve_texts.specs.Player.{player_front};
 ghost use Rattle.serve_texts.specs.Reply.{IsFieldLine, IsText, fresh, replied, reply_after, response_bytes};
 ghost use Rattle.serve_texts.specs.Status.{status_front};
@@ -22,6 +24,13 @@ pub fn parts_are_quoted()
     ensures printable { (text : List ℕ) → All IsByte text → All IsPrintable (escaped text) }
     ensures found { (text rest : List ℕ) → All IsByte text
         → until_quote (escaped text ++ byte "\"" ∷ rest) ≡ Some (escaped text, rest) }
+{}
+
+/// A line of the log is printable, but for the line feed at its end.
+pub fn lines_are_printable()
+    ensures { (address head : List ℕ) (date : Date) (reply : ReplyOf)
+        → All IsByte address → All IsByte head → reply.content < 2 ^ 64
+        → (text : List ℕ) × All IsPrintable text × (log_line address date head reply ≡ text ++ codes "\n") }
 {}
 
 /// Of a response, its status and the length of its content are found, however its bytes are cut. A response of a status

@@ -3,8 +3,9 @@
 //! Without scripts it is a plain page that plays `/live` and has links. With its script it says whether something is
 //! recorded, and lists the links of the file, each to be played or fetched. Nothing of it comes from elsewhere.
 //!
-//! The hashes of its style and of its script stand in `player.rt`: whoever changes one of the two must take the hash
-//! that the tests print.
+//! The policy in `player.rt`, and that in `specs/Player.antt`, has the hashes of the page's style and of its script. With
+//! another style or script they have others: for what stands between the tags, `openssl dgst -sha256 -binary | base64`
+//! gives the hash, and a test compares it.
 
 /// The page.
 pub const PLAYER: &[u8] = br##"<!doctype html>
