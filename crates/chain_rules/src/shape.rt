@@ -74,6 +74,13 @@ impl Shape {
         self.chain.serials()
     }
 
+    /// How many links there are.
+    pub fn links(&self) -> u64
+        ensures { result ≡ self.now.chain.links }
+    {
+        self.chain.links()
+    }
+
     /// The size in bytes of the pages that a command would add, or why it is refused: the first reason in the order
     /// of `Refusal`. With them, and the byte after them, the file isn't longer than it may be.
     pub fn check(&self, command: &Command) -> Result<u64, Refusal>

@@ -191,6 +191,13 @@ impl<D: Disk> Recorder<D> {
         self.shape.serials()
     }
 
+    /// How many links the file has, those that wait included.
+    pub fn links(&self) -> u64
+        ensures { result ≡ self.now.chain.links }
+    {
+        self.shape.links()
+    }
+
     /// Whether the disk has failed.
     pub fn is_failed(&self) -> bool
         ensures { result ≡ self.now.file.failed }

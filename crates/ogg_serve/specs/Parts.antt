@@ -72,6 +72,11 @@ length_in (Some recorder) lost = recorder.chain.length_of
 length_in None (Some lost) = lost.end
 length_in None None = 0
 
+-- how many links there are, those that wait included
+abbrev pub links_in : {D : Type 0} → Option (RecorderState D) → ℕ
+links_in (Some recorder) = recorder.chain.links
+links_in None = 0
+
 -- the streams of the last link, and the serials of all streams, those that wait included
 abbrev pub streams_in : {D : Type 0} → Option (RecorderState D) → List StreamState
 streams_in (Some recorder) = recorder.chain.streams

@@ -4,7 +4,7 @@ ghost use Rattle.ogg_page.specs.Page.{Page};
 ghost use Rattle.link_chain.specs.ChainState.{chain_state_of};
 ghost use Rattle.serve_machine.specs.Hub.{HubState, is_failed};
 ghost use Rattle.ogg_serve.specs.declared.opening.Lost.{Lost as LostOf};
-ghost use Rattle.ogg_serve.specs.Parts.{failed_in, length_in, serials_in, streams_in};
+ghost use Rattle.ogg_serve.specs.Parts.{failed_in, length_in, links_in, serials_in, streams_in};
 ghost use Rattle.ogg_serve.specs.Showing.{HasLinks, Shows, ShowsPlace};
 
 use crate::hub::Hub;
@@ -63,6 +63,23 @@ pub(crate) fn serials_of<D: Disk>(file: &Option<Recorder<D>>) -> &[u32]
     }
 }
 
+/// How many links there are, those that wait included.
+pub(crate) fn links_of<D: Disk>(file: &Option<Recorder<D>>) -> u64
+    ensures links { result ≡ links_in file.now }
+    ensures machine { (lost : Option (LostOf D)) (machine : HubState) (links : List (List Page))
+        → ShowsPlace D.is_honest D.state file.now lost machine → HasLinks machine links
+        → result ≡ (chain_state_of links).links }
+{
+    bytes_are_one_chain();
+    match file {
+        Some(recorder) => {
+            let _end = recorder.end();
+            recorder.links()
+        }
+        None => 0,
+    }
+}
+
 /// Whether the disk has failed, or there is no file.
 pub(crate) fn has_failed<D: Disk>(file: &Option<Recorder<D>>) -> bool
     ensures failed { result ≡ failed_in file.now }
@@ -104,6 +121,15 @@ impl<D: Disk> Hub<D> {
             → HasLinks machine links → result.now ≡ (chain_state_of links).serials }
     {
         serials_of(&self.file)
+    }
+
+    /// How many links the file has, those that wait included. Without a file there are none.
+    pub fn links(&self) -> u64
+        ensures links { result ≡ links_in self.now.file }
+        ensures machine { (machine : HubState) (links : List (List Page)) → Shows D.is_honest D.state self.now machine
+            → HasLinks machine links → result ≡ (chain_state_of links).links }
+    {
+        links_of(&self.file)
     }
 
     /// Whether there is a file: there is none after a reopening that failed.
