@@ -19,5 +19,6 @@ mod skeletons;
 
 pub use changes::Changes;
 pub use laws::renumbered_streams_have_their_own_serials;
+pub use naming::{free_serial, name_all, name_of};
 pub use ogg_command::Memory;
 pub use options::{ChangeOptions, Skeletons};
