@@ -1,18 +1,22 @@
 #!/usr/bin/env python3
-"""What `feed --mend` must make of any bytes, by a plain program of the tests' own (crates/import_mend/specs).
+"""What `feed --mend` and `archive` must make of any bytes, by a plain program of the tests' own (crates/import_mend/specs).
 
     mending.py PROGRAM damage       the damaged files of reading.py
     mending.py PROGRAM broken       small files that are cut, joined midway, with pages left out, doubled or swapped, ..
     mending.py PROGRAM random       random files, the same in each run
     mending.py PROGRAM sound        sound files: the same feed as without `--mend`, and nothing is told
+    mending.py PROGRAM archived     all these files but the sound ones, and more random ones, by `archive`
 
 Compared are the `mended` lines, and for each link its streams in order, each with its serial, its packets, their positions
-and its end. A link's headers have no positions in a feed.
+and its end. A link's headers have no positions in a feed. In an archive all streams have ended, each has a serial of its
+own, and packets whose positions go back, or are none, are refused.
 """
+import itertools
 import os
 import random
 import subprocess
 import sys
+import tempfile
 import zlib
 
 sys.path.insert(0, os.path.dirname(os.path.abspath(__file__)))
@@ -235,8 +239,8 @@ def is_alike(link, made):
     ) and all(sum(position is None for _, position in packets) <= 3 for _, packets, _ in made)
 
 
-def run(words, data):
-    return subprocess.run(words, input=data, capture_output=True, timeout=20)
+def run(words, data, seconds=20):
+    return subprocess.run(words, input=data, capture_output=True, timeout=seconds)
 
 
 def differs(program, data):
@@ -385,8 +389,8 @@ def broken():
         yield b"".join(made) + page(LAST, 12, 1, number, [2], b"on")
 
 
-def random_files():
-    for seed in range(500):
+def random_files(count=500):
+    for seed in range(count):
         chance = random.Random(9000 + seed)
         pages = []
         for serial in chance.sample(range(1, 6), chance.choice((1, 1, 2, 3))):
@@ -414,7 +418,7 @@ def random_files():
                 pages[at], pages[other] = pages[other], pages[at]
             elif what == 3:
                 del pages[min(at, other) : max(at, other)]
-            elif what == 4:
+            elif what == 4 and pages[at]:
                 place = chance.randrange(len(pages[at]))
                 pages[at] = pages[at][:place] + bytes([pages[at][place] ^ 1 << chance.randrange(8)]) + pages[at][place + 1 :]
             elif what == 5:
@@ -451,6 +455,107 @@ def compare(program, files):
     return 1 if wrong or count < 300 else 0
 
 
+class KeptStream:
+    """A stream in a file's pages, and the packets of its mended pages that a recorder keeps of it."""
+
+    def __init__(self, serial, packets=()):
+        self.serial, self.packets, self.open, self.ended = serial, [], None, False
+        last = 0
+        for packet, position in packets:
+            # The first one is the only header: no stream here is of a codec that has more.
+            if position is None or last <= position < 2**63:
+                self.packets.append((packet, position))
+                last = position or last
+
+    def add(self, one):
+        for part, ends in one.parts:
+            part = (self.open or b"") + part
+            self.open = None if ends else part
+            if ends:
+                self.packets.append((part, one.position if self.packets else None))
+        self.ended = one.has(LAST)
+
+
+def links_in(data):
+    """The links of a file's pages, which must be sound."""
+    if reading.chain_of(data) != ("chain %d\n" % len(data), 0):
+        return None
+    links = []
+    for at, parts, _ in reading.found(data):
+        one = Page(at, parts)
+        if one.has(FIRST):
+            if not links or all(stream.ended for stream in links[-1].values()):
+                links.append({})
+            links[-1][one.serial] = KeptStream(one.serial)
+        links[-1][one.serial].add(one)
+    return [list(link.values()) for link in links]
+
+
+def archived_otherwise(program, path, data, end):
+    """How what `archive` adds to a file, whose pages ended here, differs from the definition, as a line, or nothing; and
+    where the pages end then."""
+    before = b""
+    if os.path.exists(path):
+        with open(path, "rb") as file:
+            before = file.read(end)
+    ran = run([program, "archive", path, "--seal"], data, 100)
+    with open(path, "rb") as file:
+        after = file.read()
+    told, links = mended(data)
+    wanted = [[KeptStream(serial, packets) for serial, packets, _ in link] for link in links]
+    refused = [stream.packets for link in wanted for stream in link] != [packets for link in links for _, packets, _ in link]
+    lines = ran.stderr.decode().splitlines()
+    summed = [line.split() for line in lines if line.startswith("archived ")]
+    if len(summed) != 1 or ran.returncode != int(refused) or (lines[-1:] == ["fault refused"]) != refused:
+        return "status %d, %r" % (ran.returncode, ran.stderr[-200:]), 0
+    if [line for line in lines if line.startswith("mended ")] != told or any(line.startswith("refused ") for line in lines) != refused:
+        return "it tells\n  %r\nand not\n  %r" % (lines, told), 0
+    # A file is cut to its pages only if nothing was refused.
+    end = int(summed[0][3])
+    if end > len(after) or end < len(after) and not refused or int(summed[0][1]) != len(wanted):
+        return "it tells of %r, and the file has %d bytes" % (summed, len(after)), 0
+    after = after[:end]
+    had, made = links_in(before), links_in(after)
+    if had is None or made is None or after[: len(before)] != before:
+        return "the file isn't sound, or what was in it has changed", end
+    made = made[len(had) :]
+    if [[stream.packets for stream in link] for link in made] != [[stream.packets for stream in link] for link in wanted]:
+        return "it keeps\n  %.600r\nand not\n  %.600r" % tuple([[stream.packets for stream in link] for link in of] for of in (made, wanted)), end
+    if not all(stream.ended and stream.open is None for link in made for stream in link):
+        return "a stream is open", end
+    taken = [stream.serial for link in had for stream in link]
+    for link, own in zip(made, wanted):
+        serials, asked = [stream.serial for stream in link], [stream.serial for stream in own]
+        if set(taken) & set(serials) or len(set(serials)) < len(serials):
+            return "a serial is taken twice", end
+        if not set(taken) & set(asked) and serials != asked:
+            return "serials %r are changed to %r though they are free" % (asked, serials), end
+        taken += serials
+    return None, end
+
+
+def compare_archived(program, together=30, most=6):
+    """So many inputs at a time are archived one behind the other, and then the first of them alone. A file is archived into
+    so often before the next one."""
+    files = list(itertools.chain(damaged(), broken(), random_files(1700)))
+    groups = [files[at : at + together] for at in range(0, len(files), together)]
+    runs = wrong = end = 0
+    with tempfile.TemporaryDirectory() as folder:
+        path = os.path.join(folder, "archive.ogg")
+        for data in itertools.chain.from_iterable((b"".join(group), group[0]) for group in groups):
+            if runs % most == 0 and runs:
+                os.remove(path)
+                end = 0
+            runs += 1
+            difference, end = archived_otherwise(program, path, data, end)
+            if difference:
+                wrong += 1
+                if wrong <= 3:
+                    print("%d bytes %r: %s" % (len(data), data[:90], difference))
+    print("%d inputs archived in %d runs, %d differ" % (len(files), runs, wrong))
+    return 1 if wrong or len(files) < 2600 else 0
+
+
 def sound(program):
     count = wrong = changed = 0
     files = [b"".join(small()), b"".join(stream(1, [5, 6])) + b"".join(stream(2, [7]))]
@@ -478,4 +583,6 @@ if __name__ == "__main__":
     makers = {"damage": damaged, "broken": broken, "random": random_files}
     if sys.argv[2] == "sound":
         sys.exit(sound(sys.argv[1]))
+    if sys.argv[2] == "archived":
+        sys.exit(compare_archived(sys.argv[1]))
     sys.exit(compare(sys.argv[1], makers[sys.argv[2]]()))

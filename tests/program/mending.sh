@@ -1,10 +1,10 @@
 #!/usr/bin/env bash
-# Any bytes are mended into a feed by `feed --mend`, as the tests' own plain program mends them.
+# Any bytes are mended into a feed by `feed --mend`, and recorded by `archive`, as the tests' own plain program mends them.
 . "$(dirname "$0")/common.bash"
 
-mending() { timeout 90 python3 "$here/mending.py" "$program" "$1"; }
+mending() { timeout 300 python3 "$here/mending.py" "$program" "$1"; }
 
-for files in damage broken random sound; do
+for files in damage broken random sound archived; do
     check "$files" mending "$files"
 done
 
