@@ -4,9 +4,8 @@ use Rattle.std.proofs.lemmas.Bool.Decides.{nat_tests, leb_tells}
 use Rattle.std.proofs.lemmas.Grind.{same_number_lists}
 use Rattle.std.proofs.lemmas.List.{length-take-le, get_or-take, get_or-drop, take-take, drop-take, drop-drop}
 use Rattle.std.specs.Prelude.{nat_le, ◌&&◌, if◌then◌else◌}
-use Rattle.disk_model.specs.Image.{DiskState, overwritten}
+use Rattle.disk_model.specs.Image.{overwritten}
 use Rattle.disk_tail.specs.Tail.{Tail, tail_at, end_of, StandsIn, Holds, surplus, fitted, joined, tail_written, tail_cut}
-use Rattle.disk_tail.specs.TailDisk.{TailState}
 use Rattle.disk_tail.proofs.Overwritten.{overwritten_size, before_it, in_it, after_it}
 
 -- whichever it is
@@ -137,17 +136,13 @@ joined_stands contents bytes tail at stands room =
 
 pub written_stands : (contents bytes : List ℕ) (tail : Tail) (at : ℕ) → StandsIn contents tail → at ≤ length contents
     → StandsIn (overwritten contents at bytes) (tail_written at bytes tail)
+unfolding tail_written
 written_stands contents bytes tail at stands room =
     fitted_stands (overwritten contents at bytes) (joined at bytes tail) (joined_stands contents bytes tail at stands room)
 
-pub goes_on : (contents now bytes : List ℕ) (tail new : Tail) (at : ℕ) → StandsIn contents tail → at ≤ length contents
+pub write_goes_on : (contents now bytes : List ℕ) (tail new : Tail) (at : ℕ) → StandsIn contents tail → at ≤ length contents
     → now ≡ overwritten contents at bytes → new ≡ tail_written at bytes tail → StandsIn now new
-goes_on contents now bytes tail new at stands room is_now is_new = rw is_now (rw is_new (written_stands contents bytes tail at stands room))
-
--- what a view of it requires
-pub inside_view : {D : Type 0} (is_honest : D → Type 0) (state : D → DiskState) (at : ℕ) (view now : TailState D) → view ≡ now
-    → (is_honest now.disk → at ≤ length (state now.disk).contents) → is_honest view.disk → at ≤ length (state view.disk).contents
-inside_view is_honest state at view now same room = rw same room
+write_goes_on contents now bytes tail new at stands room is_now is_new = rw is_now (rw is_new (written_stands contents bytes tail at stands room))
 
 -- the bytes up to a cut
 front_stands : (contents : List ℕ) (tail : Tail) (to : ℕ) → StandsIn contents tail → to ≤ length contents → tail.start ≤ to
@@ -162,7 +157,12 @@ front_stands contents tail to stands room from =
     ∙ sym (get_or-take few tail.bytes k 0 under))
 
 pub cut_stands : (contents : List ℕ) (tail : Tail) (to : ℕ) → StandsIn contents tail → to ≤ length contents → StandsIn (take to contents) (tail_cut to tail)
+unfolding tail_cut
 cut_stands contents tail to stands room =
     either (StandsIn (take to contents)) (nat_le tail.start to) _ _
     (λ from. front_stands contents tail to stands room (at_most _ _ from))
     (λ _. nothing (take to contents) tail.room)
+
+pub cut_goes_on : (contents now : List ℕ) (tail new : Tail) (to : ℕ) → StandsIn contents tail → to ≤ length contents
+    → now ≡ take to contents → new ≡ tail_cut to tail → StandsIn now new
+cut_goes_on contents now tail new to stands room is_now is_new = rw is_now (rw is_new (cut_stands contents tail to stands room))

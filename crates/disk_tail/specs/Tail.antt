@@ -52,8 +52,8 @@ joined at bytes tail =
     else tail_at at bytes tail.room
 
 -- after a write that succeeds, and after a cut that does
-abbrev pub tail_written : ℕ → List ℕ → Tail → Tail
+unfoldable pub tail_written : ℕ → List ℕ → Tail → Tail
 tail_written at bytes tail = fitted (joined at bytes tail)
 
-abbrev pub tail_cut : ℕ → Tail → Tail
+unfoldable pub tail_cut : ℕ → Tail → Tail
 tail_cut to tail = if nat_le tail.start to then tail_at tail.start (take (to - tail.start) tail.bytes) tail.room else forgotten tail

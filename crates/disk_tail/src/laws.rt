@@ -19,6 +19,7 @@ pub fn tails_stand_in_the_contents()
 
 /// What is appended to a tail stays in it: the tail ends where the bytes end, and has all of them and of those before,
 /// or at least half a room.
+#[tactic(auto, unfolding(crate::specs::Tail::tail_written))]
 pub fn appended_bytes_are_kept()
     ensures end { (tail : Tail) (bytes : List ℕ)
         → end_of (tail_written (end_of tail) bytes tail) ≡ end_of tail + length bytes }
@@ -27,6 +28,7 @@ pub fn appended_bytes_are_kept()
 {}
 
 /// A tail never has more bytes than its room.
+#[tactic(auto, unfolding(crate::specs::Tail::tail_written, crate::specs::Tail::tail_cut))]
 pub fn tails_stay_in_their_room()
     ensures write { (tail : Tail) (bytes : List ℕ) (at : ℕ)
         → length tail.bytes ≤ tail.room

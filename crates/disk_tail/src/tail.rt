@@ -58,6 +58,7 @@ impl Kept {
     }
 
     /// These bytes were written.
+    #[tactic(auto, unfolding(crate::specs::Tail::tail_written))]
     pub(crate) fn write(&mut self, at: u64, bytes: &[u8])
         requires { at + length bytes.now < 2 ^ 63 }
         ensures { self.new ≡ tail_written at bytes.now self.old }
@@ -75,6 +76,7 @@ impl Kept {
     }
 
     /// The contents were cut to this length.
+    #[tactic(auto, unfolding(crate::specs::Tail::tail_cut))]
     pub(crate) fn cut(&mut self, to: u64)
         ensures { self.new ≡ tail_cut to self.old }
     {
