@@ -1,5 +1,5 @@
 -- What is kept in memory of a disk's contents, and what each call makes of it. The rules are ours: no standard speaks
--- of them.
+-- of them. (A file's tail, which follows its committed bytes, is another thing.)
 use Rattle.std.specs.Prelude.{◌≡◌, ℕ, ◌+◌, ◌-◌, ◌/◌, ◌≤◌, ◌<◌, ◌^◌, nat_le, ◌&&◌, List, [], length, take, drop, if◌then◌else◌}
 use Rattle.disk_model.specs.Image.{overwritten}
 
@@ -33,8 +33,8 @@ pub record Holds (at n : ℕ) (tail : Tail) : Type 0 where
 abbrev pub forgotten : Tail → Tail
 forgotten tail = tail_at 0 [] tail.room
 
--- how many bytes are dropped in front: none if there is room for all, and else all but half a room, so that bytes are
--- moved once for each half room that is written
+-- How many of n bytes are dropped in front: none if there is room for all. Otherwise half a room is kept, so that half
+-- a room can be written before bytes are moved again.
 abbrev pub surplus : ℕ → ℕ → ℕ
 surplus room n = if nat_le n room then 0 else n - room / 2
 

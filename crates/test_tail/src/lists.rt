@@ -1,7 +1,7 @@
 //! Lists of calls, and the vector that they are compared with.
-ghost use Rattle.std.specs.Prelude.{◌≤◌};
+ghost use Rattle.std.specs.Prelude.{◌≤◌, length};
 
-use crate::generator::Generator;
+use crate::dice::Dice;
 use crate::late::LateDisk;
 use disk_model::{Disk, FuseDisk, MemDisk};
 use disk_tail::TailDisk;
@@ -11,7 +11,7 @@ use std::alloc::{AllocError, Global};
 const STEPS: u64 = 12;
 
 /// The greatest room.
-const ROOM: u64 = 40;
+const ROOM: usize = 40;
 
 /// What stands on the disk at first, and the bytes of writes.
 const BYTES: usize = 30;
@@ -19,10 +19,10 @@ const BYTES: usize = 30;
 /// Whether a list runs as it should, with no call failing and with each in turn. A step makes two calls at most.
 pub fn is_right(alloc: Global, number: u64) -> Result<bool, AllocError> {
     for call in 0..=2 * STEPS {
-        let mut dice = Generator::of(number);
+        let mut dice = Dice::of(number);
         let first = bytes_of(&mut dice);
-        let n = (dice.below(BYTES as u64) as usize).min(BYTES);
-        let room = dice.below(ROOM) as usize;
+        let n = dice.up_to(BYTES);
+        let room = dice.up_to(ROOM);
         let fused = FuseDisk::fail_once(MemDisk::of(alloc, &first[..n])?, call);
         let mut disk = TailDisk::new(alloc, fused, room)?;
         let mut wanted = first[..n].to_vec(alloc)?;
@@ -44,11 +44,11 @@ pub fn is_right(alloc: Global, number: u64) -> Result<bool, AllocError> {
 fn runs<D: Disk>(
     disk: &mut D,
     wanted: &mut Vec<u8>,
-    dice: &mut Generator,
+    dice: &mut Dice,
     late: bool,
 ) -> Result<bool, AllocError> {
     for _ in 0..STEPS {
-        let right = match dice.below(8) {
+        let right = match dice.up_to(7) {
             0 => is_synced(disk),
             1 => is_cut(disk, wanted, dice, late),
             2 | 3 | 4 => is_read(disk, wanted, dice),
@@ -62,23 +62,24 @@ fn runs<D: Disk>(
 }
 
 /// Bytes at random.
-fn bytes_of(dice: &mut Generator) -> [u8; BYTES] {
+fn bytes_of(dice: &mut Dice) -> [u8; BYTES] {
     let mut bytes = [0; BYTES];
     for k in 0..BYTES {
-        bytes[k] = (dice.next() % 256) as u8;
+        bytes[k] = dice.byte();
     }
     bytes
 }
 
 /// An offset up to this length, near it most of the time.
-fn offset(dice: &mut Generator, length: u64) -> u64
+fn offset(dice: &mut Dice, length: usize) -> usize
     ensures { result ≤ length }
 {
-    if dice.below(4) == 0 {
-        dice.below(length).min(length)
+    let back = if dice.up_to(3) == 0 {
+        dice.up_to(length)
     } else {
-        length - dice.below(ROOM).min(length)
-    }
+        dice.up_to(length.min(ROOM))
+    };
+    length - back
 }
 
 fn is_synced<D: Disk>(disk: &mut D) -> bool {
@@ -86,33 +87,33 @@ fn is_synced<D: Disk>(disk: &mut D) -> bool {
     true
 }
 
-fn is_cut<D: Disk>(disk: &mut D, wanted: &mut Vec<u8>, dice: &mut Generator, late: bool) -> bool {
+fn is_cut<D: Disk>(disk: &mut D, wanted: &mut Vec<u8>, dice: &mut Dice, late: bool) -> bool {
     let Ok(length) = disk.len() else {
         return true;
     };
     if length != wanted.len() as u64 {
         return false;
     }
-    let to = offset(dice, length);
-    if disk.cut(to).is_ok() || late {
-        wanted.truncate(to as usize);
+    let to = offset(dice, wanted.len());
+    if disk.cut(to as u64).is_ok() || late {
+        wanted.truncate(to);
     }
     true
 }
 
-fn is_read<D: Disk>(disk: &mut D, wanted: &[u8], dice: &mut Generator) -> bool {
+fn is_read<D: Disk>(disk: &mut D, wanted: &[u8], dice: &mut Dice) -> bool {
     let Ok(length) = disk.len() else {
         return true;
     };
     if length != wanted.len() as u64 {
         return false;
     }
-    let at = offset(dice, length);
+    let at = offset(dice, wanted.len());
     let mut buffer = [0; BYTES];
-    let n = (dice.below(BYTES as u64).min(BYTES as u64).min(length - at)) as usize;
+    let n = dice.up_to(BYTES.min(wanted.len() - at));
     let part = &mut buffer[..n];
-    match disk.read_at(at, part) {
-        Ok(()) => &*part == &wanted[at as usize..at as usize + n],
+    match disk.read_at(at as u64, part) {
+        Ok(()) => &*part == &wanted[at..at + n],
         Err(_) => true,
     }
 }
@@ -120,7 +121,7 @@ fn is_read<D: Disk>(disk: &mut D, wanted: &[u8], dice: &mut Generator) -> bool {
 fn is_written<D: Disk>(
     disk: &mut D,
     wanted: &mut Vec<u8>,
-    dice: &mut Generator,
+    dice: &mut Dice,
     late: bool,
 ) -> Result<bool, AllocError> {
     let Ok(length) = disk.len() else {
@@ -129,16 +130,19 @@ fn is_written<D: Disk>(
     if length != wanted.len() as u64 {
         return Ok(false);
     }
-    let at = offset(dice, length);
+    let at = offset(dice, wanted.len());
     let bytes = bytes_of(dice);
-    let n = (dice.below(BYTES as u64) as usize).min(BYTES);
-    let bytes = &bytes[..n];
-    if disk.write_at(at, bytes).is_ok() || late {
-        let end = wanted.len().min(at as usize + n);
-        let rest = wanted[end..].to_vec(*wanted.allocator())?;
-        wanted.truncate(at as usize);
-        wanted.extend_from_slice(bytes)?;
-        wanted.extend_from_slice(&rest)?;
+    let bytes = &bytes[..dice.up_to(BYTES)];
+    if disk.write_at(at as u64, bytes).is_ok() || late {
+        overwrite(wanted, at, bytes)?;
     }
     Ok(true)
+}
+
+fn overwrite(wanted: &mut Vec<u8>, at: usize, bytes: &[u8]) -> Result<(), AllocError>
+    requires { at ≤ length wanted.old.items }
+{
+    let inside = bytes.len().min(wanted.len() - at);
+    wanted[at..at + inside].copy_from_slice(&bytes[..inside]);
+    wanted.extend_from_slice(&bytes[inside..])
 }

@@ -10,7 +10,7 @@
 //! It prints how many lists were right. The status is 1 if one wasn't, and then it says which.
 #![tactic(auto)]
 
-mod generator;
+mod dice;
 mod late;
 mod lists;
 mod stopped;

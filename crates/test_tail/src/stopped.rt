@@ -1,5 +1,5 @@
 //! A disk that stops, and what its tail still has.
-use crate::generator::Generator;
+use crate::dice::Dice;
 use disk_model::{Disk, FuseDisk, MemDisk};
 use disk_tail::TailDisk;
 use std::alloc::{AllocError, Global};
@@ -10,18 +10,18 @@ const MOST: usize = 50;
 /// Whether the last bytes are read from memory alone: pieces are appended, by two calls each, and after one more call
 /// the disk stops.
 pub fn is_read_after_stop(alloc: Global, number: u64) -> Result<bool, AllocError> {
-    let mut dice = Generator::of(number);
-    let pieces = dice.below(12);
-    let room = dice.below(MOST as u64).min(MOST as u64) as usize;
-    let fused = FuseDisk::stop_after(MemDisk::of(alloc, b"")?, 2 * pieces.min(12) + 1);
+    let mut dice = Dice::of(number);
+    let pieces = dice.up_to(12) as u64;
+    let room = dice.up_to(MOST);
+    let fused = FuseDisk::stop_after(MemDisk::of(alloc, b"")?, 2 * pieces + 1);
     let mut disk = TailDisk::new(alloc, fused, room)?;
     let mut wanted = Vec::new(alloc);
     for _ in 0..pieces {
         let mut piece = [0; MOST];
         for k in 0..MOST {
-            piece[k] = (dice.next() % 256) as u8;
+            piece[k] = dice.byte();
         }
-        let n = dice.below(MOST as u64).min(MOST as u64) as usize;
+        let n = dice.up_to(MOST);
         wanted.extend_from_slice(&piece[..n])?;
         if !append(&mut disk, &piece[..n]) {
             return Ok(false);
@@ -40,7 +40,7 @@ fn append<D: Disk>(disk: &mut D, piece: &[u8]) -> bool {
 
 /// Whether a read within the last half of the room returns what was written, and one that is longer than the room
 /// fails. All calls after the first fail.
-fn reads<D: Disk>(disk: &mut D, wanted: &[u8], room: usize, dice: &mut Generator) -> bool {
+fn reads<D: Disk>(disk: &mut D, wanted: &[u8], room: usize, dice: &mut Dice) -> bool {
     let Ok(length) = disk.len() else {
         return false;
     };
@@ -48,13 +48,12 @@ fn reads<D: Disk>(disk: &mut D, wanted: &[u8], room: usize, dice: &mut Generator
         return false;
     }
     let held = wanted.len().min(room / 2);
-    let back = (dice.below(held as u64 + 1) as usize).min(held);
-    let n = (dice.below(back as u64 + 1) as usize).min(back);
+    let back = dice.up_to(held);
+    let n = dice.up_to(back.min(MOST));
     let at = wanted.len() - back;
     let mut buffer = [0; MOST];
-    let part = &mut buffer[..n.min(MOST)];
-    let size = part.len();
-    if disk.read_at(at as u64, part).is_err() || &*part != &wanted[at..at + size] {
+    let part = &mut buffer[..n];
+    if disk.read_at(at as u64, part).is_err() || &*part != &wanted[at..at + n] {
         return false;
     }
     let mut long = [0; MOST + 1];
