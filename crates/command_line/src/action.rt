@@ -21,13 +21,16 @@ pub enum Action<'a> {
         seal: bool,
     },
     /// The file for any number of connections to the address, at most `listeners` at once. What comes on standard input
-    /// is recorded into the file meanwhile, and with a password file what connections send.
+    /// is recorded into the file meanwhile, and with a password file what connections send. With `seal` the file is sealed
+    /// once standard input has ended, and with `log` each connection gets a line.
     Station {
         file: &'a str,
         address: &'a str,
         password_file: Option<&'a str>,
         listeners: u32,
         skeletons: Skeletons,
+        seal: bool,
+        log: bool,
     },
     /// The pages of the feed on standard input, with `strict` up to the first refusal.
     Mux {

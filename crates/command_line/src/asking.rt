@@ -109,6 +109,8 @@ fn station_of<'a>(words: &ArgMatches<'a>) -> Option<Action<'a>>
         password_file: words.get_str("password-file"),
         listeners: number_of(words, "listeners", CONNECTIONS)?,
         skeletons: skeletons_of(words),
+        seal: words.get_flag("seal"),
+        log: words.get_flag("log"),
     })
 }
 

@@ -178,6 +178,16 @@ static STATION: Subcommand = Subcommand {
         },
         SKELETON,
         NO_SKELETON,
+        Argument {
+            name: "seal",
+            kind: Kind::Flag,
+            help: "Ends once standard input has ended and all is heard, and cuts the file to its pages",
+        },
+        Argument {
+            name: "log",
+            kind: Kind::Flag,
+            help: "Tells each connection by a line on standard error, and each source by two",
+        },
     ],
     help: "\
 A source is an encoder. It comes on standard input, or over HTTP if there is a password file:
@@ -189,12 +199,14 @@ A source is an encoder. It comes on standard input, or over HTTP if there is a p
 There is one source at a time. When it ends, or is silent for 30 seconds, its streams are ended, and the
 next one begins a new link. What can't be read of it is mended and told as `archive` does.
 
+  GET /player        a page for browsers, which plays what is recorded, and each link
   GET /live          what is recorded from now on, without an end
   GET /              the links, as `links` lists them
   GET /link/NUMBER   a link, also parts of it: all that `serve` answers is answered
+  GET /status        how the station does, in numbers, in Prometheus' text format
 
 Whatever is heard is on the disk. The program ends after a fault, or when it is stopped: run the same line
-again, and it goes on.
+again, and it goes on. The last line is that of `archive`. At a terminal a line tells how the station does.
 ",
 };
 

@@ -1,6 +1,7 @@
 //! A file that is recorded and served, for any number of connections.
 
-use crate::recorders::open_recorder;
+use crate::logging::Log;
+use crate::recorders::{open_recorder, seal_file};
 use crate::sockets::Sockets;
 use crate::telling::Told;
 use disk_model::{FileDisk, FileMode};
@@ -8,7 +9,7 @@ use fault_lines::Fault;
 use import_feed::Skeletons;
 use ogg_page::write_whole;
 use ogg_serve::Hub;
-use station::{Done, Options as StationOptions, Password, Station};
+use station::{Done, Options as StationOptions, Password, Station, station_line};
 use std::fs::File;
 use std::io::{self, IsTerminal, Read};
 use std::net::SocketAddr;
@@ -29,9 +30,14 @@ pub struct Options<'a> {
     /// The greatest number of connections.
     pub listeners: u32,
     pub skeletons: Skeletons,
+    /// Whether the file is sealed, and the station ends, once standard input has ended.
+    pub seal: bool,
+    /// Whether each connection gets a line on standard error.
+    pub log: bool,
 }
 
-/// Records what comes into the file, which is made if there is none, and serves it to whoever connects, until a fault.
+/// Records what comes into the file, which is made if there is none, and serves it to whoever connects, until a fault; or
+/// until the input has ended, if the file is to be sealed then.
 pub fn station(rt: &HostRuntime, options: Options<'_>) -> Result<(), Fault> {
     let Ok(address) = options.address.parse::<SocketAddr>() else {
         return Err(Fault::Net);
@@ -44,9 +50,15 @@ pub fn station(rt: &HostRuntime, options: Options<'_>) -> Result<(), Fault> {
     };
     let mut told = Told::new(rt, false, station.hub().end());
     tell_address(rt, &sockets);
-    let ran = run(rt, &mut station, &mut sockets, &mut told);
+    let mut log = Log::new(rt, options.log, station.counts());
+    let ran = run(rt, &mut station, &mut sockets, &mut told, &mut log);
     told.close();
-    ran
+    ran?;
+    match (told.fault(), station.into_hub().into_recorder()) {
+        (Some(fault), _) => Err(fault),
+        (None, Ok(recorder)) => seal_file(recorder),
+        (None, Err(_)) => Ok(()),
+    }
 }
 
 /// Opens the file, makes a station over it, and ends what an earlier run left open.
@@ -61,6 +73,8 @@ fn open_station(rt: &HostRuntime, options: Options<'_>) -> Result<Station<FileDi
         most,
         skeletons: options.skeletons,
         password,
+        ends_with_input: options.seal,
+        log: options.log,
     };
     match Station::new(rt.alloc(), hub, options) {
         Ok(mut station) => {
@@ -111,6 +125,7 @@ fn run(
     station: &mut Station<FileDisk>,
     sockets: &mut Sockets,
     told: &mut Told<'_>,
+    log: &mut Log<'_>,
 ) -> Result<(), Fault> {
     let mut busy = true;
     for _ in 0..u64::MAX {
@@ -118,15 +133,17 @@ fn run(
             Ok(now) => now,
             Err(_) => return Err(Fault::Net),
         };
-        sockets.accept(station, now);
-        sockets.read_input(rt, station);
-        let end = station.hub().end();
-        busy = record(station, told, now)?;
-        if station.hub().end() != end {
-            sockets.wake_listeners(station);
+        sockets.accept(station, log, now);
+        sockets.read_input(rt, station, now);
+        busy = record(rt, station, sockets, told, log, now)?;
+        sockets.turns(station, log, now);
+        log.tell(told);
+        if station.look(now) {
+            told.show_other(station_line(station.shown()).as_slice());
         }
-        sockets.turns(station, now);
-        sockets.look(station, now);
+        if station.is_finished(now) {
+            break;
+        }
     }
     Ok(())
 }
@@ -134,24 +151,37 @@ fn run(
 /// Waits until something can be done, and returns the time. If the station is busy nothing is waited for.
 fn wait(
     rt: &HostRuntime,
-    station: &Station<FileDisk>,
+    station: &mut Station<FileDisk>,
     sockets: &mut Sockets,
     busy: bool,
 ) -> io::Result<u64> {
     let most = if busy {
         0
     } else {
-        let now = sockets.now(rt)?;
-        station.until_due(now).unwrap_or(u64::MAX)
+        station.until_next(sockets.now(rt)?)
     };
     sockets.wait(station, most)?;
     sockets.now(rt)
 }
 
 /// Takes some steps of what is recorded, and tells them. It returns whether there may be more of them now.
-fn record(station: &mut Station<FileDisk>, told: &mut Told<'_>, now: u64) -> Result<bool, Fault> {
+fn record(
+    rt: &HostRuntime,
+    station: &mut Station<FileDisk>,
+    sockets: &Sockets,
+    told: &mut Told<'_>,
+    log: &mut Log<'_>,
+    now: u64,
+) -> Result<bool, Fault> {
     for _ in 0..IN_ROUND {
-        match station.step(now) {
+        log.source(station, sockets.address_of(station.feeder()));
+        let commits = station.counts().commits;
+        let begun = sockets.microseconds(rt);
+        let done = station.step(now);
+        if station.counts().commits != commits {
+            station.spent(sockets.microseconds(rt).saturating_sub(begun));
+        }
+        match done {
             Done::Nothing => return Ok(false),
             Done::Bytes | Done::Flushed(_) => {}
             Done::Stepped(step) => told.stepped(&step),
@@ -162,8 +192,12 @@ fn record(station: &mut Station<FileDisk>, told: &mut Told<'_>, now: u64) -> Res
             } => {
                 told.mended(junk);
                 told.taken(offset, &taken);
+                log.source_ended(station.counts());
             }
-            Done::GivenUp(fault) => told.given_up(fault),
+            Done::GivenUp(fault) => {
+                told.given_up(fault);
+                log.source_ended(station.counts());
+            }
             Done::Reopened => {
                 let _ = told.lost(0, station.hub().end());
             }

@@ -9,6 +9,7 @@ mod broadcasting;
 mod files;
 mod finishing;
 mod indexing;
+mod logging;
 mod mends;
 mod recorders;
 mod salvaging;
@@ -82,6 +83,8 @@ fn run(rt: &HostRuntime, action: Action<'_>) -> Result<(), Fault> {
             password_file,
             listeners,
             skeletons,
+            seal,
+            log,
         } => broadcasting::station(
             rt,
             broadcasting::Options {
@@ -90,6 +93,8 @@ fn run(rt: &HostRuntime, action: Action<'_>) -> Result<(), Fault> {
                 password_file,
                 listeners,
                 skeletons: made(skeletons),
+                seal,
+                log,
             },
         ),
         Action::Feed {

@@ -1,12 +1,11 @@
-//! The loop of a station: bytes go between sockets and the machine, which decides everything.
-ghost use Rattle.std.specs.Prelude.{◌≤◌, IfOk, length};
+//! The sockets of a station: bytes go between them and the machine, which decides everything.
 
+use crate::logging::Log;
 use disk_model::FileDisk;
 use mio::net::{TcpListener, TcpStream};
 use mio::unix::SourceFd;
 use mio::{Events, Interest, Poll, Token};
-use station::{FULL, Feeder, Station};
-use std::collections::VecDeque;
+use station::{After, FULL, Feeder, Station, Trouble};
 use std::io::{self, ErrorKind, Read, Write};
 use std::net::{Shutdown, SocketAddr};
 use std::time::{Duration, Instant};
@@ -27,30 +26,11 @@ const PIECE: usize = 65_536;
 /// How many events are taken from the system at once.
 const EVENTS: usize = 1024;
 
-/// For how many milliseconds is waited at most.
-const LOOKS: u64 = 1000;
-
-/// What is to be done with a connection after its turn.
-#[derive(Clone, Copy, PartialEq, Eq)]
-enum Next {
-    /// Nothing, before the system says more of it or more is committed.
-    Wait,
-    /// Another turn in the next round.
-    Again,
-    Close,
-}
-
-/// A connection's socket.
+/// A connection's socket, and its peer's address.
 #[derive(Drop)]
 struct Socket {
     stream: TcpStream,
-    // it has a turn in the next round
-    queued: bool,
-    // it may have bytes, and room for some
-    readable: bool,
-    writable: bool,
-    // all was written: what still comes is passed over
-    closing: bool,
+    address: SocketAddr,
 }
 
 /// How standard input is known to have bytes.
@@ -71,14 +51,12 @@ pub struct Sockets {
     listener: TcpListener,
     events: Events,
     sockets: Vec<Option<Socket>>,
-    ready: VecDeque<usize>,
     buffer: Vec<u8>,
     accepting: bool,
     // as many were accepted as are in one round, and more may wait
     crowded: bool,
     input: Input,
     start: Instant,
-    looked: u64,
 }
 
 impl Sockets {
@@ -100,13 +78,11 @@ impl Sockets {
             listener,
             events: Events::with_capacity(rt.alloc(), EVENTS)?,
             sockets: Vec::new(rt.alloc()),
-            ready: VecDeque::new(rt.alloc()),
             buffer,
             accepting: true,
             crowded: false,
             input,
             start: Instant::now(rt)?,
-            looked: 0,
         })
     }
 
@@ -121,12 +97,21 @@ impl Sockets {
         Ok(u64::try_from(passed.as_millis()).unwrap_or(u64::MAX))
     }
 
-    /// Waits at most so many milliseconds until the system says that something can be done.
-    pub fn wait(&mut self, station: &Station<FileDisk>, most: u64) -> io::Result<()> {
-        let most = if self.is_busy(station) {
+    /// The same in microseconds, or 0 if the clock can't be read.
+    pub fn microseconds(&self, rt: &HostRuntime) -> u64 {
+        match self.start.elapsed(rt) {
+            Ok(passed) => u64::try_from(passed.as_micros()).unwrap_or(u64::MAX),
+            Err(_) => 0,
+        }
+    }
+
+    /// Waits at most so many milliseconds until the system says that something can be done, and wakes the connections of
+    /// which it says so.
+    pub fn wait(&mut self, station: &mut Station<FileDisk>, most: u64) -> io::Result<()> {
+        let most = if self.crowded || self.has_input() && station.wants_input() {
             0
         } else {
-            most.min(LOOKS)
+            most
         };
         let most = Duration::from_millis(most);
         if let Err(error) = self.poll.poll(&mut self.events, Some(most)) {
@@ -138,9 +123,7 @@ impl Sockets {
             match event.token() {
                 Token(LISTENER) => self.accepting = true,
                 Token(INPUT) => self.input = Input::Watched { ready: true },
-                Token(token) => wake(
-                    &mut self.sockets,
-                    &mut self.ready,
+                Token(token) => station.wake(
                     token.saturating_sub(FIRST),
                     event.is_readable(),
                     event.is_writable(),
@@ -150,20 +133,19 @@ impl Sockets {
         Ok(())
     }
 
-    /// Whether connections wait, one has its turn, or standard input can be read.
-    fn is_busy(&self, station: &Station<FileDisk>) -> bool {
-        self.crowded || !self.ready.is_empty() || self.has_input() && station.wants_input()
-    }
-
     /// Accepts the connections that wait.
-    pub fn accept(&mut self, station: &mut Station<FileDisk>, now: u64) {
+    pub fn accept(&mut self, station: &mut Station<FileDisk>, log: &mut Log<'_>, now: u64) {
         self.crowded = false;
         if !self.accepting {
             return;
         }
         for _ in 0..IN_ROUND {
             match self.listener.accept() {
-                Ok((stream, _)) => self.add(station, stream, now),
+                Ok((stream, address)) => {
+                    if !self.add(station, Socket { stream, address }, now) {
+                        log.refused(address);
+                    }
+                }
                 Err(error) => {
                     // What waits after another error is accepted in a later round.
                     self.accepting = error.kind() != ErrorKind::WouldBlock;
@@ -174,30 +156,37 @@ impl Sockets {
         self.crowded = true;
     }
 
-    /// A connection was accepted. If there are too many it is told so, and closed.
-    fn add(&mut self, station: &mut Station<FileDisk>, mut stream: TcpStream, now: u64) {
-        let _ = stream.set_nodelay(true);
+    /// A connection was accepted. If there are too many it is told so, and closed; then false is returned.
+    fn add(&mut self, station: &mut Station<FileDisk>, mut socket: Socket, now: u64) -> bool {
+        let _ = socket.stream.set_nodelay(true);
         let Ok(key) = station.accepted(now) else {
-            let _ = (&stream).write(FULL);
-            let _ = stream.shutdown(Shutdown::Write);
-            return;
+            let _ = (&socket.stream).write(FULL);
+            let _ = socket.stream.shutdown(Shutdown::Write);
+            return false;
         };
-        if self.register(key, &mut stream).is_err() {
-            station.closed(key);
-            return;
+        if self.register(key, &mut socket.stream).is_err() {
+            let _ = station.closed(key);
+            return true;
         }
         if let Some(place) = self.sockets.as_mut_slice().get_mut(key) {
-            *place = Some(Socket {
-                stream,
-                queued: true,
-                readable: true,
-                writable: true,
-                closing: false,
-            });
+            *place = Some(socket);
+        }
+        station.wake(key, true, true);
+        true
+    }
+
+    /// The address of a source that is a connection.
+    pub fn address_of(&self, feeder: Option<Feeder>) -> Option<SocketAddr> {
+        let Some(Feeder::Peer(key)) = feeder else {
+            return None;
+        };
+        match self.sockets.as_slice().get(key) {
+            Some(Some(socket)) => Some(socket.address),
+            _ => None,
         }
     }
 
-    /// Has the system tell of this connection, and makes room for its socket and its turns.
+    /// Has the system tell of this connection, and makes room for its socket.
     fn register(&mut self, key: usize, stream: &mut TcpStream) -> io::Result<()> {
         for _ in self.sockets.len()..key.saturating_add(1) {
             self.sockets.push(None)?;
@@ -205,28 +194,25 @@ impl Sockets {
         let Some(token) = key.checked_add(FIRST) else {
             return Err(io::Error::from(ErrorKind::OutOfMemory));
         };
-        self.ready.push_back(key)?;
         let both = Interest::READABLE | Interest::WRITABLE;
         self.poll.registry().register(stream, Token(token), both)
     }
 
     /// Reads standard input once, if it is wanted and has bytes.
-    pub fn read_input(&mut self, rt: &HostRuntime, station: &mut Station<FileDisk>) {
+    pub fn read_input(&mut self, rt: &HostRuntime, station: &mut Station<FileDisk>, now: u64) {
         if !self.has_input() || !station.wants_input() {
             return;
         }
         match rt.stdin().read(self.buffer.as_mut_slice()) {
-            Ok(0) | Err(_) => {
-                self.input = Input::Ended;
-                station.input_ended();
-            }
-            Ok(count) => {
-                if station.input(&self.buffer[..count]).is_err() {
-                    self.input = Input::Ended;
-                    station.input_ended();
-                } else if self.input != Input::Unwatched {
+            Ok(count) if count > 0 && station.input(&self.buffer[..count], now).is_ok() => {
+                if self.input != Input::Unwatched {
                     self.input = watch_again(&self.poll);
                 }
+            }
+            // Without memory for what came, the input ends here too.
+            _ => {
+                self.input = Input::Ended;
+                station.input_ended(now);
             }
         }
     }
@@ -243,215 +229,112 @@ impl Sockets {
 
 impl Sockets {
     /// Gives each connection that has something to do one turn.
-    pub fn turns(&mut self, station: &mut Station<FileDisk>, now: u64) {
-        self.wake_feeder(station);
-        for _ in 0..self.ready.len() {
-            let Some(key) = self.ready.pop_front() else {
+    pub fn turns(&mut self, station: &mut Station<FileDisk>, log: &mut Log<'_>, now: u64) {
+        for _ in 0..station.turns() {
+            let Some(key) = station.next_turn() else {
                 return;
             };
-            match self.turn(station, key, now) {
-                Next::Wait => self.rest(key),
-                Next::Again => {
-                    if self.ready.push_back(key).is_err() {
-                        self.close(station, key);
-                    }
-                }
-                Next::Close => self.close(station, key),
-            }
-        }
-    }
-
-    /// Bytes of the source are wanted again.
-    fn wake_feeder(&mut self, station: &Station<FileDisk>) {
-        if let Some(Feeder::Peer(key)) = station.feeder() {
-            if station.wants(key) {
-                wake(&mut self.sockets, &mut self.ready, key, false, false);
-            }
-        }
-    }
-
-    /// More is committed: whoever hears it has a turn.
-    pub fn wake_listeners(&mut self, station: &Station<FileDisk>) {
-        for key in 0..self.sockets.len() {
-            if station.hears(key) {
-                wake(&mut self.sockets, &mut self.ready, key, false, false);
-            }
-        }
-    }
-
-    /// Once a second everybody has a turn, but for those who were silent for too long: they are closed.
-    pub fn look(&mut self, station: &mut Station<FileDisk>, now: u64) {
-        if now.saturating_sub(self.looked) < LOOKS {
-            return;
-        }
-        self.looked = now;
-        for key in 0..self.sockets.len() {
-            if station.is_overdue(key, now) {
-                self.close(station, key);
-            } else {
-                wake(&mut self.sockets, &mut self.ready, key, false, false);
-            }
-        }
-    }
-
-    /// The connection waits for the system.
-    fn rest(&mut self, key: usize) {
-        if let Some(Some(socket)) = self.sockets.as_mut_slice().get_mut(key) {
-            socket.queued = false;
-        }
-    }
-
-    /// The connection is closed.
-    fn close(&mut self, station: &mut Station<FileDisk>, key: usize) {
-        if let Some(place) = self.sockets.as_mut_slice().get_mut(key) {
-            if place.is_some() {
-                *place = None;
-                station.closed(key);
-            }
+            self.turn(station, log, key, now);
         }
     }
 
     /// A turn of a connection: one read, and one write.
-    fn turn(&mut self, station: &mut Station<FileDisk>, key: usize, now: u64) -> Next {
+    fn turn(&mut self, station: &mut Station<FileDisk>, log: &mut Log<'_>, key: usize, now: u64) {
         let Some(Some(socket)) = self.sockets.as_mut_slice().get_mut(key) else {
-            return Next::Wait;
+            return;
         };
         let buffer = self.buffer.as_mut_slice();
-        if socket.closing {
-            return pass_over(socket, buffer);
+        if station.reads(key) {
+            read(&socket.stream, station, key, buffer, now);
         }
-        if read(socket, station, key, buffer, now) == Next::Close {
-            return Next::Close;
+        if station.writes(key) {
+            write(&socket.stream, station, key, buffer, now);
         }
-        let next = write(socket, station, key, buffer, now);
-        if next != Next::Close && station.is_over(key) {
-            return close_softly(socket);
+        match station.turned(key, now) {
+            After::Goes => {}
+            After::Shuts => {
+                let _ = socket.stream.shutdown(Shutdown::Write);
+            }
+            After::Closes => {
+                log.visited(socket.address, station.closed(key));
+                self.remove(key);
+            }
         }
-        if next == Next::Wait && socket.readable && station.wants(key) {
-            return Next::Again;
-        }
-        next
     }
-}
 
-/// The connection has something to do.
-fn wake(
-    sockets: &mut Vec<Option<Socket>>,
-    ready: &mut VecDeque<usize>,
-    key: usize,
-    readable: bool,
-    writable: bool,
-) {
-    if let Some(Some(socket)) = sockets.as_mut_slice().get_mut(key) {
-        socket.readable = socket.readable || readable;
-        socket.writable = socket.writable || writable;
-        if !socket.queued {
-            socket.queued = ready.push_back(key).is_ok();
+    /// The connection is closed.
+    fn remove(&mut self, key: usize) {
+        if let Some(place) = self.sockets.as_mut_slice().get_mut(key) {
+            *place = None;
         }
     }
 }
 
-/// Reads once, if the station takes bytes of the connection. `Close` says that the connection has failed.
+/// Reads once.
 fn read(
-    socket: &mut Socket,
+    mut stream: &TcpStream,
     station: &mut Station<FileDisk>,
     key: usize,
     buffer: &mut [u8],
     now: u64,
-) -> Next {
-    if !socket.readable || !station.wants(key) {
-        return Next::Wait;
-    }
-    match (&socket.stream).read(buffer) {
-        Ok(0) => {
-            socket.readable = false;
-            station.peer_ended(key);
-            Next::Wait
-        }
-        Ok(count) => {
-            station.received(key, &buffer[..count], now);
-            Next::Again
-        }
-        Err(error) => after(error, &mut socket.readable),
+) {
+    match stream.read(buffer) {
+        Ok(0) => station.peer_ended(key),
+        Ok(count) => station.received(key, &buffer[..count], now),
+        Err(error) => station.read_failed(key, trouble(&error)),
     }
 }
 
 /// Writes once, if there is something to send.
 fn write(
-    socket: &mut Socket,
+    mut stream: &TcpStream,
     station: &mut Station<FileDisk>,
     key: usize,
     buffer: &mut [u8],
     now: u64,
-) -> Next {
-    if !socket.writable {
-        return Next::Wait;
-    }
+) {
     let count = station.next(key, buffer, now);
     if count == 0 {
-        return Next::Wait;
+        return;
     }
     let bytes = &buffer[..count];
-    match (&socket.stream).write(bytes) {
-        Ok(written) => {
-            station.wrote(key, bytes, written, now);
-            Next::Again
-        }
-        Err(error) => {
-            station.wrote(key, bytes, 0, now);
-            after(error, &mut socket.writable)
-        }
+    match stream.write(bytes) {
+        Ok(written) => station.wrote(key, bytes, written, now),
+        Err(error) => station.write_failed(key, bytes, trouble(&error)),
     }
 }
 
-/// What is to be done after an error: only `WouldBlock` says that the system will tell when to try again.
-fn after(error: io::Error, flag: &mut bool) -> Next {
+/// What an error says of a connection.
+fn trouble(error: &io::Error) -> Trouble {
     match error.kind() {
-        ErrorKind::WouldBlock => {
-            *flag = false;
-            Next::Wait
-        }
-        ErrorKind::Interrupted => Next::Again,
-        _ => Next::Close,
-    }
-}
-
-/// All was written, and the peer is told so. What it still sends is passed over until it closes, or patience is over: a
-/// reset could cut off what was written (RFC 9112, section 9.6).
-fn close_softly(socket: &mut Socket) -> Next {
-    socket.closing = true;
-    let _ = socket.stream.shutdown(Shutdown::Write);
-    Next::Again
-}
-
-/// Passes over what comes.
-fn pass_over(socket: &mut Socket, buffer: &mut [u8]) -> Next {
-    match (&socket.stream).read(buffer) {
-        Ok(0) => Next::Close,
-        Ok(_) => Next::Again,
-        Err(error) => after(error, &mut socket.readable),
+        ErrorKind::WouldBlock => Trouble::Blocked,
+        ErrorKind::Interrupted => Trouble::Interrupted,
+        _ => Trouble::Broken,
     }
 }
 
 /// Has the system tell when standard input has bytes; it can't of a file.
 fn watch_input(poll: &Poll) -> Input {
     let fd = 0;
-    match poll
-        .registry()
-        .register(&mut SourceFd(&fd), Token(INPUT), Interest::READABLE)
-    {
-        Ok(()) => Input::Watched { ready: false },
-        Err(_) => Input::Unwatched,
-    }
+    let input = &mut SourceFd(&fd);
+    watched(
+        poll.registry()
+            .register(input, Token(INPUT), Interest::READABLE),
+    )
 }
 
 /// Has the system tell again when standard input has bytes.
 fn watch_again(poll: &Poll) -> Input {
     let fd = 0;
-    match poll
-        .registry()
-        .reregister(&mut SourceFd(&fd), Token(INPUT), Interest::READABLE)
-    {
+    let input = &mut SourceFd(&fd);
+    watched(
+        poll.registry()
+            .reregister(input, Token(INPUT), Interest::READABLE),
+    )
+}
+
+fn watched(told: io::Result<()>) -> Input {
+    match told {
         Ok(()) => Input::Watched { ready: false },
         Err(_) => Input::Unwatched,
     }

@@ -30,6 +30,8 @@ pub struct Told<'a> {
     is_refused: bool,
     // the length of the file when it was opened again
     reopened: Option<u64>,
+    // the caller has a line of its own for the terminal
+    shows_other: bool,
     shown: Option<Instant>,
 }
 
@@ -50,6 +52,7 @@ impl<'a> Told<'a> {
             packets: 0,
             is_refused: false,
             reopened: None,
+            shows_other: false,
             shown: None,
         }
     }
@@ -155,6 +158,26 @@ impl<'a> Told<'a> {
         let _ = write_whole(&mut errors, archived_line(self.totals).as_slice());
     }
 
+    /// Tells these lines.
+    pub fn tell(&mut self, lines: &[u8]) {
+        self.erase();
+        let _ = write_whole(&mut self.rt.stderr(), lines);
+    }
+
+    /// Shows this line at a terminal from now on, in place of how far the recording has come.
+    pub fn show_other(&mut self, line: &[u8]) {
+        self.shows_other = true;
+        let mut errors = self.rt.stderr();
+        if !errors.is_terminal() {
+            return;
+        }
+        self.erase();
+        if let Ok(now) = Instant::now(self.rt) {
+            self.shown = Some(now);
+            let _ = write_whole(&mut errors, line);
+        }
+    }
+
     /// Takes the line off the terminal that tells how far the recording has come, if it stands there.
     fn erase(&mut self) {
         if self.shown.is_some() {
@@ -166,7 +189,7 @@ impl<'a> Told<'a> {
     /// Tells whoever sits at the terminal how far the recording has come, about once a second.
     fn show(&mut self) {
         let mut errors = self.rt.stderr();
-        if !errors.is_terminal() {
+        if self.shows_other || !errors.is_terminal() {
             return;
         }
         let Ok(now) = Instant::now(self.rt) else {

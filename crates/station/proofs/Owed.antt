@@ -10,7 +10,7 @@ use Rattle.serve_machine.specs.declared.answers.Progress.TheVariants.{Ready}
 use Rattle.station.specs.Client.{ClientState, cut, with_stage}
 use Rattle.station.specs.Giving.{HasPulled, Owes, OwesIn, OwesRest, phase_of_client}
 use Rattle.station.specs.declared.client.Stage.{Stage}
-use Rattle.station.specs.declared.client.Stage.TheVariants.{Asking, Offering, Waiting, Feeding, Reading as ReadingOf, Sending as SendingOf, Hearing, Ending, Cut}
+use Rattle.station.specs.declared.client.Stage.TheVariants.{Asking, Offering, Waiting, Feeding, Reading as ReadingOf, Sending as SendingOf, Hearing, Ending, Closing, Cut}
 
 rest_of : (phase : Option Phase) (unsent owed : List ℕ) → OwesRest phase unsent owed
     → (rest : List ℕ) × (phase ≡ Some (Sending rest)) × (owed ≡ unsent ++ rest)
@@ -83,6 +83,7 @@ keeps_in Waiting hub client left kept none owes = absurd owes
 keeps_in Feeding hub client left kept none owes = absurd owes
 keeps_in ReadingOf hub client left kept none owes = absurd owes
 keeps_in Hearing hub client left kept none owes = absurd owes
+keeps_in Closing hub client left kept none owes = absurd owes
 keeps_in Cut hub client left kept none owes = absurd owes
 
 pub keeps : (hub : HubState) (client : ClientState) (left kept : List ℕ) → client.unsent ≡ [] → Owes hub client left
@@ -102,6 +103,7 @@ others_in Waiting before after client id owed session same owes = absurd owes
 others_in Feeding before after client id owed session same owes = absurd owes
 others_in ReadingOf before after client id owed session same owes = absurd owes
 others_in Hearing before after client id owed session same owes = absurd owes
+others_in Closing before after client id owed session same owes = absurd owes
 others_in Cut before after client id owed session same owes = absurd owes
 
 pub others : ((old new : HubState) (event : Event) (id : ℕ) → hub_step old event new → session_of event ≢ Some id → phase_of new id ≡ phase_of old id)
@@ -124,6 +126,7 @@ writes_in Waiting hub client owed count within owes = absurd owes
 writes_in Feeding hub client owed count within owes = absurd owes
 writes_in ReadingOf hub client owed count within owes = absurd owes
 writes_in Hearing hub client owed count within owes = absurd owes
+writes_in Closing hub client owed count within owes = absurd owes
 writes_in Cut hub client owed count within owes = absurd owes
 
 pub writes : (hub : HubState) (client : ClientState) (owed : List ℕ) (count : ℕ) → count ≤ length client.unsent → Owes hub client owed

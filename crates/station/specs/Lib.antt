@@ -1,6 +1,11 @@
+pub mod Line
 pub mod Client
+pub mod Counting
 pub mod Patience
 pub mod Giving
 pub mod Asking
 pub mod Keys
 pub mod Places
+pub mod Stepping
+pub mod Lines
+pub mod Telling

@@ -1,10 +1,12 @@
 //! A connection, and how far it has come.
 ghost use Rattle.std.specs.Prelude.{◌≡◌, ◌≢◌, ◌⊎◌, [], Some, drop, OnOk, OnErr};
-ghost use Rattle.station.specs.Client.{cut, fresh, is_over, told, with_stage};
+ghost use Rattle.station.specs.Client.{after_of, cut, fresh, told, with_line, with_stage};
 ghost use Rattle.station.specs.declared.client.Stage.TheVariants.{Ending as EndingOf};
 
 use crate::Memory;
+use crate::line::Line;
 use serve_live::Listener;
+use serve_texts::Visit;
 use std::alloc::Global;
 use std::marker::Model;
 
@@ -27,8 +29,21 @@ pub enum Stage {
     Hearing,
     /// What is kept for it is its last.
     Ending,
+    /// It has got its last byte, and was told so. What it still sends is passed over.
+    Closing,
     /// It is cut: nothing more is taken or given.
     Cut,
+}
+
+/// What becomes of a connection after its turn.
+#[derive(Clone, Copy, Debug, PartialEq, Eq)]
+pub enum After {
+    /// It goes on.
+    Goes,
+    /// The peer is to be told that no further byte comes.
+    Shuts,
+    /// It is to be closed.
+    Closes,
 }
 
 /// A connection. What is kept of its head, and what was given for it and couldn't be written yet, is in its memory.
@@ -47,6 +62,9 @@ pub struct Client {
     pub(crate) since: u64,
     // nothing was left to be sent when it was last asked
     pub(crate) idle: bool,
+    pub(crate) line: Line,
+    // what is remembered for its line in the log, if there is one
+    pub(crate) visit: Option<Visit>,
 }
 
 impl Model for Client {
@@ -63,6 +81,7 @@ impl Model for Client {
       listener = c.listener;
       since = c.since;
       idle = c.idle;
+      line = c.line;
     } };
 
     ghost invariant = { λ c. c.sent ≤ length c.rest.items };
@@ -70,7 +89,7 @@ impl Model for Client {
 
 impl Client {
     /// A connection that has said nothing.
-    pub fn new(alloc: Global, now: u64) -> Client
+    pub fn new(alloc: Global, now: u64, visit: Option<Visit>) -> Client
         ensures { result ≡ fresh now }
     {
         Client {
@@ -82,6 +101,8 @@ impl Client {
             listener: None,
             since: now,
             idle: true,
+            line: Line::new(),
+            visit,
         }
     }
 
@@ -144,14 +165,39 @@ impl Client {
         }
     }
 
-    /// Nothing more is taken, and nothing more is to be written.
-    pub fn is_over(&self) -> bool
-        ensures { result ≡ is_over self.now }
+    /// Its socket stands so from now on.
+    pub(crate) fn stands(&mut self, line: Line)
+        ensures { self.new ≡ with_line line self.old }
+    {
+        self.line = line;
+    }
+
+    /// What it has sent is remembered for the log.
+    pub(crate) fn note_heard(&mut self, bytes: &[u8])
+        ensures { self.new ≡ self.old }
+    {
+        if let Some(visit) = &mut self.visit {
+            visit.heard(bytes);
+        }
+    }
+
+    /// What was written to it is remembered for the log.
+    pub(crate) fn note_sent(&mut self, bytes: &[u8])
+        ensures { self.new ≡ self.old }
+    {
+        if let Some(visit) = &mut self.visit {
+            visit.sent(bytes);
+        }
+    }
+
+    /// What becomes of it after its turn.
+    pub fn after(&self) -> After
+        ensures { result ≡ after_of self.now }
     {
         match self.stage {
-            Stage::Cut => true,
-            Stage::Ending => self.unsent().is_empty(),
-            _ => false,
+            Stage::Cut => After::Closes,
+            Stage::Ending if self.unsent().is_empty() => After::Shuts,
+            _ => After::Goes,
         }
     }
 }

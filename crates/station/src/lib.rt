@@ -3,32 +3,43 @@
 //!
 //! A `Station` is a machine without handles. Its caller owns the sockets and the clock: it tells the machine what has
 //! happened, a connection, bytes that came, bytes that were written, and asks what is to be sent. The machine decides
-//! what a connection asks for, when what was recorded is committed, and how long a peer may be silent.
+//! whose turn it is, what a connection asks for, when what was recorded is committed, and how long a peer may be
+//! silent.
 //!
 //! A connection is a source, a listener, or a session of the hub, which answers it as `serve` does. There is one source
 //! at a time, which may also be the caller's own input. What a listener hears is on the disk.
 //!
 //! Start at `src/station.rt`, which has the calls, and go on to `src/client.rt`, which says how far a connection has
-//! come, and `src/air.rt`, which takes a source's bytes.
+//! come, `src/turning.rt`, which says whose turn it is, and `src/air.rt`, which takes a source's bytes.
 #![tactic(auto)]
 
 mod air;
 mod asking;
 mod client;
+mod counting;
 mod giving;
 mod laws;
+mod line;
+mod lines;
 mod live_hub;
 mod offering;
 mod patience;
 mod places;
 mod station;
 mod stepping;
+mod telling;
+mod turning;
 
 pub use air::Feeder;
+pub use client::After;
+pub use counting::{Counts, MendCounts};
 pub use import_record::{Answered, Step, Taken};
 pub use laws::connections_are_owed_their_responses;
+pub use line::Trouble;
+pub use lines::{Shown, station_line};
 pub use live_hub::LiveHub;
 pub use serve_sources::{FULL, Password};
+pub use serve_texts::Visit;
 pub use station::{Options, Station, Unaccepted};
 pub use std::alloc::AllocError as Memory;
 pub use stepping::Done;

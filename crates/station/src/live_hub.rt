@@ -1,7 +1,9 @@
 //! A hub, and where listeners may join what it records.
-ghost use Rattle.std.specs.Prelude.{◌≡◌};
+ghost use Rattle.std.specs.Prelude.{◌≡◌, ℕ};
+ghost use Rattle.chain_rules.specs.Decision.{is_begin};
+ghost use Rattle.feed_codec.specs.declared.reply.Reply.TheVariants.{Held as HeldOf};
 
-use crate::places::{BeginPlace, Places};
+use crate::places::{Answered, Places};
 use disk_model::Disk;
 use feed_codec::Reply;
 use feed_run::Runner;
@@ -34,30 +36,22 @@ impl<D: Disk + Drop> LiveHub<D> {
         self.places.place()
     }
 
-    /// A command got this reply. Before it, the file and what waited had `length` bytes.
-    fn answered(&mut self, command: &Command, length: u64, reply: Reply)
-        ensures { self.new.hub ≡ self.old.hub }
+    /// A command got this reply. Before it, the file and what waited had `before` bytes. A boundary at which listeners join
+    /// is one only once it is committed.
+    fn answered(&mut self, command: &Command, before: u64, reply: Reply)
+        ensures hub { self.new.hub ≡ self.old.hub }
+        ensures waits { (count : ℕ) → reply ≡ HeldOf count → self.new.places.boundaries ≡ self.old.places.boundaries }
     {
-        match reply {
-            Reply::Refused(_) => {}
-            Reply::Held(_) => self.note(command, length),
-            Reply::Kept(_) => {
-                self.note(command, length);
-                self.committed();
-            }
-        }
-    }
-
-    /// A command was taken.
-    fn note(&mut self, command: &Command, length: u64)
-        ensures { self.new.hub ≡ self.old.hub }
-    {
-        if let Command::Begin(_) = command {
-            self.places.begun(BeginPlace {
-                begin: length,
-                end: self.hub.length(),
-            });
-        }
+        self.places.answered(
+            reply,
+            Answered {
+                begins: is_begin(command),
+                before,
+                after: self.hub.length(),
+                end: self.hub.end(),
+                is_open: is_open(self.hub.streams()),
+            },
+        );
     }
 
     /// All that waited was committed.
@@ -68,17 +62,20 @@ impl<D: Disk + Drop> LiveHub<D> {
         self.places.committed(self.hub.end(), open);
     }
 
-    /// The file was opened again, which had `end` committed bytes before: what waited is lost, or was committed after
-    /// all.
+    /// The file was opened again, which had `end` committed bytes before.
     pub(crate) fn reopened(&mut self, end: u64)
         ensures { self.new.hub ≡ self.old.hub }
     {
-        if self.hub.end() > end {
-            self.committed();
-        } else {
-            self.places.lost();
-        }
+        let open = is_open(self.hub.streams());
+        self.places.reopened(end, self.hub.end(), open);
     }
+}
+
+/// Whether the command begins a link.
+fn is_begin(command: &Command) -> bool
+    ensures { result ≡ is_begin command.now }
+{
+    matches!(command, Command::Begin(_))
 }
 
 /// It answers as its hub does.

@@ -5,6 +5,7 @@ ghost use Rattle.station.specs.Keys.{OthersStay};
 use crate::Memory;
 use crate::air::{Feeder, OnAir};
 use crate::client::Stage;
+use crate::counting::counted;
 use crate::station::Station;
 use disk_model::Disk;
 use import_changes::ChangeOptions;
@@ -28,14 +29,17 @@ impl<D: Disk + Drop> Station<D> {
         };
         match Offer::of(client.head.as_slice(), password) {
             Offer::More => {}
-            Offer::Refused(refused) => client.tell_last(refused.answer()),
+            Offer::Refused(refused) => {
+                client.tell_last(refused.answer());
+                self.counts.sources_refused = counted(self.counts.sources_refused, 1);
+            }
             Offer::Nothing { .. } => client.tell_last(DONE),
             Offer::Body { .. } if self.air.is_some() => {
                 client.stage = Stage::Waiting;
                 client.since = now;
             }
             Offer::Body { used, body, answer } => {
-                if self.take_the_air(key, used, body, answer).is_err() {
+                if self.take_the_air(key, used, body, answer, now).is_err() {
                     self.cut(key);
                 }
             }
@@ -78,11 +82,12 @@ impl<D: Disk + Drop> Station<D> {
         used: usize,
         body: Body,
         answer: &[u8],
+        now: u64,
     ) -> Result<(), Memory>
         ensures others { OthersStay key self.old.clients self.new.clients }
         ensures live { self.new.live ≡ self.old.live }
     {
-        self.begin_air(Feeder::Peer(key), Some(body))?;
+        self.begin_air(Feeder::Peer(key), Some(body), now)?;
         let Some(client) = self.clients.get_mut(key) else {
             return Ok(());
         };
@@ -96,7 +101,12 @@ impl<D: Disk + Drop> Station<D> {
     }
 
     /// A source is on the air from now on. Its streams get serials that the file doesn't have.
-    pub(crate) fn begin_air(&mut self, feeder: Feeder, body: Option<Body>) -> Result<(), Memory>
+    pub(crate) fn begin_air(
+        &mut self,
+        feeder: Feeder,
+        body: Option<Body>,
+        now: u64,
+    ) -> Result<(), Memory>
         ensures clients { self.new.clients ≡ self.old.clients }
         ensures live { self.new.live ≡ self.old.live }
         ensures options { self.new.options ≡ self.old.options }
@@ -107,6 +117,8 @@ impl<D: Disk + Drop> Station<D> {
         };
         let serials = self.live.hub.serials();
         self.air = Some(OnAir::new(self.alloc, feeder, body, options, serials)?);
+        self.on_air_since = now;
+        self.counts.sources = counted(self.counts.sources, 1);
         Ok(())
     }
 }

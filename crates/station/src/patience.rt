@@ -17,6 +17,9 @@ const SENDS: u64 = 30_000;
 /// For how many milliseconds a peer may take no byte of what is to be sent.
 const TAKES: u64 = 60_000;
 
+/// For how many milliseconds a peer that was told the end may take until it closes.
+const CLOSES: u64 = 10_000;
+
 /// For how many milliseconds a command may wait for its commit: what is heard is so much later than what is recorded.
 const MOST_WAIT: u64 = 150;
 
@@ -33,6 +36,7 @@ fn patience(client: &Client) -> Option<u64>
         Stage::Sending | Stage::Ending => Some(TAKES),
         Stage::Hearing if client.idle => None,
         Stage::Hearing => Some(TAKES),
+        Stage::Closing => Some(CLOSES),
         Stage::Cut => Some(0),
     }
 }

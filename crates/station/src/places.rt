@@ -1,8 +1,10 @@
 //! Where listeners may join what is recorded.
 ghost use Rattle.std.specs.Prelude.{◌≡◌, None, Some, IfOk};
 ghost use Rattle.serve_live.specs.Boundaries.{no_link, place_to_join};
-ghost use Rattle.station.specs.Places.{committed_to};
+ghost use Rattle.station.specs.Places.{answered_by, committed_to, doubted, noted, reopened_to};
 
+use feed_codec::Reply;
+use ogg_command::Refusal;
 use serve_live::{Boundaries, JoinPlace};
 use std::alloc::{AllocError as Memory, Global};
 use std::marker::Model;
@@ -12,6 +14,21 @@ use std::marker::Model;
 pub struct BeginPlace {
     pub begin: u64,
     pub end: u64,
+}
+
+/// A command that was answered, and the file after it. Lengths are bytes.
+#[derive(Clone, Copy, Debug, PartialEq, Eq)]
+pub struct Answered {
+    /// The command is a `Begin`.
+    pub begins: bool,
+    /// How long the file was before the command, with what waited.
+    pub before: u64,
+    /// How long it is with the command's pages.
+    pub after: u64,
+    /// How long the committed bytes are.
+    pub end: u64,
+    /// A stream of the last link goes on.
+    pub is_open: bool,
 }
 
 /// The boundaries between commands at which listeners may join the open link. A boundary is one by the recorder's
@@ -49,11 +66,41 @@ impl Places {
         self.boundaries.place()
     }
 
-    /// A `Begin` was taken, and its pages stand there. It may wait for its commit.
-    pub fn begun(&mut self, place: BeginPlace)
-        ensures { self.new ≡ record self.old { begun = Some place } }
+    /// A command got this reply.
+    pub fn answered(&mut self, reply: Reply, answered: Answered)
+        ensures { self.new ≡ answered_by reply answered self.old }
     {
-        self.begun = Some(place);
+        match reply {
+            Reply::Held(_) => self.note(answered),
+            Reply::Kept(_) => {
+                self.note(answered);
+                self.committed(answered.end, answered.is_open);
+            }
+            Reply::Refused(Refusal::Disk) => self.doubt(answered.begins),
+            Reply::Refused(_) => {}
+        }
+    }
+
+    /// The disk failed at a command. If it was a `Begin`, nobody joins before the next one: it may be kept.
+    fn doubt(&mut self, begins: bool)
+        ensures { self.new ≡ doubted begins self.old }
+    {
+        if begins {
+            self.boundaries.ended();
+            self.begun = None;
+        }
+    }
+
+    /// A command was taken, and its pages stand there. It may wait for its commit.
+    fn note(&mut self, answered: Answered)
+        ensures { self.new ≡ noted answered.begins (record { begin = answered.before; end = answered.after }) self.old }
+    {
+        if answered.begins {
+            self.begun = Some(BeginPlace {
+                begin: answered.before,
+                end: answered.after,
+            });
+        }
     }
 
     /// All that waited is committed: the committed bytes end at `end`. A stream is open there, or none.
@@ -74,10 +121,15 @@ impl Places {
         }
     }
 
-    /// What waited is lost.
-    pub fn lost(&mut self)
-        ensures { self.new ≡ record self.old { begun = None } }
+    /// The file was opened again, which had `before` committed bytes and has `end`: what waited is lost, or was committed
+    /// after all.
+    pub fn reopened(&mut self, before: u64, end: u64, is_open: bool)
+        ensures { self.new ≡ reopened_to before end is_open self.old }
     {
-        self.begun = None;
+        if before < end {
+            self.committed(end, is_open);
+        } else {
+            self.begun = None;
+        }
     }
 }

@@ -1,24 +1,29 @@
 //! A station, by what happens to it.
-ghost use Rattle.std.specs.Prelude.{◌≡◌, ◌≢◌, ◌↔◌, ◌≤◌, ℕ, None, Some, Err, IfOk, IfErr, drop, length};
+ghost use Rattle.std.specs.Prelude.{◌≡◌, ◌≢◌, ◌↔◌, ◌≤◌, ◌⊎◌, ℕ, None, Some, Err, IfOk, IfErr, drop, length, min};
 ghost use Rattle.slab.specs.Slab.{get, slab_len};
 ghost use Rattle.ogg_serve.specs.Images.{IfFile, Reads};
-ghost use Rattle.station.specs.Client.{ClientState, fresh, is_over};
+ghost use Rattle.station.specs.Client.{ClientState, fresh};
+ghost use Rattle.station.specs.Counting.{counted};
 ghost use Rattle.station.specs.Keys.{OthersStay};
-ghost use Rattle.station.specs.Patience.{is_overdue};
 
 use crate::Memory;
 use crate::air::{Feeder, OnAir};
 use crate::asking::{ask, connect, listen, read};
 use crate::client::{Client, Stage};
+use crate::counting::{Counts, counted};
 use crate::giving::give;
+use crate::line::Trouble;
 use crate::live_hub::LiveHub;
-use crate::patience::{is_overdue, is_refused};
+use crate::patience::is_refused;
+use crate::telling::tell_player;
 use disk_model::Disk;
 use import_changes::Skeletons;
 use ogg_serve::Hub;
-use serve_sources::{Asks, Password, Refused};
+use serve_sources::{Asks, OwnResource, Password, Refused};
+use serve_texts::Visit;
 use slab::Slab;
 use std::alloc::Global;
+use std::collections::VecDeque;
 
 /// Why a connection isn't taken.
 #[derive(Clone, Copy, Debug, PartialEq, Eq)]
@@ -38,6 +43,10 @@ pub struct Options {
     pub skeletons: Skeletons,
     /// What connections have to know that send a stream; none if no connection may.
     pub password: Option<Password>,
+    /// The station comes to its end once the input has ended.
+    pub ends_with_input: bool,
+    /// What connections have sent and got is remembered for a log.
+    pub log: bool,
 }
 
 /// A file that is recorded and served. Times are milliseconds of a clock of the caller's that never goes back.
@@ -52,6 +61,17 @@ pub struct Station<D: Disk> {
     pub(crate) waiting_since: u64,
     // how many bytes were committed when the file was opened again
     pub(crate) reopened: Option<u64>,
+    // the connections that have something to do
+    pub(crate) turns: VecDeque<usize>,
+    pub(crate) counts: Counts,
+    // since when the source has the air
+    pub(crate) on_air_since: u64,
+    // when everybody was looked at, how many steps had committed more by then, and how many since the time before
+    pub(crate) looked: u64,
+    pub(crate) commits: u64,
+    pub(crate) commits_a_second: u64,
+    // since when it comes to its end
+    pub(crate) ending: Option<u64>,
 }
 
 impl<D: Disk + Drop> Station<D> {
@@ -61,10 +81,17 @@ impl<D: Disk + Drop> Station<D> {
             alloc,
             live: LiveHub::new(alloc, hub)?,
             clients: Slab::with_capacity(alloc, options.most)?,
-            options,
             air: None,
             waiting_since: 0,
             reopened: None,
+            turns: VecDeque::with_capacity(alloc, options.most)?,
+            counts: Counts::none(),
+            on_air_since: 0,
+            looked: 0,
+            commits: 0,
+            commits_a_second: 0,
+            ending: None,
+            options,
         })
     }
 
@@ -81,14 +108,28 @@ impl<D: Disk + Drop> Station<D> {
         }
     }
 
+    /// What it has done so far.
+    pub fn counts(&self) -> Counts {
+        self.counts
+    }
+
+    /// Returns the hub. The connections are gone, and what waits isn't committed.
+    pub fn into_hub(self) -> Hub<D>
+        ensures { result ≡ self.live.hub }
+    {
+        self.live.hub
+    }
+
     /// How many connections there are.
     pub fn connections(&self) -> usize {
         self.clients.len()
     }
 
-    /// A connection was made. It gets the key that is returned.
+    /// A connection was made. It gets the key that is returned. None is taken while the station comes to its end.
     pub fn accepted(&mut self, now: u64) -> Result<usize, Unaccepted>
-        ensures full { (result ≡ Err Unaccepted.Full) ↔ (self.old.options.most ≤ slab_len self.old.clients) }
+        ensures full { (result ≡ Err Unaccepted.Full) ↔ ((self.old.options.most ≤ slab_len self.old.clients) ⊎ (self.old.ending ≢ None)) }
+        ensures refused { result ≡ Err Unaccepted.Full
+            → self.new.counts ≡ record self.old.counts { connections_refused = counted self.old.counts.connections_refused 1 } }
         ensures none { IfOk result (λ key. get self.old.clients key ≡ None) }
         ensures some { IfOk result (λ key. get self.new.clients key ≡ Some (fresh now)) }
         ensures others { IfOk result (λ key. OthersStay key self.old.clients self.new.clients) }
@@ -96,45 +137,38 @@ impl<D: Disk + Drop> Station<D> {
         ensures live { self.new.live ≡ self.old.live }
         ensures air { self.new.air ≡ self.old.air }
     {
-        if self.clients.len() >= self.options.most {
+        if self.clients.len() >= self.options.most || self.ending.is_some() {
+            self.counts.connections_refused = counted(self.counts.connections_refused, 1);
             return Err(Unaccepted::Full);
         }
-        match self.clients.insert(Client::new(self.alloc, now)) {
+        let visit = if self.options.log {
+            Some(Visit::new(self.alloc))
+        } else {
+            None
+        };
+        match self.clients.insert(Client::new(self.alloc, now, visit)) {
             Ok(key) => Ok(key),
             Err(_) => Err(Unaccepted::Memory),
         }
     }
 
-    /// This connection was closed: its session ends, or its stream.
-    pub fn closed(&mut self, key: usize)
+    /// This connection was closed: its session ends, or its stream. It returns what is to be told of it in the log.
+    pub fn closed(&mut self, key: usize) -> Option<Visit>
         ensures gone { get self.new.clients key ≡ None }
         ensures others { OthersStay key self.old.clients self.new.clients }
         ensures file { self.new.live.hub.file ≡ self.old.live.hub.file }
     {
-        let Some(client) = self.clients.try_remove(key) else {
-            return;
-        };
+        let client = self.clients.try_remove(key)?;
         if let Some(id) = client.session {
             // After a fault of the file the session has ended already.
             let _ = self.live.hub.close(id);
         }
         self.lose_feeder(key);
-    }
-
-    /// Whether bytes of this connection are taken now. Only those of a source may have to wait.
-    pub fn wants(&self, key: usize) -> bool {
-        match self.clients.get(key) {
-            Some(client) => match client.stage {
-                Stage::Feeding => self.is_hungry(Feeder::Peer(key)),
-                Stage::Waiting | Stage::Cut => false,
-                _ => true,
-            },
-            None => false,
-        }
+        client.visit
     }
 
     /// Whether bytes of this source are taken now.
-    fn is_hungry(&self, feeder: Feeder) -> bool {
+    pub(crate) fn is_hungry(&self, feeder: Feeder) -> bool {
         match &self.air {
             Some(air) => air.feeder() == feeder && air.is_hungry(),
             None => false,
@@ -148,6 +182,8 @@ impl<D: Disk + Drop> Station<D> {
         let Some(client) = self.clients.get_mut(key) else {
             return;
         };
+        client.stands(client.line.moves());
+        client.note_heard(bytes);
         match client.stage {
             Stage::Asking => match ask(client, bytes) {
                 Asks::More => {}
@@ -155,7 +191,7 @@ impl<D: Disk + Drop> Station<D> {
                     client.stage = Stage::Offering;
                     self.offer(key, &[], now);
                 }
-                Asks::Live { head } => listen(&mut self.live, client, head),
+                Asks::Own { resource, head } => self.answer(key, resource, head, now),
                 Asks::Source | Asks::File => connect(&mut self.live.hub, client),
             },
             Stage::Offering => self.offer(key, bytes, now),
@@ -168,7 +204,26 @@ impl<D: Disk + Drop> Station<D> {
                 client.since = now;
                 self.feed(Feeder::Peer(key), bytes);
             }
-            Stage::Waiting | Stage::Sending | Stage::Hearing | Stage::Ending | Stage::Cut => {}
+            Stage::Waiting
+            | Stage::Sending
+            | Stage::Hearing
+            | Stage::Ending
+            | Stage::Closing
+            | Stage::Cut => {}
+        }
+    }
+
+    /// The station answers this connection itself.
+    fn answer(&mut self, key: usize, resource: OwnResource, head: bool, now: u64)
+        ensures others { OthersStay key self.old.clients self.new.clients }
+    {
+        let Some(client) = self.clients.get_mut(key) else {
+            return;
+        };
+        match resource {
+            OwnResource::Live => listen(&mut self.live, client, head),
+            OwnResource::Player => tell_player(self.alloc, client, head),
+            OwnResource::Status => self.tell_numbers(key, head, now),
         }
     }
 
@@ -180,11 +235,11 @@ impl<D: Disk + Drop> Station<D> {
         let Some(client) = self.clients.get_mut(key) else {
             return;
         };
+        client.stands(client.line.read_failed(Trouble::Blocked));
         match client.stage {
             Stage::Feeding => self.end_air(Feeder::Peer(key)),
-            Stage::Asking | Stage::Offering | Stage::Reading | Stage::Hearing => {
-                client.stage = Stage::Cut;
-            }
+            Stage::Asking | Stage::Offering | Stage::Reading | Stage::Hearing | Stage::Closing =>
+                client.go_to(Stage::Cut),
             Stage::Waiting | Stage::Sending | Stage::Ending | Stage::Cut => {}
         }
     }
@@ -202,10 +257,14 @@ impl<D: Disk + Drop> Station<D> {
         };
         if is_refused(client, now) {
             client.tell_last(Refused::OnTheAir.answer());
+            self.counts.sources_refused = counted(self.counts.sources_refused, 1);
         }
         let count = give(&mut self.live.hub, client, buffer);
         if count == 0 {
             client.idle = true;
+            if client.stage == Stage::Hearing && self.ending.is_some() {
+                client.stage = Stage::Ending;
+            }
         } else if client.idle {
             client.idle = false;
             client.since = now;
@@ -216,6 +275,8 @@ impl<D: Disk + Drop> Station<D> {
     /// The first `count` of these bytes, which `next` gave for this connection, were written. The others are kept, to be
     /// given again; without memory for them the connection is cut.
     pub fn wrote(&mut self, key: usize, bytes: &[u8], count: usize, now: u64)
+        ensures counts { (client : ClientState) → get self.old.clients key ≡ Some client
+            → self.new.counts ≡ record self.old.counts { sent = counted self.old.counts.sent (min count (length bytes.now)) } }
         ensures others { OthersStay key self.old.clients self.new.clients }
         ensures live { self.new.live ≡ self.old.live }
         ensures air { self.new.air ≡ self.old.air }
@@ -224,37 +285,14 @@ impl<D: Disk + Drop> Station<D> {
             return;
         };
         client.wrote(bytes, count);
+        let (sent, _) = bytes.split_at(count.min(bytes.len()));
+        client.note_sent(sent);
         if count > 0 {
             client.since = now;
+            let line = client.line.moves();
+            client.stands(line);
         }
-    }
-
-    /// Whether nothing more is taken of this connection, and nothing more is to be written to it.
-    pub fn is_over(&self, key: usize) -> bool
-        ensures { (client : ClientState) → get self.now.clients key ≡ Some client → result ≡ is_over client }
-    {
-        match self.clients.get(key) {
-            Some(client) => client.is_over(),
-            None => true,
-        }
-    }
-
-    /// Whether this connection hears what is recorded.
-    pub fn hears(&self, key: usize) -> bool {
-        match self.clients.get(key) {
-            Some(client) => client.stage == Stage::Hearing,
-            None => false,
-        }
-    }
-
-    /// Whether the patience with this connection is over.
-    pub fn is_overdue(&self, key: usize, now: u64) -> bool
-        ensures { (client : ClientState) → get self.now.clients key ≡ Some client → result ≡ is_overdue client now }
-    {
-        match self.clients.get(key) {
-            Some(client) => is_overdue(client, now),
-            None => true,
-        }
+        self.counts.sent = counted(self.counts.sent, sent.len() as u64);
     }
 
     /// Whether bytes of the caller's input are taken now.
@@ -266,23 +304,26 @@ impl<D: Disk + Drop> Station<D> {
     }
 
     /// The input has given bytes. If nobody is on the air, it is from now on.
-    pub fn input(&mut self, bytes: &[u8]) -> Result<(), Memory>
+    pub fn input(&mut self, bytes: &[u8], now: u64) -> Result<(), Memory>
         ensures clients { self.new.clients ≡ self.old.clients }
         ensures live { self.new.live ≡ self.old.live }
     {
         if self.air.is_none() {
-            self.begin_air(Feeder::Input, None)?;
+            self.begin_air(Feeder::Input, None, now)?;
         }
         self.feed(Feeder::Input, bytes);
         Ok(())
     }
 
     /// The input has ended.
-    pub fn input_ended(&mut self)
+    pub fn input_ended(&mut self, now: u64)
         ensures clients { self.new.clients ≡ self.old.clients }
         ensures live { self.new.live ≡ self.old.live }
     {
         self.end_air(Feeder::Input);
+        if self.options.ends_with_input {
+            self.finish(now);
+        }
     }
 
     /// Further bytes of a source. Without memory for them it ends.

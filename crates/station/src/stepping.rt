@@ -1,7 +1,10 @@
 //! What is recorded, step by step.
+ghost use Rattle.std.specs.Prelude.{◌≡◌};
+ghost use Rattle.station.specs.Stepping.{with_done};
 
 use crate::air::{Feeder, Took};
 use crate::client::Stage;
+use crate::counting::counted;
 use crate::patience::{is_due, until_due};
 use crate::station::Station;
 use disk_model::Disk;
@@ -50,6 +53,35 @@ impl<D: Disk + Drop> Station<D> {
     /// the source, or its end. A fault of the disk is answered by one reopening, unless nothing was kept since the one
     /// before. Call it until it has done `Nothing`.
     pub fn step(&mut self, now: u64) -> Done {
+        let end = self.live.hub.end();
+        let done = self.step_once(now);
+        self.count(done);
+        if self.live.hub.end() != end {
+            self.counts.commits = counted(self.counts.commits, 1);
+            self.wake_listeners();
+        }
+        self.wake_feeder();
+        done
+    }
+
+    /// Counts what a step has done.
+    fn count(&mut self, done: Done)
+        ensures counts { self.new.counts ≡ with_done done self.old.counts }
+        ensures live { self.new.live ≡ self.old.live }
+        ensures clients { self.new.clients ≡ self.old.clients }
+    {
+        match done {
+            Done::Stepped(step) => self.counts = self.counts.with_step(step),
+            Done::Ended { junk, taken, .. } => {
+                self.counts = self.counts.with_end(junk, taken);
+            }
+            Done::Reopened => self.counts.reopenings = counted(self.counts.reopenings, 1),
+            _ => {}
+        }
+    }
+
+    /// Does what is next to be done.
+    fn step_once(&mut self, now: u64) -> Done {
         if self.live.hub.is_failed() {
             return self.reopen(now);
         }
@@ -169,7 +201,7 @@ impl<D: Disk + Drop> Station<D> {
     }
 
     /// How many milliseconds may be waited before `step` has something to do, if nothing comes; none if nothing waits.
-    pub fn until_due(&self, now: u64) -> Option<u64> {
+    pub(crate) fn until_due(&self, now: u64) -> Option<u64> {
         until_due(self.live.hub.held(), self.waiting_since, now)
     }
 }

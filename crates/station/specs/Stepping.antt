@@ -1,0 +1,12 @@
+-- What is counted of what a step has done. Ours.
+use Rattle.std.specs.Prelude.{ℕ}
+use Rattle.station.specs.Counting.{counted, with_mend, with_step, with_taken}
+use Rattle.station.specs.declared.counting.Counts.{Counts}
+use Rattle.station.specs.declared.stepping.Done.{Done}
+use Rattle.station.specs.declared.stepping.Done.TheVariants.{Nothing, Bytes, Flushed, Stepped, Ended, GivenUp, Reopened, Lost, Failed}
+
+abbrev pub with_done : Done → Counts → Counts
+with_done (Stepped step) counts = with_step step counts
+with_done (Ended offset junk taken) counts = with_taken taken (with_mend junk counts)
+with_done Reopened counts = record counts { reopenings = counted counts.reopenings 1 }
+with_done done counts = counts
