@@ -2,6 +2,7 @@
 # With --end-open a recording that was stopped in the middle of a link goes on with the next one.
 . "$(dirname "$0")/common.bash"
 
+not() { ! "$@"; }
 ogg=$work/radio.ogg
 records 'begin([1, 2]), put([(1, 5, b"hello")])' >"$work/stopped"
 records 'begin([3]), put([(3, 7, b"again")]), end(3)' >"$work/next"
@@ -29,6 +30,31 @@ check "in a group: the file" cmp "$work/group.ogg" "$work/want"
 cp "$work/was.ogg" "$work/none.ogg"
 run record "$work/none.ogg" --end-open --group 8 </dev/null
 came "no record" 0 'held 1\nheld 2\nkept 2 149\n' ''
+
+# With --renumber what is open is ended too, and a stream whose serial the file has gets the first free one, whatever run
+# the serial is of; one whose serial is free keeps it.
+cp "$work/was.ogg" "$work/renumbered.ogg"
+run record "$work/renumbered.ogg" --renumber --seal <"$work/next"
+came "with --renumber, free serials" 0 'kept 1 122\nkept 2 149\nkept 3 180\nkept 4 213\nkept 5 240\n' ''
+check "with --renumber, free serials: the file" cmp "$work/renumbered.ogg" "$work/want"
+cp "$work/was.ogg" "$work/renumbered.ogg"
+run record "$work/renumbered.ogg" --renumber --seal <"$work/stopped"
+came "with --renumber, taken serials" 0 'kept 1 122\nkept 2 149\nkept 3 211\nkept 4 244\n' ''
+pages "02 0 1 0 3 abc" "02 0 2 0 3 abc" "00 5 1 1 5 hello" "04 5 1 2 - -" "04 0 2 1 - -" "02 0 0 0 3 abc" "02 0 3 0 3 abc" "00 5 0 1 5 hello" \
+    >"$work/taken"
+check "with --renumber, taken serials: the file" cmp "$work/renumbered.ogg" "$work/taken"
+for turn in 1 2 3; do
+    run record "$work/renumbered.ogg" --renumber --group 8 <"$work/stopped"
+    check "with --renumber, turn $turn: nothing is refused" not grep -q refused "$work/out"
+done
+run links "$work/renumbered.ogg"
+check "with --renumber: five links" [ "$(grep -c '^link ' "$work/out")" -eq 5 ]
+check "with --renumber: each serial once" [ "$(sed -n 's/^stream \([0-9]*\) .*/\1/p' "$work/out" | sort -u | wc -l)" -eq 10 ]
+cp "$work/was.ogg" "$work/refused.ogg"
+records 'begin([1, 1]), begin([1]), put([(1, 5, b"hello")]), end(1)' >"$work/twice"
+run record "$work/refused.ogg" --renumber --strict <"$work/twice"
+check "with --renumber: a link that is refused otherwise is refused" grep -q '^refused' "$work/out"
+check "with --renumber and --strict: status" [ "$status" -eq 1 ]
 
 # A reply that can't be written, and a device that fails, are told as ever, and the next run goes on.
 cp "$work/was.ogg" "$work/mute.ogg"

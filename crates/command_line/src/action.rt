@@ -41,11 +41,12 @@ pub enum Action<'a> {
         strict: bool,
     },
     /// The feed on standard input into the file, `most` commands to a commit, with `strict` up to the first refusal.
-    /// With `end_open` the streams that an earlier run left open are ended first. The file is sealed at the end if
-    /// `seal` says so.
+    /// With `end_open` the streams that an earlier run left open are ended first, and so they are with `renumber`, which
+    /// gives a stream another serial if the file has its serial. The file is sealed at the end if `seal` says so.
     Record {
         file: &'a str,
         end_open: bool,
+        renumber: bool,
         seal: bool,
         most: u32,
         strict: bool,

@@ -141,6 +141,7 @@ fn record_of<'a>(words: &ArgMatches<'a>) -> Option<Action<'a>>
     Some(Action::Record {
         file: words.get_str("FILE")?,
         end_open: words.get_flag("end-open"),
+        renumber: words.get_flag("renumber"),
         seal: words.get_flag("seal"),
         most: group_of(words)?,
         strict: words.get_flag("strict"),

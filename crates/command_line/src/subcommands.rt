@@ -231,7 +231,7 @@ static FEED: Subcommand = Subcommand {
 The feed goes to standard output, page by page: a page's packets are out as soon as the page is
 complete, so an encoder's output is recorded while it is made:
 
-  ffmpeg -i INPUT -f ogg - | kudzuturret feed | kudzuturret record radio.ogg --end-open
+  ffmpeg -i INPUT -f ogg - | kudzuturret feed | kudzuturret record radio.ogg --renumber
   kudzuturret feed < song.ogg | kudzuturret mux > again.ogg
 
 A link begins once the headers of all its streams have come; Vorbis, Theora, Opus, FLAC and Speex are
@@ -250,6 +250,8 @@ time, the second link would be refused. With `--renumber` its streams get serial
 
   cat song.ogg song.ogg | kudzuturret feed --renumber | kudzuturret record twice.ogg
 
+`record --renumber` does so for the serials that its file has already, whatever runs they are of.
+
 What can't be taken ends the feed by a fault with its offset, after everything before it is out:
 
   fault make 1 Page OFFSET CODE NAME       no good page begins at this byte
@@ -261,7 +263,7 @@ With `--mend` none of these ends it: of a stream that is joined in the middle, c
 that lies whole in good pages is taken, and what is open at the end is ended. Each loss is a line on
 standard error, such as `mended 2 Gap OFFSET SERIAL FROM TO`; docs/FORMATS.md lists them:
 
-  curl http://radio.example/live.ogg | kudzuturret feed --mend | kudzuturret record radio.ogg --end-open
+  curl http://radio.example/live.ogg | kudzuturret feed --mend | kudzuturret record radio.ogg --renumber
 ",
 };
 
@@ -300,6 +302,11 @@ static RECORD: Subcommand = Subcommand {
             kind: Kind::Flag,
             help: "First ends the streams that an earlier run has left open",
         },
+        Argument {
+            name: "renumber",
+            kind: Kind::Flag,
+            help: "The same, and gives a stream another serial if the file has its serial",
+        },
         SEAL,
         GROUP,
         STRICT,
@@ -327,7 +334,11 @@ kept, and goes on from there:
 
 A stop in the middle of a link leaves its streams open, and a link can begin only after those before it
 have ended. If the next feed begins a link, as each run of an encoder does, `--end-open` ends these
-streams first. Each end is a command, whose reply comes before those of the feed.
+streams first. Each end is a command, whose reply comes before those of the feed. A file takes each serial
+once; with `--renumber` a stream of the feed gets the first free serial if its own is taken, so an encoder
+that takes the same serial after each start is recorded too:
+
+  ffmpeg -i INPUT -f ogg - | kudzuturret feed | kudzuturret record radio.ogg --renumber
 
 A file that isn't sealed has one byte 00 after its pages, and after a stop maybe a longer tail.
 Players pass over both; `--seal` cuts them off.

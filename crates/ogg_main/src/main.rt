@@ -107,11 +107,16 @@ fn run(rt: &HostRuntime, action: Action<'_>) -> Result<(), Fault> {
         Action::Record {
             file,
             end_open,
+            renumber,
             seal,
             most,
             strict,
         } => {
-            let ends = streams::Ends { end_open, seal };
+            let ends = streams::Ends {
+                end_open,
+                renumber,
+                seal,
+            };
             streams::record(rt, file, ends, most, strict)
         }
         Action::Links { file } => files::links(rt, file),

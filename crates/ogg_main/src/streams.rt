@@ -3,15 +3,17 @@
 use crate::files::output;
 use crate::mends::MendLines;
 use crate::recorders::{open_recorder, seal_file};
-use disk_model::FileMode;
+use disk_model::{FileDisk, FileMode};
 use fault_lines::Fault;
 use feed_codec::{FeedFault, RunFault, Tally};
 use feed_mux::{check_feed_for, mux_for};
 use feed_recorder::{end_open_streams, record_feed_for};
-use feed_run::{Batched, Buffered, FirstRefusal, Together};
+use feed_run::{Batched, Buffered, FirstRefusal, Together, run_feed_for};
 use import_feed::{ChangeOptions, make_feed, make_mended_feed};
+use import_renumber::Renumbered;
 use ogg_page::write_whole;
-use std::io::{BufReader, IsTerminal, Stdin, Write};
+use ogg_recorder::Recorder;
+use std::io::{self, BufReader, IsTerminal, Stdin, Write};
 use text_line::Line;
 
 /// How many bytes of the feed are read at once.
@@ -49,6 +51,8 @@ pub fn check(rt: &HostRuntime, strict: bool) -> Result<(), Fault> {
 pub struct Ends {
     /// The streams that an earlier run left open are ended first.
     pub end_open: bool,
+    /// The same, and streams get serials that the file doesn't have.
+    pub renumber: bool,
     /// After the feed's end the file is cut to its pages; after a fault it isn't.
     pub seal: bool,
 }
@@ -67,15 +71,21 @@ pub fn record(
     recorder.group(most.clamp(1, 1024));
     let mut feed = input(rt)?;
     let mut replies = reply_lines(rt, rt.stdout(), Together::Groups, strict)?;
-    if ends.end_open && end_open_streams(&mut recorder, &mut replies).is_err() {
+    let ends_open = ends.end_open || ends.renumber;
+    if ends_open && end_open_streams(&mut recorder, &mut replies).is_err() {
         return Err(Fault::Write);
     }
-    let ran = record_feed_for::<Buffered, _, _, _>(
-        rt.alloc(),
-        &mut feed,
-        &mut replies,
-        &mut recorder,
-    );
+    let (recorder, ran) = if ends.renumber {
+        record_renumbered(rt, recorder, &mut feed, &mut replies)?
+    } else {
+        let ran = record_feed_for::<Buffered, _, _, _>(
+            rt.alloc(),
+            &mut feed,
+            &mut replies,
+            &mut recorder,
+        );
+        (recorder, ran)
+    };
     sum_up(rt, ended(ran, &replies)?);
     if recorder.is_failed() {
         return Err(Fault::Failed);
@@ -86,6 +96,33 @@ pub fn record(
     } else {
         Ok(())
     }
+}
+
+/// Records the feed under serials that the file doesn't have, and gives the recorder back.
+fn record_renumbered<W: Write + Drop>(
+    rt: &HostRuntime,
+    recorder: Recorder<FileDisk>,
+    feed: &mut BufReader<Stdin>,
+    replies: &mut ReplyLines<W>,
+) -> Result<(Recorder<FileDisk>, Result<Tally, RunFault>), Fault> {
+    let mut serials = Vec::new(rt.alloc());
+    if serials
+        .extend_from_slice(recorder.serials().as_slice())
+        .is_err()
+    {
+        return Err(Fault::Memory);
+    }
+    let Ok(mut runner) = Renumbered::new(rt.alloc(), recorder, serials.as_slice()) else {
+        return Err(Fault::Memory);
+    };
+    let ran = run_feed_for::<Buffered, _, _, _, _>(
+        rt.alloc(),
+        &mut runner,
+        feed,
+        &mut io::sink(),
+        replies,
+    );
+    Ok((runner.give_back(), ran))
 }
 
 /// Standard input, read ahead.
