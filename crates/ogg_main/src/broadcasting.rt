@@ -1,10 +1,9 @@
 //! A file that is recorded and served, for any number of connections.
 
 use crate::logging::Log;
-use crate::recorders::{open_recorder, seal_file};
+use crate::recorders::{HeardDisk, open_heard, seal_file};
 use crate::sockets::Sockets;
 use crate::telling::Told;
-use disk_model::{FileDisk, FileMode};
 use fault_lines::Fault;
 use import_feed::Skeletons;
 use ogg_page::write_whole;
@@ -62,7 +61,7 @@ pub fn station(rt: &HostRuntime, options: Options<'_>) -> Result<(), Fault> {
 }
 
 /// Opens the file, makes a station over it, and ends what an earlier run left open.
-fn open_station(rt: &HostRuntime, options: Options<'_>) -> Result<Station<FileDisk>, Fault> {
+fn open_station(rt: &HostRuntime, options: Options<'_>) -> Result<Station<HeardDisk>, Fault> {
     let password = match options.password_file {
         Some(file) => Some(read_password(rt, file)?),
         None => None,
@@ -86,8 +85,8 @@ fn open_station(rt: &HostRuntime, options: Options<'_>) -> Result<Station<FileDi
 }
 
 /// A hub over the file, with room for so many sessions. The station commits what waits.
-fn open_hub(rt: &HostRuntime, file: &str, most: usize) -> Result<Hub<FileDisk>, Fault> {
-    let recorder = open_recorder(rt, file, FileMode::Create)?;
+fn open_hub(rt: &HostRuntime, file: &str, most: usize) -> Result<Hub<HeardDisk>, Fault> {
+    let recorder = open_heard(rt, file)?;
     match Hub::with_room(rt.alloc(), recorder, most) {
         Ok(mut hub) => {
             hub.group(1024);
@@ -122,7 +121,7 @@ fn tell_address(rt: &HostRuntime, sockets: &Sockets) {
 /// Round after round, until a fault.
 fn run(
     rt: &HostRuntime,
-    station: &mut Station<FileDisk>,
+    station: &mut Station<HeardDisk>,
     sockets: &mut Sockets,
     told: &mut Told<'_>,
     log: &mut Log<'_>,
@@ -151,7 +150,7 @@ fn run(
 /// Waits until something can be done, and returns the time. If the station is busy nothing is waited for.
 fn wait(
     rt: &HostRuntime,
-    station: &mut Station<FileDisk>,
+    station: &mut Station<HeardDisk>,
     sockets: &mut Sockets,
     busy: bool,
 ) -> io::Result<u64> {
@@ -167,7 +166,7 @@ fn wait(
 /// Takes some steps of what is recorded, and tells them. It returns whether there may be more of them now.
 fn record(
     rt: &HostRuntime,
-    station: &mut Station<FileDisk>,
+    station: &mut Station<HeardDisk>,
     sockets: &Sockets,
     told: &mut Told<'_>,
     log: &mut Log<'_>,

@@ -1,7 +1,7 @@
 //! The log of a station: a line for each connection at its end, and two for each source.
 
+use crate::recorders::HeardDisk;
 use crate::telling::Told;
-use disk_model::FileDisk;
 use station::{Counts, FULL, Feeder, Station, Visit};
 use std::alloc::AllocError;
 use std::net::SocketAddr;
@@ -49,7 +49,7 @@ impl<'a> Log<'a> {
     }
 
     /// If a source has begun since this was asked before, that is told. Its address is known of a connection.
-    pub fn source(&mut self, station: &Station<FileDisk>, address: Option<SocketAddr>) {
+    pub fn source(&mut self, station: &Station<HeardDisk>, address: Option<SocketAddr>) {
         let counts = station.counts();
         if counts.sources == self.begun.sources {
             return;

@@ -1,7 +1,7 @@
 //! The sockets of a station: bytes go between them and the machine, which decides everything.
 
 use crate::logging::Log;
-use disk_model::FileDisk;
+use crate::recorders::HeardDisk;
 use mio::net::{TcpListener, TcpStream};
 use mio::unix::SourceFd;
 use mio::{Events, Interest, Poll, Token};
@@ -107,7 +107,7 @@ impl Sockets {
 
     /// Waits at most so many milliseconds until the system says that something can be done, and wakes the connections of
     /// which it says so.
-    pub fn wait(&mut self, station: &mut Station<FileDisk>, most: u64) -> io::Result<()> {
+    pub fn wait(&mut self, station: &mut Station<HeardDisk>, most: u64) -> io::Result<()> {
         let most = if self.crowded || self.has_input() && station.wants_input() {
             0
         } else {
@@ -134,7 +134,7 @@ impl Sockets {
     }
 
     /// Accepts the connections that wait.
-    pub fn accept(&mut self, station: &mut Station<FileDisk>, log: &mut Log<'_>, now: u64) {
+    pub fn accept(&mut self, station: &mut Station<HeardDisk>, log: &mut Log<'_>, now: u64) {
         self.crowded = false;
         if !self.accepting {
             return;
@@ -157,7 +157,7 @@ impl Sockets {
     }
 
     /// A connection was accepted. If there are too many it is told so, and closed; then false is returned.
-    fn add(&mut self, station: &mut Station<FileDisk>, mut socket: Socket, now: u64) -> bool {
+    fn add(&mut self, station: &mut Station<HeardDisk>, mut socket: Socket, now: u64) -> bool {
         let _ = socket.stream.set_nodelay(true);
         let Ok(key) = station.accepted(now) else {
             let _ = (&socket.stream).write(FULL);
@@ -199,7 +199,7 @@ impl Sockets {
     }
 
     /// Reads standard input once, if it is wanted and has bytes.
-    pub fn read_input(&mut self, rt: &HostRuntime, station: &mut Station<FileDisk>, now: u64) {
+    pub fn read_input(&mut self, rt: &HostRuntime, station: &mut Station<HeardDisk>, now: u64) {
         if !self.has_input() || !station.wants_input() {
             return;
         }
@@ -229,7 +229,7 @@ impl Sockets {
 
 impl Sockets {
     /// Gives each connection that has something to do one turn.
-    pub fn turns(&mut self, station: &mut Station<FileDisk>, log: &mut Log<'_>, now: u64) {
+    pub fn turns(&mut self, station: &mut Station<HeardDisk>, log: &mut Log<'_>, now: u64) {
         for _ in 0..station.turns() {
             let Some(key) = station.next_turn() else {
                 return;
@@ -239,7 +239,7 @@ impl Sockets {
     }
 
     /// A turn of a connection: one read, and one write.
-    fn turn(&mut self, station: &mut Station<FileDisk>, log: &mut Log<'_>, key: usize, now: u64) {
+    fn turn(&mut self, station: &mut Station<HeardDisk>, log: &mut Log<'_>, key: usize, now: u64) {
         let Some(Some(socket)) = self.sockets.as_mut_slice().get_mut(key) else {
             return;
         };
@@ -273,7 +273,7 @@ impl Sockets {
 /// Reads once.
 fn read(
     mut stream: &TcpStream,
-    station: &mut Station<FileDisk>,
+    station: &mut Station<HeardDisk>,
     key: usize,
     buffer: &mut [u8],
     now: u64,
@@ -288,7 +288,7 @@ fn read(
 /// Writes once, if there is something to send.
 fn write(
     mut stream: &TcpStream,
-    station: &mut Station<FileDisk>,
+    station: &mut Station<HeardDisk>,
     key: usize,
     buffer: &mut [u8],
     now: u64,
