@@ -331,7 +331,43 @@ sent "after a kill" opus curl -sf -u source:secret -T "$work/opus.ogg" "http://$
 # Wrong passwords, each as its program says it.
 check "ffmpeg, a wrong password" not ffmpeg -nostdin -loglevel error -i "$work/vorbis.ogg" -c copy -f ogg "icecast://source:wrong@$to/x"
 check "curl, a wrong password" not curl -sf -u source:wrong -T "$work/vorbis.ogg" "http://$to/x"
+# These never read an answer, so only the file tells.
+timeout 20 ffmpeg "${copies[@]}" -i "$work/flac.ogg" -c copy -f ogg -method PUT -auth_type basic "http://source:wrong@$to/x" 2>"$work/err"
+timeout 20 ffmpeg "${copies[@]}" -i "$work/opus.ogg" -c copy -f ogg -legacy_icecast 1 "icecast://source:wrong@$to/x" 2>"$work/err"
+if command -v oggfwd >"$work/which"; then
+    check "oggfwd, a wrong password" not timeout 20 oggfwd 127.0.0.1 "$port" wrong /x <"$work/vorbis.ogg"
+fi
+if command -v ices2 >"$work/which"; then
+    sed 's/<password>secret/<password>wrong/' "$work/ices.xml" >"$work/wrong.xml"
+    timeout 5 ices2 "$work/wrong.xml" >"$work/out" 2>"$work/err"
+fi
 check "after them: nothing more" listed
+
+# Players that listen for 20 seconds while one source follows the other.
+encode -f lavfi -i "anoisesrc=duration=13:color=pink" -c:a libvorbis -serial_offset 21 "$work/noise.ogg"
+encode -f lavfi -i "anoisesrc=duration=13:color=brown" -c:a libvorbis -serial_offset 22 "$work/other.ogg"
+curl -sf -u source:secret --limit-rate 12k -T "$work/noise.ogg" "http://$to/x" &
+encoders=$!
+sleep 3
+timeout 40 ffmpeg -nostdin -loglevel error -y -i "http://$to/live" -t 20 -f s16le -ac 1 -ar 48000 "$work/ffmpeg.pcm" 2>"$work/ffmpeg.err" &
+players=($!)
+if command -v mpv >"$work/which"; then
+    timeout 40 mpv --no-config --no-terminal --no-video --ao=pcm --ao-pcm-waveheader=no --ao-pcm-file="$work/mpv.pcm" --length=20 "http://$to/live" &
+    players+=($!)
+else
+    echo "no mpv: left out"
+fi
+wait "$encoders"
+links=$((links + 1))
+curl -sf -u source:secret --limit-rate 12k -T "$work/other.ogg" "http://$to/x"
+links=$((links + 1))
+curl -sf -u source:secret --limit-rate 12k -T "$work/noise.ogg" "http://$to/x"
+links=$((links + 1))
+wait "${players[@]}"
+for player in ffmpeg mpv; do
+    [ "$player" = ffmpeg ] || command -v mpv >"$work/which" || continue
+    check "$player plays on over a change of source: $(wc -c <"$work/$player.pcm") bytes" [ "$(wc -c <"$work/$player.pcm")" -gt 1700000 ]
+done
 
 sleep 0.5
 kill "$listener"

@@ -4,6 +4,7 @@
 
 asking() { timeout 30 python3 "$here/asking.py" "$@"; }
 
+not() { ! "$@"; }
 # up FILE WORD ..: starts a station on standard input as it is, and waits until it listens.
 up() {
     local file=$1
@@ -68,6 +69,95 @@ sleep 0.2
 check "places again" [ "$(code "http://127.0.0.1:$port/")" = 200 ]
 check "what is live has a head alone" [ "$(code -I "http://127.0.0.1:$port/live")" = 200 ]
 down
+
+# What a station says of itself.
+metric() { timeout 20 curl -s "http://127.0.0.1:$port/status" | python3 "$here/metrics.py" "$@"; }
+printf 'secret\n' >"$work/password"
+head -c 80 "$work/whole" >"$work/cut"
+up "$work/told.ogg" --password-file "$work/password" --listeners 3 --log </dev/null
+begun=$SECONDS
+check "nobody is on the air" [ "$(metric kudzuturret_on_air)" = 0 ]
+check "a whole source" [ "$(code -A "a \"quoted\" agent" -u source:secret -T "$work/whole" "http://127.0.0.1:$port/x")" = 200 ]
+check "a source that is cut" [ "$(code -u source:secret -T "$work/cut" "http://127.0.0.1:$port/x")" = 200 ]
+check "a wrong password" [ "$(code -u source:wrong -T "$work/whole" "http://127.0.0.1:$port/x")" = 401 ]
+check "both are listed" until_listed 'link 1 .*'
+exec 3<>"/dev/tcp/127.0.0.1/$port" 4<>"/dev/tcp/127.0.0.1/$port" 5<>"/dev/tcp/127.0.0.1/$port"
+sleep 0.2
+check "one connection too many" [ "$(code "http://127.0.0.1:$port/")" = 503 ]
+exec 3>&- 4>&- 5>&-
+sleep 0.2
+exec 3<>"/dev/tcp/127.0.0.1/$port"
+printf 'GET /live HTTP/1.0\r\n\r\n' >&3
+sleep 0.2
+metric >"$work/numbers" || echo "no numbers" >>"$work/numbers"
+numbers() { grep -vE '^kudzuturret_(uptime_seconds|commit_seconds_total|sent_bytes_total|commits_total) ' "$work/numbers"; }
+size=$(timeout 5 curl -s "http://127.0.0.1:$port/" | sed -n 's/^committed //p')
+cat >"$work/want" <<END
+kudzuturret_committed_bytes $size
+kudzuturret_links 2
+kudzuturret_packets_total 3
+kudzuturret_reopenings_total 0
+kudzuturret_connections{kind="listener"} 1
+kudzuturret_connections{kind="session"} 0
+kudzuturret_connections{kind="source"} 0
+kudzuturret_connections{kind="other"} 1
+kudzuturret_connections_refused_total 1
+kudzuturret_sources_accepted_total 2
+kudzuturret_sources_refused_total 1
+kudzuturret_mends_total{kind="Junk"} 1
+kudzuturret_mends_total{kind="Gap"} 0
+kudzuturret_mends_total{kind="Restart"} 0
+kudzuturret_mends_total{kind="Stranger"} 0
+kudzuturret_mends_total{kind="Repeated"} 0
+kudzuturret_mends_total{kind="Unfinished"} 0
+kudzuturret_mends_total{kind="TooLong"} 0
+kudzuturret_mends_total{kind="Misshapen"} 0
+kudzuturret_mends_total{kind="Full"} 0
+kudzuturret_on_air 0
+kudzuturret_on_air_seconds 0
+END
+numbers >"$work/found"
+check "the numbers of a station" diff "$work/want" "$work/found"
+check "commits were counted" [ "$(metric kudzuturret_commits_total)" -gt 0 ]
+check "so were bytes that were sent" [ "$(metric kudzuturret_sent_bytes_total)" -gt 1000 ]
+check "it runs for no longer than this script" [ "$(metric kudzuturret_uptime_seconds)" -le $((SECONDS - begun + 2)) ]
+check "the numbers have a head alone" [ "$(code -I "http://127.0.0.1:$port/status")" = 200 ]
+check "the player is there" [ "$(code "http://127.0.0.1:$port/player?x=1")" = 200 ]
+check "it is a page" grep -q '^</html>$' "$work/body"
+check "its head alone" [ "$(code -I "http://127.0.0.1:$port/player")" = 200 ]
+check "nobody sends to it" [ "$(code -X POST "http://127.0.0.1:$port/player")" = 405 ]
+exec 3>&-
+sleep 0.3
+down
+line='127\.0\.0\.1 - - \[[0-3][0-9]/[A-Z][a-z][a-z]/20[0-9][0-9]:[0-2][0-9]:[0-5][0-9]:[0-6][0-9] \+0000\]'
+logged() { grep -qE "^$line $1\$" "$work/err"; }
+check "a source in the log" logged '"PUT /x HTTP/1\.1" 200 0 "-" "a \\"quoted\\" agent"'
+check "a refused source in the log" logged '"PUT /x HTTP/1\.1" 401 [0-9]+ "-" "curl/[^"]*"'
+check "a listing in the log" logged '"GET / HTTP/1\.1" 200 [0-9]+ "-" "curl/[^"]*"'
+check "a connection too many in the log" logged '"-" 503 0 "-" "-"'
+check "a listener in the log" logged '"GET /live HTTP/1\.0" 200 0 "-" "-"'
+check "a head alone in the log" logged '"HEAD /player HTTP/1\.1" 200 0 "-" "curl/[^"]*"'
+check "the first source in the log" grep -qE '^source 1 127\.0\.0\.1:[0-9]+ begins$' "$work/err"
+check "its end" grep -qx 'source 1 ends 1 2 0' "$work/err"
+check "the end of the second one" grep -qx 'source 2 ends 1 1 1' "$work/err"
+check "no password in the log" not grep -qE "$(printf 'source:secret' | base64)|secret" "$work/err"
+
+# With --seal it ends with its input: who listens hears the rest, and the file has nothing after its pages.
+ogg=$work/sealed.ogg
+port=$(asking port)
+{ head -c 91 "$work/whole"; sleep 1; tail -c +92 "$work/whole"; } |
+    timeout 60 "$program" station "$ogg" "127.0.0.1:$port" --seal >"$work/out" 2>"$work/err" &
+server=$!
+asking wait "$port"
+check "its link is open" until_listed open
+timeout 20 curl -sN -o "$work/heard" "http://127.0.0.1:$port/live"
+check "a listener is closed at the end" [ $? -eq 0 ]
+wait "$server"
+check "it ends by itself" [ $? -eq 0 ]
+check "its last line" is_text "$work/err" "serving http://127.0.0.1:$port/\narchived 1 2 $(wc -c <"$ogg") 0\n"
+check "what was heard is the file" cmp "$work/heard" "$ogg"
+run links "$ogg"
+check "the file is sealed" grep -qx "committed $(wc -c <"$ogg")" "$work/out"
 
 # Faults before it serves.
 run station "$work/http.ogg" nowhere </dev/null

@@ -1,0 +1,20 @@
+#!/usr/bin/env bash
+# The player of a station in a headless Chromium, which is asked by its debugging protocol (browsing.py): what is recorded
+# plays, and so does a link, the list grows, and nothing is said on the console. Not part of the tests that ./check runs
+# without --media. With a folder as argument, pictures of the page are put there.
+#
+#     apt-get install chromium ffmpeg curl && tests/player.sh [FOLDER]
+. "$(dirname "$0")/program/common.bash"
+browser=$(command -v chromium || command -v google-chrome) || {
+    echo "no chromium: left out"
+    check "there was nothing to try" true
+    finish
+}
+command -v ffmpeg >"$work/which" || { echo "no ffmpeg" >&2; exit 1; }
+timeout 300 python3 "$top/tests/playing.py" "$program" "$browser" "$work" "$@" >"$work/out" 2>&1
+status=$?
+cat "$work/out"
+passed=$(grep -c '^ok ' "$work/out")
+failed=$(grep -c '^FAILED' "$work/out")
+check "the browser's run ended, with status $status" [ "$status" -eq 0 ]
+finish
