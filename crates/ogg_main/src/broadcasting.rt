@@ -90,9 +90,18 @@ fn open_hub(rt: &HostRuntime, file: &str, most: usize) -> Result<Hub<HeardDisk>,
     match Hub::with_room(rt.alloc(), recorder, most) {
         Ok(mut hub) => {
             hub.group(1024);
+            look_through(&mut hub);
             Ok(hub)
         }
         Err(_) => Err(Fault::Memory),
+    }
+}
+
+/// Has the hub find where all links lie, as for a listing, so that the first request needn't wait for that.
+fn look_through(hub: &mut Hub<HeardDisk>) {
+    if let Ok(id) = hub.connect() {
+        let _ = hub.receive(id, b"HEAD / HTTP/1.0\r\n\r\n");
+        let _ = hub.close(id);
     }
 }
 
