@@ -23,19 +23,15 @@ ulimit -n 8192 || { echo "too few files may be open: ulimit -n" >&2; exit 1; }
 nginx=$(PATH=$PATH:/usr/sbin command -v nginx) || { echo "no nginx: apt-get install nginx-light" >&2; exit 1; }
 cc -O2 -o "$work/pages_made" "$here/pages_made.c" -logg || exit 1
 cc -O2 -D_GNU_SOURCE -o "$work/many_clients" "$here/many_clients.c" || exit 1
-apart() { shift; "$@"; }
-[ "$(nproc)" -lt 2 ] || apart() {
-    local place=$1
-    shift
-    taskset -c "$place" "$@"
-}
+server_on=() clients_on=()
+[ "$(nproc)" -lt 2 ] || server_on=(taskset -c 0) clients_on=(taskset -c 1)
 free_port() { python3 -c 'import socket; s = socket.socket(); s.bind(("127.0.0.1", 0)); print(s.getsockname()[1])'; }
 
 # start WHICH: a server of the file, whose process is then in `server`.
 start() {
     port=$(free_port)
     if [ "$1" = station ]; then
-        apart 0 "$program" station "$work/all" "127.0.0.1:$port" --listeners 4096 </dev/null 2>"$work/err" &
+        "${server_on[@]}" "$program" station "$work/served" "127.0.0.1:$port" --listeners 4096 </dev/null 2>"$work/err" &
         server=$!
     else
         mkdir -p "$work/nginx/www"
@@ -50,7 +46,7 @@ http {
     server { listen 127.0.0.1:$port backlog=4096; root $work/nginx/www; }
 }
 CONF
-        apart 0 "$nginx" -e stderr -p "$work/nginx" -c "$work/nginx/conf" &
+        "${server_on[@]}" "$nginx" -e stderr -p "$work/nginx" -c "$work/nginx/conf" &
         server=$!
     fi
     for _ in $(seq 100); do
@@ -61,7 +57,7 @@ CONF
 # measure WHICH NAME LENGTH COUNT SLOW
 measure() {
     start "$1"
-    apart 1 "$work/many_clients" "$server" "$port" /all "$size" "$3" "$4" "$seconds" "$5" |
+    "${clients_on[@]}" "$work/many_clients" "$server" "$port" /all "$size" "$3" "$4" "$seconds" "$5" |
         awk -v name="$2" -v which="${1/,/, sendfile }" -v small="$(($3 > 0 && $3 < 1000))" '{
             printf "%-30s %-20s %9.0f %9.1f %9.1f %9.1f %8.1f\n", name, which, small ? $1 / $3 : $2 / $3,
                 small ? 1e6 * ($4 + $5) / ($1 ? $1 : 1) : 1e6 * ($4 + $5) / $2, $7, $8, $6 }'
@@ -70,6 +66,7 @@ measure() {
 
 "$work/pages_made" "$bytes" 65024 >"$work/all" 2>"$work/err" || { cat "$work/err"; exit 1; }
 size=$(stat -c %s "$work/all")
+cp "$work/all" "$work/served"
 printf '%-30s %-20s %9s %9s %9s %9s %8s\n' "" "" rate cpu middle worst memory
 for which in station nginx,off nginx,on; do
     for count in 64 1000; do
