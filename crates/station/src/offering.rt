@@ -1,5 +1,6 @@
 //! A source is offered: it is refused, or goes on the air.
-ghost use Rattle.std.specs.Prelude.{◌≡◌};
+ghost use Rattle.std.specs.Prelude.{◌≡◌, OnOk};
+ghost use Rattle.station.specs.Counting.{counted};
 ghost use Rattle.station.specs.Keys.{OthersStay};
 
 use crate::Memory;
@@ -9,7 +10,7 @@ use crate::counting::counted;
 use crate::station::Station;
 use disk_model::Disk;
 use import_changes::ChangeOptions;
-use serve_sources::{Body, DONE, Offer};
+use serve_sources::{Body, DONE, Offer, Refused};
 
 impl<D: Disk + Drop> Station<D> {
     /// Further bytes of the head of a source's request. If another one has the air, it waits.
@@ -29,10 +30,7 @@ impl<D: Disk + Drop> Station<D> {
         };
         match Offer::of(client.head.as_slice(), password) {
             Offer::More => {}
-            Offer::Refused(refused) => {
-                client.tell_last(refused.answer());
-                self.counts.sources_refused = counted(self.counts.sources_refused, 1);
-            }
+            Offer::Refused(refused) => self.refuse(key, refused),
             Offer::Nothing { .. } => client.tell_last(DONE),
             Offer::Body { .. } if self.air.is_some() => {
                 client.stage = Stage::Waiting;
@@ -44,6 +42,19 @@ impl<D: Disk + Drop> Station<D> {
                 }
             }
         }
+    }
+
+    /// A source is refused: it is told so, and counted.
+    pub(crate) fn refuse(&mut self, key: usize, refused: Refused)
+        ensures counts { self.new.counts ≡ record self.old.counts { sources_refused = counted self.old.counts.sources_refused 1 } }
+        ensures others { OthersStay key self.old.clients self.new.clients }
+        ensures live { self.new.live ≡ self.old.live }
+        ensures air { self.new.air ≡ self.old.air }
+    {
+        if let Some(client) = self.clients.get_mut(key) {
+            client.tell_last(refused.answer());
+        }
+        self.counts.sources_refused = counted(self.counts.sources_refused, 1);
     }
 
     /// The air is free: the first source that waits for it takes it.
@@ -110,6 +121,7 @@ impl<D: Disk + Drop> Station<D> {
         ensures clients { self.new.clients ≡ self.old.clients }
         ensures live { self.new.live ≡ self.old.live }
         ensures options { self.new.options ≡ self.old.options }
+        ensures counts { OnOk result (self.new.counts ≡ record self.old.counts { sources = counted self.old.counts.sources 1 }) }
     {
         let options = ChangeOptions {
             renumber: true,

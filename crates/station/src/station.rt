@@ -252,13 +252,12 @@ impl<D: Disk + Drop> Station<D> {
         ensures air { self.new.air ≡ self.old.air }
         ensures within { result ≤ length buffer.new }
     {
+        if self.has_waited(key, now) {
+            self.refuse(key, Refused::OnTheAir);
+        }
         let Some(client) = self.clients.get_mut(key) else {
             return 0;
         };
-        if is_refused(client, now) {
-            client.tell_last(Refused::OnTheAir.answer());
-            self.counts.sources_refused = counted(self.counts.sources_refused, 1);
-        }
         let count = give(&mut self.live.hub, client, buffer);
         if count == 0 {
             client.idle = true;
@@ -270,6 +269,14 @@ impl<D: Disk + Drop> Station<D> {
             client.since = now;
         }
         count
+    }
+
+    /// Whether this connection is a source that has waited for the air long enough.
+    fn has_waited(&self, key: usize, now: u64) -> bool {
+        match self.clients.get(key) {
+            Some(client) => is_refused(client, now),
+            None => false,
+        }
     }
 
     /// The first `count` of these bytes, which `next` gave for this connection, were written. The others are kept, to be
