@@ -79,7 +79,7 @@ impl<D: Disk> Disk for TailDisk<D> {
         self.disk.len()
     }
 
-    #[tactic(auto, using(crate::proofs::Standing::held_is_read))]
+    #[tactic(auto, using(crate::proofs::InContents::held_is_read))]
     fn read_at(&mut self, at: u64, buffer: &mut [u8]) -> Result<(), DiskFault>
         requires { D.is_honest self.old.disk
             → at + length buffer.old ≤ length (D.state self.old.disk).contents }
@@ -101,7 +101,7 @@ impl<D: Disk> Disk for TailDisk<D> {
         self.disk.read_at(at, buffer)
     }
 
-    #[tactic(auto, using(crate::proofs::Standing::write_goes_on))]
+    #[tactic(auto, using(crate::proofs::InContents::write_goes_on))]
     fn write_at(&mut self, at: u64, bytes: &[u8]) -> Result<(), DiskFault>
         requires { D.is_honest self.old.disk → at ≤ length (D.state self.old.disk).contents }
         ensures written { OnOk result (D.is_honest self.old.disk
@@ -131,7 +131,7 @@ impl<D: Disk> Disk for TailDisk<D> {
         }
     }
 
-    #[tactic(auto, using(crate::proofs::Standing::cut_goes_on))]
+    #[tactic(auto, using(crate::proofs::InContents::cut_goes_on))]
     fn cut(&mut self, to: u64) -> Result<(), DiskFault>
         requires { D.is_honest self.old.disk → to ≤ length (D.state self.old.disk).contents }
         ensures cut { OnOk result (D.is_honest self.old.disk

@@ -1,4 +1,4 @@
-use Rattle.disk_tail.proofs.Standing.{held_is_read, written_stands, cut_stands}
+use Rattle.disk_tail.proofs.InContents.{held_is_read, written_stands, cut_stands}
 use Rattle.disk_tail.proofs.laws.tails_stand_in_the_contents.Goals as goal
 
 pub returns-clause-read : goal.returns-clause-read
