@@ -61,7 +61,7 @@ pub enum Action<'a> {
         link: u32,
         serial: Option<u32>,
     },
-    /// A link of the file as players like it, or all of its links.
+    /// A link of the file, or all of its links, so that players stop at the right sample.
     Finish {
         file: &'a str,
         link: Option<u32>,
