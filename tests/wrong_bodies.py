@@ -3,15 +3,18 @@
 
     tests/wrong_bodies.py [--alone] [CRATE ..]      none: every crate
 
-crates/CRATE/wrong-bodies/NAME.edit is named for its mistake. It names the function that must be refused, as a check
-prints it, and has the lines that are changed:
+crates/CRATE/wrong-bodies/NAME.edit is named for its mistake. It names the promise that it breaks, one of those in
+crates/CRATE/promises.txt, and the function that must be refused, as a check prints it, and has the lines that are
+changed:
 
+    promise: page_fields
     refused: page::Page::serial
     file: src/page.rt
     old:         self.head.serial
     new:         self.head.sequence
 
-What stands after 'old: ' is in the file once; what stands after 'new: ' takes its place.
+What stands after 'old: ' is in the file once; what stands after 'new: ' takes its place. A line 'mistake: TEXT' says what
+the wrong body does, where docs/PROOFS.md lists it among the mistakes that an implementer makes (tools/proofs.py).
 
 The wrong bodies of a crate are planted together in one copy of it, and one check says of each function whether it is
 proved. None of them hides another: the proof of a function rests on the contracts of what it calls, not on the bodies,
@@ -105,17 +108,23 @@ class BadEdit(Exception):
 
 
 class Edit:
-    """A wrong body: its name, the functions that must be refused, and the changed lines by file."""
+    """A wrong body: its name, its promises and its mistake, the functions that must be refused, and the changed lines."""
 
     def __init__(self, name, text):
         self.name = name
+        self.promises = []
+        self.mistake = ""
         self.refused = []
         self.changes = []
         file = old = None
         for line in text.splitlines():
             word, _, rest = line.partition(":")
             rest = rest.removeprefix(" ")
-            if word == "refused":
+            if word == "promise":
+                self.promises.append(rest)
+            elif word == "mistake":
+                self.mistake = rest
+            elif word == "refused":
                 self.refused.append(rest)
             elif word == "file":
                 file = rest
