@@ -7,8 +7,9 @@
 
 The checks are the processes of the prover below the command. They are looked at twice a second, so of each the last
 half second at most is missed. The last line has the whole: by the clock, and of a processor with everything else that
-the command did. With --save a file has the seconds of the proofs, a line for each crate, as tools/build.py reads them;
-nothing that these proofs stand on may be kept from before. The status is that of the command. Not part of the tests.
+the command did. With --save a file has the seconds of the proofs, and then those of the wrong bodies, a line for each
+crate, as tools/build.py and tools/proofs.py read them; what this run didn't do stays as the file had it. Nothing that
+these proofs stand on may be kept from before. The status is that of the command. Not part of the tests.
 """
 import collections
 import os
@@ -55,6 +56,24 @@ def look(seen):
             continue
 
 
+def save(file, used):
+    """Writes the seconds of each crate's proof and wrong bodies. Those that weren't measured stay as they were."""
+    saved = {}
+    if os.path.isfile(file):
+        with open(file, encoding="utf-8") as it:
+            saved = {name: numbers for name, *numbers in map(str.split, it)}
+    for crate, by in used.items():
+        numbers = [*saved.get(crate, []), "", ""][:2]
+        for at, kind in enumerate(("proof", "wrong bodies")):
+            if by[kind]:
+                numbers[at] = f"{by[kind]:.0f}"
+        # Without the first number the second would be taken for it.
+        if numbers[0]:
+            saved[crate] = numbers
+    with open(file, "w", encoding="utf-8") as it:
+        it.writelines(" ".join([crate, *filter(None, numbers)]) + "\n" for crate, numbers in sorted(saved.items()))
+
+
 def main():
     words, file = sys.argv[1:], None
     if words[:1] == ["--save"]:
@@ -82,8 +101,7 @@ def main():
     for crate, by in sorted(used.items(), key=lambda it: -it[1].total()):
         print(f"{crate}: " + ", ".join(f"{kind} {by[kind]:.0f} s" for kind in KINDS if by[kind]))
     if file:
-        with open(file, "w", encoding="utf-8") as it:
-            it.writelines(f"{crate} {by['proof']:.0f}\n" for crate, by in sorted(used.items()) if by["proof"])
+        save(file, used)
     children = resource.getrusage(resource.RUSAGE_CHILDREN)
     checks = sum(by.total() for by in used.values())
     whole = children.ru_utime + children.ru_stime

@@ -71,7 +71,7 @@ def below(name: str, uses: Uses) -> set[str]:
 def seconds_of(uses: Uses) -> Seconds:
     """How many seconds of a processor the first check of each crate takes, as they were measured."""
     lines = (TOP / "tools" / "seconds.txt").read_text().splitlines()
-    known = {name: float(number) for name, number in map(str.split, lines) if name in uses}
+    known = {name: float(number) for name, number, *_ in map(str.split, lines) if name in uses}
     usual = sum(known.values()) / max(len(known), 1)
     return {name: known.get(name, usual) for name in uses}
 
