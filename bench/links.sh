@@ -16,7 +16,7 @@ streams=${1:-1}
 
 # feed LINKS STREAMS ORDER: links with an empty header for each stream, and the ends of all of them.
 feed() {
-    PYTHONPATH=$here/../tests/program python3 -c '
+    PYTHONPATH=$here/../tests/helpers python3 -c '
 import random, sys
 from records import begin, end
 links, streams, order = int(sys.argv[1]), int(sys.argv[2]), sys.argv[3]

@@ -33,7 +33,7 @@ status=0
 # measure NAME PACKETS BYTES GROUP
 measure() {
     local ours='' libogg='' calls='' sqlite=''
-    PYTHONPATH=$here/../tests/program python3 - "$2" "$3" >"$work/feed" <<'END'
+    PYTHONPATH=$here/../tests/helpers python3 - "$2" "$3" >"$work/feed" <<'END'
 import sys
 from records import begin, put
 count, size = int(sys.argv[1]), int(sys.argv[2])

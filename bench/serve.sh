@@ -135,7 +135,7 @@ done
 # the disk's for the most part, since each step is a commit.
 echo
 printf '%-22s %8s %10s %12s\n' 'live' requests 'clock, s' 'cpu, ms each'
-records() { PYTHONPATH=$here/../tests/program python3 -c 'import sys; from records import begin, put; '"$1"; }
+records() { PYTHONPATH=$here/../tests/helpers python3 -c 'import sys; from records import begin, put; '"$1"; }
 records 'sys.stdout.buffer.write(put([(1, 0, b"x")]) * 100000)' >"$work/feed"
 for megabytes in 1 300; do
     records "w = sys.stdout.buffer.write; w(begin([1])); [w(put([(1, 0, bytes(65024))])) for _ in range($megabytes * 1000000 // 65300)]" |

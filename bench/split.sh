@@ -57,7 +57,7 @@ for packet in 100 65024; do
 done
 # The same number of pages in one link, and in 65,536 links: links cost what their pages cost.
 for serials in 1 65536; do
-    PYTHONPATH=$here/../tests/program python3 - "$serials" >"$work/feed" <<'END'
+    PYTHONPATH=$here/../tests/helpers python3 - "$serials" >"$work/feed" <<'END'
 import sys
 from records import begin, end, put
 links = int(sys.argv[1])

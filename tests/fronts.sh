@@ -4,7 +4,7 @@
 # ./check runs without --media.
 #
 #     apt-get install nginx-light openssl icecast2 ffmpeg curl systemd && tests/fronts.sh
-. "$(dirname "$0")/program/common.bash"
+. "$(dirname "$0")/helpers/common.bash"
 begun=()
 trap 'kill "${begun[@]}" 2>/dev/null; rm -rf "$work"' EXIT
 

@@ -3,7 +3,7 @@
 # muxed again, and must come back the same. Not part of the tests that ./check runs, since it installs packages.
 #
 #     tests/media.sh            the last line is 'N passed, M failed'
-. "$(dirname "$0")/program/common.bash"
+. "$(dirname "$0")/helpers/common.bash"
 reader=${READ_OGG:-$top/crates/test_read/out/test_read}
 
 for tool in curl oggfwd ices2 ffmpeg ffprobe ogginfo oggz oggenc opusenc flac speexenc gst-launch-1.0 mkvmerge mutagen-inspect; do
@@ -56,7 +56,7 @@ again() {
     check "$name: the packets are the same" cmp "$work/$name.want" "$work/$name.found"
     # While a recording is open it has no page with an end of a stream; oggz wants a packet to end in such a page.
     if [ "$name" != chain ]; then
-        python3 "$top/tests/open_feed.py" <"$work/$name.feed" >"$work/$name.open.feed"
+        python3 "$here/open_feed.py" <"$work/$name.feed" >"$work/$name.open.feed"
         "$program" mux <"$work/$name.open.feed" >"$work/$name.open.ogg" 2>"$work/$name.replies"
         check "$name: oggz validate of the open recording" oggz validate --prefix "$work/$name.open.ogg"
     fi

@@ -4,14 +4,14 @@
 # without --media. With a folder as argument, pictures of the page are put there.
 #
 #     apt-get install chromium ffmpeg curl && tests/player.sh [FOLDER]
-. "$(dirname "$0")/program/common.bash"
+. "$(dirname "$0")/helpers/common.bash"
 browser=$(command -v chromium || command -v google-chrome) || {
     echo "no chromium: left out"
     check "there was nothing to try" true
     finish
 }
 command -v ffmpeg >"$work/which" || { echo "no ffmpeg" >&2; exit 1; }
-timeout 300 python3 "$top/tests/playing.py" "$program" "$browser" "$work" "$@" >"$work/out" 2>&1
+timeout 300 python3 "$here/playing.py" "$program" "$browser" "$work" "$@" >"$work/out" 2>&1
 status=$?
 cat "$work/out"
 passed=$(grep -c '^ok ' "$work/out")

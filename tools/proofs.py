@@ -121,26 +121,28 @@ class Crate:
     def functions(self):
         return [name for found in functions_of(self.sources).values() for _, name in found]
 
+    @functools.cached_property
+    def declared(self):
+        """The names of functions, types, traits and definitions."""
+        in_code = re.findall(r"\b(?:fn|struct|enum|trait|type|const) (\w+)", self.code)
+        return {*in_code, *re.findall(r"(?m)^\s*(?:(?:pub|abbrev|data|record|rec) )*([\w-]+)", self.specs)}
+
+    @functools.cached_property
+    def clauses(self):
+        """The names of the clauses of contracts, and of the fields of definitions."""
+        in_code = re.findall(r"\b(?:ensures|requires|ghost) (\w+)", self.code)
+        return {*in_code, *re.findall(r"(?m)^\s+(?:pub )?(\w+)\b[^:=\n]*:", self.specs)}
+
     def has(self, name):
         """Whether the crate has a function, a type, a trait, an implementation or a definition of this name."""
+        of, _, inner = name.replace(".", "::").partition("::")
         if "::" in name:
-            # The first word is a type that the crate declares, or a trait's function.
-            of, _, function = name.partition("::")
-            own = any(re.search(rf"(^|::){of}\w*::{function}$", it) for it in self.functions)
-            return own or self.has(of) and bool(re.search(rf"\bfn {function}\b", self.code))
+            # The first word is a type of the crate, which has the function, or a trait, which declares it.
+            own = any(re.search(rf"(^|::){of}\w*::{inner}$", it) for it in self.functions)
+            return own or of in self.declared and inner in self.declared
         if "." in name:
-            of, _, field = name.partition(".")
-            return self.has(of) and self.has_clause(field)
-        if " for " in name:
-            return f"impl {name} " in self.code
-        declared = rf"\b(?:fn|struct|enum|trait|type|const|impl) {name}\b"
-        defined = rf"(?m)^\s*(?:(?:pub|abbrev|data|record|rec) )*{name}\b"
-        return bool(re.search(declared, self.code) or re.search(defined, self.specs))
-
-    def has_clause(self, name):
-        """Whether a contract has a clause of this name, or a definition a field."""
-        in_code = re.search(rf"\b(?:ensures|requires|ghost) {name}\b", self.code)
-        return bool(in_code or re.search(rf"(?m)^\s+(?:pub )?{name}\b[^:=\n]*:", self.specs))
+            return of in self.declared and inner in self.clauses
+        return f"impl {name} " in self.code if " for " in name else name in self.declared
 
     def lines(self, part, pattern):
         return sum(len(it.read_text(encoding="utf-8").splitlines()) for it in self.files(part, pattern))
@@ -186,10 +188,10 @@ def lost_names(text, crates, own):
     names, clauses = names_in(text)
     for name, of in names:
         where = [crates[of]] if of in crates else own
-        if not any(it.has(name) or it.has_clause(name) for it in where):
+        if not any(it.has(name) or name in it.clauses for it in where):
             yield name
     for name in clauses:
-        if not any(it.has_clause(name) for it in own):
+        if not any(name in it.clauses for it in own):
             yield f"{name} (a clause)"
 
 

@@ -1,6 +1,6 @@
 #!/usr/bin/env bash
 # Streams are archived: mended, renumbered, ended, and found again whatever stopped the program or its encoder.
-. "$(dirname "$0")/common.bash"
+. "$(dirname "$0")/../helpers/common.bash"
 
 archive() {
     run archive "$@"

@@ -1,7 +1,7 @@
 #!/usr/bin/env bash
 # The launcher builds each crate once, after those that it uses and beside others, goes on after an interruption, and
 # waits for another build. A small tree is built by a stand-in for rt, which proves nothing and takes half a second.
-. "$(dirname "$0")/common.bash"
+. "$(dirname "$0")/../helpers/counting.bash"
 
 tree=$work/tree
 mkdir -p "$tree/tools" "$work/bin"

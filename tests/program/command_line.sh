@@ -1,7 +1,7 @@
 #!/usr/bin/env bash
 # Help, the version and command lines that can't be read give a text on standard error, nothing on standard output, and
 # status 2.
-. "$(dirname "$0")/common.bash"
+. "$(dirname "$0")/../helpers/common.bash"
 
 # shows NAME TEXT: checks that the last run ended with status 2 and has the text on standard error.
 shows() {

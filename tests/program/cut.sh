@@ -1,7 +1,7 @@
 #!/usr/bin/env bash
 # A feed of three commands, 52, 28 and 9 bytes long, cut at every byte: the commands before the cut are kept, and the
 # rest is a fault unless the cut is at a command's end.
-. "$(dirname "$0")/common.bash"
+. "$(dirname "$0")/../helpers/common.bash"
 
 printf 'begin 1 abc\nput 1 5 hello\nend 1\n' | feed >"$work/feed"
 pages "02 0 1 0 3 abc" "00 5 1 1 5 hello" "04 5 1 2 - -" >"$work/pages"

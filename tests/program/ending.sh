@@ -1,6 +1,6 @@
 #!/usr/bin/env bash
 # With --end-open a recording that was stopped in the middle of a link goes on with the next one.
-. "$(dirname "$0")/common.bash"
+. "$(dirname "$0")/../helpers/common.bash"
 
 not() { ! "$@"; }
 ogg=$work/radio.ogg

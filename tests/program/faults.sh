@@ -1,6 +1,6 @@
 #!/usr/bin/env bash
 # Each fault has its line on standard error and status 1. What stands before the fault is written and answered.
-. "$(dirname "$0")/common.bash"
+. "$(dirname "$0")/../helpers/common.bash"
 
 # the example without its end
 hello=$work/hello.feed

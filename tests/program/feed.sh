@@ -1,6 +1,6 @@
 #!/usr/bin/env bash
 # Ogg files are made into feeds: what `feed` writes holds what it read, in whichever pieces the input comes.
-. "$(dirname "$0")/common.bash"
+. "$(dirname "$0")/../helpers/common.bash"
 
 feeding() { timeout 200 python3 "$here/feeding.py" "$@"; }
 

@@ -1,6 +1,6 @@
 #!/usr/bin/env bash
 # Checks what examples/feed.py says of lines that are no record: their number, and what they should be.
-. "$(dirname "$0")/common.bash"
+. "$(dirname "$0")/../helpers/common.bash"
 
 # says NAME LINES TEXT: checks that the lines are refused by this text, and that nothing is written.
 says() {

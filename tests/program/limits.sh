@@ -1,6 +1,6 @@
 #!/usr/bin/env bash
 # Tests the most streams of a link, and the most links of a file.
-. "$(dirname "$0")/common.bash"
+. "$(dirname "$0")/../helpers/common.bash"
 
 # 64 streams, a packet for each, and their ends: 64 pages of 31, 64 of 28 + 5 and 64 of 27 bytes.
 records 'begin(range(1, 65)), put([(s, s, b"hello") for s in range(1, 65)]), *map(end, range(1, 65)), begin(range(65, 130))' \

@@ -1,6 +1,6 @@
 #!/usr/bin/env bash
 # If a feed comes slowly, each command's pages and its reply are written before more of the feed is there.
-. "$(dirname "$0")/common.bash"
+. "$(dirname "$0")/../helpers/common.bash"
 
 mkfifo "$work/in" "$work/replies"
 timeout 20 "$program" mux <"$work/in" >"$work/out" 2>"$work/replies" &

@@ -1,7 +1,7 @@
 #!/usr/bin/env bash
 # Of two programs that would write one file the second one ends and has changed nothing; whoever only reads goes on. And
 # the folder of a new file is synced before anything is kept.
-. "$(dirname "$0")/common.bash"
+. "$(dirname "$0")/../helpers/common.bash"
 
 asking() { timeout 30 python3 "$here/asking.py" "$@"; }
 

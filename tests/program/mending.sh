@@ -1,6 +1,6 @@
 #!/usr/bin/env bash
 # Any bytes are mended into a feed by `feed --mend`, and recorded by `archive`, as the tests' own plain program mends them.
-. "$(dirname "$0")/common.bash"
+. "$(dirname "$0")/../helpers/common.bash"
 
 mending() { timeout 300 python3 "$here/mending.py" "$program" "$1"; }
 

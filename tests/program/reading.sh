@@ -1,16 +1,10 @@
 #!/usr/bin/env bash
-# Pages, packets and chains in bytes of all kinds are read by the program and by the tests' own plain program.
-here=$(cd "$(dirname "${BASH_SOURCE[0]}")" && pwd)
-program=${READ_OGG:-$here/../../crates/test_read/out/test_read}
-passed=0
-failed=0
+# Pages, packets and chains in bytes of all kinds are read by the program test_read and by the tests' own plain program.
+. "$(dirname "$0")/../helpers/counting.bash"
+reader=${READ_OGG:-$top/crates/test_read/out/test_read}
+
 for files in damage foreign random edges; do
-    if timeout 300 python3 "$here/reading.py" "$program" "$files"; then
-        passed=$((passed + 1))
-    else
-        failed=$((failed + 1))
-        echo "FAILED: $files"
-    fi
+    check "$files" timeout 300 python3 "$here/reading.py" "$reader" "$files"
 done
-echo "$passed passed, $failed failed"
-[ "$failed" -eq 0 ]
+
+finish

@@ -1,7 +1,7 @@
 #!/usr/bin/env bash
 # Each command in docs/OPERATION.md's table of things to try works as it stands there, in a folder that has what a clone
 # has; the commands that install packages aren't run. README.md's first lines print what stands there.
-. "$(dirname "$0")/common.bash"
+. "$(dirname "$0")/../helpers/common.bash"
 
 mkdir "$work/clone"
 cd "$work/clone" || exit 1

@@ -1,7 +1,7 @@
 #!/usr/bin/env bash
 # Recordings in real files are made, continued, sealed, kept in groups, on a full device, and after the program was
 # killed.
-. "$(dirname "$0")/common.bash"
+. "$(dirname "$0")/../helpers/common.bash"
 
 # size FILE WANT: checks the size of a file.
 size() { check "$1: $(wc -c <"$1") bytes, not $2" [ "$(wc -c <"$1")" -eq "$2" ]; }

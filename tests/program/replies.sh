@@ -1,6 +1,6 @@
 #!/usr/bin/env bash
 # Checks what is written and answered for feeds without a fault.
-. "$(dirname "$0")/common.bash"
+. "$(dirname "$0")/../helpers/common.bash"
 
 # muxes NAME REPLIES PAGE ..: checks that the feed in $work/feed gives these pages and replies, and with --check the
 # replies alone.

@@ -1,6 +1,6 @@
 #!/usr/bin/env bash
 # Files served over HTTP on 127.0.0.1, also while a feed is recorded into them.
-. "$(dirname "$0")/common.bash"
+. "$(dirname "$0")/../helpers/common.bash"
 
 asking() { timeout 30 python3 "$here/asking.py" "$@"; }
 

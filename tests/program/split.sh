@@ -1,6 +1,6 @@
 #!/usr/bin/env bash
 # Links and streams are cut out of files, and the good pages of damaged files are listed.
-. "$(dirname "$0")/common.bash"
+. "$(dirname "$0")/../helpers/common.bash"
 
 # Two streams whose pages alternate, a packet over two pages, and another link after them.
 pages "02 0 1 0 3 abc" "02 0 2 0 3 abc" "00 -1 1 1 255*255 y*65025" "00 7 2 1 1 x" "05 9 1 2 255*19,130 y*4975" "04 7 2 2 - -" \

@@ -1,6 +1,6 @@
 #!/usr/bin/env bash
 # A station: sources that are recorded, clients that are served at once, and listeners, on 127.0.0.1.
-. "$(dirname "$0")/common.bash"
+. "$(dirname "$0")/../helpers/common.bash"
 
 asking() { timeout 30 python3 "$here/asking.py" "$@"; }
 

@@ -1,6 +1,6 @@
 #!/usr/bin/env bash
 # With --strict a run ends at the first refusal; at a terminal a run prints its totals.
-. "$(dirname "$0")/common.bash"
+. "$(dirname "$0")/../helpers/common.bash"
 
 records 'begin([1]), put([(7, 5, b"x")]), put([(1, 5, b"hello")])' >"$work/feed"
 pages "02 0 1 0 3 abc" >"$work/first"

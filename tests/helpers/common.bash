@@ -1,0 +1,28 @@
+# What the tests of the built program share.
+. "$(dirname "${BASH_SOURCE[0]}")/counting.bash"
+program=${PROGRAM:-$top/crates/ogg_main/out/ogg_main}
+
+if [ ! -x "$program" ]; then
+    echo "no program at $program: ./check and ./kudzuturret build it"
+    echo "0 passed, 1 failed"
+    exit 1
+fi
+
+# Runs the program on standard input as it is, for a bounded time. Leaves its status in `status`, and what it wrote in
+# out and err.
+run() {
+    timeout 20 "$program" "$@" >"$work/out" 2>"$work/err"
+    status=$?
+}
+
+# came NAME STATUS OUT ERR: checks that the last run had this status, and wrote these texts to its standard streams.
+came() {
+    check "$1: status $status, not $2" [ "$status" -eq "$2" ]
+    check "$1: standard output" is_text "$work/out" "$3"
+    check "$1: standard error" is_text "$work/err" "$4"
+}
+
+feed() { python3 "$top/examples/feed.py"; }
+pages() { python3 "$here/pages.py" "$@"; }
+records() { python3 "$here/records.py" "$1"; }
+bytes() { printf '%b' "$(printf '%s' "$*" | tr -d ' \n' | sed 's/../\\x&/g')"; }
