@@ -6,7 +6,6 @@
 A station records two sources one after the other, over HTTP. Prints a line for each check, 'ok ..' or 'FAILED ..'; the
 status is 0 if all of them were made.
 """
-import socket
 import subprocess
 import sys
 import time
@@ -14,6 +13,7 @@ import urllib.request
 from pathlib import Path
 
 from browsing import Browser
+from serving import free_port
 
 program, browser, folder = sys.argv[1:4]
 folder = Path(folder)
@@ -22,12 +22,6 @@ pictures = Path(sys.argv[4]) if len(sys.argv) > 4 else None
 
 def check(name, good):
     print(("ok " if good else "FAILED: ") + name, flush=True)
-
-
-def free_port():
-    with socket.socket() as it:
-        it.bind(("127.0.0.1", 0))
-        return it.getsockname()[1]
 
 
 def encoder(address, serial, seconds):

@@ -18,6 +18,7 @@ import sys
 import time
 
 from records import begin, end, flush, put, record
+from serving import free_port
 
 SKELETON = record(1, b"\1" + struct.pack("<Iqqqq", 9, 0, 1000, 0, 1000) + bytes(20) + struct.pack("<H", 1)
                   + struct.pack("<IHI", 1, 1, 3) + b"abc" + struct.pack("<H", 12) + b"audio/vorbis"
@@ -164,12 +165,6 @@ def asked(port, target, server):
         except ConnectionResetError:
             return b""
     return b""
-
-
-def free_port():
-    with socket.socket() as one:
-        one.bind(("127.0.0.1", 0))
-        return one.getsockname()[1]
 
 
 def serve(program, path, target, **more):
