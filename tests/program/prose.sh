@@ -1,38 +1,43 @@
 #!/usr/bin/env bash
-# No line of prose in README.md or docs/ is longer than 120 columns; rows of tables and indented lines may be. Each longer
-# one is printed. The last line is 'N passed, M failed'.
-set -u
-top=$(cd "$(dirname "${BASH_SOURCE[0]}")/../.." && pwd)
+# In README.md, in docs/ and in what --help says no line of prose is longer than 120 columns (rows of tables and indented
+# lines may be), no word stands that is wrong wherever it stands, and each row of a table has the cells of its head. What
+# is found is printed with its place: prose.py has the words, and why.
+. "$(dirname "$0")/../helpers/counting.bash"
+cd "$top" || exit 1
 
-# long_lines FILE ..: the lines of prose over 120 columns, each with its file and number.
-long_lines() { awk 'length($0) > 120 && !/^\|/ && !/^    / { print FILENAME ":" FNR ": " length($0) " columns" }' "$@"; }
+prose() { python3 "$here/prose.py" "$@"; }
 
-passed=0
-failed=0
-
-# The count itself finds a long line, and passes over a row and a line of 120 columns.
-work=$(mktemp -d)
-trap 'rm -rf "$work"' EXIT
+# Each search finds what it should in a small page, and nothing else.
 {
     printf '%0121d\n' 0
     printf '%0120d\n' 0
     printf '| %0200d |\n' 0
     printf '    %0200d\n' 0
 } >"$work/page.md"
-if [ "$(long_lines "$work/page.md")" = "$work/page.md:1: 121 columns" ]; then
-    passed=$((passed + 1))
-else
-    echo "a long line isn't found" >&2
-    failed=$((failed + 1))
-fi
+(cd "$work" && prose lines page.md) >"$work/found"
+check "a long line is found" is_text "$work/found" 'page.md:1: 121 columns\n'
+{
+    echo 'It shows some'
+    echo 'first commands, and the position is no pos in the sequence; a sequel follows, and not so much.'
+} >"$work/page.md"
+(cd "$work" && prose words page.md | sed 's/: a number has.*//; s/: the word.*//') >"$work/found"
+check "words are found, also over the end of a line" is_text "$work/found" "page.md:1: 'some first'\npage.md:2: 'pos'\n"
+cat >"$work/page.md" <<'END'
+| a | b |
+|---|---|
+| a bar `\|` in code | c |
+| one |
+| one | two | three |
 
-found=$(long_lines "$top/README.md" "$top"/docs/*.md)
-if [ -z "$found" ]; then
-    passed=$((passed + 1))
-else
-    echo "$found"
-    failed=$((failed + 1))
-fi
+| no line below |
+END
+(cd "$work" && prose tables page.md) >"$work/found"
+check "rows with other cells than their head are found" is_text "$work/found" \
+    'page.md:4: 1 cells, and the head has 2\npage.md:5: 3 cells, and the head has 2\npage.md:7: this row has no line of dashes below it, so it begins no table\n'
 
-echo "$passed passed, $failed failed"
-[ "$failed" -eq 0 ]
+pages=(README.md docs/*.md docs/proofs/* crates/*/promises.txt crates/*/tested.md)
+check "long lines" prose lines "${pages[@]}"
+check "tables" prose tables "${pages[@]}"
+check "words" prose words "${pages[@]}" crates/command_line/src/*.rt
+
+finish
