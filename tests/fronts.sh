@@ -1,25 +1,18 @@
 #!/usr/bin/env bash
 # A station behind other servers, by the files of examples/station: nginx with TLS and a cache, icecast2 as a relay, another
-# recording as a mirror, and systemd's unit. What isn't installed is left out with a word. Not part of the tests that
-# ./check runs without --media.
+# recording as a mirror, and systemd's unit. What isn't there is installed; what can't be is left out with a word. Not part
+# of the tests that ./check runs without --media.
 #
-#     apt-get install nginx-light openssl icecast2 ffmpeg curl systemd && tests/fronts.sh
+#     tests/fronts.sh           the last line is 'N passed, M failed'
 . "$(dirname "$0")/helpers/common.bash"
+. "$(dirname "$0")/helpers/installing.bash"
 begun=()
 trap 'kill "${begun[@]}" 2>/dev/null; rm -rf "$work"' EXIT
 
 asking() { timeout 30 python3 "$here/asking.py" "$@"; }
-has() {
-    for tool in "$@"; do
-        command -v "$tool" >"$work/which" || {
-            echo "no $tool: left out"
-            return 1
-        }
-    done
-}
-for tool in ffmpeg ffprobe curl; do
-    command -v "$tool" >"$work/which" || { echo "no $tool" >&2; exit 1; }
-done
+needs ffmpeg ffprobe curl nginx openssl icecast2 systemd-analyze -- \
+    ffmpeg curl nginx-light openssl icecast2 systemd >"$work/told" || cat "$work/told"
+has ffmpeg ffprobe curl || exit 1
 
 # noise SECONDS SERIAL FILE: Vorbis of about 100 kbit/s, with this first serial.
 noise() {

@@ -4,15 +4,12 @@
 #
 #     tests/media.sh            the last line is 'N passed, M failed'
 . "$(dirname "$0")/helpers/common.bash"
+. "$(dirname "$0")/helpers/installing.bash"
 reader=${READ_OGG:-$top/crates/test_read/out/test_read}
 
-for tool in curl oggfwd ices2 ffmpeg ffprobe ogginfo oggz oggenc opusenc flac speexenc gst-launch-1.0 mkvmerge mutagen-inspect; do
-    if ! command -v "$tool" >"$work/which"; then
-        apt-get update && apt-get install -y curl ices2 oggfwd ffmpeg vorbis-tools oggz-tools opus-tools flac speex \
-            gstreamer1.0-tools gstreamer1.0-plugins-base gstreamer1.0-plugins-good mkvtoolnix python3-mutagen || exit 1
-        break
-    fi
-done >"$work/install" 2>&1 || { tail -n 5 "$work/install"; exit 1; }
+tools=(curl ffmpeg ffprobe ogginfo oggz oggenc opusenc flac speexenc gst-launch-1.0 mkvmerge mutagen-inspect)
+needs "${tools[@]}" oggfwd ices2 -- curl ices2 oggfwd ffmpeg vorbis-tools oggz-tools opus-tools flac speex gstreamer1.0-tools \
+    gstreamer1.0-plugins-base gstreamer1.0-plugins-good mkvtoolnix python3-mutagen || has "${tools[@]}" || exit 1
 [ -x "$reader" ] || { echo "no program at $reader: ./check builds it" >&2; exit 1; }
 
 encode() { ffmpeg -nostdin -loglevel error -y "$@"; }

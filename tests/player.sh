@@ -3,8 +3,10 @@
 # plays, and so does a link, the list grows, and nothing is said on the console. Not part of the tests that ./check runs
 # without --media. With a folder as argument, pictures of the page are put there.
 #
-#     apt-get install chromium ffmpeg curl && tests/player.sh [FOLDER]
+#     tests/player.sh [FOLDER]
 . "$(dirname "$0")/helpers/common.bash"
+. "$(dirname "$0")/helpers/installing.bash"
+command -v google-chrome >"$work/which" || needs chromium ffmpeg -- chromium ffmpeg
 browser=$(command -v chromium || command -v google-chrome) || {
     echo "no chromium: left out"
     check "there was nothing to try" true
