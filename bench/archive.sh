@@ -8,6 +8,7 @@
 # The files are made below TMPDIR, or /tmp: choose a folder on the disk that is to be measured.
 set -u
 here=$(cd "$(dirname "$0")" && pwd)
+. "$here/rows.bash"
 program=${PROGRAM:-$here/../crates/ogg_main/out/ogg_main}
 work=$(mktemp -d "${TMPDIR:-/tmp}/archive-bench.XXXXXX")
 trap 'rm -rf "$work"' EXIT
@@ -51,6 +52,10 @@ for packet in 4000 60000; do
     pages=$(($(stat -c %s "$work/pair.ogg") - 1))
     cmp -n "$pages" "$work/out.ogg" "$work/pair.ogg" || exit 1
     for column in 1 2; do
+        for other in pair cp; do
+            row "\`archive\`, pages of $packet bytes" "$([ $column = 1 ] && echo CPU s || echo s)" "$(least "$work/archive.s" $column)" \
+                "$([ $other = cp ] && echo cp and a sync || echo '`feed` and `record --group 256`')" "$(least "$work/$other.s" $column)"
+        done
         echo "$packet $(stat -c %s "$work/file") $(least "$work/archive.s" $column) $(least "$work/pair.s" $column) $(least "$work/cp.s" $column) $column" |
             awk '{ printf "%-12s %8.1f %12.2f %12.2f %12.2f %10.0f %10.2f %s\n", $1, $2 / 1e6, $3, $4, $5, $2 / 1e6 / $3, $3 / $4, $6 == 1 ? "CPU" : "clock" }'
     done

@@ -7,6 +7,7 @@
 #     bench/links.sh [STREAMS]      streams of each link; none: 1
 set -u
 here=$(cd "$(dirname "$0")" && pwd)
+. "$here/rows.bash"
 program=${PROGRAM:-$here/../crates/ogg_main/out/ogg_main}
 work=$(mktemp -d "${TMPDIR:-/tmp}/links-bench.XXXXXX")
 trap 'rm -rf "$work"' EXIT
@@ -43,10 +44,14 @@ seconds() {
 }
 
 printf '%-8s %10s %10s %14s\n' links commands 'mux, s' 'commands per s'
+few=
 for links in 1024 65536; do
     feed "$links" "$streams" rising >"$work/feed"
     best=$(seconds)
     commands=$(grep -c '^kept ' "$work/replies")
+    rate=$(echo "$commands $best" | awk '{ printf "%.0f", $2 ? $1 / $2 : 0 }')
+    [ -z "$few" ] || row "commands over $links links" 'commands/s' "$rate" 'ours, over 1024 links' "$few"
+    few=${few:-$rate}
     echo "$links $commands $best" | awk '{ printf "%-8s %10s %10.2f %14.0f\n", $1, $2, $3, $3 ? $2 / $3 : 0 }'
 done
 
@@ -59,5 +64,6 @@ for order in random rising low high; do
     commands=$(grep -c '^kept ' "$work/replies")
     random=${random:-$best}
     case $order in low) name='same low bits' ;; high) name='same high bits' ;; *) name=$order ;; esac
+    [ "$order" = random ] || row "262,144 serials, $name" 'CPU s' "$best" 'ours, random serials' "$random"
     echo "$commands $best $random" | awk -v name="$name" '{ printf "%-16s %10s %10.2f %10.2f\n", name, $1, $2, $3 ? $2 / $3 : 0 }'
 done

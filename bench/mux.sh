@@ -6,6 +6,7 @@
 #     apt-get install libogg-dev && bench/mux.sh [SHAPE ..]      tiny, audio, streams, frames, large; none: all
 set -u
 here=$(cd "$(dirname "$0")" && pwd)
+. "$here/rows.bash"
 program=${PROGRAM:-$here/../crates/ogg_main/out/ogg_main}
 work=$(mktemp -d "${TMPDIR:-/tmp}/mux-bench.XXXXXX")
 trap 'rm -rf "$work"' EXIT
@@ -33,7 +34,10 @@ for shape in "${@:-tiny audio streams frames large}"; do
             theirs+="$(cpu "$work/theirs" "$work/mux_libogg") "
         done
         cmp "$work/ours" "$work/theirs" && cmp "$work/ours.replies" "$work/theirs.replies" || status=1
-        echo "$shape $(stat -c %s "$work/ours") $(printf '%s\n' $ours | sort -n | head -n 1) $(printf '%s\n' $theirs | sort -n | head -n 1)" |
+        ours=$(printf '%s\n' $ours | sort -n | head -n 1)
+        theirs=$(printf '%s\n' $theirs | sort -n | head -n 1)
+        row "\`mux\`, $(shape_name "$shape")" 'CPU s' "$ours" 'libogg, with replies' "$theirs"
+        echo "$shape $(stat -c %s "$work/ours") $ours $theirs" |
             awk '{ printf "%-8s %12.1f %10.2f %10.2f %7.2f\n", $1, $2 / 1e6, $3, $4, $3 / $4 }'
         rm -f "$work/ours" "$work/theirs"
     done

@@ -6,6 +6,7 @@
 #     apt-get install libogg-dev && bench/pages.sh [SHAPE ..]      tiny, audio, streams, frames, large; none: all
 set -u
 here=$(cd "$(dirname "$0")" && pwd)
+. "$here/rows.bash"
 mux=${PROGRAM:-$here/../crates/ogg_main/out/ogg_main}
 reader=${READ_OGG:-$here/../crates/test_read/out/test_read}
 work=$(mktemp -d "${TMPDIR:-/tmp}/pages-bench.XXXXXX")
@@ -35,7 +36,10 @@ for shape in "${@:-tiny audio streams frames large}"; do
             theirs+="$(cpu "$work/theirs" "$work/pages_libogg") "
         done
         cmp "$work/ours" "$work/theirs" || status=1
-        echo "$shape $(stat -c %s "$work/pages") $(printf '%s\n' $ours | sort -n | head -n 1) $(printf '%s\n' $theirs | sort -n | head -n 1)" |
+        ours=$(printf '%s\n' $ours | sort -n | head -n 1)
+        theirs=$(printf '%s\n' $theirs | sort -n | head -n 1)
+        row "pages are read, $(shape_name "$shape")" 'CPU s' "$ours" 'libogg, sync layer' "$theirs"
+        echo "$shape $(stat -c %s "$work/pages") $ours $theirs" |
             awk '{ printf "%-8s %12.1f %12.2f %10.2f %7.2f\n", $1, $2 / 1e6, $3, $4, $3 / $4 }'
     done
 done

@@ -11,6 +11,7 @@
 #     apt-get install libogg-dev libsqlite3-dev && bench/record.sh [FOLDER]    the files lie in FOLDER, else in a temporary one
 set -u
 here=$(cd "$(dirname "$0")" && pwd)
+. "$here/rows.bash"
 program=${PROGRAM:-$here/../crates/ogg_main/out/ogg_main}
 work=$(mktemp -d "${1:-${TMPDIR:-/tmp}}/record-bench.XXXXXX")
 trap 'rm -rf "$work"' EXIT
@@ -49,7 +50,11 @@ END
         sqlite+="$(clock /dev/null "$work/commits" sqlite "$work/file.db" "$2" "$3" "$4") "
         cmp "$work/file.ogg" "$work/file.libogg" && cmp "$work/ours" "$work/theirs" || status=1
     done
-    echo "$1 $2 $(least $ours) $(least $libogg) $(least $calls) $(least $sqlite)" | awk '{
+    ours=$(least $ours) libogg=$(least $libogg) calls=$(least $calls) sqlite=$(least $sqlite)
+    row "commits, ${1//_/ }" s "$ours" 'libogg, the same calls' "$libogg"
+    row "commits, ${1//_/ }" s "$ours" 'the calls alone' "$calls"
+    row "commits, ${1//_/ }" s "$ours" 'SQLite' "$sqlite"
+    echo "$1 $2 $ours $libogg $calls $sqlite" | awk '{
         printf "%-16s %8d %9.0f %9.0f %9.0f %9.0f %10.2f %10.2f %10.2f\n",
             $1, $2, $2 / $3, $2 / $4, $2 / $5, $2 / $6, $4 / $3, $5 / $3, $6 / $3 }'
 }

@@ -14,6 +14,7 @@
 #     apt-get install libogg-dev nginx-light && bench/serve.sh [BYTES]      none: 1000000000
 set -u
 here=$(cd "$(dirname "$0")" && pwd)
+. "$here/rows.bash"
 program=${PROGRAM:-$here/../crates/ogg_main/out/ogg_main}
 work=$(mktemp -d "${TMPDIR:-/tmp}/serve-bench.XXXXXX")
 server=
@@ -74,6 +75,9 @@ line() {
             requests * bytes / $1 / 1e6, is_base ? sprintf("%.2f", $5 / $1) : "", is_base ? sprintf("%.2f", ($6 + $7) / ($2 + $3)) : "" }'
 }
 
+# least WHICH COLUMN [COLUMN]: of the run with the least clock these seconds, added up.
+least() { sort -n "$work/runs.$1" | head -n 1 | awk -v a="$2" -v b="${3:-0}" '{ printf "%.3f", $a + (b ? $b : 0) }'; }
+
 # three NAME FILE LENGTH REQUESTS: the same ranges out of the three servers.
 three() {
     local size which
@@ -85,6 +89,10 @@ three() {
     line "$1" pieces "$4" "$3"
     line "$1" nginx "$4" "$3" pieces
     line "$1" serve "$4" "$3" pieces
+    for which in pieces nginx; do
+        row "\`serve\`, ${1//_/ }" s "$(least serve 1)" "${which/pieces/a C program, pieces of 4 kB}" "$(least "$which" 1)"
+        row "\`serve\`, ${1//_/ }" 'CPU s' "$(least serve 2 3)" "${which/pieces/a C program, pieces of 4 kB}" "$(least "$which" 2 3)"
+    done
     echo "$(sort -n "$work/runs.serve" | head -n 1) $(sort -n "$work/runs.nginx" | head -n 1)" |
         awk -v name="$1" '{ printf "%-22s serve has %.2f of the speed of nginx by the clock, %.2f by cpu\n", name, $5 / $1, ($6 + $7) / ($2 + $3) }'
 }
@@ -114,12 +122,14 @@ for packet in 65024 4000; do
     done
     line "all_of_$packet" all 1 "$size"
     line "a_stream_of_$packet" stream 1 "$stream"
+    row "\`serve\`, one of two streams, pages of $packet bytes" 'CPU s' "$(least stream 2 3)" 'ours, all of the file' "$(least all 2 3)"
     echo "$(sort -n "$work/runs.stream" | head -n 1) $(sort -n "$work/runs.all" | head -n 1)" |
         awk -v name="a_stream_of_$packet" '{ printf "%-22s takes %.2f of the time of all by the clock, %.2f by cpu\n", name, $1 / $5, ($2 + $3) / ($6 + $7) }'
 done
 
 echo
 printf '%-22s %10s\n' 'memory of serve' 'most, kB'
+few=
 for size in 1000000 "$bytes"; do
     "$work/pages_made" "$size" 4000 2 >"$work/file.ogg"
     start serve "$work/file.ogg"
@@ -128,6 +138,9 @@ for size in 1000000 "$bytes"; do
     "$program" split "$work/file.ogg" 0 1 >"$work/stream.ogg"
     "$work/serve_client" "$server" "$port" /link/0/1 "$(stat -c %s "$work/stream.ogg")" 0 1 >"$work/one" || status=1
     stop
+    most=$(awk '{ print $4 }' "$work/one")
+    [ -z "$few" ] || row "the memory of \`serve\`, a file of $((size / 1000000)) MB" kB "$most" 'ours, a file of 1 MB' "$few"
+    few=${few:-$most}
     awk -v size="$whole" '{ printf "%-22s %10d\n", sprintf("a file of %.0f MB", size / 1e6), $4 }' "$work/one"
 done
 
@@ -137,11 +150,14 @@ echo
 printf '%-22s %8s %10s %12s\n' 'live' requests 'clock, s' 'cpu, ms each'
 records() { PYTHONPATH=$here/../tests/helpers python3 -c 'import sys; from records import begin, put; '"$1"; }
 records 'sys.stdout.buffer.write(put([(1, 0, b"x")]) * 100000)' >"$work/feed"
+few=
 for megabytes in 1 300; do
     records "w = sys.stdout.buffer.write; w(begin([1])); [w(put([(1, 0, bytes(65024))])) for _ in range($megabytes * 1000000 // 65300)]" |
         "$program" mux >"$work/file.ogg" 2>"$work/replies"
     rm -f "$work"/runs.*
     for _ in 1 2 3; do run live "$work/file.ogg" /link/0 1000 1 2000; done
+    [ -z "$few" ] || row "2,000 requests of \`live\`, a file of $megabytes MB" 'CPU s' "$(least live 2 3)" 'ours, a file of 1 MB' "$few"
+    few=${few:-$(least live 2 3)}
     sort -n "$work/runs.live" | head -n 1 | awk -v name="a file of $megabytes MB" '{ printf "%-22s %8d %10.3f %12.3f\n", name, 2000, $1, ($2 + $3) / 2 }'
 done
 exit "$status"

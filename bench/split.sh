@@ -7,6 +7,7 @@
 #     apt-get install libogg-dev && bench/split.sh [BYTES]      none: 1000000000
 set -u
 here=$(cd "$(dirname "$0")" && pwd)
+. "$here/rows.bash"
 program=${PROGRAM:-$here/../crates/ogg_main/out/ogg_main}
 work=$(mktemp -d "${TMPDIR:-/tmp}/split-bench.XXXXXX")
 trap 'rm -rf "$work"' EXIT
@@ -35,24 +36,31 @@ both() {
         "$work/measured" "$work/ours" /dev/null "$program" "${ours[@]}" >>"$work/ours.s"
         "$work/measured" "$work/theirs" "$file" "${theirs[@]}" >>"$work/theirs.s"
     done
-    echo "$name $(stat -c %s "$file") $(least "$work/ours.s") $(least "$work/theirs.s")" |
-        awk '{ printf "%-26s %8.1f %10.2f %10.2f %7.2f %10d %10d\n", $1, $2 / 1e6, $3, $5, $3 / $5, $4, $6 }'
+    local least_ours least_theirs what
+    least_ours=$(least "$work/ours.s")
+    least_theirs=$(least "$work/theirs.s")
+    what="\`${name%%_*}\`, $(tr _ ' ' <<<"${name#*_}")"
+    row "$what" 'CPU s' "${least_ours% *}" "$competitor" "${least_theirs% *}"
+    row "$what" kB "${least_ours#* }" "$competitor" "${least_theirs#* }"
+    echo "$name $(stat -c %s "$file") $least_ours $least_theirs" |
+        awk '{ printf "%-42s %8.1f %10.2f %10.2f %7.2f %10d %10d\n", $1, $2 / 1e6, $3, $5, $3 / $5, $4, $6 }'
 }
 
 status=0
+competitor='libogg, sync layer'
 same() { cmp "$work/ours" "$work/theirs" || status=1; }
 
-printf '%-26s %8s %10s %10s %7s %10s %10s\n' work MB 'ours, s' 'theirs, s' ratio 'ours, kB' 'theirs, kB'
+printf '%-42s %8s %10s %10s %7s %10s %10s\n' work MB 'ours, s' 'theirs, s' ratio 'ours, kB' 'theirs, kB'
 for packet in 100 65024; do
     "$work/pages_made" "$bytes" "$packet" >"$work/file"
     cat "$work/file" >/dev/null
-    both "links_$packet" "$work/file" links "$work/file" -- "$work/split_libogg" links
+    both "links_packets_of_${packet}_bytes" "$work/file" links "$work/file" -- "$work/split_libogg" links
     same
-    both "split_$packet" "$work/file" split "$work/file" 0 -- "$work/split_libogg" split
+    both "split_packets_of_${packet}_bytes" "$work/file" split "$work/file" 0 -- "$work/split_libogg" split
     same
-    both "split_stream_$packet" "$work/file" split "$work/file" 0 1 -- "$work/split_libogg" split
+    both "split_a_stream_in_packets_of_${packet}_bytes" "$work/file" split "$work/file" 0 1 -- "$work/split_libogg" split
     same
-    both "salvage_$packet" "$work/file" salvage "$work/file" -- "$work/split_libogg" salvage
+    both "salvage_packets_of_${packet}_bytes" "$work/file" salvage "$work/file" -- "$work/split_libogg" salvage
     same
 done
 # The same number of pages in one link, and in 65,536 links: links cost what their pages cost.
@@ -66,11 +74,15 @@ for serial in range(1, links + 1):
 END
     "$program" mux <"$work/feed" >"$work/file" 2>"$work/replies"
     for _ in 1 2 3; do "$work/measured" "$work/ours" /dev/null "$program" links "$work/file"; done >"$work/ours.s"
+    took=$(least "$work/ours.s")
+    [ "$serials" = 1 ] || row "\`links\`, the same pages in $serials links" 'CPU s' "${took% *}" 'ours, in one link' "${one% *}"
+    one=$took
     echo "$serials $(stat -c %s "$work/file") $(least "$work/ours.s")" |
-        awk '{ printf "%-26s %8.1f %10.2f %10s %7s %10d\n", "links_in_" $1 "_links", $2 / 1e6, $3, "", "", $4 }'
+        awk '{ printf "%-42s %8.1f %10.2f %10s %7s %10d\n", "links_in_" $1 "_links", $2 / 1e6, $3, "", "", $4 }'
 done
 head -c "$bytes" /dev/urandom >"$work/file"
 cat "$work/file" >/dev/null
-both salvage_random "$work/file" salvage "$work/file" -- "$work/captures"
+competitor='a search for the pattern'
+both salvage_random_bytes "$work/file" salvage "$work/file" -- "$work/captures"
 [ "$status" -eq 0 ] || echo "they differ"
 exit "$status"

@@ -10,6 +10,7 @@
 #     apt-get install libogg-dev nginx-light && bench/station_files.sh [SECONDS] [BYTES]      none: 5 and 200000000
 set -u
 here=$(cd "$(dirname "$0")" && pwd)
+. "$here/rows.bash"
 program=${PROGRAM:-$here/../crates/ogg_main/out/ogg_main}
 work=$(mktemp -d "${TMPDIR:-/tmp}/station-files.XXXXXX")
 server=
@@ -54,14 +55,27 @@ CONF
         sleep 0.05
     done
 }
+declare -A found
 # measure WHICH NAME LENGTH COUNT SLOW
 measure() {
+    local what=requests/s ours
+    [ "$3" -gt 0 ] && [ "$3" -lt 1000 ] || what=MB/s
     start "$1"
     "${clients_on[@]}" "$work/many_clients" "$server" "$port" /all "$size" "$3" "$4" "$seconds" "$5" |
-        awk -v name="$2" -v which="${1/,/, sendfile }" -v small="$(($3 > 0 && $3 < 1000))" '{
+        tee "$work/line" | awk -v name="$2" -v which="${1/,/, sendfile }" -v small="$(($3 > 0 && $3 < 1000))" '{
             printf "%-30s %-20s %9.0f %9.1f %9.1f %9.1f %8.1f\n", name, which, small ? $1 / $3 : $2 / $3,
                 small ? 1e6 * ($4 + $5) / ($1 ? $1 : 1) : 1e6 * ($4 + $5) / $2, $7, $8, $6 }'
     stop
+    # The rate, and the CPU milliseconds for a GB or microseconds for a request.
+    read -r rate cpu <<<"$(awk -v small="$([ $what = MB/s ] || echo 1)" '{
+        printf "%.1f %.1f", small ? $1 / $3 : $2 / $3, 1e6 * ($4 + $5) / (small ? ($1 ? $1 : 1) : $2) }' "$work/line")"
+    if [ "$1" = station ]; then
+        found[$2]="$rate $cpu"
+    else
+        ours=${found[$2]}
+        row "\`station\`, $2" "$what" "${ours% *}" "${1/,/, sendfile }" "$rate"
+        row "\`station\`, $2" "CPU $([ $what = MB/s ] && echo 'ms a GB' || echo 'us a request')" "${ours#* }" "${1/,/, sendfile }" "$cpu"
+    fi
 }
 
 "$work/pages_made" "$bytes" 65024 >"$work/all" 2>"$work/err" || { cat "$work/err"; exit 1; }

@@ -6,6 +6,7 @@
 #     apt-get install libogg-dev && bench/window.sh [BYTES]      none: 1000000000
 set -u
 here=$(cd "$(dirname "$0")" && pwd)
+. "$here/rows.bash"
 reader=${READ_OGG:-$here/../crates/test_read/out/test_read}
 work=$(mktemp -d "${TMPDIR:-/tmp}/window-bench.XXXXXX")
 trap 'rm -rf "$work"' EXIT
@@ -28,7 +29,11 @@ for packet in 100 1000 4000 65025; do
         theirs+="$("$work/measured" "$work/theirs" "$work/pages" "$work/pages_libogg")"$'\n'
     done
     cmp "$work/ours" "$work/theirs" || status=1
-    echo "$packet $(stat -c %s "$work/pages") $(sort -n <<<"$ours" | sed '/^$/d' | head -n 1) $(sort -n <<<"$theirs" | sed '/^$/d' | head -n 1)" |
+    ours=$(sort -n <<<"$ours" | sed '/^$/d' | head -n 1)
+    theirs=$(sort -n <<<"$theirs" | sed '/^$/d' | head -n 1)
+    row "a window, packets of $packet bytes" 'CPU s' "${ours% *}" 'libogg, sync layer' "${theirs% *}"
+    row "a window, packets of $packet bytes" kB "${ours#* }" 'libogg, sync layer' "${theirs#* }"
+    echo "$packet $(stat -c %s "$work/pages") $ours $theirs" |
         awk '{ printf "%-14s %8.1f %10.2f %10.2f %7.2f %10d %10d\n", $1, $2 / 1e6, $3, $5, $3 / $5, $4, $6 }'
 done
 [ "$status" -eq 0 ] || echo "they differ"
