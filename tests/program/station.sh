@@ -145,12 +145,20 @@ check "no password in the log" not grep -qE "$(printf 'source:secret' | base64)|
 # With --seal it ends with its input: who listens hears the rest, and the file has nothing after its pages.
 ogg=$work/sealed.ogg
 port=$(asking port)
-{ head -c 91 "$work/whole"; sleep 1; tail -c +92 "$work/whole"; } |
+mkfifo "$work/heard_it"
+{ head -c 91 "$work/whole"; read -r -t 30 _ <>"$work/heard_it"; tail -c +92 "$work/whole"; } |
     timeout 60 "$program" station "$ogg" "127.0.0.1:$port" --seal >"$work/out" 2>"$work/err" &
 server=$!
 asking wait "$port"
 check "its link is open" until_listed open
-timeout 20 curl -sN -o "$work/heard" "http://127.0.0.1:$port/live"
+timeout 20 curl -sN -o "$work/heard" "http://127.0.0.1:$port/live" &
+listener=$!
+for _ in $(seq 200); do
+    [ ! -s "$work/heard" ] || break
+    sleep 0.05
+done
+echo 1<>"$work/heard_it"
+wait "$listener"
 check "a listener is closed at the end" [ $? -eq 0 ]
 wait "$server"
 check "it ends by itself" [ $? -eq 0 ]
