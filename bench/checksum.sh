@@ -42,7 +42,7 @@ for packet in 483 4053 65024; do
         done
     done
     for way in tables libogg memory; do
-        row "the checksum of a page of $size bytes, by folding" GB/s "$(rate folding)" \
+        row "the checksum of a page of $size bytes" GB/s "$(rate folding)" \
             "$(case $way in tables) echo 'ours, by tables' ;; libogg) echo libogg ;; memory) echo 'a plain read of it' ;; esac)" "$(rate $way)"
     done
     printf '%-11s %10s %10s %10s %10s\n' "$size" "$(rate folding)" "$(rate tables)" "$(rate libogg)" "$(rate memory)"

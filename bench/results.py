@@ -62,9 +62,9 @@ def main():
     commit = said("git", "describe", "--always", "--dirty", "--abbrev=12")
     print("# Speed\n")
     print("Made by `bench/all.sh`, which measures all of it anew. The ratio says how many times as good ours is: 2 is half the")
-    print("time or the memory, or twice the rate; where the competitor is ours too, it says how much a larger file costs. Each")
-    print("number is the best of several runs that take turns, as the head of its script says. The last column is the command")
-    print("that gives the row.\n")
+    print("time or the memory, or twice the rate. Where the competitor is ours too, two cases of ours are compared. Each number")
+    print("is the best of several runs that take turns, as the head of its script says. The last column is the command that")
+    print("gives the row.\n")
     print(f"- {datetime.date.today():%d %B %Y}, in {int(seconds) // 60} minutes and {int(seconds) % 60} seconds"
           f"{f', of commit {commit}' if commit else ''}; {said('rt', 'version') or 'no rt'}")
     for it in machine():
