@@ -31,6 +31,7 @@ script says_more 'echo 3 passed, 0 failed; echo and a line after it'
 script hangs 'echo 3 passed, 0 failed; sleep 1000'
 script leaves 'sleep 1003 & timeout 1004 sleep 1005 &' "echo \$\$ >'$work/session'" 'echo 1 passed, 0 failed'
 
+: >"$work/session"
 checks well leaves
 check "two that pass: status $status" [ "$status" -eq 0 ]
 check "two that pass: their counts" [ "$(tail -n 1 "$work/said")" = "4 passed, 0 failed" ]
@@ -62,6 +63,23 @@ check "all of them: what can't be run" says "FAILED: borrows: it can't be run: [
 check "all of them: those that failed" says \
     "failed: proofs promises wrong_bodies borrows checks_nothing ends_badly fails hangs says_more says_nothing"
 check "all of them: the counts" [ "$(tail -n 1 "$work/said")" = "13 passed, 11 failed" ]
+
+# One that is interrupted ends what it runs, at once.
+: >"$work/session"
+script waits "echo \$\$ >'$work/session'" 'sleep 1000'
+"$tree/check" waits well >"$work/said" 2>"$work/err" &
+running=$!
+for _ in $(seq 100); do
+    [ ! -s "$work/session" ] || break
+    sleep 0.1
+done
+began=$SECONDS
+kill -TERM "$running"
+wait "$running"
+check "interrupted: status $?" [ $? -eq 130 ]
+check "interrupted: it ends at once" [ $((SECONDS - began)) -lt 30 ]
+check "interrupted: nothing runs on" [ -z "$(ps -o stat= -s "$(cat "$work/session")" | grep -v Z)" ]
+rm "$tree/tests/program/waits.sh"
 
 checks nonesuch
 check "no such check: status $status" [ "$status" -eq 1 ]
