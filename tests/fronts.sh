@@ -188,7 +188,8 @@ unit=$top/examples/station/kudzuturret-station.service
 if has systemd-analyze; then
     sed "s|/usr/local/bin/kudzuturret|$program|" "$unit" >"$work/kudzuturret-station.service"
     systemd-analyze verify "$work/kudzuturret-station.service" >"$work/out" 2>&1
-    check "systemd takes the unit: $(head -n 1 "$work/out")" [ $? -eq 0 ]
+    status=$?
+    check "systemd takes the unit: $(head -n 1 "$work/out")" [ "$status" -eq 0 ]
 fi
 port=$(asking port)
 echo secret >"$work/password"

@@ -280,7 +280,8 @@ sent() { # sent NAME FILE COMMAND ..: the command sends FILE.ogg, and ends well
     local name=$1 file=$2
     shift 2
     timeout 60 "$@" >"$work/out" 2>"$work/err"
-    check "$name: status $?, $(tail -n 1 "$work/err")" [ $? -eq 0 ]
+    local status=$?
+    check "$name: status $status, $(tail -n 1 "$work/err")" [ "$status" -eq 0 ]
     links=$((links + 1))
     check "$name: its link has ended" listed
     curl -s "http://127.0.0.1:$port/link/$((links - 1))" >"$work/link.ogg"
