@@ -1,11 +1,15 @@
 #!/usr/bin/env bash
 # Each command in docs/OPERATION.md's table of things to try works as it stands there, in a folder that has what a clone
-# has; the commands that install packages aren't run. README.md's first lines print what stands there.
+# has in which the program is built; the commands that install packages aren't run. README.md's first lines print what
+# stands there.
 . "$(dirname "$0")/../helpers/common.bash"
 
-mkdir "$work/clone"
+# The launcher is a copy, so that it finds the program here, which is newer than its sources.
+mkdir -p "$work/clone/crates/ogg_main/out"
 cd "$work/clone" || exit 1
-for name in kudzuturret check examples tests bench crates crates.txt; do ln -s "$top/$name" "$name"; done
+for name in check examples tests bench crates.txt crates/ogg_main/src; do ln -s "$top/$name" "$name"; done
+cp "$top/kudzuturret" .
+ln -s "$program" crates/ogg_main/out/ogg_main
 # What an encoder of Opus begins with (RFC 7845, section 5), and a packet.
 pages "02 0 1 0 19 OpusHead-----------" "00 0 1 1 16 OpusTags--------" "04 960 1 2 5 hello" >SONG.ogg
 printf 'begin 1 abc\nput 1 5 hello\n' >MINE.txt
@@ -37,10 +41,11 @@ END
 ran=0
 while read -r line; do
     case $line in
-        "./check --media" | bench/*) check "$line is there" [ -x "${line%% *}" ] ;;
+        './check --media' | bench/*) check "$line is there" [ -x "${line%% *}" ] ;;
         *)
             timeout 60 bash -c "$line" >"$work/out" 2>"$work/err"
-            check "$line: $(tail -n 1 "$work/err")" [ $? -eq 0 ]
+            status=$?
+            check "$line: status $status, $(tail -n 1 "$work/err")" [ "$status" -eq 0 ]
             [[ $line != *'> '* ]] || check "$line: it makes a file" [ -s "${line##*> }" ]
             ran=$((ran + 1))
             ;;
