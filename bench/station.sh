@@ -42,17 +42,24 @@ done
 sleep 8
 # number PATTERN TEXT: the number that stands there before the pattern.
 number() { sed -n "s/.* \([0-9.]*\) $1.*/\1/p" <<<" $2"; }
+# hear TEXT: how many hear something, if that isn't everybody.
+hear() { sed -n 's/.*; \([0-9]*\) of \([0-9]*\) hear;.*/\1 \2/p' <<<"$1" | awk '$1 < $2 { print $1 " hear" }'; }
 for count in 64 512 1000; do
     our_line=$(python3 "$here/station.py" "$ours" /live "$station" "$count" "$seconds")
     their_line=$(python3 "$here/station.py" "$theirs" /live.ogg "$icecast" "$count" "$seconds")
     echo "$count listeners, station: $our_line"
     echo "$count listeners, icecast2: $their_line"
-    row "$count listeners of \`station\`: the first byte" s "$(number 's in the middle, [0-9.]* s at worst' "$our_line")" \
+    what="$count listeners of \`station\`"
+    for line in "ours: $our_line" "theirs: $their_line"; do
+        few=$(hear "$line")
+        what+=${few:+" (only $few of ${line%%:*})"}
+    done
+    row "$what: the first byte" s "$(number 's in the middle, [0-9.]* s at worst' "$our_line")" \
         icecast2 "$(number 's in the middle, [0-9.]* s at worst' "$their_line")"
-    row "$count listeners of \`station\`: the longest pause" s "$(number 's in the middle; [0-9.]* ms' "$our_line")" \
+    row "$what: the longest pause" s "$(number 's in the middle; [0-9.]* ms' "$our_line")" \
         icecast2 "$(number 's in the middle; [0-9.]* ms' "$their_line")"
-    row "$count listeners of \`station\`, each for a minute" 'CPU ms' "$(number 'ms of CPU' "$our_line")" icecast2 "$(number 'ms of CPU' "$their_line")"
-    row "$count listeners of \`station\`" MB "$(number MB "$our_line")" icecast2 "$(number MB "$their_line")"
+    row "$what, each for a minute" 'CPU ms' "$(number 'ms of CPU' "$our_line")" icecast2 "$(number 'ms of CPU' "$their_line")"
+    row "$what" MB "$(number MB "$our_line")" icecast2 "$(number MB "$their_line")"
 done
 
 # A source of 50 pages a second beside 32 listeners, with the disk's syncs as they are and with 5 ms more for each.
