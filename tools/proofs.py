@@ -237,8 +237,8 @@ def listed(promise):
     """A promise of a crate as an item of a list."""
     tried = ", ".join(it.name for it in promise.edits)
     tried = "; ".join(it for it in (tried, promise.tried) if it)
-    # A reason alone isn't a wrong body.
-    kind = "Refused" if promise.edits else "No wrong body"
+    # A reason alone isn't a wrong body, and a law has none at all.
+    kind = "Refused" if promise.edits else "No wrong body" if " law" in promise.tried else "No wrong body of its own"
     return "\n".join(
         [
             wrapped(ended(f"**{promise.name}**: {promise.says}"), "- ", "  "),
