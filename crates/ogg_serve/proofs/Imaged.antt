@@ -37,6 +37,7 @@ module _ {D : Type 0} (is_honest : D → Type 0) (state : D → DiskState) (mome
         step = λ first w there closed h.
             let (found, is, in_) = step first w there closed h in
             (found, subst (λ (d : D). IsStep is_honest state moment images_since Shows Accepts add first w (Opened found) disk d) disk_is is, stands first (happens w (Opened found)) in_);
+        refused = λ first w there h. tt;
         honest = subst (λ (d : D). is_honest disk ↔ is_honest d) disk_is honest;
         later = subst (λ (d : D). failures disk ≤ failures d) disk_is later;
         cause = λ is. absurd (no_fault is);

@@ -1,12 +1,12 @@
 -- What each image of a hub's disk shows at each moment of a call, and which step of its file's history the call is.
 -- Ours.
-use Rattle.std.specs.Prelude.{◌≡◌, ◌⊎◌, ◌↔◌, ℕ, ◌-◌, ◌^◌, ◌<◌, ◌≤◌, Bool, true, false, IfOk, Option, None, Some, Result, Err, List, ◌++◌, ⊤}
+use Rattle.std.specs.Prelude.{◌≡◌, ◌⊎◌, ◌↔◌, ℕ, ◌-◌, ◌^◌, ◌<◌, ◌≤◌, Bool, true, false, IfOk, IfErr, Option, None, Some, Result, Err, List, ◌++◌, ⊤}
 use Rattle.disk_model.specs.Image.{DiskState}
 use Rattle.disk_model.specs.Clock.{LeavesOnly}
 use Rattle.gate_file.specs.Commit.{CommitsTo, CommitsToEither}
 use Rattle.gate_file.specs.Reading.{OnlyReads}
 use Rattle.gate_file.specs.declared.fault.OpenFault.{OpenFault}
-use Rattle.gate_file.specs.declared.fault.OpenFault.TheVariants.{Disk as DiskOf}
+use Rattle.gate_file.specs.declared.fault.OpenFault.TheVariants.{Disk as DiskOf, Memory as MemoryOf}
 use Rattle.link_chain.specs.Recording.{Recording}
 use Rattle.chain_rules.specs.Encoding.{command_bytes}
 use Rattle.chain_rules.specs.Recording.{add}
@@ -97,11 +97,14 @@ module _ {D : Type 0} (is_honest : D → Type 0) (state : D → DiskState) (mome
   OpensIn first w old new None = IsStep is_honest state moment images_since Shows Accepts add first w (Faulted Opening) old new
 
   -- What a reopening leaves of the disk, with its answer, and the recorder that it opened: each image since the call
-  -- began commits to what an image at its start commits to.
+  -- began commits to what an image at its start commits to. A file that was ours, whatever happened to it, is refused
+  -- only for want of memory, or by the disk.
   pub record Reopens (result : Result ⊤ OpenFault) (file : Option (RecorderState D)) (old new : D) : Type 0 where
     pub any_moment : is_honest old → LeavesOnly moment images_since old new (IsAsBefore Commits (state old))
     pub step : (first : Recording) (w : World Command) → StandsIn Shows add first w (state old) → w.is_open ≡ false → is_honest old
         → OpensIn first w old new file
+    pub refused : (first : Recording) (w : World Command) → StandsIn Shows add first w (state old) → is_honest old
+        → IfErr result (λ fault. (fault ≡ DiskOf) ⊎ (fault ≡ MemoryOf))
     pub honest : is_honest old ↔ is_honest new
     pub later : failures old ≤ failures new
     pub cause : result ≡ Err DiskOf → (failures old < failures new) ⊎ (failures new ≡ 2 ^ 64 - 1)

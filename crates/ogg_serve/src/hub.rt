@@ -306,8 +306,9 @@ impl<D: Disk + Drop> Hub<D> {
         )
     }
 
-    /// Gives the disk back, and opens it again, as [`Recorder::open`] does, with its faults. The sessions stay, and
-    /// what waited is lost. After a fault there is no file, and the disk is kept for another reopening.
+    /// Gives the disk back, and opens it again, as [`Recorder::open`] does, with its faults: of a file that was ours
+    /// these are `Memory` and `Disk` alone. The sessions stay, and what waited is lost. After a fault there is no file,
+    /// and the disk is kept for another reopening.
     pub fn reopen(&mut self) -> Result<(), OpenFault>
         ensures step { Steps (Shows D.is_honest D.state) self.old self.new (λ after. Reopen (found_by result after)) }
         ensures disk { (old new : D) → disk_in self.old.file self.old.lost ≡ Some old → disk_in self.new.file self.new.lost ≡ Some new

@@ -30,6 +30,7 @@ returns-in-Err-clause-failed g c =
     record {
       any_moment = e.any_moment_err;
       step = λ first w stands closed honest. e.step_err first w closed honest;
+      refused = e.reopens;
       honest = e.honest_err;
       later = e.cause.0;
       cause = λ is. e.cause.1 (fault_is c.in-Err.fault.0 is);
