@@ -29,7 +29,7 @@ recorded_pages bytes (recording, holds) = record {
 }
 
 -- pages that begin with pages go on with pages
-pages_behind : (front all : List Page) (more : List ℕ) → AllByRecursion IsPage front → AllByRecursion IsPage all → bytes_of_pages all ≡ bytes_of_pages front ++ more → ArePages more
+pub pages_behind : (front all : List Page) (more : List ℕ) → AllByRecursion IsPage front → AllByRecursion IsPage all → bytes_of_pages all ≡ bytes_of_pages front ++ more → ArePages more
 pages_behind [] all more f a e = record { pages = all; are_pages = a; spelled = sym e }
 pages_behind (page ∷ front) all more f a e =
     let first = follows all page (bytes_of_pages front ++ more) a f.0 (e ∙ append_assoc (page_bytes page) (bytes_of_pages front) more) in

@@ -2,6 +2,7 @@ pub mod Fronts
 pub mod Heard
 pub mod Imaged
 pub mod Lasting
+pub mod Linked
 pub mod Listed
 pub mod Ordered
 pub mod FileRead

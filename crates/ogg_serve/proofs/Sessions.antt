@@ -2,7 +2,7 @@
 use Rattle.std.proofs.Common.{◌≡◌, ℕ, ◌+◌, ◌<◌, ◌≤◌, ◌^◌, true, false, Option, Some, None, Ok, Err, List, [], ◌∷◌, ◌++◌, length, refl, sym, ap, subst, ◌∙◌, arith, inl, inr}
 use Rattle.std.specs.Prelude.{is_some, nat_le}
 use Rattle.std.proofs.lemmas.Bool.{cases_Bool, or_left, or_cases, le-leb, leb-true}
-use Rattle.disk_model.specs.Image.{DiskState}
+use Rattle.disk_model.specs.Image.{DiskState, IsImage}
 use Rattle.link_index.specs.Adding.{IndexState, IsIndexOf}
 use Rattle.ogg_recorder.specs.Recorder.{RecorderState, IsRecorder, committed, staged}
 use Rattle.serve_machine.specs.Hub.{HubState, IsNewFor, Event, Phase, Reading, Session, close_step, connect_step, hub_step, is_full, with_session, without_in, without_session, phase_in}
@@ -11,7 +11,8 @@ use Rattle.ogg_serve.specs.declared.opening.Lost.{Lost}
 use Rattle.ogg_serve.specs.declared.session.Session.{Session as SessionParts}
 use Rattle.ogg_serve.specs.Indexing.{IsOfFront}
 use Rattle.ogg_serve.specs.Parts.{hub_parts, place_in, next_of}
-use Rattle.ogg_serve.specs.Showing.{AreSessions, ShowsPlace, Shows}
+use Rattle.ogg_serve.specs.Showing.{AreSessions, FindsLinks, ShowsPlace, Shows}
+use Rattle.ogg_serve.proofs.Linked.{new_linked}
 use Rattle.ogg_serve.proofs.Listed.{as_many, found, not_found}
 use Rattle.ogg_serve.proofs.Stepping.{shows_good}
 
@@ -73,6 +74,7 @@ module _ {D : Type 0} (is_honest : D → Type 0) (state : D → DiskState) where
           without_session id m,
           record {
             place = other_sessions file lost m (without_in id m.sessions) m.next_id s.place;
+            linked = s.linked;
             indexed = s.indexed;
             sessions_are = ends m.committed m.sessions s.sessions_are;
             next_is = s.next_is;
@@ -96,6 +98,7 @@ module _ {D : Type 0} (is_honest : D → Type 0) (state : D → DiskState) where
           with_session m,
           record {
             place = other_sessions file lost m (m.sessions ++ record { id = m.next_id; phase = Reading [] } ∷ []) (m.next_id + 1) s.place;
+            linked = s.linked;
             indexed = s.indexed;
             sessions_are = subst (λ (n : ℕ). AreSessions m.committed now (m.sessions ++ record { id = n; phase = Reading [] } ∷ [])) (sym number) (adds m.committed m.sessions s.sessions_are);
             next_is = ap (λ (n : ℕ). n + 1) number ∙ sym more;
@@ -109,16 +112,16 @@ module _ {D : Type 0} (is_honest : D → Type 0) (state : D → DiskState) where
     pub goes_on : (file_now : Option (RecorderState D)) (lost_now : Option (Lost D)) (after : HubState) (event : Event)
         → ((before after : HubState) (event : Event) (index : IndexState) (parts : List SessionParts) → hub_step before event after → after.sessions ≡ before.sessions
         → IsOfFront before.committed index → AreSessions before.committed parts before.sessions → IsOfFront after.committed index × AreSessions after.committed parts after.sessions)
-        → ShowsPlace is_honest state file_now lost_now after → hub_step m event after → after.sessions ≡ m.sessions → after.next_id ≡ m.next_id → after.room ≡ m.room → (most_now : ℕ) → after.most_after_reopening ≡ most_now
+        → ShowsPlace is_honest state file_now lost_now after → FindsLinks after → hub_step m event after → after.sessions ≡ m.sessions → after.next_id ≡ m.next_id → after.room ≡ m.room → (most_now : ℕ) → after.most_after_reopening ≡ most_now
         → Shows is_honest state (hub_parts file_now lost_now index sessions next most_now room) after
-    goes_on file_now lost_now after event law place step same numbers rooms most_now most_is =
+    goes_on file_now lost_now after event law place linked step same numbers rooms most_now most_is =
         let (front, are) = law m after event index sessions step same s.indexed s.sessions_are in
-        record { place = place; indexed = front; sessions_are = are; next_is = numbers ∙ s.next_is; most_is = most_is; room_is = rooms ∙ s.room_is }
+        record { place = place; linked = linked; indexed = front; sessions_are = are; next_is = numbers ∙ s.next_is; most_is = most_is; room_is = rooms ∙ s.room_is }
 
   -- a new hub
   pub new_shows : (room : ℕ) (r : RecorderState D) (index : IndexState) (sessions : List SessionParts) → sessions ≡ [] → IsIndexOf [] index → IsRecorder is_honest state r → r.file.failed ≡ false → is_honest r.file.disk
-      → (m : HubState) × Shows is_honest state (hub_parts (Some r) None index sessions (Some 0) 1 room) m × IsNewFor room m
-  new_shows room r index sessions none empty always good honest =
+      → IsImage (state r.file.disk) (state r.file.disk).contents → (m : HubState) × Shows is_honest state (hub_parts (Some r) None index sessions (Some 0) 1 room) m × IsNewFor room m
+  new_shows room r index sessions none empty always good honest image =
       let m : HubState = record {
         committed = committed state r;
         held = staged state r;
@@ -135,6 +138,7 @@ module _ {D : Type 0} (is_honest : D → Type 0) (state : D → DiskState) where
         m,
         record {
           place = shows_good is_honest state r m honest always good refl refl refl refl refl refl refl;
+          linked = new_linked is_honest state r m always good honest image refl refl;
           indexed = record {
             front = [];
             rest = committed state r;

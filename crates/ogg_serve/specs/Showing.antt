@@ -36,6 +36,14 @@ AreSessions committed parts sessions = AllZip (IsSession committed) parts sessio
 abbrev pub Commits : HubState → List ℕ → Type 0
 Commits machine image = (found : List ℕ) × MayBeFound machine found × CommitsTo found image
 
+-- the bytes are links
+abbrev pub IsChain : List ℕ → Type 0
+IsChain bytes = (links : List (List Page)) × AreLinks bytes links
+
+-- whatever a reopening may find are links, the committed bytes among it
+abbrev pub FindsLinks : HubState → Type 0
+FindsLinks machine = (found : List ℕ) → MayBeFound machine found → IsChain found
+
 module _ {D : Type 0} (is_honest : D → Type 0) (state : D → DiskState) where
   -- with a file: the machine has what the recorder has, and a group is in doubt exactly if the recorder has failed
   pub record ShowsFile (recorder : RecorderState D) (machine : HubState) : Type 0 where
@@ -75,9 +83,10 @@ module _ {D : Type 0} (is_honest : D → Type 0) (state : D → DiskState) where
   -- ---- the hub
   -- The hub is this machine: its disk is honest, and the machine has what the fields of the hub have. The group in
   -- doubt is in none of these fields: only the images of the disk show it. So a hub may be several machines after a
-  -- fault.
+  -- fault. In each of them a reopening finds links.
   pub record Shows (hub : HubParts D) (machine : HubState) : Type 0 where
     pub place : ShowsPlace hub.file hub.lost machine
+    pub linked : FindsLinks machine
     pub indexed : IsOfFront machine.committed hub.index
     pub sessions_are : AreSessions machine.committed hub.sessions machine.sessions
     pub next_is : machine.next_id ≡ next_of hub.next

@@ -4,11 +4,12 @@ ghost use Rattle.serve_machine.specs.Hub.{HubState, command_step, flush_step, gr
 ghost use Rattle.ogg_recorder.specs.Recorder.{RecorderState, recorder_state};
 ghost use Rattle.ogg_serve.specs.declared.opening.Lost.{Lost};
 ghost use Rattle.ogg_serve.specs.Images.{IfFile, Records, Flushes};
-ghost use Rattle.ogg_serve.specs.Showing.{ShowsFile, ShowsPlace, KeepsSessions};
+ghost use Rattle.ogg_serve.specs.Showing.{FindsLinks, ShowsFile, ShowsPlace, KeepsSessions};
 
-use chain_rules::{Command, Refusal, refusals_are_of_the_table};
+use chain_rules::{Command, Refusal, command_adds_its_packets, refusals_are_of_the_table};
 use disk_model::Disk;
 use feed_codec::Kept;
+use ogg_command::command_is_in_range;
 use ogg_recorder::{Outcome, Recorder};
 
 /// Records a command.
@@ -18,9 +19,13 @@ fn record_command<D: Disk>(
 ) -> Result<Outcome, Refusal>
     ensures step { (before : HubState) → ShowsFile D.is_honest D.state recorder.old before → (after : HubState)
         × ShowsFile D.is_honest D.state recorder.new after × command_step before command.now result after × KeepsSessions before after }
+    ensures linked { (before after : HubState) → ShowsFile D.is_honest D.state recorder.old before → command_step before command.now result after
+        → FindsLinks before → FindsLinks after }
     ensures disk { Records D.is_honest D.state D.moment D.images_since D.failures command.now result recorder.old recorder.new }
     ensures same { IfErr result (λ refusal. refusal ≢ Refusal.Disk → recorder.new ≡ recorder.old) }
 {
+    command_is_in_range(command);
+    command_adds_its_packets();
     refusals_are_of_the_table();
     let _before = recorder.end();
     let answer = recorder.command(command);
@@ -32,6 +37,8 @@ fn record_command<D: Disk>(
 fn flush_commands<D: Disk>(recorder: &mut Recorder<D>) -> Result<Kept, Refusal>
     ensures step { (before : HubState) → ShowsFile D.is_honest D.state recorder.old before → (after : HubState)
         × ShowsFile D.is_honest D.state recorder.new after × flush_step before result after × KeepsSessions before after }
+    ensures linked { (before after : HubState) → ShowsFile D.is_honest D.state recorder.old before → flush_step before result after
+        → FindsLinks before → FindsLinks after }
     ensures disk { Flushes D.is_honest D.state D.moment D.images_since D.failures result recorder.old recorder.new }
     ensures same { IfErr result (λ refusal. refusal ≢ Refusal.Disk → recorder.new ≡ recorder.old) }
 {
@@ -49,6 +56,8 @@ pub(crate) fn command_file<D: Disk>(
     ensures step { (lost : Option (Lost D)) (before : HubState) → ShowsPlace D.is_honest D.state file.old lost before → (after : HubState)
         × ShowsPlace D.is_honest D.state file.new lost after × command_step before command.now result after × KeepsSessions before after }
     ensures stays { file.new ≡ None → file.old ≡ None }
+    ensures linked { (lost : Option (Lost D)) (before after : HubState) → ShowsPlace D.is_honest D.state file.old lost before → command_step before command.now result after
+        → FindsLinks before → FindsLinks after }
     ensures disk { IfFile (Records D.is_honest D.state D.moment D.images_since D.failures command.now result) file.old file.new }
     ensures same { IfErr result (λ refusal. refusal ≢ Refusal.Disk → file.new ≡ file.old) }
     ensures no_file { file.old ≡ None → result ≡ Err Refusal.Failed }
@@ -64,6 +73,8 @@ pub(crate) fn flush_file<D: Disk>(file: &mut Option<Recorder<D>>) -> Result<Kept
     ensures step { (lost : Option (Lost D)) (before : HubState) → ShowsPlace D.is_honest D.state file.old lost before → (after : HubState)
         × ShowsPlace D.is_honest D.state file.new lost after × flush_step before result after × KeepsSessions before after }
     ensures stays { file.new ≡ None → file.old ≡ None }
+    ensures linked { (lost : Option (Lost D)) (before after : HubState) → ShowsPlace D.is_honest D.state file.old lost before → flush_step before result after
+        → FindsLinks before → FindsLinks after }
     ensures disk { IfFile (Flushes D.is_honest D.state D.moment D.images_since D.failures result) file.old file.new }
     ensures same { IfErr result (λ refusal. refusal ≢ Refusal.Disk → file.new ≡ file.old) }
     ensures no_file { file.old ≡ None → result ≡ Err Refusal.Failed }

@@ -1,7 +1,5 @@
 //! A recorder, and the sessions of the clients that fetch its file.
 ghost use Rattle.std.specs.Prelude.{◌≡◌, ◌≢◌, ◌↔◌, ◌⊎◌, ◌≤◌, ◌<◌, ◌+◌, ◌^◌, [], ℕ, false, List, vec_capacity, None, Some, Err, IsSome, length, IfOk, IfErr};
-ghost use Rattle.ogg_page.specs.Page.{Page};
-ghost use Rattle.link_chain.specs.Links.{AreLinks};
 ghost use Rattle.ogg_recorder.specs.Recorder.{RecorderState, committed};
 ghost use Rattle.serve_machine.specs.Hub.{HubState, IsNew, IsNewFor, Connect, Receive, Pull, Close, Record, Flush, Group, Reopen, most_sessions};
 ghost use Rattle.serve_machine.specs.Calls.{Steps, found_by, given_in};
@@ -248,10 +246,9 @@ impl<D: Disk + Drop> Hub<D> {
     pub fn receive(&mut self, id: u64, bytes: &[u8]) -> Result<Progress, HubFault>
         ensures step { Steps (Shows D.is_honest D.state) self.old self.new (λ after. Receive id bytes.now result) }
 
-        // The file is only read, and a fault of committed links has a cause.
+        // The file is only read, and a fault has a cause.
         ensures disk { IfFile (Reads D.is_honest D.state D.moment D.images_since D.failures) self.old.file self.new.file }
-        ensures cause { result ≡ Err HubFault.Source → (machine : HubState) (links : List (List Page))
-            → Shows D.is_honest D.state self.old machine → AreLinks machine.committed links
+        ensures cause { result ≡ Err HubFault.Source → (machine : HubState) → Shows D.is_honest D.state self.old machine
             → IfFile (Fails D.is_honest D.state D.moment D.images_since D.failures) self.old.file self.new.file }
 
         // By what the hub keeps, whatever its disk: `NoSession` comes before `NoFile`.

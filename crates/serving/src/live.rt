@@ -1,7 +1,5 @@
 //! A connection is served while a feed is recorded.
-ghost use Rattle.std.specs.Prelude.{◌≡◌, ◌≤◌, ℕ, List, [], Some, None, Err, true, false};
-ghost use Rattle.ogg_page.specs.Page.{Page};
-ghost use Rattle.link_chain.specs.Links.{AreLinks};
+ghost use Rattle.std.specs.Prelude.{◌≡◌, ◌≤◌, ℕ, [], Some, None, Err, true, false};
 ghost use Rattle.serve_sending.specs.Sending.{HasFailed};
 ghost use Rattle.serve_machine.specs.Hub.{HubState, Reading, is_full, phase_of};
 ghost use Rattle.serve_machine.specs.Own.{AreNumbered};
@@ -39,10 +37,9 @@ pub fn live_one<D: Disk + Drop, R: Read, W: Write, F: Read, L: Write + Drop>(
         × GetsIn (R.remaining reader.old) (R.remaining reader.new) (W.contents writer.old) (W.contents writer.new)
         n after.has_file before.committed result) }
 
-    // A fault of committed links has a cause.
-    ensures cause { result ≡ Err HubFault.Source → (before : HubState) (links : List (List Page))
-        → Shows D.is_honest D.state hub.old before → AreNumbered before → AreLinks before.committed links
-        → HasFailed (failures_in D.failures hub.old) (failures_in D.failures hub.new) }
+    // A fault has a cause.
+    ensures cause { result ≡ Err HubFault.Source → (before : HubState) → Shows D.is_honest D.state hub.old before
+        → AreNumbered before → HasFailed (failures_in D.failures hub.old) (failures_in D.failures hub.new) }
     ensures full { (before : HubState) → Shows D.is_honest D.state hub.old before → is_full before ≡ true
         → (result ≡ Err HubFault.SessionsFull) × Shows D.is_honest D.state hub.new before × (feed.new ≡ feed.old)
         × (reader.new ≡ reader.old) × (writer.new ≡ writer.old) }
@@ -79,9 +76,8 @@ fn exchange<D: Disk + Drop, R: Read, W: Write, F: Read, L: Write + Drop>(
         n after.has_file before.committed result) }
     ensures tried { (before : HubState) → Shows D.is_honest D.state hub.old before → phase_of before id ≡ Some (Reading [])
         → tries.old ≡ false → HasTriedAll tries.new before.committed result }
-    ensures cause { result ≡ Err HubFault.Source → (before : HubState) (links : List (List Page))
-        → Shows D.is_honest D.state hub.old before → phase_of before id ≡ Some (Reading []) → AreLinks before.committed links
-        → HasFailed (failures_in D.failures hub.old) (failures_in D.failures hub.new) }
+    ensures cause { result ≡ Err HubFault.Source → (before : HubState) → Shows D.is_honest D.state hub.old before
+        → phase_of before id ≡ Some (Reading []) → HasFailed (failures_in D.failures hub.old) (failures_in D.failures hub.new) }
 {
     match read_head(hub, id, reader, tries) {
         Ok(None) => {}

@@ -1,7 +1,5 @@
 //! The pieces in which a request is read and a response is written.
 ghost use Rattle.std.specs.Prelude.{◌≡◌, ℕ, List, [], Some, Err, false};
-ghost use Rattle.ogg_page.specs.Page.{Page};
-ghost use Rattle.link_chain.specs.Links.{AreLinks};
 ghost use Rattle.serve_machine.specs.Hub.{HubState, Reading, Sending, phase_of};
 ghost use Rattle.ogg_serve.specs.Images.{IfFile, Fails, Reads};
 ghost use Rattle.ogg_serve.specs.Showing.{Shows};
@@ -47,11 +45,10 @@ pub fn read_head<D: Disk + Drop, R: Read>(
     ensures tried { (before : HubState) → Shows D.is_honest D.state hub.old before → phase_of before id ≡ Some (Reading [])
         → tries.old ≡ false → HasTried tries.new result }
 
-    // The file is only read, and a fault of committed links has a cause.
+    // The file is only read, and a fault has a cause.
     ensures disk { IfFile (Reads D.is_honest D.state D.moment D.images_since D.failures) hub.old.file hub.new.file }
-    ensures cause { result ≡ Err HubFault.Source → (before : HubState) (links : List (List Page))
-        → Shows D.is_honest D.state hub.old before → phase_of before id ≡ Some (Reading []) → AreLinks before.committed links
-        → IfFile (Fails D.is_honest D.state D.moment D.images_since D.failures) hub.old.file hub.new.file }
+    ensures cause { result ≡ Err HubFault.Source → (before : HubState) → Shows D.is_honest D.state hub.old before
+        → phase_of before id ≡ Some (Reading []) → IfFile (Fails D.is_honest D.state D.moment D.images_since D.failures) hub.old.file hub.new.file }
     ensures lost { hub.new.lost ≡ hub.old.lost }
 {
     calls_move_their_session();

@@ -1,7 +1,5 @@
 //! A connection is served.
-ghost use Rattle.std.specs.Prelude.{◌≡◌, ℕ, List, [], Some, None, Err, true, false};
-ghost use Rattle.ogg_page.specs.Page.{Page};
-ghost use Rattle.link_chain.specs.Links.{AreLinks};
+ghost use Rattle.std.specs.Prelude.{◌≡◌, ℕ, [], Some, None, Err, true, false};
 ghost use Rattle.serve_machine.specs.Hub.{HubState, Reading, is_full, phase_of};
 ghost use Rattle.serve_machine.specs.Own.{AreNumbered};
 ghost use Rattle.ogg_serve.specs.Images.{IfFile, Fails, Reads};
@@ -35,11 +33,10 @@ pub fn serve_one<D: Disk + Drop, R: Read, W: Write>(
         × (phase_of after before.next_id ≡ None)
         × Gets (R.remaining reader.old) (R.remaining reader.new) (W.contents writer.old) (W.contents writer.new) before.has_file before.committed result }
 
-    // The file is only read, and a fault of committed links has a cause.
+    // The file is only read, and a fault has a cause.
     ensures disk { IfFile (Reads D.is_honest D.state D.moment D.images_since D.failures) hub.old.file hub.new.file }
-    ensures cause { result ≡ Err HubFault.Source → (before : HubState) (links : List (List Page))
-        → Shows D.is_honest D.state hub.old before → AreNumbered before → AreLinks before.committed links
-        → IfFile (Fails D.is_honest D.state D.moment D.images_since D.failures) hub.old.file hub.new.file }
+    ensures cause { result ≡ Err HubFault.Source → (before : HubState) → Shows D.is_honest D.state hub.old before
+        → AreNumbered before → IfFile (Fails D.is_honest D.state D.moment D.images_since D.failures) hub.old.file hub.new.file }
     ensures full { (before : HubState) → Shows D.is_honest D.state hub.old before → is_full before ≡ true
         → (result ≡ Err HubFault.SessionsFull) × Shows D.is_honest D.state hub.new before × (reader.new ≡ reader.old) × (writer.new ≡ writer.old) }
 {
@@ -72,9 +69,8 @@ fn exchange<D: Disk + Drop, R: Read, W: Write>(
     ensures tried { (before : HubState) → Shows D.is_honest D.state hub.old before → phase_of before id ≡ Some (Reading [])
         → tries.old ≡ false → HasTriedAll tries.new before.committed result }
     ensures disk { IfFile (Reads D.is_honest D.state D.moment D.images_since D.failures) hub.old.file hub.new.file }
-    ensures cause { result ≡ Err HubFault.Source → (before : HubState) (links : List (List Page))
-        → Shows D.is_honest D.state hub.old before → phase_of before id ≡ Some (Reading []) → AreLinks before.committed links
-        → IfFile (Fails D.is_honest D.state D.moment D.images_since D.failures) hub.old.file hub.new.file }
+    ensures cause { result ≡ Err HubFault.Source → (before : HubState) → Shows D.is_honest D.state hub.old before
+        → phase_of before id ≡ Some (Reading []) → IfFile (Fails D.is_honest D.state D.moment D.images_since D.failures) hub.old.file hub.new.file }
 {
     match read_head(hub, id, reader, tries) {
         Ok(None) => {}

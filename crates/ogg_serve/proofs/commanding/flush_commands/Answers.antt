@@ -1,3 +1,4 @@
+use Rattle.ogg_serve.proofs.Linked.{linked_flush, recorded_in}
 use Rattle.ogg_serve.proofs.Stepping.{flushes}
 use Rattle.ogg_serve.proofs.commanding.flush_commands.Goals as goal
 
@@ -20,3 +21,8 @@ returns-clause-disk g c =
       later = e.later;
       cause = e.cause;
     }
+
+pub returns-clause-linked : goal.returns-clause-linked
+returns-clause-linked g c = λ before after s step linked.
+    let d = g.D.Disk in
+    linked_flush before after c.flush-answer.result step linked (recorded_in d.is_honest d.state c.args.recorder.now before c.end-before.ensures.always s)

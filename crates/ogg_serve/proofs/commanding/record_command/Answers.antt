@@ -1,3 +1,4 @@
+use Rattle.ogg_serve.proofs.Linked.{linked_command, recorded_in}
 use Rattle.ogg_serve.proofs.Stepping.{commands}
 use Rattle.ogg_serve.proofs.commanding.record_command.Goals as goal
 
@@ -23,3 +24,9 @@ returns-clause-disk g c =
       later = e.later;
       cause = e.cause;
     }
+
+pub returns-clause-linked : goal.returns-clause-linked
+returns-clause-linked g c = λ before after s step linked.
+    let d = g.D.Disk in
+    linked_command c.command_adds_its_packets.ensures.holds before after c.args.command.now c.command-answer.result c.command_is_in_range.ensures step linked
+    (recorded_in d.is_honest d.state c.args.recorder.now before c.end-before.ensures.always s)

@@ -40,13 +40,13 @@ pub returns-in-Err-clause-tried : goal.returns-in-Err-clause-tried
 returns-in-Err-clause-tried g c = λ before shown phase none. c.in-Err.ensures.tried before shown phase none
 
 pub returns-in-Err-clause-cause : goal.returns-in-Err-clause-cause
-returns-in-Err-clause-cause g c = λ is before links shown phase are.
+returns-in-Err-clause-cause g c = λ is before shown phase.
     let d = g.D.Disk in
     let (after, shows, only, has) = c.in-Err.ensures.read before shown phase in
     let left = subst (λ (fault : HubFault). LeftBy fault after.has_file (phase_of after c.args.id)) (same_fault c.in-Err.fault Source is) has.0 in
     let some = has_file d.is_honest d.state d.moment d.images_since d.failures _ _ after shows.place left.0 in
     has_failed d.is_honest d.state d.moment d.images_since d.failures _ _ _ _ some
-    (c.in-Err.ensures.cause (ap Err (same_fault c.in-Err.fault Source is)) before links shown phase are)
+    (c.in-Err.ensures.cause (ap Err (same_fault c.in-Err.fault Source is)) before shown phase)
 
 -- ---- the pieces
 pub loop-init : goal.loop-init
@@ -109,7 +109,7 @@ returns-in-Err-send_piece-clause-tried g c = λ before shown phase none.
     c.in-Err-send_piece.ensures.tried (c.loop.invariant.tries before shown phase none)
 
 pub returns-in-Err-send_piece-clause-cause : goal.returns-in-Err-send_piece-clause-cause
-returns-in-Err-send_piece-clause-cause g c = λ is before links shown phase are.
+returns-in-Err-send_piece-clause-cause g c = λ is before shown phase.
     let d = g.D.Disk in
     let (now, shows, keeps, took, s) = c.loop.invariant.sending before shown phase in
     let (then, shown_then, all, step) = c.go_on.ensures.took now shows in

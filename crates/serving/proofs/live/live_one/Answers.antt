@@ -1,9 +1,8 @@
-use Rattle.std.proofs.Common.{ℕ, List, Ok, refl, sym, ap, subst}
-use Rattle.link_chain.specs.Links.{AreLinks}
+use Rattle.std.proofs.Common.{ℕ, Ok, refl, sym, ap, subst}
 use Rattle.ogg_serve.specs.Images.{failures_in}
 use Rattle.serve_sending.specs.Sending.{HasFailed}
 use Rattle.serve_machine.specs.Hub.{Connect, Close}
-use Rattle.serving.proofs.Moves.{only_serves, others_both, committed_is}
+use Rattle.serving.proofs.Moves.{only_serves, others_both}
 use Rattle.serving.proofs.Taken.{led, followed}
 use Rattle.serving.proofs.Whole.{connected, others_of}
 use Rattle.serving.proofs.live.live_one.Goals as goal
@@ -26,13 +25,12 @@ returns-in-Ok-clause-served g c = λ before shown room numbered.
     (c.calls_move_their_session.ensures.close x.0 e.0 c.in-Ok.id _ e.2) first last steps x.3.2
 
 pub returns-in-Ok-clause-cause : goal.returns-in-Ok-clause-cause
-returns-in-Ok-clause-cause g c is before links shown numbered are =
+returns-in-Ok-clause-cause g c is before shown numbered =
     let d = g.D.Disk in
     let s = c.in-Ok.ensures.step before shown in
     let same = s.2.1 in
     let begun = c.calls_move_their_session.ensures.connect before s.0 c.in-Ok.id s.2 (connected before c.in-Ok.id same (c.sessions_are_numbered.ensures.unused before numbered)) in
-    let first = only_serves c.other_sessions_stay.ensures c.calls_move_their_session.ensures.file c.sessions_are_numbered.ensures.kept before s.0 (Connect (Ok c.in-Ok.id)) c.in-Ok.id s.2 refl in
-    let failed = c.exchange-served.ensures.cause is s.0 links s.1 begun (subst (λ (bytes : List ℕ). AreLinks bytes links) (sym (committed_is c.in-Ok.id before s.0 first)) are) in
+    let failed = c.exchange-served.ensures.cause is s.0 s.1 begun in
     let led = ap (failures_in d.failures) c.in-Ok.ensures.parts in
     let left = ap (failures_in d.failures) c.close.ensures.parts in
     subst (λ (n : ℕ). HasFailed n (failures_in d.failures c.close.new.self)) led (subst (λ (n : ℕ). HasFailed (failures_in d.failures c.connect.new.self) n) (sym left) failed)

@@ -1,11 +1,10 @@
-use Rattle.std.proofs.Common.{ℕ, Ok, Err, List, refl, sym, ◌∙◌, ap, subst, arith}
+use Rattle.std.proofs.Common.{Ok, Err, refl, ◌∙◌, ap, arith}
 use Rattle.std.proofs.lemmas.List.{length-take-le}
-use Rattle.link_chain.specs.Links.{AreLinks}
 use Rattle.serve_machine.specs.declared.answers.Progress.TheVariants.{More, Ready}
 use Rattle.serve_machine.specs.declared.fault.HubFault.TheVariants.{Source}
 use Rattle.serve_machine.specs.Hub.{Receive, Reading}
 use Rattle.serving.proofs.Faults.{receives as met, same_fault}
-use Rattle.serving.proofs.Moves.{only_serves, both, committed_is}
+use Rattle.serving.proofs.Moves.{only_serves, both}
 use Rattle.serving.proofs.OnlyRead.{unread, read_on, failed_on}
 use Rattle.serving.proofs.Received.{at_first, longer, ready, some_read, taken, never_so_long}
 use Rattle.serving.proofs.pieces.read_head.Goals as goal
@@ -53,10 +52,10 @@ returns-in-Err-clause-disk g c =
     read_on d.is_honest d.state d.moment d.images_since d.failures _ _ _ c.loop.invariant.disk c.in-Err.ensures.disk
 
 pub returns-in-Err-clause-cause : goal.returns-in-Err-clause-cause
-returns-in-Err-clause-cause g c = λ is before links shown phase are.
+returns-in-Err-clause-cause g c = λ is before shown phase.
     let d = g.D.Disk in
     let (now, shows, r, many) = c.loop.invariant.reading before shown phase in
-    failed_on d.is_honest d.state d.moment d.images_since d.failures _ _ _ c.loop.invariant.disk (c.in-Err.ensures.cause (ap Err (same_fault c.in-Err.fault Source is)) now links shows (subst (λ (bytes : List ℕ). AreLinks bytes links) (sym (committed_is c.args.id before now r.only)) are))
+    failed_on d.is_honest d.state d.moment d.images_since d.failures _ _ _ c.loop.invariant.disk (c.in-Err.ensures.cause (ap Err (same_fault c.in-Err.fault Source is)) now shows)
 
 pub loop-preserved : goal.loop-preserved
 loop-preserved g c =

@@ -31,7 +31,7 @@ pub returns-in-Err-clause-tried : goal.returns-in-Err-clause-tried
 returns-in-Err-clause-tried g c = λ before shown phase none. c.in-Err.ensures.tried before shown phase none
 
 pub returns-in-Err-clause-cause : goal.returns-in-Err-clause-cause
-returns-in-Err-clause-cause g c = λ is before links shown phase are. c.in-Err.ensures.cause (ap Err (same_fault c.in-Err.fault Source is)) before links shown phase are
+returns-in-Err-clause-cause g c = λ is before shown phase. c.in-Err.ensures.cause (ap Err (same_fault c.in-Err.fault Source is)) before shown phase
 
 -- ---- the pieces
 pub loop-init : goal.loop-init
@@ -104,7 +104,7 @@ returns-in-Err-send_piece-clause-disk g c =
     read_on d.is_honest d.state d.moment d.images_since d.failures _ _ _ c.loop.invariant.disk c.in-Err-send_piece.ensures.disk
 
 pub returns-in-Err-send_piece-clause-cause : goal.returns-in-Err-send_piece-clause-cause
-returns-in-Err-send_piece-clause-cause g c = λ is before links shown phase are.
+returns-in-Err-send_piece-clause-cause g c = λ is before shown phase.
     let d = g.D.Disk in
     let (now, shows, only, s) = c.loop.invariant.sending before shown phase in
     failed_on d.is_honest d.state d.moment d.images_since d.failures _ _ _ c.loop.invariant.disk (c.in-Err-send_piece.ensures.cause (ap Err (same_fault c.in-Err-send_piece.fault Source is)) now shows)

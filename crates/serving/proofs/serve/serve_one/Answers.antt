@@ -1,8 +1,7 @@
-use Rattle.std.proofs.Common.{ℕ, List, Ok, refl, sym, ap, subst}
-use Rattle.link_chain.specs.Links.{AreLinks}
+use Rattle.std.proofs.Common.{Ok, refl, sym, ap, subst}
 use Rattle.ogg_serve.specs.Images.{IfFile, Reads}
 use Rattle.serve_machine.specs.Hub.{Connect, Close}
-use Rattle.serving.proofs.Moves.{only_serves, both, committed_is}
+use Rattle.serving.proofs.Moves.{only_serves, both}
 use Rattle.serving.proofs.OnlyRead.{unread, read_inside, failed_inside}
 use Rattle.serving.proofs.Whole.{connected, all_of}
 use Rattle.serving.proofs.serve.serve_one.Goals as goal
@@ -27,14 +26,13 @@ returns-in-Ok-clause-disk g c =
     (ap (λ h. h.file) c.close.ensures.parts)
 
 pub returns-in-Ok-clause-cause : goal.returns-in-Ok-clause-cause
-returns-in-Ok-clause-cause g c is before links shown numbered are =
+returns-in-Ok-clause-cause g c is before shown numbered =
     let d = g.D.Disk in
     let s = c.in-Ok.ensures.step before shown in
     let same = s.2.1 in
     let begun = c.calls_move_their_session.ensures.connect before s.0 c.in-Ok.id s.2 (connected before c.in-Ok.id same (c.sessions_are_numbered.ensures.unused before numbered)) in
-    let first = only_serves c.other_sessions_stay.ensures c.calls_move_their_session.ensures.file c.sessions_are_numbered.ensures.kept before s.0 (Connect (Ok c.in-Ok.id)) c.in-Ok.id s.2 refl in
     failed_inside d.is_honest d.state d.moment d.images_since d.failures _ _ _ _ (ap (λ h. h.file) c.in-Ok.ensures.parts)
-    (c.exchange-served.ensures.cause is s.0 links s.1 begun (subst (λ (bytes : List ℕ). AreLinks bytes links) (sym (committed_is c.in-Ok.id before s.0 first)) are))
+    (c.exchange-served.ensures.cause is s.0 s.1 begun)
     (ap (λ h. h.file) c.close.ensures.parts)
 
 pub returns-in-Err-clause-disk : goal.returns-in-Err-clause-disk

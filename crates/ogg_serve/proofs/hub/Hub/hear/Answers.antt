@@ -6,6 +6,7 @@ returns-clause-machine g c =
     rw (← c.self.view_is)
     (λ machine s. record {
       place = c.hear_from.ensures.shows in_.lost machine s.place;
+      linked = s.linked;
       indexed = s.indexed;
       sessions_are = s.sessions_are;
       next_is = s.next_is;

@@ -8,6 +8,7 @@ returns-clause-machine g c =
     let (place, indexed) = c.join_from.ensures.shows in_.lost machine s.place s.indexed in
     record {
       place = place;
+      linked = s.linked;
       indexed = indexed;
       sessions_are = s.sessions_are;
       next_is = s.next_is;

@@ -18,6 +18,7 @@ returns-clause-step g c =
       record before { sessions = left },
       record {
         place = place;
+        linked = s.linked;
         indexed = s.indexed;
         sessions_are = are;
         next_is = s.next_is;

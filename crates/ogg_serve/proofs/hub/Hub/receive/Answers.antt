@@ -1,4 +1,4 @@
-use Rattle.std.proofs.Common.{arith}
+use Rattle.std.proofs.Common.{arith, inl, refl}
 use Rattle.ogg_serve.proofs.hub.Hub.receive.Goals as goal
 
 pub invariant_of-self : goal.invariant_of-self
@@ -18,6 +18,7 @@ returns-clause-step g c =
       record before { sessions = left },
       record {
         place = place;
+        linked = s.linked;
         indexed = indexed;
         sessions_are = are;
         next_is = s.next_is;
@@ -26,3 +27,11 @@ returns-clause-step g c =
       },
       step,
     ))
+
+pub returns-clause-cause : goal.returns-clause-cause
+returns-clause-cause g c =
+    let in_ = c.self.inside in
+    rw (← c.self.view_is)
+    (λ is machine s.
+    let (links, are) = s.linked machine.committed (inl refl) in
+    c.receive_from.ensures.cause is in_.lost machine s.place s.indexed links are)
