@@ -8,3 +8,6 @@ mod Whole
 mod Written
 mod Alongside
 mod Taken
+mod Alone
+mod Lived
+mod ReadOn

@@ -1,5 +1,6 @@
 pub mod Feeding
 pub mod Keeping
+pub mod Life
 pub mod Pieces
 pub mod Serving
 pub mod Steps

@@ -2,7 +2,10 @@
 ghost use Rattle.std.specs.Prelude.{◌≡◌, ℕ, [], Option, Some, None, Ok, Err, IfSome, true, false};
 ghost use Rattle.feed_run.specs.Run.{streams};
 ghost use Rattle.ogg_serve.specs.Running.{Progress, IsIn};
+ghost use Rattle.ogg_serve.specs.Showing.{Shows};
+ghost use Rattle.serve_machine.specs.Hub.{HubState};
 ghost use Rattle.serving.specs.Feeding.{Follows, HasStepped, feed_state, lasting, says_failed, step_at};
+ghost use Rattle.serving.specs.Steps.{TakesStep};
 
 use chain_rules::Refusal;
 use disk_model::Disk;
@@ -72,6 +75,10 @@ impl<R: Read, W: Write + Drop> LiveFeed<R, W> {
             × HasStepped D.is_honest D.state D.moment D.images_since D.failures
             (streams (R.remaining self.old.reader) None (W.contents self.old.replies))
             (streams (R.remaining self.new.reader) None (W.contents self.new.replies)) self.old.run self.new.run before after result }
+
+        // By the machine alone, and with the answers that stay.
+        ensures takes { (before : HubState) → Shows D.is_honest D.state hub.old before → (after : HubState) × Shows D.is_honest D.state hub.new after
+            × TakesStep D.is_honest D.state D.moment D.images_since D.failures R.remaining W.contents self.old self.new before after }
 
         // What it answers from then on.
         ensures ended { self.old.ended ≡ None → self.new.ended ≡ lasting result }

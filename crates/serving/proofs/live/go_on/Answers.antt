@@ -1,7 +1,9 @@
 use Rattle.std.proofs.Common.{refl}
 use Rattle.ogg_serve.specs.Showing.{Shows}
+use Rattle.serving.specs.Keeping.{KeepsAll}
 use Rattle.serving.proofs.Alongside.{stepped}
 use Rattle.serving.proofs.Failing.{by_step, later}
+use Rattle.serving.proofs.Moves.{all_none}
 use Rattle.serving.proofs.Taken.{taken}
 use Rattle.serving.proofs.live.go_on.Goals as goal
 
@@ -10,7 +12,7 @@ returns-clause-took g c = λ before shown.
     let d = g.D.Disk in
     let e = c.step.ensures in
     taken d.is_honest d.state d.moment d.images_since d.failures g.F.Read.remaining g.L.Write.contents
-    (Shows d.is_honest d.state) c.args.feed.now.ended c.args.feed.now.run.outcome _ c.args.feed.now c.step.new.self c.args.hub.now c.step.new.hub before shown e.stays e.closed
+    (Shows d.is_honest d.state) KeepsAll all_none c.args.feed.now.ended c.args.feed.now.run.outcome _ c.args.feed.now c.step.new.self c.args.hub.now c.step.new.hub before shown e.stays e.closed
     (λ going unended.
     let (after, is_in, has) = e.stepped (record { now = c.args.hub.now; machine = before }) (refl, shown) going unended in (
       after.machine,
