@@ -2,7 +2,7 @@
 use Rattle.std.proofs.Common.{◌≡◌, ◌⊎◌, ℕ, ◌+◌, ◌*◌, ◌^◌, ◌<◌, ◌≤◌, suc, Bool, false, Option, Some, None, Ok, Err, List, [], ◌++◌, length, take, drop, refl, sym, ◌∙◌, ap, subst, inl, inr, arith, append_assoc, length-append}
 use Rattle.std.specs.Io.KnownBytes.{Appends, Consumes}
 use Rattle.std.proofs.KnownBytes.{Appends-nil, Appends-trans}
-use Rattle.std.proofs.lemmas.List.{take-append-drop, length-take-le, length-drop}
+use Rattle.std.proofs.lemmas.List.{take_at, take-append-drop, take-append-le, length-take-le, length-drop}
 use Rattle.std.proofs.Math.Seq.{take-append-add}
 use Rattle.ogg_page.specs.Output.{WritesPrefix}
 use Rattle.serve_responses.specs.Response.{IsResponse}
@@ -12,8 +12,9 @@ use Rattle.serving.specs.declared.pieces.Served.{Served}
 use Rattle.serving.specs.declared.pieces.Served.TheVariants.{Whole, NoHead, Cut}
 use Rattle.serving.specs.Pieces.{HasHead, HasRead, HasSent, HasTried, piece}
 use Rattle.serving.specs.Serving.{Gets, GetsWhole, GetsFront, HasTriedAll, IsCut, MayMeet}
-use Rattle.serving.specs.Steps.{AreIn, GetsIn}
+use Rattle.serving.specs.Steps.{AreIn, GetsIn, StopsIn}
 use Rattle.serving.proofs.Faults.{may_meet}
+use Rattle.serving.proofs.Written.{prefix_of_all}
 
 -- these bytes were written, and the rest is left
 pub record IsSending (id : ℕ) (coming left : Option (List ℕ)) (old new : Option (List ℕ)) (before now : HubState) : Type 0 where
@@ -99,7 +100,8 @@ pub by_piece : (id : ℕ) (coming left : Option (List ℕ)) (old mid new : Optio
     → Gets coming left old new has_file before.committed (Ok served)
 by_piece id coming left old mid new before now after has_file Whole s sent = whole id coming left old mid new before now s sent.0
 by_piece id coming left old mid new before now after has_file NoHead s sent = absurd sent
-by_piece id coming left old mid new before now after has_file Cut s sent = front id coming left old mid new before now s sent
+by_piece id coming left old mid new before now after has_file Cut s sent =
+    front id coming left old mid new before now s (prefix_of_all mid new piece (take piece s.rest) s.rest refl sent)
 
 -- by a fault of the hub
 pub by_head_fault : (id : ℕ) (coming left : Option (List ℕ)) (old : Option (List ℕ)) (before after : HubState) (has_file : Bool) (fault : HubFault)
@@ -139,6 +141,31 @@ pub record IsSendingIn (n : ℕ) (id : ℕ) (coming left : Option (List ℕ)) (o
   pub long : length sending.written ≡ n * piece
   pub some : (n ≡ 0) ⊎ (0 < length sending.rest)
 
+-- a prefix of the next piece was written
+front_in : (n id : ℕ) (coming left : Option (List ℕ)) (old mid new : Option (List ℕ)) (before now : HubState) → (s : IsSendingIn n id coming left old mid before now)
+    → WritesPrefix mid new (take piece s.sending.rest) → StopsIn coming left old new (suc n) before.committed
+front_in n id coming left old mid new before now s (k, low, wrote) =
+    let written : List ℕ = s.sending.written in
+    let rest : List ℕ = s.sending.rest in
+    let long : length (take piece rest) + length (drop piece rest) ≡ length rest =
+    sym (length-append (take piece rest) (drop piece rest)) ∙ ap (λ (l : List ℕ). length l) (take-append-drop piece rest) in
+    let left_is = length-drop piece rest in
+    let same : take k (take piece rest) ≡ take k rest =
+    sym (take-append-le k (take piece rest) (drop piece rest) low) ∙ ap (take k) (take-append-drop piece rest) in
+    record {
+      received = s.sending.received;
+      read = s.sending.read;
+      written = inr (
+        written ++ rest,
+        length written + k,
+        s.sending.is_response,
+        omega (arith, low, long, length-append written rest),
+        subst (Appends old new) (sym (take-append-add written rest k))
+            (Appends-trans old mid new written (take k rest) s.sending.wrote (subst (Appends mid new) same wrote)),
+        (omega arith, omega (arith, s.long), omega (arith, s.long, low, long, left_is)),
+      );
+    }
+
 pub at_first_in : (id : ℕ) (coming left : Option (List ℕ)) (old : Option (List ℕ)) (before now : HubState)
     → HasHead coming left id before.committed now
     → IsSendingIn 0 id coming left old old before now
@@ -162,13 +189,49 @@ unfolding whole
 by_piece_in n id coming left old mid new before now after has_file Whole s sent =
     (whole id coming left old mid new before now s.sending sent.0, are_in n s.sending.written s.sending.rest s.long s.some sent.1)
 by_piece_in n id coming left old mid new before now after has_file NoHead s sent = absurd sent
-by_piece_in n id coming left old mid new before now after has_file Cut s sent = front id coming left old mid new before now s.sending sent
+by_piece_in n id coming left old mid new before now after has_file Cut s sent = front_in n id coming left old mid new before now s sent
 
 pub by_head_in : (id : ℕ) (coming left : Option (List ℕ)) (old : Option (List ℕ)) (before after : HubState) (has_file : Bool) (served : Served)
     → HasRead coming left id before.committed after (Ok (Some served)) → GetsIn coming left old old 0 has_file before.committed (Ok served)
 by_head_in id coming left old before after has_file Whole has = absurd has
 by_head_in id coming left old before after has_file NoHead has = (record { received = has.received; read = has.read; no_head = has.no_head; ended = has.ended; written = refl }, refl)
-by_head_in id coming left old before after has_file Cut has = record { received = has.0; read = has.1; written = inl refl }
+by_head_in id coming left old before after has_file Cut has = record { received = has.0; read = has.1; written = inl (refl, refl) }
+
+-- by a fault of the hub
+pub by_head_fault_in : (id : ℕ) (coming left : Option (List ℕ)) (old : Option (List ℕ)) (before after : HubState) (fault : HubFault)
+    → HasRead coming left id before.committed after (Err fault) → GetsIn coming left old old 0 after.has_file before.committed (Err fault)
+by_head_fault_in id coming left old before after fault has = (
+  may_meet fault after.has_file (phase_of after id) has.0,
+  record { received = has.1.0; read = has.1.1; written = inl (refl, refl) },
+)
+
+pub by_fault_in : (n id : ℕ) (coming left : Option (List ℕ)) (old mid new : Option (List ℕ)) (before now after : HubState) (fault : HubFault)
+    → (s : IsSendingIn n id coming left old mid before now) → HasSent mid new id s.sending.rest after (Err fault)
+    → GetsIn coming left old new (suc n) after.has_file before.committed (Err fault)
+by_fault_in n id coming left old mid new before now after fault s sent = (
+  may_meet fault after.has_file (phase_of after id) sent.0,
+  subst (λ (o : Option (List ℕ)). StopsIn coming left old o (suc n) before.committed) (sym sent.2)
+      (front_in n id coming left old mid mid before now s (0, omega arith, Appends-nil mid)),
+)
+
+-- all these pieces are full, and the response isn't whole
+pub ended_in : (n id : ℕ) (coming left : Option (List ℕ)) (old mid : Option (List ℕ)) (before now : HubState) → (s : IsSendingIn n id coming left old mid before now)
+    → 1 ≤ n → StopsIn coming left old mid n before.committed
+ended_in n id coming left old mid before now s some =
+    let written : List ℕ = s.sending.written in
+    let rest : List ℕ = s.sending.rest in
+    record {
+      received = s.sending.received;
+      read = s.sending.read;
+      written = inr (
+        written ++ rest,
+        length written,
+        s.sending.is_response,
+        omega (arith, length-append written rest),
+        subst (Appends old mid) (sym (take_at written rest (length written) refl)) s.sending.wrote,
+        (some, omega (arith, s.long), omega (arith, s.long)),
+      );
+    }
 
 pub later_in : (n id : ℕ) (coming left : Option (List ℕ)) (old new : Option (List ℕ)) (before now after : HubState)
     → (s : IsSendingIn n id coming left old new before now)

@@ -57,11 +57,11 @@ HasTried failed (Ok (Some Cut)) = failed ≡ true
 HasTried failed result = failed ≡ false
 
 -- `old` and `new` are the bytes that the writer shows before and after. Of what was left of the response a full piece
--- was written, and more is left; or all of it was written; or a front of it.
+-- was written, and more is left; or all of it was written; or a front of the piece.
 abbrev pub HasSent : (old new : Option (List ℕ)) → ℕ → List ℕ → HubState → Result (Option Served) HubFault → Type 0
 HasSent old new id rest after (Ok None) = Appends old new (take piece rest) × (phase_of after id ≡ Some (Sending (drop piece rest)))
     × (piece < length rest)
 HasSent old new id rest after (Ok (Some Whole)) = Appends old new rest × (length rest ≤ piece)
 HasSent old new id rest after (Ok (Some NoHead)) = ⊥
-HasSent old new id rest after (Ok (Some Cut)) = WritesPrefix old new rest
+HasSent old new id rest after (Ok (Some Cut)) = WritesPrefix old new (take piece rest)
 HasSent old new id rest after (Err fault) = LeftBy fault after.has_file (phase_of after id) × (fault ≢ Memory) × (new ≡ old)

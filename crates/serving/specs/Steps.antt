@@ -1,14 +1,16 @@
 -- The steps of a feed that are taken while a connection is served. Ours.
-use Rattle.std.specs.Prelude.{◌≡◌, ◌⊎◌, ◌+◌, ◌*◌, ◌<◌, ◌≤◌, ℕ, zero, suc, Bool, Option, Some, None, Result, Ok, Err, List, length}
+use Rattle.std.specs.Prelude.{◌≡◌, ◌⊎◌, ◌+◌, ◌*◌, ◌<◌, ◌≤◌, ℕ, zero, suc, Bool, Option, Some, None, Result, Ok, Err, List, length, take}
+use Rattle.std.specs.Io.KnownBytes.{Appends, Consumes}
 use Rattle.disk_model.specs.Image.{DiskState}
 use Rattle.feed_codec.specs.declared.fault.RunFault.{RunFault}
 use Rattle.feed_run.specs.Run.{Outcome, streams}
 use Rattle.ogg_serve.specs.Parts.{HubParts}
+use Rattle.serve_responses.specs.Response.{IsResponse}
 use Rattle.serve_machine.specs.Hub.{HubState}
 use Rattle.serve_machine.specs.Own.{KeepsFile}
 use Rattle.serving.specs.Feeding.{FeedState, HasStepped, feed_state, lasting, step_at}
 use Rattle.serving.specs.Pieces.{piece}
-use Rattle.serving.specs.Serving.{GetsFront, GetsNothing, GetsWhole, MayMeet}
+use Rattle.serving.specs.Serving.{GetsNothing, GetsWhole, MayMeet}
 use Rattle.serving.specs.declared.feeding.Step.{Step}
 use Rattle.serving.specs.declared.pieces.Served.{Served}
 use Rattle.serving.specs.declared.pieces.Served.TheVariants.{Whole, NoHead, Cut}
@@ -47,10 +49,23 @@ module _ {D : Type 0} (is_honest : D → Type 0) (state : D → DiskState) (mome
 abbrev pub AreIn : ℕ → ℕ → Type 0
 AreIn n size = (size ≤ n * piece) × ((n ≡ 1) ⊎ (n * piece < size + piece))
 
+-- of this many pieces the last was begun, and those before it were written: so many bytes went out
+abbrev pub HaveBegun : ℕ → ℕ → Type 0
+HaveBegun n size = (1 ≤ n) × (n * piece ≤ size + piece) × (size ≤ n * piece)
+
+-- What a connection gets that ends after this many steps, with no whole response. There was none if its head wasn't
+-- complete. Else there was one before each piece that was begun.
+pub record StopsIn (coming left old new : Option (List ℕ)) (n : ℕ) (committed : List ℕ) : Type 0 where
+  pub received : List ℕ
+  pub read : Consumes coming left received
+  pub written : ((n ≡ 0) × (new ≡ old))
+      ⊎ ((response : List ℕ) × (size : ℕ) × IsResponse committed received response × (size ≤ length response)
+      × Appends old new (take size response) × HaveBegun n size)
+
 -- What a connection gets if it ends with this result after this many steps. There was one step before each piece of
 -- a whole response. At its end the hub has a file, or none.
 abbrev pub GetsIn : (coming left old new : Option (List ℕ)) → ℕ → Bool → List ℕ → Result Served HubFault → Type 0
 GetsIn coming left old new n has_file committed (Ok Whole) = (got : GetsWhole coming left old new committed) × AreIn n (length got.response)
 GetsIn coming left old new n has_file committed (Ok NoHead) = GetsNothing coming left old new × (n ≡ 0)
-GetsIn coming left old new n has_file committed (Ok Cut) = GetsFront coming left old new committed
-GetsIn coming left old new n has_file committed (Err fault) = MayMeet has_file fault × GetsFront coming left old new committed
+GetsIn coming left old new n has_file committed (Ok Cut) = StopsIn coming left old new n committed
+GetsIn coming left old new n has_file committed (Err fault) = MayMeet has_file fault × StopsIn coming left old new n committed

@@ -8,7 +8,7 @@ use Rattle.serving.proofs.Failing.{was_read, has_failed, has_file, failed_later}
 use Rattle.serving.proofs.Faults.{same_fault}
 use Rattle.serving.proofs.Moves.{of_all, others_both}
 use Rattle.serving.proofs.Taken.{as_many}
-use Rattle.serving.proofs.Sent.{at_first_in, later_in, more_in, stopped, by_head_in, by_piece_in, by_head_fault, by_fault, read_as, sent_as, tried_all, tried_as, too_long}
+use Rattle.serving.proofs.Sent.{at_first_in, later_in, more_in, by_head_in, by_piece_in, by_head_fault_in, by_fault_in, ended_in, read_as, sent_as, tried_all, tried_as, too_long}
 use Rattle.serving.proofs.live.exchange.Goals as goal
 
 -- ---- the head
@@ -34,7 +34,7 @@ returns-in-Ok-Some-clause-tried g c = λ before shown phase none.
 pub returns-in-Err-clause-served : goal.returns-in-Err-clause-served
 returns-in-Err-clause-served g c = λ before shown phase.
     let (after, shows, only, has) = c.in-Err.ensures.read before shown phase in
-    (after, shows, only.others, (0, (refl, only.file), by_head_fault c.args.id _ _ _ before after after.has_file c.in-Err.fault refl has))
+    (after, shows, only.others, (0, (refl, only.file), by_head_fault_in c.args.id _ _ _ before after c.in-Err.fault has))
 
 pub returns-in-Err-clause-tried : goal.returns-in-Err-clause-tried
 returns-in-Err-clause-tried g c = λ before shown phase none. c.in-Err.ensures.tried before shown phase none
@@ -100,7 +100,7 @@ returns-in-Err-send_piece-clause-served g c = λ before shown phase.
       (
         suc _,
         (c.loop.feed, now, then, took, step, only.file),
-        by_fault c.args.id _ _ _ _ _ before then after after.has_file c.in-Err-send_piece.fault refl t.sending sent,
+        by_fault_in _ c.args.id _ _ _ _ _ before then after c.in-Err-send_piece.fault t sent,
       ),
     )
 
@@ -152,7 +152,7 @@ loop-preserved g c = record {
 pub returns-clause-served : goal.returns-clause-served
 returns-clause-served g c = λ before shown phase.
     let (now, shows, keeps, took, s) = c.loop.invariant.sending before shown phase in
-    (now, shows, keeps, (_, took, stopped c.args.id _ _ _ _ before now s.sending))
+    (now, shows, keeps, (_, took, ended_in _ c.args.id _ _ _ _ before now s (omega (arith, c.loop-test.false, c.loop.auto.counter-end))))
 
 pub returns-clause-tried : goal.returns-clause-tried
 returns-clause-tried g c = λ before shown phase none.

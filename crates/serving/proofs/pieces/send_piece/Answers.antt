@@ -3,9 +3,10 @@ use Rattle.serve_machine.specs.Calls.{given_in}
 use Rattle.serve_machine.specs.Hub.{Pull, Sending}
 use Rattle.serving.specs.Pieces.{piece}
 use Rattle.std.specs.Io.KnownBytes.{Appends}
+use Rattle.ogg_page.specs.Output.{WritesPrefix}
 use Rattle.serving.proofs.Faults.{pulls as met}
 use Rattle.serving.proofs.Moves.{only_serves}
-use Rattle.serving.proofs.Written.{all_given, all_short, more_left, prefix_of_all}
+use Rattle.serving.proofs.Written.{all_given, all_short, more_left}
 use Rattle.serving.proofs.pieces.send_piece.Goals as goal
 
 pub returns-in-Ok-write-clause-sent : goal.returns-in-Ok-write-clause-sent
@@ -39,7 +40,7 @@ returns-in-Err-write-clause-sent g c = λ before rest shown sending.
       s.0,
       s.1,
       only_serves c.other_sessions_stay.ensures c.calls_move_their_session.ensures.file c.sessions_are_numbered.ensures.kept before s.0 (Pull c.args.id piece (given_in c.pull.new.buffer (Ok c.in-Ok.pulled))) c.args.id s.2 refl,
-      prefix_of_all (g.W.Write.contents c.args.writer.now) (g.W.Write.contents c.write.new.writer) piece _ rest pulled.bytes c.in-Err-write.ensures.err,
+      subst (λ bytes. WritesPrefix (g.W.Write.contents c.args.writer.now) (g.W.Write.contents c.write.new.writer) bytes) pulled.bytes c.in-Err-write.ensures.err,
     )
 
 pub returns-in-Err-clause-sent : goal.returns-in-Err-clause-sent
