@@ -301,6 +301,52 @@ fn faults_of(bytes: &[u8], index: &Index) -> (Option<SplitFault>, Option<SplitFa
     )
 }
 
+/// Writes the second packet of stream 1, which has a part in each of two pages.
+fn second_is_written<W: Write>(bytes: &[u8], index: &Index, out: &mut W) -> bool {
+    let Ok(mut packets) = packets_of(bytes, index, 0, 1) else {
+        return false;
+    };
+    if size_of_next(&mut packets) != Ok(Some(3)) {
+        return false;
+    }
+    match packets.next() {
+        Ok(Some(packet)) => packet.write_to(out).is_ok(),
+        _ => false,
+    }
+}
+
+/// Whether these are the bodies of the pages at 62 and 65,398, whose heads have 282 and 47 bytes.
+fn are_its_bodies(bytes: &[u8], written: &[u8]) -> bool {
+    let (first, second) = written.split_at(written.len().min(65_025));
+    bytes.get(344..65_369) == Some(first) && bytes.get(65_445..70_420) == Some(second)
+}
+
+#[test]
+fn a_packet_of_70000_bytes_is_written_whole(rt: HostRuntime) -> Result<(), Fail> {
+    let bytes = file_of(rt.alloc(), &TWO_STREAMS, None)?;
+    let index = Index::scan(rt.alloc(), &bytes)?;
+    let mut out = Vec::new(rt.alloc());
+    assert!(rt; second_is_written(&bytes, &index, &mut out) && out.len() == 70_000);
+    assert!(rt; are_its_bodies(&bytes, &out));
+    Ok(())
+}
+
+/// Whether a writer that fails at once gets nothing of a copy.
+fn gets_nothing(alloc: Global, bytes: &[u8], index: &Index, asked: (u32, Option<u32>)) -> bool {
+    let mut out = FakeWriter::new(Vec::new(alloc), 65_307, 1);
+    copy(bytes, index, asked, &mut out) == Err(SplitFault::Write) && out.written().is_empty()
+}
+
+#[test]
+fn a_writer_that_fails_at_once_gets_nothing(rt: HostRuntime) -> Result<(), Fail> {
+    let alloc = rt.alloc();
+    let bytes = file_of(alloc, &TWO_STREAMS, None)?;
+    let index = Index::scan(alloc, &bytes)?;
+    assert!(rt; gets_nothing(alloc, &bytes, &index, (0, None)));
+    assert!(rt; gets_nothing(alloc, &bytes, &index, (0, Some(2))));
+    Ok(())
+}
+
 #[test]
 fn the_packets_and_the_parts_of_a_stream_are_given(rt: HostRuntime) -> Result<(), Fail> {
     let bytes = file_of(rt.alloc(), &TWO_STREAMS, None)?;

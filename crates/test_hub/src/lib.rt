@@ -18,4 +18,6 @@ mod many;
 #[cfg(test)]
 mod pulling;
 #[cfg(test)]
+mod rows;
+#[cfg(test)]
 mod tools;
