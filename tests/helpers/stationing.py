@@ -23,6 +23,7 @@ import time
 
 import serving
 from archiving import found, packet, stream
+from pages import page
 
 PASSWORD = b"se:cret"
 BASIC = b"Authorization: Basic " + base64.b64encode(b"source:" + PASSWORD)
@@ -200,10 +201,28 @@ def sources(program, work):
     with open(path, "rb") as file:
         streams, end = found(file.read())
     told.check("bytes after the last chunk: the last link", struct.unpack("<II", streams[-1]["packets"][0])[0] == 98)
-    with station.connect() as one:
-        one.sendall(request(b"PUT", BASIC, b"Transfer-Encoding: chunked") + b"10000000000000000\r\n")
-        read_all(one)
+    offer("a chunk of 2^64", head, b"10000000000000000\r\n", b"400", True)
     told.check("a chunk of 2^64: the file", station.committed() == end)
+
+    # The answer says what became of the stream. What is at fault in it doesn't take back what came before.
+    whole = b"".join(stream(97, 3))
+    length = request(b"PUT", BASIC, b"Content-Length: %d" % (len(whole) + 1))
+    for name, start, sent in (
+        ("a body that breaks off", length, whole),
+        ("chunks that break off", head, chunked(whole, source)[:-5]),
+        ("a chunk whose end is malformed", head, b"%x\r\n" % len(whole) + whole + b"xx"),
+    ):
+        with station.connect() as one:
+            one.sendall(start)
+            in_pieces(one, sent, source)
+            one.shutdown(socket.SHUT_WR)
+            told.check(name, read_all(one).startswith(b"HTTP/1.1 400 "))
+        with open(path, "rb") as file:
+            streams, end = found(file.read())
+        told.check(name + ": what came before", struct.unpack("<II", streams[-1]["packets"][0])[0] == 97)
+    back = page(2, 0, 77, 0, [8], struct.pack("<II", 96, 0)) + page(0, 5, 77, 1, [5], b"hello") + page(0, 4, 77, 2, [4], b"back")
+    offer("a position that goes back", request(b"PUT", BASIC, b"Content-Length: %d" % len(back)), back, b"500", True)
+    end = station.committed()
 
     # One source at a time.
     with station.connect() as first:

@@ -1,10 +1,5 @@
 //! Answers whose text is always the same.
 
-/// The answer after a whole body whose end is marked.
-pub const DONE: &[u8] = b"HTTP/1.1 200 OK\r\n\
-    Content-Length: 0\r\n\
-    Connection: close\r\n\r\n";
-
 /// The head of the answer to a live listener. Its content ends with the connection.
 pub const LIVE: &[u8] = b"HTTP/1.1 200 OK\r\n\
     Content-Type: application/ogg\r\n\

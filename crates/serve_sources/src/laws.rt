@@ -5,9 +5,9 @@ ghost use Rattle.base64.specs.GeneralPurpose.{IsBytes};
 ghost use Rattle.httparse.specs.Grammar.{Field, RequestHead};
 ghost use Rattle.http1.specs.Body.{ReadsBody, body_of};
 ghost use Rattle.http1.specs.declared.framing.Framing.{Framing as FramingOf};
-ghost use Rattle.serve_sources.specs.declared.answers.TheConstants.{DONE, LIVE, FULL};
+ghost use Rattle.serve_sources.specs.declared.answers.TheConstants.{LIVE, FULL};
 ghost use Rattle.serve_sources.specs.declared.reply.Reply.{Reply as ReplyOf};
-ghost use Rattle.serve_sources.specs.Answers.{done_text, live_text, full_text};
+ghost use Rattle.serve_sources.specs.Answers.{live_text, full_text};
 ghost use Rattle.httparse.specs.Spans.{name_and_value};
 ghost use Rattle.http1.specs.Fields.{Header, is_framing_field, known_fields};
 ghost use Rattle.serve_sources.specs.declared.offer.Offer.{Offer as OfferOf};
@@ -60,7 +60,6 @@ pub fn basic_credentials_are_taken()
 
 /// The constant answers, line by line.
 pub fn answers_are_these()
-    ensures done { DONE.now ≡ done_text }
     ensures live { LIVE.now ≡ live_text }
     ensures full { FULL.now ≡ full_text }
 {}

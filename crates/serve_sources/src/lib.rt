@@ -21,20 +21,22 @@ mod fields;
 mod framing;
 mod laws;
 mod offer;
+mod outcome;
 mod own;
 mod password;
 mod places;
 mod refused;
 mod reply;
 
-pub use answers::{DONE, FULL, LIVE};
+pub use answers::{FULL, LIVE};
 pub use asking::Asks;
 pub use body::{Body, BodyFault, Piece};
 pub use laws::{
     answers_are_these, answers_stay, basic_credentials_are_taken, bodies_are_taken_whole,
-    heads_stay,
+    heads_stay, sources_are_refused,
 };
 pub use offer::Offer;
+pub use outcome::Outcome;
 pub use own::OwnResource;
 pub use password::{Password, PasswordFault};
 pub use refused::Refused;

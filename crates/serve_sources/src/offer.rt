@@ -34,7 +34,7 @@ pub enum Offer {
     More,
     /// It is answered with an error, and nothing is recorded.
     Refused(Refused),
-    /// The head has `used` bytes, and its body has none: it is answered with `DONE`, and nothing is recorded.
+    /// The head has `used` bytes, and its body has none: it is answered as a whole one, and nothing is recorded.
     Nothing {
         used: usize,
     },

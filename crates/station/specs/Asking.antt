@@ -1,5 +1,5 @@
 -- What a connection asks for, and how it is taken. Ours.
-use Rattle.std.specs.Prelude.{◌≡◌, ◌⊎◌, ℕ, Option, Some, Result, Ok, Err, List, [], ◌++◌}
+use Rattle.std.specs.Prelude.{◌≡◌, ℕ, Some, Result, Ok, Err, List, []}
 use Rattle.serve_live.specs.Listening.{ListenerState}
 use Rattle.serve_machine.specs.Calls.{Steps}
 use Rattle.serve_machine.specs.Hub.{HubState, Connect, Receive}
@@ -7,9 +7,9 @@ use Rattle.serve_machine.specs.declared.answers.Progress.{Progress}
 use Rattle.serve_machine.specs.declared.answers.Progress.TheVariants.{More, Ready}
 use Rattle.serve_machine.specs.declared.fault.HubFault.{HubFault}
 use Rattle.ogg_serve.specs.Parts.{HubParts}
-use Rattle.station.specs.Client.{ClientState, cut, told, with_stage}
-use Rattle.station.specs.declared.client.Stage.{Stage}
-use Rattle.station.specs.declared.client.Stage.TheVariants.{Reading, Sending, Hearing, Cut}
+use Rattle.serve_clients.specs.Client.{ClientState, told}
+use Rattle.serve_clients.specs.declared.client.Stage.{Stage}
+use Rattle.serve_clients.specs.declared.client.Stage.TheVariants.{Reading, Sending, Hearing, Cut}
 
 -- the stage of a connection whose session has taken bytes with this answer
 abbrev pub stage_after : Result Progress HubFault → Stage

@@ -1,10 +1,13 @@
 -- What a connection is given to be written. Ours.
-use Rattle.std.specs.Prelude.{◌≡◌, ℕ, Bool, if◌then◌else◌, Option, Some, None, Result, Ok, Err, List, [], ◌++◌, take, drop}
+use Rattle.std.specs.Prelude.{◌≡◌, ◌⊎◌, ℕ, if◌then◌else◌, Option, Some, None, Result, Ok, Err, List, ◌++◌, take}
 use Rattle.serve_machine.specs.Hub.{Given, HubState, Phase, Sending, phase_of}
 use Rattle.serve_machine.specs.declared.fault.HubFault.{HubFault}
-use Rattle.station.specs.Client.{ClientState, cut, with_stage}
-use Rattle.station.specs.declared.client.Stage.{Stage}
-use Rattle.station.specs.declared.client.Stage.TheVariants.{Sending as SendingOf, Ending}
+use Rattle.serve_clients.specs.Client.{ClientState, cut, with_stage}
+use Rattle.serve_live.specs.Listening.{ListenerState}
+use Rattle.serve_live.specs.Live.{Moment}
+use Rattle.ogg_serve.specs.Listening.{HearsMore}
+use Rattle.serve_clients.specs.declared.client.Stage.{Stage}
+use Rattle.serve_clients.specs.declared.client.Stage.TheVariants.{Sending as SendingOf, Ending}
 
 -- A pull of the connection's session had this answer: so many bytes of the buffer are the session's next ones, and once
 -- nothing is left they are its last. After a fault the connection is cut.
@@ -31,3 +34,10 @@ OwesIn stage hub client bytes = ⊥
 
 abbrev pub Owes : HubState → ClientState → List ℕ → Type 0
 Owes hub client bytes = OwesIn client.stage hub client bytes
+
+-- ---- what a listener is given
+-- A listener heard its next bytes: so many bytes of the buffer. After a fault of the file the connection is cut.
+abbrev pub HasHeard : Moment → List ℕ → List ℕ → List ℕ → ℕ → ClientState → ℕ → List ℕ → ClientState → Type 0
+HasHeard moment committed given rest size old count buffer new =
+    ((listener : ListenerState) × HearsMore moment committed given rest size count buffer listener × (new ≡ record old { listener = Some listener }))
+    ⊎ ((count ≡ 0) × (new ≡ cut old))

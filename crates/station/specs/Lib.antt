@@ -1,11 +1,12 @@
-pub mod Line
-pub mod Client
 pub mod Counting
+pub mod Air
+pub mod Offering
+pub mod Parting
 pub mod Patience
 pub mod Giving
 pub mod Asking
-pub mod Keys
 pub mod Places
 pub mod Stepping
 pub mod Lines
 pub mod Telling
+pub mod Turning

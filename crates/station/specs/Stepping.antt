@@ -1,9 +1,8 @@
 -- What is counted of what a step has done. Ours.
-use Rattle.std.specs.Prelude.{ℕ}
 use Rattle.station.specs.Counting.{counted, with_mend, with_step, with_taken}
 use Rattle.station.specs.declared.counting.Counts.{Counts}
 use Rattle.station.specs.declared.stepping.Done.{Done}
-use Rattle.station.specs.declared.stepping.Done.TheVariants.{Nothing, Bytes, Flushed, Stepped, Ended, GivenUp, Reopened, Lost, Failed}
+use Rattle.station.specs.declared.stepping.Done.TheVariants.{Stepped, Ended, Reopened}
 
 abbrev pub with_done : Done → Counts → Counts
 with_done (Stepped step) counts = with_step step counts

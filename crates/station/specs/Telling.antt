@@ -2,8 +2,8 @@
 use Rattle.std.specs.Prelude.{ℕ, ◌/◌}
 use Rattle.serve_texts.specs.declared.numbers.Mends.{Mends}
 use Rattle.station.specs.Counting.{counted}
-use Rattle.station.specs.declared.client.Stage.{Stage}
-use Rattle.station.specs.declared.client.Stage.TheVariants.{Asking, Offering, Waiting, Feeding, Reading, Sending, Hearing, Ending, Closing, Cut}
+use Rattle.serve_clients.specs.declared.client.Stage.{Stage}
+use Rattle.serve_clients.specs.declared.client.Stage.TheVariants.{Asking, Offering, Waiting, Feeding, Reading, Sending, Hearing, Ending, Closing, Cut}
 use Rattle.station.specs.declared.counting.MendCounts.{MendCounts}
 use Rattle.station.specs.declared.telling.Kind.{Kind}
 use Rattle.station.specs.declared.telling.Kind.TheVariants.{Listener, Session, Source, Other}

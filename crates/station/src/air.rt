@@ -1,5 +1,5 @@
 //! The source that is on the air: its bytes, as they come, and what is recorded of them.
-ghost use Rattle.std.specs.Prelude.{◌≡◌, ◌+◌, ◌-◌, ◌≤◌, Err, vec_len};
+ghost use Rattle.std.specs.Prelude.{◌≡◌, ◌≢◌, ◌+◌, ◌-◌, ◌≤◌, Err, false, true, vec_len};
 ghost use Rattle.ogg_page.specs.Reading.{page_at};
 ghost use Rattle.ogg_page.specs.declared.fault.PageFault.TheVariants.{Short};
 
@@ -23,6 +23,20 @@ pub enum Feeder {
     Peer(usize),
     /// A connection that was closed.
     Gone,
+}
+
+impl Feeder {
+    /// Whether it is this one.
+    pub fn is(self, other: Feeder) -> bool
+        ensures yes { result ≡ true → self ≡ other }
+        ensures no { result ≡ false → self ≢ other }
+    {
+        match (self, other) {
+            (Feeder::Input, Feeder::Input) | (Feeder::Gone, Feeder::Gone) => true,
+            (Feeder::Peer(key), Feeder::Peer(other)) => key == other,
+            _ => false,
+        }
+    }
 }
 
 /// How many bytes of a stream are read at once: a page, and as many again.
@@ -49,18 +63,24 @@ pub enum Took {
 /// A source: its bytes that have come and aren't taken yet, and what the commands of its next pages depend on.
 #[derive(Drop)]
 pub struct OnAir {
-    feeder: Feeder,
-    import: ImportRun,
+    pub(crate) feeder: Feeder,
+    pub(crate) import: ImportRun,
     // none if the bytes are the stream's own
-    body: Option<Body>,
+    pub(crate) body: Option<Body>,
     pending: Vec<u8>,
     at: usize,
     // so many bytes at `at` are of the stream
-    decoded: usize,
+    pub(crate) decoded: usize,
     // what is left of `pending` says nothing before more bytes come
-    starved: bool,
+    pub(crate) starved: bool,
     // no further byte comes
-    ended: bool,
+    pub(crate) ended: bool,
+    // the end of the body was found
+    pub(crate) complete: bool,
+    // there was no memory for bytes that came after those that are pending
+    pub(crate) short: bool,
+    // something that came isn't recorded
+    pub(crate) lost: bool,
     ghost within: { at + decoded ≤ vec_len pending },
 }
 
@@ -84,25 +104,17 @@ impl OnAir {
             decoded: 0,
             starved: false,
             ended: false,
+            complete: false,
+            short: false,
+            lost: false,
         })
     }
 
     /// Who sends the stream.
-    pub fn feeder(&self) -> Feeder {
+    pub fn feeder(&self) -> Feeder
+        ensures { result ≡ self.now.feeder }
+    {
         self.feeder
-    }
-
-    /// Whether the peer waits for an answer once its body has ended.
-    pub fn wants_answer(&self) -> bool {
-        match &self.body {
-            Some(body) => body.awaits_answer(),
-            None => false,
-        }
-    }
-
-    /// Whether nothing can be done before further bytes come.
-    pub fn is_hungry(&self) -> bool {
-        !self.ended && self.starved && self.decoded == 0 && self.import.waits()
     }
 
     /// Further bytes have come. After `Memory` none of them are kept.
@@ -114,8 +126,18 @@ impl OnAir {
     }
 
     /// No further byte comes.
-    pub fn end(&mut self) {
+    pub fn end(&mut self)
+        ensures { self.new ≡ record self.old { ended = true } }
+    {
         self.ended = true;
+    }
+
+    /// No further byte comes that can be kept. What was kept is taken, and then the source is given up.
+    pub fn break_off(&mut self)
+        ensures { self.new ≡ record self.old { ended = true; short = true } }
+    {
+        self.ended = true;
+        self.short = true;
     }
 
     /// No further byte comes, and nobody waits for an answer.
@@ -137,6 +159,9 @@ impl OnAir {
         if !self.starved {
             self.decode();
             return Ok(Took::Bytes);
+        }
+        if self.short {
+            return Err(RecordFault::Memory);
         }
         if self.ended {
             return self.take_page(runner);
@@ -173,14 +198,23 @@ impl OnAir {
                 self.at += used;
                 self.starved = true;
             }
-            // What follows is no part of the stream.
-            Ok(Piece::End { .. }) | Err(_) => {
-                self.pending.clear();
-                self.at = 0;
-                self.starved = true;
-                self.ended = true;
+            Ok(Piece::End { .. }) => {
+                self.complete = true;
+                self.stop();
             }
+            Err(_) => self.stop(),
         }
+    }
+
+    /// What follows is no part of the stream.
+    fn stop(&mut self)
+        requires { self.old.decoded ≡ 0 }
+        ensures { (self.new.complete ≡ self.old.complete) × (self.new.lost ≡ self.old.lost) × (self.new.decoded ≡ self.old.decoded) }
+    {
+        self.pending.clear();
+        self.at = 0;
+        self.starved = true;
+        self.ended = true;
     }
 
     /// Passes decoded bytes on to the pages.
@@ -206,13 +240,19 @@ impl OnAir {
             Ok(Step::Ended { junk }) => {
                 let offset = self.import.offset();
                 let taken = self.import.finish(runner, &mut io::sink())?;
+                self.note(&taken);
                 Ok(Took::Ended {
                     offset,
                     junk,
                     taken,
                 })
             }
-            Ok(step) => Ok(Took::Stepped(step)),
+            Ok(step) => {
+                if let Step::Page { taken, .. } = &step {
+                    self.note(taken);
+                }
+                Ok(Took::Stepped(step))
+            }
             Err(fault) => Err(fault),
         }
     }

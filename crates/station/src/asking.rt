@@ -6,12 +6,12 @@ ghost use Rattle.serve_machine.specs.Hub.{Receive};
 ghost use Rattle.serve_machine.specs.declared.answers.Progress.{Progress as ProgressOf};
 ghost use Rattle.serve_machine.specs.declared.fault.HubFault.{HubFault as HubFaultOf};
 ghost use Rattle.station.specs.Asking.{IsConnected, stage_after};
-ghost use Rattle.station.specs.Client.{cut, with_stage};
+ghost use Rattle.serve_clients.specs.Client.{cut, with_stage};
 
-use crate::client::{Client, Stage};
 use crate::live_hub::LiveHub;
 use disk_model::Disk;
 use ogg_serve::Hub;
+use serve_clients::{Client, Stage};
 use serve_live::Listener;
 use serve_machine::{HubFault, Progress};
 use serve_sources::{Asks, LIVE};

@@ -1,16 +1,20 @@
 //! What a connection is to be sent.
-ghost use Rattle.std.specs.Prelude.{◌≡◌, ◌≢◌, ◌≤◌, [], Result, if◌then◌else◌, length, take};
-ghost use Rattle.serve_machine.specs.Hub.{Given as GivenOf, Pull};
+ghost use Rattle.std.specs.Prelude.{◌≡◌, ◌≢◌, ◌⊎◌, ◌≤◌, ℕ, List, [], None, Some, Result, if◌then◌else◌, length, take};
+ghost use Rattle.serve_live.specs.Hearing.{IsHearing};
+ghost use Rattle.serve_live.specs.Listening.{ListenerState};
+ghost use Rattle.serve_live.specs.Live.{Moment};
+ghost use Rattle.serve_machine.specs.Hub.{Given as GivenOf, HubState, Pull};
 ghost use Rattle.serve_machine.specs.Calls.{Steps};
 ghost use Rattle.serve_machine.specs.declared.fault.HubFault.{HubFault as HubFaultOf};
 ghost use Rattle.ogg_serve.specs.Images.{IfFile, Reads};
+ghost use Rattle.ogg_serve.specs.Listening.{KeepsMachine};
 ghost use Rattle.ogg_serve.specs.Showing.{Shows};
-ghost use Rattle.station.specs.Giving.{HasPulled};
-ghost use Rattle.station.specs.declared.client.Stage.TheVariants.{Ending as EndingOf, Sending as SendingOf};
+ghost use Rattle.station.specs.Giving.{HasHeard, HasPulled};
+ghost use Rattle.serve_clients.specs.declared.client.Stage.TheVariants.{Ending as EndingOf, Hearing as HearingOf, Sending as SendingOf};
 
-use crate::client::{Client, Stage};
 use disk_model::Disk;
 use ogg_serve::Hub;
+use serve_clients::{Client, Stage};
 
 /// Gives the first of the bytes that couldn't be written before, and returns how many.
 fn give_again(client: &Client, buffer: &mut [u8]) -> usize
@@ -28,7 +32,7 @@ fn pull<D: Disk + Drop>(hub: &mut Hub<D>, id: u64, client: &mut Client, buffer: 
     ensures pulled { (answer : Result GivenOf HubFaultOf)
         × Steps (Shows D.is_honest D.state) hub.old hub.new (λ after. Pull id (length buffer.old) answer)
         × HasPulled answer client.old result buffer.new client.new }
-    ensures disk { IfFile (Reads D.is_honest D.state D.moment D.images_since D.failures) hub.old.file hub.new.file }
+    ensures disk { (hub.new.file ≡ hub.old.file) ⊎ IfFile (Reads D.is_honest D.state D.moment D.images_since D.failures) hub.old.file hub.new.file }
     ensures within { result ≤ length buffer.new }
 {
     match hub.pull(id, buffer) {
@@ -52,6 +56,12 @@ fn stage_after(done: bool) -> Stage
 
 /// Pulls the next bytes that a listener hears. After a fault of the file the connection is cut.
 fn hear<D: Disk + Drop>(hub: &mut Hub<D>, client: &mut Client, buffer: &mut [u8]) -> usize
+    ensures heard { (machine : HubState) (moment : Moment) (given : List ℕ) (listener : ListenerState)
+        → Shows D.is_honest D.state hub.old machine → client.old.listener ≡ Some listener → (hearing : IsHearing moment machine.committed listener given)
+        → HasHeard moment machine.committed given hearing.rest (length buffer.old) client.old result buffer.new client.new }
+    ensures machine { KeepsMachine D.is_honest D.state hub.old hub.new }
+    ensures none { client.old.listener ≡ None → (result ≡ 0) × (hub.new ≡ hub.old) × (client.new ≡ client.old) }
+    ensures disk { (hub.new.file ≡ hub.old.file) ⊎ IfFile (Reads D.is_honest D.state D.moment D.images_since D.failures) hub.old.file hub.new.file }
     ensures within { result ≤ length buffer.new }
 {
     let Some(listener) = &mut client.listener else {
@@ -60,7 +70,7 @@ fn hear<D: Disk + Drop>(hub: &mut Hub<D>, client: &mut Client, buffer: &mut [u8]
     match hub.hear(listener, buffer) {
         Ok(count) => count,
         Err(_) => {
-            client.stage = Stage::Cut;
+            client.go_to(Stage::Cut);
             0
         }
     }
@@ -75,6 +85,17 @@ pub(crate) fn give<D: Disk + Drop>(
 ) -> usize
     ensures again { client.old.unsent ≢ [] → (hub.new ≡ hub.old) × (client.new ≡ client.old)
         × (take result buffer.new ≡ take (length buffer.old) client.old.unsent) }
+    ensures pulls { (id : ℕ) → client.old.unsent ≡ [] → client.old.stage ≡ SendingOf → client.old.session ≡ Some id
+        → (answer : Result GivenOf HubFaultOf) × Steps (Shows D.is_honest D.state) hub.old hub.new (λ after. Pull id (length buffer.old) answer)
+        × HasPulled answer client.old result buffer.new client.new }
+    ensures hears { (machine : HubState) (moment : Moment) (given : List ℕ) (listener : ListenerState)
+        → client.old.unsent ≡ [] → client.old.stage ≡ HearingOf
+        → Shows D.is_honest D.state hub.old machine → client.old.listener ≡ Some listener → (hearing : IsHearing moment machine.committed listener given)
+        → HasHeard moment machine.committed given hearing.rest (length buffer.old) client.old result buffer.new client.new }
+    ensures keeps { client.old.stage ≡ HearingOf → KeepsMachine D.is_honest D.state hub.old hub.new }
+    ensures nothing { client.old.unsent ≡ [] → client.old.stage ≢ SendingOf → client.old.stage ≢ HearingOf
+        → (result ≡ 0) × (hub.new ≡ hub.old) × (client.new ≡ client.old) }
+    ensures disk { (hub.new.file ≡ hub.old.file) ⊎ IfFile (Reads D.is_honest D.state D.moment D.images_since D.failures) hub.old.file hub.new.file }
     ensures within { result ≤ length buffer.new }
 {
     if !client.unsent().is_empty() {

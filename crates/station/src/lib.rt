@@ -9,17 +9,17 @@
 //! A connection is a source, a listener, or a session of the hub, which answers it as `serve` does. There is one source
 //! at a time, which may also be the caller's own input. What a listener hears is on the disk.
 //!
-//! Start at `src/station.rt`, which has the calls, and go on to `src/client.rt`, which says how far a connection has
-//! come, `src/turning.rt`, which says whose turn it is, and `src/air.rt`, which takes a source's bytes.
+//! The connections are those of `serve_clients`, which says how far each has come and whose turn it is. Start at
+//! `src/station.rt`, which has the calls, and go on to `src/air.rt`, which takes a source's bytes, and `src/stepping.rt`,
+//! which says what is recorded and when it is committed.
 #![tactic(auto)]
 
 mod air;
 mod asking;
-mod client;
 mod counting;
+mod faring;
 mod giving;
 mod laws;
-mod line;
 mod lines;
 mod live_hub;
 mod offering;
@@ -31,13 +31,12 @@ mod telling;
 mod turning;
 
 pub use air::Feeder;
-pub use client::After;
 pub use counting::{Counts, MendCounts};
 pub use import_record::{Answered, Step, Taken};
 pub use laws::connections_are_owed_their_responses;
-pub use line::Trouble;
 pub use lines::{Shown, station_line};
 pub use live_hub::LiveHub;
+pub use serve_clients::{After, Trouble};
 pub use serve_sources::{FULL, Password};
 pub use serve_texts::Visit;
 pub use station::{Options, Station, Unaccepted};

@@ -1,24 +1,42 @@
 //! A source is offered: it is refused, or goes on the air.
-ghost use Rattle.std.specs.Prelude.{◌≡◌, OnOk};
+ghost use Rattle.std.specs.Prelude.{◌≡◌, ◌++◌, Some, OnOk};
+ghost use Rattle.slab.specs.Slab.{get};
+ghost use Rattle.httparse.specs.Grammar.{RequestHead};
+ghost use Rattle.serve_clients.specs.Client.{ClientState};
+ghost use Rattle.serve_clients.specs.Clients.{OthersStay};
+ghost use Rattle.serve_sources.specs.Asking.{HasHead};
+ghost use Rattle.serve_sources.specs.declared.password.Password.{Password as PasswordOf};
 ghost use Rattle.station.specs.Counting.{counted};
-ghost use Rattle.station.specs.Keys.{OthersStay};
+ghost use Rattle.station.specs.Offering.{IsRefusal, IsUnauthorized};
 
 use crate::Memory;
 use crate::air::{Feeder, OnAir};
-use crate::client::Stage;
 use crate::counting::counted;
 use crate::station::Station;
 use disk_model::Disk;
 use import_changes::ChangeOptions;
-use serve_sources::{Body, DONE, Offer, Refused};
+use serve_clients::Stage;
+use serve_sources::{Body, Offer, Outcome, Password, Refused, sources_are_refused};
+
+/// What comes of a source's head, as far as it has come. A head without the password is refused.
+fn offered(head: &[u8], password: &Password) -> Offer
+    ensures unauthorized { (request : RequestHead) → HasHead head.now request → IsUnauthorized password.now request → IsRefusal result }
+{
+    sources_are_refused();
+    Offer::of(head, password)
+}
 
 impl<D: Disk + Drop> Station<D> {
     /// Further bytes of the head of a source's request. If another one has the air, it waits.
     pub(crate) fn offer(&mut self, key: usize, bytes: &[u8], now: u64)
+        // Without the password it doesn't get the air.
+        ensures unauthorized { (client : ClientState) (request : RequestHead) (password : PasswordOf) → get self.old.clients.slots key ≡ Some client
+            → self.old.options.password ≡ Some password → HasHead (client.head ++ bytes.now) request → IsUnauthorized password request
+            → self.new.air ≡ self.old.air }
         ensures others { OthersStay key self.old.clients self.new.clients }
         ensures live { self.new.live ≡ self.old.live }
     {
-        let Some(client) = self.clients.get_mut(key) else {
+        let Some(client) = self.clients.slots.get_mut(key) else {
             return;
         };
         if client.head.extend_from_slice(bytes).is_err() {
@@ -28,10 +46,10 @@ impl<D: Disk + Drop> Station<D> {
         let Some(password) = &self.options.password else {
             return;
         };
-        match Offer::of(client.head.as_slice(), password) {
+        match offered(client.head.as_slice(), password) {
             Offer::More => {}
             Offer::Refused(refused) => self.refuse(key, refused),
-            Offer::Nothing { .. } => client.tell_last(DONE),
+            Offer::Nothing { .. } => client.tell_last(Outcome::Whole.answer()),
             Offer::Body { .. } if self.air.is_some() => {
                 client.stage = Stage::Waiting;
                 client.since = now;
@@ -51,7 +69,7 @@ impl<D: Disk + Drop> Station<D> {
         ensures live { self.new.live ≡ self.old.live }
         ensures air { self.new.air ≡ self.old.air }
     {
-        if let Some(client) = self.clients.get_mut(key) {
+        if let Some(client) = self.clients.slots.get_mut(key) {
             client.tell_last(refused.answer());
         }
         self.counts.sources_refused = counted(self.counts.sources_refused, 1);
@@ -59,7 +77,7 @@ impl<D: Disk + Drop> Station<D> {
 
     /// The air is free: the first source that waits for it takes it.
     pub(crate) fn offer_again(&mut self, now: u64) {
-        for key in 0..self.clients.capacity() {
+        for key in 0..self.clients.slots.capacity() {
             if self.waits(key) {
                 self.offer(key, &[], now);
                 return;
@@ -69,21 +87,21 @@ impl<D: Disk + Drop> Station<D> {
 
     /// Whether this connection is a source that waits for the air.
     fn waits(&self, key: usize) -> bool {
-        match self.clients.get(key) {
+        match self.clients.slots.get(key) {
             Some(client) => client.stage == Stage::Waiting,
             None => false,
         }
     }
 
-    /// The connection is cut.
+    /// There is no memory for what this connection has sent: it is cut, and its stream is given up.
     fn cut(&mut self, key: usize)
         ensures others { OthersStay key self.old.clients self.new.clients }
         ensures live { self.new.live ≡ self.old.live }
     {
-        if let Some(client) = self.clients.get_mut(key) {
+        if let Some(client) = self.clients.slots.get_mut(key) {
             client.stage = Stage::Cut;
         }
-        self.end_air(Feeder::Peer(key));
+        self.break_off(Feeder::Peer(key));
     }
 
     /// The connection's stream is recorded from now on. Its body follows the head, which has `used` bytes.
@@ -99,7 +117,7 @@ impl<D: Disk + Drop> Station<D> {
         ensures live { self.new.live ≡ self.old.live }
     {
         self.begin_air(Feeder::Peer(key), Some(body), now)?;
-        let Some(client) = self.clients.get_mut(key) else {
+        let Some(client) = self.clients.slots.get_mut(key) else {
             return Ok(());
         };
         client.stage = Stage::Feeding;

@@ -1,62 +1,12 @@
-//! How long is waited, and for what.
+//! When what waits is committed.
 ghost use Rattle.std.specs.Prelude.{◌≡◌};
-ghost use Rattle.station.specs.Patience.{is_due, is_overdue, is_refused, patience, until_due};
-
-use crate::client::{Client, Stage};
-
-/// The greatest number of milliseconds until a head is complete.
-const HEAD: u64 = 10_000;
-
-/// For how many milliseconds a source waits until the one before it has left the air: an encoder that begins anew may be
-/// here before its old connection is seen to end.
-const WAITS: u64 = 1_000;
-
-/// For how many milliseconds a source may send no byte.
-const SENDS: u64 = 30_000;
-
-/// For how many milliseconds a peer may take no byte of what is to be sent.
-const TAKES: u64 = 60_000;
-
-/// For how many milliseconds a peer that was told the end may take until it closes.
-const CLOSES: u64 = 10_000;
+ghost use Rattle.station.specs.Patience.{is_due, until_due};
 
 /// For how many milliseconds a command may wait for its commit: what is heard is so much later than what is recorded.
 const MOST_WAIT: u64 = 150;
 
 /// As many commands share a commit at most.
 const TOGETHER: u64 = 64;
-
-/// How long is waited for this connection; none if it may take as long as it wants.
-fn patience(client: &Client) -> Option<u64>
-    ensures { result ≡ patience client.now.stage client.now.idle }
-{
-    match client.stage {
-        Stage::Asking | Stage::Offering | Stage::Waiting | Stage::Reading => Some(HEAD),
-        Stage::Feeding => Some(SENDS),
-        Stage::Sending | Stage::Ending => Some(TAKES),
-        Stage::Hearing if client.idle => None,
-        Stage::Hearing => Some(TAKES),
-        Stage::Closing => Some(CLOSES),
-        Stage::Cut => Some(0),
-    }
-}
-
-/// Whether it was waited long enough for this connection.
-pub fn is_overdue(client: &Client, now: u64) -> bool
-    ensures { result ≡ is_overdue client.now now }
-{
-    match patience(client) {
-        Some(most) => most <= now.saturating_sub(client.since),
-        None => false,
-    }
-}
-
-/// Whether a source has waited for the air long enough.
-pub fn is_refused(client: &Client, now: u64) -> bool
-    ensures { result ≡ is_refused client.now now }
-{
-    client.stage == Stage::Waiting && WAITS <= now.saturating_sub(client.since)
-}
 
 /// Whether what waits is to be committed: enough commands wait, or the oldest has waited long enough.
 pub fn is_due(waiting: u64, since: u64, now: u64) -> bool

@@ -1,34 +1,47 @@
 //! A station, by what happens to it.
-ghost use Rattle.std.specs.Prelude.{◌≡◌, ◌≢◌, ◌↔◌, ◌≤◌, ◌⊎◌, ℕ, None, Some, Err, IfOk, IfErr, drop, length, min};
+ghost use Rattle.std.specs.Prelude.{◌≡◌, ◌≢◌, ◌↔◌, ◌≤◌, ◌<◌, ◌-◌, ◌⊎◌, ℕ, List, [], None, Some, Result, Err, IfOk, IfErr, false, is_some, length, min, take, true};
 ghost use Rattle.slab.specs.Slab.{get, slab_len};
+ghost use Rattle.serve_live.specs.Hearing.{IsHearing};
+ghost use Rattle.serve_live.specs.Listening.{ListenerState};
+ghost use Rattle.serve_live.specs.Live.{Moment};
+ghost use Rattle.serve_machine.specs.Calls.{Steps};
+ghost use Rattle.serve_machine.specs.Hub.{Given as GivenOf, HubState, Pull, Receive};
+ghost use Rattle.serve_machine.specs.declared.answers.Progress.{Progress as ProgressOf};
+ghost use Rattle.serve_machine.specs.declared.fault.HubFault.{HubFault as HubFaultOf};
 ghost use Rattle.ogg_serve.specs.Images.{IfFile, Reads};
-ghost use Rattle.station.specs.Client.{ClientState, fresh};
+ghost use Rattle.ogg_serve.specs.Showing.{Shows};
+ghost use Rattle.serve_clients.specs.Client.{ClientState, HasWritten, fresh, given, moved_if, with_line, with_stage};
+ghost use Rattle.serve_clients.specs.Line.{moved_on};
+ghost use Rattle.station.specs.Asking.{stage_after};
+ghost use Rattle.serve_clients.specs.declared.client.Stage.TheVariants.{Hearing as HearingOf, Reading as ReadingOf, Sending as SendingOf, Waiting as WaitingOf};
+ghost use Rattle.station.specs.Air.{IsFedBy};
 ghost use Rattle.station.specs.Counting.{counted};
-ghost use Rattle.station.specs.Keys.{OthersStay};
+ghost use Rattle.station.specs.Giving.{HasHeard, HasPulled};
+ghost use Rattle.station.specs.Turning.{IsTurnedAway};
+ghost use Rattle.serve_clients.specs.Clients.{OthersStay};
 
 use crate::Memory;
 use crate::air::{Feeder, OnAir};
 use crate::asking::{ask, connect, listen, read};
-use crate::client::{Client, Stage};
 use crate::counting::{Counts, counted};
 use crate::giving::give;
-use crate::line::Trouble;
 use crate::live_hub::LiveHub;
-use crate::patience::is_refused;
 use crate::telling::tell_player;
 use disk_model::Disk;
 use import_changes::Skeletons;
 use ogg_serve::Hub;
-use serve_sources::{Asks, OwnResource, Password, Refused};
+use serve_clients::{Client, Clients, Stage, Trouble, is_refused};
+use serve_sources::{Asks, FULL, OwnResource, Password, Refused};
 use serve_texts::Visit;
-use slab::Slab;
 use std::alloc::Global;
-use std::collections::VecDeque;
+
+/// How many connections too many are told so at once.
+const TURNED_AWAY: usize = 64;
 
 /// Why a connection isn't taken.
 #[derive(Clone, Copy, Debug, PartialEq, Eq)]
 pub enum Unaccepted {
-    /// There are as many connections as may be.
+    /// There are as many connections as may be, and as many that are told so; or the station comes to its end.
     Full,
     /// Memory was refused.
     Memory,
@@ -54,15 +67,13 @@ pub struct Options {
 pub struct Station<D: Disk> {
     pub(crate) alloc: Global,
     pub(crate) live: LiveHub<D>,
-    pub(crate) clients: Slab<Client>,
+    pub(crate) clients: Clients,
     pub(crate) options: Options,
     pub(crate) air: Option<OnAir>,
     // since when a command waits for its commit
     pub(crate) waiting_since: u64,
     // how many bytes were committed when the file was opened again
     pub(crate) reopened: Option<u64>,
-    // the connections that have something to do
-    pub(crate) turns: VecDeque<usize>,
     pub(crate) counts: Counts,
     // since when the source has the air
     pub(crate) on_air_since: u64,
@@ -80,11 +91,10 @@ impl<D: Disk + Drop> Station<D> {
         Ok(Station {
             alloc,
             live: LiveHub::new(alloc, hub)?,
-            clients: Slab::with_capacity(alloc, options.most)?,
+            clients: Clients::new(alloc, options.most.saturating_add(TURNED_AWAY))?,
             air: None,
             waiting_since: 0,
             reopened: None,
-            turns: VecDeque::with_capacity(alloc, options.most)?,
             counts: Counts::none(),
             on_air_since: 0,
             looked: 0,
@@ -122,43 +132,58 @@ impl<D: Disk + Drop> Station<D> {
 
     /// How many connections there are.
     pub fn connections(&self) -> usize {
-        self.clients.len()
+        self.clients.slots.len()
     }
 
-    /// A connection was made. It gets the key that is returned. None is taken while the station comes to its end.
+    /// A connection was made. It gets the key that is returned. If there are as many as may be it is told so, and gets
+    /// nothing more; that is done for `TURNED_AWAY` at once, and none is taken after these, nor while the station comes to
+    /// its end.
     pub fn accepted(&mut self, now: u64) -> Result<usize, Unaccepted>
-        ensures full { (result ≡ Err Unaccepted.Full) ↔ ((self.old.options.most ≤ slab_len self.old.clients) ⊎ (self.old.ending ≢ None)) }
+        ensures full { (result ≡ Err Unaccepted.Full) ↔ ((64 ≤ slab_len self.old.clients.slots - self.old.options.most) ⊎ (self.old.ending ≢ None)) }
         ensures refused { result ≡ Err Unaccepted.Full
             → self.new.counts ≡ record self.old.counts { connections_refused = counted self.old.counts.connections_refused 1 } }
-        ensures none { IfOk result (λ key. get self.old.clients key ≡ None) }
-        ensures some { IfOk result (λ key. get self.new.clients key ≡ Some (fresh now)) }
+        ensures none { IfOk result (λ key. get self.old.clients.slots key ≡ None) }
+        ensures some { slab_len self.old.clients.slots < self.old.options.most → IfOk result (λ key. get self.new.clients.slots key ≡ Some (fresh now)) }
+        ensures turned_away { self.old.options.most ≤ slab_len self.old.clients.slots → IfOk result (λ key. (client : ClientState)
+            × (get self.new.clients.slots key ≡ Some client) × IsTurnedAway now client
+            × (self.new.counts ≡ record self.old.counts { connections_refused = counted self.old.counts.connections_refused 1 })) }
         ensures others { IfOk result (λ key. OthersStay key self.old.clients self.new.clients) }
-        ensures err { IfErr result (λ fault. (key : ℕ) → get self.new.clients key ≡ get self.old.clients key) }
+        ensures err { IfErr result (λ fault. (key : ℕ) → get self.new.clients.slots key ≡ get self.old.clients.slots key) }
         ensures live { self.new.live ≡ self.old.live }
         ensures air { self.new.air ≡ self.old.air }
     {
-        if self.clients.len() >= self.options.most || self.ending.is_some() {
+        let count = self.clients.slots.len();
+        if count.saturating_sub(self.options.most) >= TURNED_AWAY || self.ending.is_some() {
             self.counts.connections_refused = counted(self.counts.connections_refused, 1);
             return Err(Unaccepted::Full);
         }
-        let visit = if self.options.log {
-            Some(Visit::new(self.alloc))
-        } else {
-            None
-        };
-        match self.clients.insert(Client::new(self.alloc, now, visit)) {
+        let mut client = Client::new(self.alloc, now, self.visit());
+        if count >= self.options.most {
+            self.counts.connections_refused = counted(self.counts.connections_refused, 1);
+            client.tell_last(FULL);
+        }
+        match self.clients.slots.insert(client) {
             Ok(key) => Ok(key),
             Err(_) => Err(Unaccepted::Memory),
         }
     }
 
+    /// What is to be remembered of a new connection.
+    fn visit(&self) -> Option<Visit> {
+        if self.options.log {
+            Some(Visit::new(self.alloc))
+        } else {
+            None
+        }
+    }
+
     /// This connection was closed: its session ends, or its stream. It returns what is to be told of it in the log.
     pub fn closed(&mut self, key: usize) -> Option<Visit>
-        ensures gone { get self.new.clients key ≡ None }
+        ensures gone { get self.new.clients.slots key ≡ None }
         ensures others { OthersStay key self.old.clients self.new.clients }
         ensures file { self.new.live.hub.file ≡ self.old.live.hub.file }
     {
-        let client = self.clients.try_remove(key)?;
+        let client = self.clients.slots.try_remove(key)?;
         if let Some(id) = client.session {
             // After a fault of the file the session has ended already.
             let _ = self.live.hub.close(id);
@@ -168,18 +193,25 @@ impl<D: Disk + Drop> Station<D> {
     }
 
     /// Whether bytes of this source are taken now.
-    pub(crate) fn is_hungry(&self, feeder: Feeder) -> bool {
+    pub(crate) fn is_hungry(&self, feeder: Feeder) -> bool
+        ensures yes { result ≡ true → IsFedBy feeder self.now.air }
+        ensures no { result ≡ false → ¬ (IsFedBy feeder self.now.air) }
+    {
         match &self.air {
-            Some(air) => air.feeder() == feeder && air.is_hungry(),
+            Some(air) => air.feeder().is(feeder) && air.is_hungry(),
             None => false,
         }
     }
 
     /// This connection has sent bytes.
     pub fn received(&mut self, key: usize, bytes: &[u8], now: u64)
+        ensures reads { (client : ClientState) (id : ℕ) → get self.old.clients.slots key ≡ Some client → client.stage ≡ ReadingOf → client.session ≡ Some id
+            → (progress : Result ProgressOf HubFaultOf)
+            × Steps (Shows D.is_honest D.state) self.old.live.hub self.new.live.hub (λ machine. Receive id bytes.now progress)
+            × (get self.new.clients.slots key ≡ Some (with_stage (stage_after progress) (with_line (moved_on client.line) client))) }
         ensures others { OthersStay key self.old.clients self.new.clients }
     {
-        let Some(client) = self.clients.get_mut(key) else {
+        let Some(client) = self.clients.slots.get_mut(key) else {
             return;
         };
         client.stands(client.line.moves());
@@ -217,7 +249,7 @@ impl<D: Disk + Drop> Station<D> {
     fn answer(&mut self, key: usize, resource: OwnResource, head: bool, now: u64)
         ensures others { OthersStay key self.old.clients self.new.clients }
     {
-        let Some(client) = self.clients.get_mut(key) else {
+        let Some(client) = self.clients.slots.get_mut(key) else {
             return;
         };
         match resource {
@@ -232,7 +264,7 @@ impl<D: Disk + Drop> Station<D> {
         ensures others { OthersStay key self.old.clients self.new.clients }
         ensures live { self.new.live ≡ self.old.live }
     {
-        let Some(client) = self.clients.get_mut(key) else {
+        let Some(client) = self.clients.slots.get_mut(key) else {
             return;
         };
         client.stands(client.line.read_failed(Trouble::Blocked));
@@ -248,32 +280,80 @@ impl<D: Disk + Drop> Station<D> {
     /// its response, or of what it hears. It returns how many these are; 0 if there is nothing to send now. No memory is
     /// taken. Say with `wrote` how many of them were written, before it is called again.
     pub fn next(&mut self, key: usize, buffer: &mut [u8], now: u64) -> usize
+        ensures again { (client : ClientState) → get self.old.clients.slots key ≡ Some client → client.stage ≢ WaitingOf → client.unsent ≢ []
+            → (self.new.live.hub ≡ self.old.live.hub) × (take result buffer.new ≡ take (length buffer.old) client.unsent)
+            × (get self.new.clients.slots key ≡ Some (given result (is_some self.old.ending) now client)) }
+        ensures pulls { (client : ClientState) (id : ℕ) → get self.old.clients.slots key ≡ Some client → client.stage ≡ SendingOf
+            → client.session ≡ Some id → client.unsent ≡ []
+            → (answer : Result GivenOf HubFaultOf) × (after : ClientState)
+            × Steps (Shows D.is_honest D.state) self.old.live.hub self.new.live.hub (λ machine. Pull id (length buffer.old) answer)
+            × HasPulled answer client result buffer.new after
+            × (get self.new.clients.slots key ≡ Some (given result (is_some self.old.ending) now after)) }
+        ensures hears { (client : ClientState) (machine : HubState) (moment : Moment) (heard : List ℕ) (listener : ListenerState)
+            → get self.old.clients.slots key ≡ Some client → client.stage ≡ HearingOf → client.unsent ≡ []
+            → Shows D.is_honest D.state self.old.live.hub machine → client.listener ≡ Some listener
+            → (hearing : IsHearing moment machine.committed listener heard)
+            → (after : ClientState) × HasHeard moment machine.committed heard hearing.rest (length buffer.old) client result buffer.new after
+            × (get self.new.clients.slots key ≡ Some (given result (is_some self.old.ending) now after)) }
+        ensures disk { (self.new.live.hub.file ≡ self.old.live.hub.file)
+            ⊎ IfFile (Reads D.is_honest D.state D.moment D.images_since D.failures) self.old.live.hub.file self.new.live.hub.file }
         ensures others { OthersStay key self.old.clients self.new.clients }
         ensures air { self.new.air ≡ self.old.air }
         ensures within { result ≤ length buffer.new }
     {
+        self.refuse_if_waited(key, now);
+        self.give(key, buffer, now)
+    }
+
+    /// A source that has waited for the air long enough is refused.
+    fn refuse_if_waited(&mut self, key: usize, now: u64)
+        ensures same { (client : ClientState) → get self.old.clients.slots key ≡ Some client → client.stage ≢ WaitingOf → self.new ≡ self.old }
+        ensures others { OthersStay key self.old.clients self.new.clients }
+        ensures live { self.new.live ≡ self.old.live }
+        ensures air { self.new.air ≡ self.old.air }
+    {
         if self.has_waited(key, now) {
             self.refuse(key, Refused::OnTheAir);
         }
-        let Some(client) = self.clients.get_mut(key) else {
+    }
+
+    /// The next bytes for this connection.
+    fn give(&mut self, key: usize, buffer: &mut [u8], now: u64) -> usize
+        ensures again { (client : ClientState) → get self.old.clients.slots key ≡ Some client → client.unsent ≢ []
+            → (self.new.live.hub ≡ self.old.live.hub) × (take result buffer.new ≡ take (length buffer.old) client.unsent)
+            × (get self.new.clients.slots key ≡ Some (given result (is_some self.old.ending) now client)) }
+        ensures pulls { (client : ClientState) (id : ℕ) → get self.old.clients.slots key ≡ Some client → client.stage ≡ SendingOf
+            → client.session ≡ Some id → client.unsent ≡ []
+            → (answer : Result GivenOf HubFaultOf) × (after : ClientState)
+            × Steps (Shows D.is_honest D.state) self.old.live.hub self.new.live.hub (λ machine. Pull id (length buffer.old) answer)
+            × HasPulled answer client result buffer.new after
+            × (get self.new.clients.slots key ≡ Some (given result (is_some self.old.ending) now after)) }
+        ensures hears { (client : ClientState) (machine : HubState) (moment : Moment) (heard : List ℕ) (listener : ListenerState)
+            → get self.old.clients.slots key ≡ Some client → client.stage ≡ HearingOf → client.unsent ≡ []
+            → Shows D.is_honest D.state self.old.live.hub machine → client.listener ≡ Some listener
+            → (hearing : IsHearing moment machine.committed listener heard)
+            → (after : ClientState) × HasHeard moment machine.committed heard hearing.rest (length buffer.old) client result buffer.new after
+            × (get self.new.clients.slots key ≡ Some (given result (is_some self.old.ending) now after)) }
+        ensures disk { (self.new.live.hub.file ≡ self.old.live.hub.file)
+            ⊎ IfFile (Reads D.is_honest D.state D.moment D.images_since D.failures) self.old.live.hub.file self.new.live.hub.file }
+        ensures others { OthersStay key self.old.clients self.new.clients }
+        ensures air { self.new.air ≡ self.old.air }
+        ensures within { result ≤ length buffer.new }
+    {
+        let ending = self.ending.is_some();
+        let Some(client) = self.clients.slots.get_mut(key) else {
             return 0;
         };
         let count = give(&mut self.live.hub, client, buffer);
-        if count == 0 {
-            client.idle = true;
-            if client.stage == Stage::Hearing && self.ending.is_some() {
-                client.stage = Stage::Ending;
-            }
-        } else if client.idle {
-            client.idle = false;
-            client.since = now;
-        }
+        client.given(count, ending, now);
         count
     }
 
     /// Whether this connection is a source that has waited for the air long enough.
-    fn has_waited(&self, key: usize, now: u64) -> bool {
-        match self.clients.get(key) {
+    fn has_waited(&self, key: usize, now: u64) -> bool
+        ensures waits { (client : ClientState) → get self.now.clients.slots key ≡ Some client → client.stage ≢ WaitingOf → result ≡ false }
+    {
+        match self.clients.slots.get(key) {
             Some(client) => is_refused(client, now),
             None => false,
         }
@@ -282,32 +362,31 @@ impl<D: Disk + Drop> Station<D> {
     /// The first `count` of these bytes, which `next` gave for this connection, were written. The others are kept, to be
     /// given again; without memory for them the connection is cut.
     pub fn wrote(&mut self, key: usize, bytes: &[u8], count: usize, now: u64)
-        ensures counts { (client : ClientState) → get self.old.clients key ≡ Some client
+        ensures written { (client : ClientState) → get self.old.clients.slots key ≡ Some client → (after : ClientState)
+            × HasWritten bytes.now count client after × (get self.new.clients.slots key ≡ Some (moved_if count now after)) }
+        ensures counts { (client : ClientState) → get self.old.clients.slots key ≡ Some client
             → self.new.counts ≡ record self.old.counts { sent = counted self.old.counts.sent (min count (length bytes.now)) } }
         ensures others { OthersStay key self.old.clients self.new.clients }
         ensures live { self.new.live ≡ self.old.live }
         ensures air { self.new.air ≡ self.old.air }
     {
-        let Some(client) = self.clients.get_mut(key) else {
+        let Some(client) = self.clients.slots.get_mut(key) else {
             return;
         };
         client.wrote(bytes, count);
         let (sent, _) = bytes.split_at(count.min(bytes.len()));
         client.note_sent(sent);
-        if count > 0 {
-            client.since = now;
-            let line = client.line.moves();
-            client.stands(line);
-        }
+        client.moved(count, now);
         self.counts.sent = counted(self.counts.sent, sent.len() as u64);
     }
 
     /// Whether bytes of the caller's input are taken now.
-    pub fn wants_input(&self) -> bool {
-        match &self.air {
-            Some(air) => air.feeder() == Feeder::Input && air.is_hungry(),
-            None => true,
-        }
+    pub fn wants_input(&self) -> bool
+        ensures none { self.now.air ≡ None → result ≡ true }
+        ensures yes { self.now.air ≢ None → result ≡ true → IsFedBy Feeder.Input self.now.air }
+        ensures no { result ≡ false → ¬ (IsFedBy Feeder.Input self.now.air) }
+    {
+        self.air.is_none() || self.is_hungry(Feeder::Input)
     }
 
     /// The input has given bytes. If nobody is on the air, it is from now on.
@@ -333,7 +412,7 @@ impl<D: Disk + Drop> Station<D> {
         }
     }
 
-    /// Further bytes of a source. Without memory for them it ends.
+    /// Further bytes of a source. Without memory for them it is given up, once what came before is taken.
     fn feed(&mut self, feeder: Feeder, bytes: &[u8])
         ensures clients { self.new.clients ≡ self.old.clients }
         ensures live { self.new.live ≡ self.old.live }
@@ -341,7 +420,7 @@ impl<D: Disk + Drop> Station<D> {
     {
         if let Some(air) = &mut self.air {
             if air.feeder() == feeder && air.push(bytes).is_err() {
-                air.end();
+                air.break_off();
             }
         }
     }
@@ -355,6 +434,19 @@ impl<D: Disk + Drop> Station<D> {
         if let Some(air) = &mut self.air {
             if air.feeder() == Feeder::Peer(key) {
                 air.lose_feeder();
+            }
+        }
+    }
+
+    /// No further byte of the source can be kept, if it is this one.
+    pub(crate) fn break_off(&mut self, feeder: Feeder)
+        ensures clients { self.new.clients ≡ self.old.clients }
+        ensures live { self.new.live ≡ self.old.live }
+        ensures options { self.new.options ≡ self.old.options }
+    {
+        if let Some(air) = &mut self.air {
+            if air.feeder() == feeder {
+                air.break_off();
             }
         }
     }

@@ -1,9 +1,13 @@
 //! What is recorded, step by step.
-ghost use Rattle.std.specs.Prelude.{◌≡◌};
+ghost use Rattle.std.specs.Prelude.{◌≡◌, Some};
+ghost use Rattle.slab.specs.Slab.{get};
+ghost use Rattle.serve_clients.specs.Client.{ClientState};
+ghost use Rattle.serve_clients.specs.Clients.{OthersStay};
+ghost use Rattle.serve_clients.specs.declared.client.Stage.TheVariants.{Feeding as FeedingOf};
+ghost use Rattle.station.specs.Parting.{HasParted};
 ghost use Rattle.station.specs.Stepping.{with_done};
 
 use crate::air::{Feeder, Took};
-use crate::client::Stage;
 use crate::counting::counted;
 use crate::patience::{is_due, until_due};
 use crate::station::Station;
@@ -15,7 +19,8 @@ use import_mend::Mend;
 use import_record::{RecordFault, Step, Taken, run_all};
 use link_chain::StreamState;
 use ogg_command::Command;
-use serve_sources::DONE;
+use serve_clients::Stage;
+use serve_sources::Outcome;
 use std::io;
 
 /// A link has at most this many streams.
@@ -112,7 +117,7 @@ impl<D: Disk + Drop> Station<D> {
                     taken,
                 },
             ) => {
-                self.leave_the_air(now);
+                self.leave_the_air(false, now);
                 Done::Ended {
                     offset,
                     junk,
@@ -120,29 +125,46 @@ impl<D: Disk + Drop> Station<D> {
                 }
             }
             Err(fault) => {
-                self.leave_the_air(now);
+                self.leave_the_air(true, now);
                 Done::GivenUp(fault)
             }
         }
     }
 
     /// Nobody is on the air any more. What is open is ended, what waits is committed, and the peer is answered if it
-    /// waits for that.
-    fn leave_the_air(&mut self, now: u64) {
-        let Some(air) = self.air.take() else {
+    /// waits for that. If the source was given up, or the disk fails now, something of it may be lost.
+    fn leave_the_air(&mut self, given_up: bool, now: u64) {
+        let Some(mut air) = self.air.take() else {
             return;
         };
         self.end_open();
+        if given_up || self.live.hub.is_failed() {
+            air.lose();
+        }
         if let Feeder::Peer(key) = air.feeder() {
-            if let Some(client) = self.clients.get_mut(key) {
-                if air.wants_answer() {
-                    client.tell_last(DONE);
-                } else {
-                    client.stage = Stage::Ending;
-                }
-            }
+            self.part(key, air.wants_answer().then_some(air.outcome()));
         }
         self.offer_again(now);
+    }
+
+    /// A source has left the air. Its connection gets this answer, if it waits for one, and nothing more.
+    fn part(&mut self, key: usize, answer: Option<Outcome>)
+        ensures parts { (client : ClientState) → get self.old.clients.slots key ≡ Some client → client.stage ≡ FeedingOf
+            → (after : ClientState) × (get self.new.clients.slots key ≡ Some after) × HasParted answer client after }
+        ensures others { OthersStay key self.old.clients self.new.clients }
+        ensures live { self.new.live ≡ self.old.live }
+        ensures air { self.new.air ≡ self.old.air }
+    {
+        let Some(client) = self.clients.slots.get_mut(key) else {
+            return;
+        };
+        if client.stage != Stage::Feeding {
+            return;
+        }
+        match answer {
+            Some(outcome) => client.tell_last(outcome.answer()),
+            None => client.go_to(Stage::Ending),
+        }
     }
 
     /// Ends each stream that the file's last link has open, and commits that. It stops at the first end that is refused.
@@ -178,23 +200,24 @@ impl<D: Disk + Drop> Station<D> {
         }
     }
 
-    /// What is on the air goes on in the file that was opened again.
+    /// What is on the air goes on in the file that was opened again. What waited may be lost.
     fn resume(&mut self, now: u64) -> Done {
         let Some(air) = &mut self.air else {
             return Done::Reopened;
         };
+        air.lose();
         let hub = &self.live.hub;
         let resumed = match air.resume(hub.streams(), hub.serials()) {
             Ok(commands) => run_all(&mut self.live, commands.as_slice(), &mut io::sink()),
             Err(_) => {
-                self.leave_the_air(now);
+                self.leave_the_air(true, now);
                 return Done::GivenUp(RecordFault::Memory);
             }
         };
         match resumed {
             Ok(_) => Done::Reopened,
             Err(_) => {
-                self.leave_the_air(now);
+                self.leave_the_air(true, now);
                 Done::GivenUp(RecordFault::Write)
             }
         }

@@ -2,16 +2,16 @@
 ghost use Rattle.std.specs.Prelude.{◌≡◌, ◌⊎◌};
 ghost use Rattle.serve_texts.specs.Player.{player_response};
 ghost use Rattle.serve_texts.specs.Status.{status_response};
-ghost use Rattle.station.specs.Client.{cut, told, with_stage};
+ghost use Rattle.serve_clients.specs.Client.{cut, told, with_stage};
 ghost use Rattle.station.specs.Counting.{counted};
-ghost use Rattle.station.specs.Keys.{OthersStay};
+ghost use Rattle.serve_clients.specs.Clients.{OthersStay};
 ghost use Rattle.station.specs.Telling.{in_seconds, kind_of, mends_of, with_one};
-ghost use Rattle.station.specs.declared.client.Stage.TheVariants.{Ending as EndingOf};
+ghost use Rattle.serve_clients.specs.declared.client.Stage.TheVariants.{Ending as EndingOf};
 
-use crate::client::{Client, Stage};
 use crate::counting::{MendCounts, counted};
 use crate::station::Station;
 use disk_model::Disk;
+use serve_clients::{Client, Stage};
 use serve_texts::{Mends, Numbers, append_player, append_status};
 use std::alloc::Global;
 
@@ -126,8 +126,8 @@ impl<D: Disk + Drop> Station<D> {
             sources: 0,
             others: 0,
         };
-        for key in 0..self.clients.capacity() {
-            if let Some(client) = self.clients.get(key) {
+        for key in 0..self.clients.slots.capacity() {
+            if let Some(client) = self.clients.slots.get(key) {
                 kinds = kinds.with_one(kind_of(client.stage));
             }
         }
@@ -171,7 +171,7 @@ impl<D: Disk + Drop> Station<D> {
         ensures air { self.new.air ≡ self.old.air }
     {
         let numbers = self.numbers(now);
-        if let Some(client) = self.clients.get_mut(key) {
+        if let Some(client) = self.clients.slots.get_mut(key) {
             tell_status(self.alloc, client, &numbers, head);
         }
     }

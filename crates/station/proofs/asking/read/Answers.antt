@@ -1,6 +1,6 @@
 use Rattle.std.proofs.Common.{ap, ◌∙◌}
-use Rattle.station.specs.Client.{with_stage}
-use Rattle.station.specs.declared.client.Stage.{Stage}
+use Rattle.serve_clients.specs.Client.{with_stage}
+use Rattle.serve_clients.specs.declared.client.Stage.{Stage}
 use Rattle.station.proofs.asking.read.Goals as goal
 
 pub returns : goal.returns

@@ -1,7 +1,7 @@
 use Rattle.std.proofs.Common.{Ok, Err, refl, ap, ◌∙◌}
 use Rattle.serve_machine.specs.Calls.{given_in}
-use Rattle.station.specs.Client.{with_stage}
-use Rattle.station.specs.declared.client.Stage.{Stage}
+use Rattle.serve_clients.specs.Client.{with_stage}
+use Rattle.serve_clients.specs.declared.client.Stage.{Stage}
 use Rattle.station.proofs.giving.pull.Goals as goal
 
 pub returns-in-Ok-clause-pulled : goal.returns-in-Ok-clause-pulled

@@ -1,5 +1,5 @@
 use Rattle.serve_machine.specs.declared.answers.Progress.TheVariants.{Ready}
-use Rattle.station.proofs.Owed.{begins, keeps, others, pulls, writes}
+use Rattle.station.proofs.Owed.{begins, exchanges, keeps, others, pulls, writes}
 use Rattle.station.proofs.laws.connections_are_owed_their_responses.Goals as goal
 
 pub returns : goal.returns
@@ -8,5 +8,6 @@ returns c = record {
   pulls = pulls c.calls_move_their_session.ensures.pull;
   keeps = keeps;
   writes = writes;
+  exchanges = exchanges c.calls_move_their_session.ensures.pull;
   others = others c.other_sessions_stay.ensures;
 }

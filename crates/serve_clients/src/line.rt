@@ -1,6 +1,6 @@
 //! How a connection's socket stands, as far as the caller has told.
 ghost use Rattle.std.specs.Prelude.{◌≡◌};
-ghost use Rattle.station.specs.Line.{moved_on, new_line, queued_as, read_failed_by, taken_off, told_of, write_failed_by};
+ghost use Rattle.serve_clients.specs.Line.{moved_on, new_line, queued_as, read_failed_by, taken_off, told_of, write_failed_by};
 
 /// Why bytes couldn't be read or written.
 #[derive(Clone, Copy, Debug, PartialEq, Eq)]
@@ -28,7 +28,7 @@ pub struct Line {
 
 impl Line {
     /// A socket of which nothing was told.
-    pub(crate) fn new() -> Line
+    pub fn new() -> Line
         ensures { result ≡ new_line }
     {
         Line {
@@ -40,7 +40,7 @@ impl Line {
     }
 
     /// The system has told that it may have bytes, or room for some.
-    pub(crate) fn told(self, readable: bool, writable: bool) -> Line
+    pub fn told(self, readable: bool, writable: bool) -> Line
         ensures { result ≡ told_of readable writable self }
     {
         Line {
@@ -51,14 +51,14 @@ impl Line {
     }
 
     /// It has got a place in the queue, or none was to be had.
-    pub(crate) fn queued(self, queued: bool) -> Line
+    pub fn queued(self, queued: bool) -> Line
         ensures { result ≡ queued_as queued self }
     {
         Line { queued, ..self }
     }
 
     /// Its turn has come.
-    pub(crate) fn begins_turn(self) -> Line
+    pub fn begins_turn(self) -> Line
         ensures { result ≡ taken_off self }
     {
         Line {
@@ -69,7 +69,7 @@ impl Line {
     }
 
     /// Bytes went over it.
-    pub(crate) fn moves(self) -> Line
+    pub fn moves(self) -> Line
         ensures { result ≡ moved_on self }
     {
         Line {
@@ -79,7 +79,7 @@ impl Line {
     }
 
     /// Nothing could be read.
-    pub(crate) fn read_failed(self, trouble: Trouble) -> Line
+    pub fn read_failed(self, trouble: Trouble) -> Line
         ensures { result ≡ read_failed_by trouble self }
     {
         match trouble {
@@ -93,7 +93,7 @@ impl Line {
     }
 
     /// Nothing could be written.
-    pub(crate) fn write_failed(self, trouble: Trouble) -> Line
+    pub fn write_failed(self, trouble: Trouble) -> Line
         ensures { result ≡ write_failed_by trouble self }
     {
         match trouble {

@@ -1,10 +1,11 @@
 //! A connection, and how far it has come.
 ghost use Rattle.std.specs.Prelude.{◌≡◌, ◌≢◌, ◌⊎◌, [], Some, drop, OnOk, OnErr};
-ghost use Rattle.station.specs.Client.{after_of, cut, fresh, told, with_line, with_stage};
-ghost use Rattle.station.specs.declared.client.Stage.TheVariants.{Ending as EndingOf};
+ghost use Rattle.serve_clients.specs.Clients.{unwritten_by};
+ghost use Rattle.serve_clients.specs.Client.{ClientState, HasWritten, after_of, cut, fresh, given, moved_if, told, with_line, with_stage};
+ghost use Rattle.serve_clients.specs.declared.client.Stage.TheVariants.{Ending as EndingOf};
 
 use crate::Memory;
-use crate::line::Line;
+use crate::line::{Line, Trouble};
 use serve_live::Listener;
 use serve_texts::Visit;
 use std::alloc::Global;
@@ -49,27 +50,27 @@ pub enum After {
 /// A connection. What is kept of its head, and what was given for it and couldn't be written yet, is in its memory.
 #[derive(Drop)]
 pub struct Client {
-    pub(crate) stage: Stage,
+    pub stage: Stage,
     // the number of its session in the hub, if it has one
-    pub(crate) session: Option<u64>,
+    pub session: Option<u64>,
     // what has come of its head, until it is known what it asks for
-    pub(crate) head: Vec<u8>,
+    pub head: Vec<u8>,
     // what was to be written, and how much of it was
     rest: Vec<u8>,
     sent: usize,
-    pub(crate) listener: Option<Listener>,
+    pub listener: Option<Listener>,
     // since when it has neither sent nor taken a byte, though it could: milliseconds of the caller's clock
-    pub(crate) since: u64,
+    pub since: u64,
     // nothing was left to be sent when it was last asked
-    pub(crate) idle: bool,
-    pub(crate) line: Line,
+    pub idle: bool,
+    pub line: Line,
     // what is remembered for its line in the log, if there is one
-    pub(crate) visit: Option<Visit>,
+    pub visit: Option<Visit>,
 }
 
 impl Model for Client {
     ghost use Rattle.std.specs.Prelude.{◌≤◌, drop, length};
-    ghost use Rattle.station.specs.Client.{ClientState};
+    ghost use Rattle.serve_clients.specs.Client.{ClientState};
 
     ghost Value = { ClientState };
 
@@ -125,14 +126,14 @@ impl Client {
     }
 
     /// It is in this stage from now on.
-    pub(crate) fn go_to(&mut self, stage: Stage)
+    pub fn go_to(&mut self, stage: Stage)
         ensures { self.new ≡ with_stage stage self.old }
     {
         self.stage = stage;
     }
 
     /// It has this session in the hub, which has taken its head, and is in this stage.
-    pub(crate) fn connected(&mut self, id: u64, stage: Stage)
+    pub fn connected(&mut self, id: u64, stage: Stage)
         ensures { self.new ≡ record self.old { stage = stage; session = Some id; head = [] } }
     {
         self.session = Some(id);
@@ -152,6 +153,7 @@ impl Client {
     pub fn wrote(&mut self, bytes: &[u8], count: usize)
         ensures again { self.old.unsent ≢ [] → self.new ≡ record self.old { unsent = drop count self.old.unsent } }
         ensures anew { self.old.unsent ≡ [] → (self.new ≡ record self.old { unsent = drop count bytes.now }) ⊎ (self.new ≡ cut self.old) }
+        ensures written { HasWritten bytes.now count self.old self.new }
     {
         if !self.unsent().is_empty() {
             self.sent = self.sent.saturating_add(count).min(self.rest.len());
@@ -165,15 +167,52 @@ impl Client {
         }
     }
 
+    /// So many bytes were given to be written. If there were none, it has been given all that there is; a listener has
+    /// then heard all if what is recorded comes to its end.
+    pub fn given(&mut self, count: usize, ending: bool, now: u64)
+        ensures { self.new ≡ given count ending now self.old }
+    {
+        if count == 0 {
+            self.idle = true;
+            if self.stage == Stage::Hearing && ending {
+                self.stage = Stage::Ending;
+            }
+        } else if self.idle {
+            self.idle = false;
+            self.since = now;
+        }
+    }
+
+    /// So many bytes were written to it.
+    pub fn moved(&mut self, count: usize, now: u64)
+        ensures { self.new ≡ moved_if count now self.old }
+    {
+        if count > 0 {
+            self.since = now;
+            self.line = self.line.moves();
+        }
+    }
+
     /// Its socket stands so from now on.
-    pub(crate) fn stands(&mut self, line: Line)
+    pub fn stands(&mut self, line: Line)
         ensures { self.new ≡ with_line line self.old }
     {
         self.line = line;
     }
 
+    /// None of these bytes could be written. They are kept, as after `wrote`. A broken connection is cut.
+    pub fn write_failed(&mut self, bytes: &[u8], trouble: Trouble)
+        ensures { (kept : ClientState) × HasWritten bytes.now 0 self.old kept × (self.new ≡ unwritten_by trouble kept) }
+    {
+        self.wrote(bytes, 0);
+        self.line = self.line.write_failed(trouble);
+        if trouble == Trouble::Broken {
+            self.stage = Stage::Cut;
+        }
+    }
+
     /// What it has sent is remembered for the log.
-    pub(crate) fn note_heard(&mut self, bytes: &[u8])
+    pub fn note_heard(&mut self, bytes: &[u8])
         ensures { self.new ≡ self.old }
     {
         if let Some(visit) = &mut self.visit {
@@ -182,7 +221,7 @@ impl Client {
     }
 
     /// What was written to it is remembered for the log.
-    pub(crate) fn note_sent(&mut self, bytes: &[u8])
+    pub fn note_sent(&mut self, bytes: &[u8])
         ensures { self.new ≡ self.old }
     {
         if let Some(visit) = &mut self.visit {

@@ -1,8 +1,8 @@
 -- How a connection's socket stands, as far as it was told. Ours.
 use Rattle.std.specs.Prelude.{Bool, true, false, ◌||◌}
-use Rattle.station.specs.declared.line.Line.{Line}
-use Rattle.station.specs.declared.line.Trouble.{Trouble}
-use Rattle.station.specs.declared.line.Trouble.TheVariants.{Blocked, Interrupted, Broken}
+use Rattle.serve_clients.specs.declared.line.Line.{Line}
+use Rattle.serve_clients.specs.declared.line.Trouble.{Trouble}
+use Rattle.serve_clients.specs.declared.line.Trouble.TheVariants.{Blocked, Interrupted, Broken}
 
 abbrev pub new_line : Line
 new_line = record { queued = false; readable = false; writable = false; moved = false }

@@ -1,0 +1,69 @@
+-- The connections of a server, and whose turn it is. Ours.
+use Rattle.std.specs.Prelude.{◌≡◌, ◌≢◌, ◌⊎◌, ◌≤◌, ◌+◌, ℕ, Bool, true, false, ◌||◌, [], ◌∷◌, ◌++◌, Some}
+use Rattle.slab.specs.Slab.{get}
+use Rattle.serve_clients.specs.Client.{ClientState, after_of, cut, with_line}
+use Rattle.serve_clients.specs.Line.{queued_as, read_failed_by, told_of, write_failed_by}
+use Rattle.serve_clients.specs.declared.clients.Clients.{Clients}
+use Rattle.serve_clients.specs.declared.client.After.{After}
+use Rattle.serve_clients.specs.declared.client.After.TheVariants.{Shuts}
+use Rattle.serve_clients.specs.declared.client.Stage.TheVariants.{Closing}
+use Rattle.serve_clients.specs.declared.line.Trouble.{Trouble}
+use Rattle.serve_clients.specs.declared.line.Trouble.TheVariants.{Broken}
+
+-- the other connections are as they were
+abbrev pub OthersStay : ℕ → Clients → Clients → Type 0
+OthersStay key old new = (other : ℕ) → other ≢ key → get new.slots other ≡ get old.slots other
+
+-- all connections are as they were
+abbrev pub AllStay : Clients → Clients → Type 0
+AllStay old new = (key : ℕ) → get new.slots key ≡ get old.slots key
+
+-- the connection waits for its turn
+abbrev pub with_turn : ClientState → ClientState
+with_turn client = with_line (queued_as true client.line) client
+
+-- The connection with this key becomes this one, and it has a turn: it waits for one already, or it is the last now. Only
+-- without memory it gets none.
+abbrev pub HasTurn : ℕ → ClientState → Clients → Clients → Type 0
+HasTurn key client old new =
+    ((client.line.queued ≡ true) × (get new.slots key ≡ Some client) × (new.turns.items ≡ old.turns.items))
+    ⊎ ((client.line.queued ≡ false) × (get new.slots key ≡ Some (with_turn client)) × (new.turns.items ≡ old.turns.items ++ key ∷ []))
+    ⊎ ((client.line.queued ≡ false) × (get new.slots key ≡ Some client) × (new.turns.items ≡ old.turns.items) × (old.turns.cap ≤ old.turns.len))
+
+-- there is room for a turn of each connection, whatever turns wait
+abbrev pub HasRoom : Clients → Type 0
+HasRoom clients = clients.turns.len + clients.slots.capacity ≤ clients.turns.cap
+
+-- the system has told that a connection may have bytes, or room for some
+abbrev pub told_by : Bool → Bool → ClientState → ClientState
+told_by readable writable client = with_line (told_of readable writable client.line) client
+
+-- ---- what failed
+abbrev pub cut_by : Trouble → ClientState → ClientState
+cut_by Broken client = cut client
+cut_by trouble client = client
+
+-- nothing could be read: a broken connection is cut
+abbrev pub unread_by : Trouble → ClientState → ClientState
+unread_by trouble client = cut_by trouble (with_line (read_failed_by trouble client.line) client)
+
+-- nothing could be written of it, whose bytes are kept
+abbrev pub unwritten_by : Trouble → ClientState → ClientState
+unwritten_by trouble client = cut_by trouble (with_line (write_failed_by trouble client.line) client)
+
+-- ---- the end of a turn
+-- who was told the end closes from then on
+abbrev pub turned_in : After → ℕ → ClientState → ClientState
+turned_in Shuts now client = record client { stage = Closing; since = now }
+turned_in after now client = client
+
+abbrev pub turned_at : ℕ → ClientState → ClientState
+turned_at now client = turned_in (after_of client) now client
+
+abbrev pub is_shut : After → Bool
+is_shut Shuts = true
+is_shut after = false
+
+-- another turn follows if bytes went over it, or may at once, or were said to be its last
+abbrev pub goes_again : Bool → ClientState → Bool
+goes_again reads client = client.line.moved || (is_shut (after_of client) || reads)

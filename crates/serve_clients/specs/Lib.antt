@@ -1,0 +1,4 @@
+pub mod Line
+pub mod Client
+pub mod Patience
+pub mod Clients

@@ -1,0 +1,54 @@
+//! How a source that is on the air fares.
+ghost use Rattle.std.specs.Prelude.{◌≡◌, false, true};
+ghost use Rattle.station.specs.Air.{IsStarved, noted, outcome_of, wants_answer};
+
+use crate::air::OnAir;
+use import_record::Taken;
+use serve_sources::Outcome;
+
+impl OnAir {
+    /// Whether the peer waits for an answer once its body has ended.
+    pub fn wants_answer(&self) -> bool
+        ensures { result ≡ wants_answer self.now.body }
+    {
+        match &self.body {
+            Some(body) => body.awaits_answer(),
+            None => false,
+        }
+    }
+
+    /// What became of what has come, once the stream has ended.
+    pub fn outcome(&self) -> Outcome
+        ensures { result ≡ outcome_of self.now.lost self.now.complete self.now.body }
+    {
+        match &self.body {
+            _ if self.lost => Outcome::Lost,
+            Some(body) if body.is_framed() && !self.complete => Outcome::Broken,
+            _ => Outcome::Whole,
+        }
+    }
+
+    /// Whether nothing can be done before further bytes come.
+    pub fn is_hungry(&self) -> bool
+        ensures yes { result ≡ true → IsStarved self.now }
+        ensures no { result ≡ false → ¬ (IsStarved self.now) }
+    {
+        !self.ended && self.starved && self.decoded == 0 && self.import.waits()
+    }
+
+    /// Something that came isn't recorded.
+    pub fn lose(&mut self)
+        ensures { self.new ≡ record self.old { lost = true } }
+    {
+        self.lost = true;
+    }
+
+    /// A page was taken, or the end. Packets that were refused are lost.
+    pub(crate) fn note(&mut self, taken: &Taken)
+        ensures { self.new ≡ noted taken.now self.old }
+    {
+        if taken.answered.refused.is_some() {
+            self.lost = true;
+        }
+    }
+}
