@@ -78,7 +78,7 @@ up "$work/told.ogg" --password-file "$work/password" --listeners 3 --log </dev/n
 begun=$SECONDS
 check "nobody is on the air" [ "$(metric kudzuturret_on_air)" = 0 ]
 check "a whole source" [ "$(code -A "a \"quoted\" agent" -u source:secret -T "$work/whole" "http://127.0.0.1:$port/x")" = 200 ]
-check "a source that is cut" [ "$(code -u source:secret -T "$work/cut" "http://127.0.0.1:$port/x")" = 200 ]
+check "a source whose last page is cut" [ "$(code -u source:secret -T "$work/cut" "http://127.0.0.1:$port/x")" = 200 ]
 check "a wrong password" [ "$(code -u source:wrong -T "$work/whole" "http://127.0.0.1:$port/x")" = 401 ]
 check "both are listed" until_listed 'link 1 .*'
 exec 3<>"/dev/tcp/127.0.0.1/$port" 4<>"/dev/tcp/127.0.0.1/$port" 5<>"/dev/tcp/127.0.0.1/$port"
@@ -166,6 +166,12 @@ check "its last line" is_text "$work/err" "serving http://127.0.0.1:$port/\narch
 check "what was heard is the file" cmp "$work/heard" "$ogg"
 run links "$ogg"
 check "the file is sealed" grep -qx "committed $(wc -c <"$ogg")" "$work/out"
+
+# A source that can't be read is told, also by the status: a folder can be opened, and not read.
+run station "$work/broken.ogg" 127.0.0.1:0 --seal <"$work"
+check "an input that can't be read: status $status" [ "$status" -eq 1 ]
+check "it is told" grep -qx "fault archive 1 Read" "$work/err"
+check "the run ends with a fault" [ "$(tail -n 1 "$work/err")" = "fault refused" ]
 
 # Faults before it serves.
 run station "$work/http.ogg" nowhere </dev/null

@@ -142,7 +142,9 @@ fn run(
             Err(_) => return Err(Fault::Net),
         };
         sockets.accept(station, log, now);
-        sockets.read_input(rt, station, now);
+        if let Err(fault) = sockets.read_input(rt, station, now) {
+            told.given_up(fault);
+        }
         busy = record(rt, station, sockets, told, log, now)?;
         sockets.turns(station, log, now);
         log.tell(told);

@@ -2,6 +2,7 @@
 
 use crate::logging::Log;
 use crate::recorders::HeardDisk;
+use import_record::RecordFault;
 use mio::net::{TcpListener, TcpStream};
 use mio::unix::SourceFd;
 use mio::{Events, Interest, Poll, Token};
@@ -198,23 +199,39 @@ impl Sockets {
         self.poll.registry().register(stream, Token(token), both)
     }
 
-    /// Reads standard input once, if it is wanted and has bytes.
-    pub fn read_input(&mut self, rt: &HostRuntime, station: &mut Station<HeardDisk>, now: u64) {
+    /// Reads standard input once, if it is wanted and has bytes. After a fault the input has ended.
+    pub fn read_input(
+        &mut self,
+        rt: &HostRuntime,
+        station: &mut Station<HeardDisk>,
+        now: u64,
+    ) -> Result<(), RecordFault> {
         if !self.has_input() || !station.wants_input() {
-            return;
+            return Ok(());
         }
-        match rt.stdin().read(self.buffer.as_mut_slice()) {
-            Ok(count) if count > 0 && station.input(&self.buffer[..count], now).is_ok() => {
-                if self.input != Input::Unwatched {
-                    self.input = watch_again(&self.poll);
+        let ended = match rt.stdin().read(self.buffer.as_mut_slice()) {
+            Ok(0) => Ok(()),
+            Ok(count) => match station.input(&self.buffer[..count], now) {
+                Ok(()) => {
+                    if self.input != Input::Unwatched {
+                        self.input = watch_again(&self.poll);
+                    }
+                    return Ok(());
                 }
-            }
-            // Without memory for what came, the input ends here too.
-            _ => {
-                self.input = Input::Ended;
-                station.input_ended(now);
-            }
-        }
+                Err(_) => Err(RecordFault::Memory),
+            },
+            Err(error) => match trouble(&error) {
+                Trouble::Interrupted => return Ok(()),
+                Trouble::Blocked => {
+                    self.input = watch_again(&self.poll);
+                    return Ok(());
+                }
+                Trouble::Broken => Err(RecordFault::Read),
+            },
+        };
+        self.input = Input::Ended;
+        station.input_ended(now);
+        ended
     }
 
     /// Whether standard input has bytes, or its end.

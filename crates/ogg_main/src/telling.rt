@@ -83,8 +83,9 @@ impl<'a> Told<'a> {
         }
     }
 
-    /// A source was given up.
+    /// A source was given up: what it sent later is lost.
     pub fn given_up(&mut self, fault: RecordFault) {
+        self.is_refused = true;
         self.erase();
         let _ = write_fault(&Fault::Archive(fault), &mut self.rt.stderr());
     }
