@@ -1,6 +1,6 @@
 -- Sessions in a list, and those of the machine.
-use Rattle.std.proofs.Common.{◌≡◌, ℕ, suc, ◌+◌, ◌<◌, Bool, true, false, not, Option, Some, None, List, [], ◌∷◌, ◌++◌, length, get_or, set, take, append_assoc, refl, sym, ◌∙◌, ap, subst, arith, inl, inr}
-use Rattle.std.specs.Prelude.{nat_eq}
+use Rattle.std.proofs.Common.{◌≡◌, ℕ, zero, suc, ◌+◌, ◌<◌, Bool, true, false, not, Option, Some, None, List, [], ◌∷◌, ◌++◌, length, get_or, set, take, append_assoc, refl, sym, ◌∙◌, ap, subst, arith, inl, inr}
+use Rattle.std.specs.Prelude.{nat_eq, slice_get}
 use Rattle.std.specs.List.{filter}
 use Rattle.std.specs.Option.{option_map}
 use Rattle.std.proofs.lemmas.Bool.{cases_Bool, cond-true, cond-false}
@@ -181,3 +181,9 @@ kept_on committed more after e index parts machine now same law front are = (
   subst (λ (l : List Session). AreSessions after parts l) (sym same)
       (subst (λ (l : List ℕ). AreSessions l parts machine) (sym e) (all_stay committed more law parts machine are)),
 )
+
+-- a session inside is the one that is read there
+pub got_at : (parts : List SessionParts) (place : ℕ) (d : SessionParts) → place < length parts → slice_get parts place ≡ Some (get_or parts place d)
+got_at [] place d inside = absurd (omega (arith, inside))
+got_at (s ∷ parts) zero d inside = refl
+got_at (s ∷ parts) (suc place) d inside = got_at parts place d (omega (arith, inside))

@@ -1,5 +1,5 @@
 -- What a call of a session changes in the session. Ours.
-use Rattle.std.specs.Prelude.{◌≡◌, ◌≢◌, ◌<◌, ◌≤◌, ◌^◌, ℕ, false, Option, Some, None, Result, Ok, Err, List, [], ◌++◌, take, drop}
+use Rattle.std.specs.Prelude.{◌≡◌, ◌≢◌, ◌⊎◌, ◌+◌, ◌<◌, ◌≤◌, ◌^◌, ℕ, false, Option, Some, None, Result, Ok, Err, List, [], ◌++◌, length, slice_get, take, drop, vec_capacity, vec_len}
 use Rattle.ogg_http.specs.Head.{IsAwaited}
 use Rattle.ogg_page.specs.Page.{Page}
 use Rattle.ogg_page.specs.Window.{KeepsSource}
@@ -13,6 +13,10 @@ use Rattle.serve_machine.specs.declared.answers.Progress.TheVariants.{More, Read
 use Rattle.serve_machine.specs.declared.fault.HubFault.{HubFault}
 use Rattle.serve_machine.specs.declared.fault.HubFault.TheVariants.{NoSession, SessionsFull, Source, Memory, NoFile}
 use Rattle.ogg_serve.specs.Indexing.{IsOfFront}
+use Rattle.ogg_serve.specs.Parts.{place_in}
+use Rattle.ogg_serve.specs.declared.session.Session.{Session as SessionParts}
+use Rattle.ogg_serve.specs.declared.session.Stage.{Stage}
+use Rattle.ogg_serve.specs.declared.session.Stage.TheVariants.{Head, Response}
 
 -- ---- what is received
 -- The head of a request after bytes were added: it isn't complete, or this is the response to it. After a fault it is
@@ -26,6 +30,19 @@ HeadGets committed old bytes (Err Memory) new = new ≡ old
 HeadGets committed old bytes (Err NoSession) new = ⊥
 HeadGets committed old bytes (Err SessionsFull) new = ⊥
 HeadGets committed old bytes (Err NoFile) new = ⊥
+
+-- why bytes are refused for want of memory: the head has no room for them, or they complete it
+abbrev pub LacksRoom : Stage → List ℕ → Type 0
+LacksRoom (Head head) bytes = (vec_capacity head < vec_len head + length bytes) ⊎ ((asked : Option Asked) × Asks (head.items ++ bytes) asked)
+LacksRoom (Response sending) bytes = ⊥
+
+-- so of the session with this number
+pub record LacksRoomIn (id : ℕ) (sessions : List SessionParts) (bytes : List ℕ) : Type 0 where
+  pub place : ℕ
+  pub session : SessionParts
+  pub found : place_in id sessions ≡ Some place
+  pub is : slice_get sessions place ≡ Some session
+  pub lacks : LacksRoom session.stage bytes
 
 -- the phase of a session when bytes have come to it
 abbrev pub PhaseGets : List ℕ → Phase → List ℕ → Result Progress HubFault → Phase → Type 0

@@ -4,6 +4,7 @@ ghost use Rattle.ogg_recorder.specs.Recorder.{RecorderState, committed};
 ghost use Rattle.serve_machine.specs.Hub.{HubState, IsNew, IsNewFor, Connect, Receive, Pull, Close, Record, Flush, Group, Reopen, most_sessions};
 ghost use Rattle.serve_machine.specs.Calls.{Steps, found_by, given_in};
 ghost use Rattle.ogg_serve.specs.Parts.{HasNoPlace, OnlyFile, OnlySessions, next_of, place_in};
+ghost use Rattle.ogg_serve.specs.Serving.{LacksRoomIn};
 ghost use Rattle.ogg_serve.specs.Images.{IfFile, Records, Flushes, Reads, Fails, Reopens, disk_in};
 
 use crate::commanding::{command_file, flush_file, group_file, held_in};
@@ -245,6 +246,9 @@ impl<D: Disk + Drop> Hub<D> {
     /// changed then, nor after `Memory`. After `Source` the session has ended.
     pub fn receive(&mut self, id: u64, bytes: &[u8]) -> Result<Progress, HubFault>
         ensures step { Steps (Shows D.is_honest D.state) self.old self.new (λ after. Receive id bytes.now result) }
+
+        // `Memory` comes if the session's head has no room for the bytes, or once they complete it.
+        ensures memory { result ≡ Err HubFault.Memory → LacksRoomIn id self.old.sessions bytes.now }
 
         // The file is only read, and a fault has a cause.
         ensures disk { IfFile (Reads D.is_honest D.state D.moment D.images_since D.failures) self.old.file self.new.file }

@@ -10,7 +10,7 @@ ghost use Rattle.ogg_serve.specs.declared.opening.Lost.{Lost};
 ghost use Rattle.ogg_serve.specs.Images.{IfFile, Reads, Fails};
 ghost use Rattle.ogg_serve.specs.Indexing.{IsOfFront};
 ghost use Rattle.ogg_serve.specs.Parts.{AreInOrder, IdsRise, fault_of_place, place_in};
-ghost use Rattle.ogg_serve.specs.Serving.{fault_without_file};
+ghost use Rattle.ogg_serve.specs.Serving.{LacksRoomIn, fault_without_file};
 ghost use Rattle.ogg_serve.specs.Showing.{AreSessions, ShowsPlace};
 
 use crate::pulling::pull_in;
@@ -92,6 +92,7 @@ pub(crate) fn receive_from<D: Disk + Drop>(
     ensures cause { result ≡ Err HubFault.Source → (lost : Option (Lost D)) (before : HubState)
         → ShowsPlace D.is_honest D.state file.old lost before → IsOfFront before.committed index.old
         → (links : List (List Page)) → AreLinks before.committed links → IfFile (Fails D.is_honest D.state D.moment D.images_since D.failures) file.old file.new }
+    ensures memory { result ≡ Err HubFault.Memory → LacksRoomIn id sessions.old.items bytes.now }
     ensures disk { IfFile (Reads D.is_honest D.state D.moment D.images_since D.failures) file.old file.new }
     ensures order { (next : ℕ) → AreInOrder next sessions.old.items → AreInOrder next sessions.new.items }
     ensures no_session { (result ≡ Err HubFault.NoSession) ↔ (place_in id sessions.old.items ≡ None) }

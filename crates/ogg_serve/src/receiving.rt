@@ -5,7 +5,7 @@ ghost use Rattle.serve_sending.specs.Sending.{IsLeft};
 ghost use Rattle.serve_machine.specs.Hub.{HubState, Phase, Session as SessionOf, phase_of, receive_step};
 ghost use Rattle.ogg_serve.specs.Indexing.{IsOfFront};
 ghost use Rattle.ogg_serve.specs.Parts.{AreInOrder, IdsRise, place_in};
-ghost use Rattle.ogg_serve.specs.Serving.{HeadGets, PhaseGets, Indexes, fault_in};
+ghost use Rattle.ogg_serve.specs.Serving.{HeadGets, LacksRoom, LacksRoomIn, PhaseGets, Indexes, fault_in};
 ghost use Rattle.ogg_serve.specs.Showing.{AreSessions, IsPhase};
 
 use crate::indexing::bring_up;
@@ -87,6 +87,7 @@ pub(crate) fn receive_stage<S: PageSource>(
     ensures phase { S.is_honest window.old.source → IsOfFront (S.bytes window.old.source) index.old
         → (phase : Phase) → IsPhase (S.bytes window.old.source) stage.old phase
         → (after : Phase) × IsPhase (S.bytes window.old.source) stage.new after × PhaseGets (S.bytes window.old.source) phase bytes.now result after }
+    ensures memory { result ≡ Err HubFault.Memory → LacksRoom stage.old bytes.now }
     ensures faults { IfErr result (λ fault. (fault ≡ HubFault.Source) ⊎ (fault ≡ HubFault.Memory)) }
     ensures indexes { Indexes S.bytes S.is_honest S.size S.failures S.only_reads (fault_in result) window.old.source window.new.source index.old index.new }
 {
@@ -117,6 +118,7 @@ pub(crate) fn receive_in<S: PageSource>(
         → IsOfFront machine.committed index.old → AreSessions machine.committed sessions.old.items machine.sessions
         → (left : List SessionOf) × AreSessions machine.committed sessions.new.items left
         × receive_step (phase_of machine id) true machine id bytes.now result (record machine { sessions = left }) }
+    ensures memory { result ≡ Err HubFault.Memory → LacksRoomIn id sessions.old.items bytes.now }
     ensures order { (next : ℕ) → AreInOrder next sessions.old.items → AreInOrder next sessions.new.items }
     ensures no_session { (result ≡ Err HubFault.NoSession) ↔ (place_in id sessions.old.items ≡ None) }
     ensures some { (result ≢ Err HubFault.NoFile) × (result ≢ Err HubFault.SessionsFull) }

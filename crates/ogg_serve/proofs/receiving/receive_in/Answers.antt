@@ -1,10 +1,11 @@
-use Rattle.std.proofs.Common.{◌≡◌, Option, Some, None, true, Err, refl, sym, ◌∙◌, ap, subst, arith}
+use Rattle.std.proofs.Common.{◌≡◌, List, Option, Some, None, true, Err, get_or, refl, sym, ◌∙◌, ap, subst, arith}
 use Rattle.link_chain.specs.Laws.Walked.{no_fault_there}
 use Rattle.serve_machine.specs.Hub.{Phase, receive_step}
 use Rattle.serve_machine.specs.declared.fault.HubFault.TheVariants.{NoSession}
 use Rattle.ogg_serve.specs.Indexing.{IsOfFront}
 use Rattle.ogg_serve.specs.Parts.{AreInOrder, IdsRise, place_in}
-use Rattle.ogg_serve.proofs.Listed.{found, not_found, place_inside, written_back}
+use Rattle.ogg_serve.specs.declared.session.Session.{Session}
+use Rattle.ogg_serve.proofs.Listed.{found, got_at, not_found, place_inside, written_back}
 use Rattle.ogg_serve.proofs.Ordered.{order_set, rise_set, same_id}
 use Rattle.ogg_serve.proofs.Steps.{phase_there, receive_ok, receive_err}
 use Rattle.ogg_serve.proofs.receiving.receive_in.Goals as goal
@@ -73,3 +74,18 @@ returns-in-Err-clause-order g c next order =
     c.end_after.ensures.order next
     (subst (AreInOrder next) (sym (written_back c.args.sessions.now.len c.in-Some.place items c.as_mut_slice.result.now _ _ c.as_mut_slice.ensures.value c.args.sessions.now.ok.0))
     (order_set next items c.in-Some.place _ (λ d inside. same_id items c.as_mut_slice.result.now c.in-Some.place c.index-as_mut_slice-place.result d c.as_mut_slice.ensures.value inside) order))
+
+pub returns-in-Err-clause-memory : goal.returns-in-Err-clause-memory
+returns-in-Err-clause-memory g c e =
+    let items = c.args.sessions.now.items in
+    let d = c.index-as_mut_slice-place.result in
+    let at : place_in c.args.id items ≡ Some c.in-Some.place = ap (place_in c.args.id) (sym c.as_slice.ensures.value) ∙ sym c.place_of.ensures ∙ c.in-Some.is in
+    record {
+      place = c.in-Some.place;
+      session = get_or c.as_mut_slice.result.now c.in-Some.place d;
+      found = at;
+      is =
+          got_at items c.in-Some.place d (place_inside c.args.id c.in-Some.place items at)
+          ∙ ap (λ (l : List Session). Some (get_or l c.in-Some.place d)) (sym c.as_mut_slice.ensures.value);
+      lacks = c.in-Err.ensures.memory e;
+    }
