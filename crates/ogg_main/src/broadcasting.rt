@@ -127,7 +127,7 @@ fn tell_address(rt: &HostRuntime, sockets: &Sockets) {
     }
 }
 
-/// Round after round, until a fault.
+/// Round after round, until a fault, or until the station has come to its end.
 fn run(
     rt: &HostRuntime,
     station: &mut Station<HeardDisk>,
@@ -141,21 +141,44 @@ fn run(
             Ok(now) => now,
             Err(_) => return Err(Fault::Net),
         };
-        sockets.accept(station, log, now);
-        if let Err(fault) = sockets.read_input(rt, station, now) {
-            told.given_up(fault);
-        }
+        take(rt, station, sockets, told, log, now);
         busy = record(rt, station, sockets, told, log, now)?;
-        sockets.turns(station, log, now);
-        log.tell(told);
-        if station.look(now) {
-            told.show_other(station_line(station.shown()).as_slice());
-        }
+        serve(station, sockets, told, log, now);
         if station.is_finished(now) {
             break;
         }
     }
     Ok(())
+}
+
+/// Takes the connections that wait, and bytes of standard input.
+fn take(
+    rt: &HostRuntime,
+    station: &mut Station<HeardDisk>,
+    sockets: &mut Sockets,
+    told: &mut Told<'_>,
+    log: &mut Log<'_>,
+    now: u64,
+) {
+    sockets.accept(station, log, now);
+    if let Err(fault) = sockets.read_input(rt, station, now) {
+        told.given_up(fault);
+    }
+}
+
+/// Gives each connection its turn, and tells how it goes.
+fn serve(
+    station: &mut Station<HeardDisk>,
+    sockets: &mut Sockets,
+    told: &mut Told<'_>,
+    log: &mut Log<'_>,
+    now: u64,
+) {
+    sockets.turns(station, log, now);
+    log.tell(told);
+    if station.look(now) {
+        told.show_other(station_line(station.shown()).as_slice());
+    }
 }
 
 /// Waits until something can be done, and returns the time. If the station is busy nothing is waited for.
