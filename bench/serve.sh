@@ -132,8 +132,9 @@ printf '%-22s %10s\n' 'memory of serve' 'most, kB'
 few=
 for size in 1000000 "$bytes"; do
     "$work/pages_made" "$size" 4000 2 >"$work/file.ogg"
-    start serve "$work/file.ogg"
+    # An open file has a byte after its pages.
     whole=$(stat -c %s "$work/file.ogg")
+    start serve "$work/file.ogg"
     "$work/serve_client" "$server" "$port" /all "$whole" 0 1 >"$work/one" || status=1
     "$program" split "$work/file.ogg" 0 1 >"$work/stream.ogg"
     "$work/serve_client" "$server" "$port" /link/0/1 "$(stat -c %s "$work/stream.ogg")" 0 1 >"$work/one" || status=1
