@@ -1,5 +1,5 @@
 #!/usr/bin/env bash
-# Files are written as players like them: an ended stream ends on a page with a packet.
+# Files are written so that players stop at the right sample: an ended stream ends on a page with a packet.
 . "$(dirname "$0")/../helpers/common.bash"
 
 # becomes NAME WANT WORD ..: checks that what finish writes is this file.

@@ -107,7 +107,7 @@ module _ {D : Type 0} (is_honest : D → Type 0) (state : D → DiskState) (mome
     -- the kept commands are acknowledged, after those that were
     pub keeps : after.world.acknowledged ≡ before.world.acknowledged ++ kept_after before.world.held all.records all.replies
     pub stands : Stands before → Stands after
-    -- at each moment each image shows some first ones of the accepted commands
+    -- at each moment each image shows a prefix of the accepted commands
     pub any_moment : Stands before → before.now.file.failed ≡ false
         → LeavesOnly moment images_since before.now.file.disk after.now.file.disk
         (ShowsSome Shows add before.first (before.world.acknowledged ++ before.world.held ++ accepted_of all.records all.replies))

@@ -1,9 +1,9 @@
--- Many commands as one call: at each moment of it the images show some first ones. Ours.
+-- Many commands as one call: at each moment of it the images show a prefix of them. Ours.
 use Rattle.std.specs.Prelude.{◌≡◌, ℕ, List, [], ◌∷◌, ◌++◌, ⊤}
 use Rattle.std.specs.List.{fold}
 use Rattle.history.specs.World.{Call, Staging, Committing, Flushing, Step, Held, Kept, Flushed, Refused, Faulted}
 
--- the image shows the state after some first commands of these
+-- the image shows the state after a prefix of these commands
 pub record ShowsSome {S C : Type 0} (shows : List ℕ → S → Type 0) (next : S → C → S) (first : S) (all : List C) (image : List ℕ) : Type 0 where
   pub some : List C
   pub rest : List C

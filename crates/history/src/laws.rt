@@ -12,9 +12,9 @@ ghost use Rattle.history.specs.Runs.{ShowsSome, AreCommands, accepted};
 use crate::Recordings;
 use disk_model::Disk;
 
-/// After any openings, commands, flushes, sealings and stops, at any moment, every image shows what some first
-/// commands have recorded. These commands are in order, every acknowledged command is among them, and each group is
-/// there as a whole or not at all.
+/// After any openings, commands, flushes, sealings and stops, at any moment, every image shows what a prefix of the
+/// commands has recorded. Every acknowledged command is in that prefix, and each group is there as a whole or not at
+/// all.
 pub fn stops_keep_what_was_acknowledged<D: Disk, B: Recordings>()
     // Between two calls.
     ensures at_end { (first : B.State) (disk now : D) (w : World B.Command)
@@ -103,7 +103,7 @@ pub fn histories_go_on<D: Disk, B: Recordings>()
         → disk_after disk (some ++ more) ≡ disk_after (disk_after disk some) more }
 {}
 
-/// At each moment of a call that records many commands, the images show some first ones of those that it accepted.
+/// At each moment of a call that records many commands, the images show a prefix of those that it accepted.
 pub fn runs_show_first_commands<D: Disk, B: Recordings>()
     ensures { (first : B.State) (w : World B.Command) (disk : D) (steps : List (Step B.Command × D))
         → D.is_honest disk → ShowsOnly B.shows (D.state disk) (now_in B.next first w)

@@ -2,8 +2,9 @@
 //!
 //! A call's contract says what it leaves at each moment (`Leaves`) and what is known after its answer (`Meets`). These
 //! laws say what follows for every list of such calls, with stops between them and inside them: every image shows what
-//! some first commands have recorded, and every acknowledged command is among them. Commands may share a commit: those
-//! that wait for it are in no image, and after a fault or a stop in it an opening finds all of them or none.
+//! a prefix of the commands has recorded, and every acknowledged command is in that prefix. Commands may share a
+//! commit: those that wait for it are in no image, and after a fault or a stop in it an opening finds all of them or
+//! none.
 //!
 //! Nothing here knows of pages, and nothing runs: `Recordings` says what an image shows and what a command changes,
 //! and `Committed` how images show it by committed bytes.

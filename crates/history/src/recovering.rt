@@ -63,7 +63,7 @@ pub fn recordings_grow_by_commands<D: Disk, B: Recordings>()
     ensures grows { (state : B.State) (recording : B.Recording) (more : List B.Command)
         → B.holds state recording → AreAccepted B.accepts B.next state more
         → B.holds (fold B.next state more) (fold B.add recording more) }
-    // So what images show holds the first recording with some first commands added.
+    // So what images show holds the first recording with a prefix of the commands added.
     ensures shown { (first : B.State) (recording : B.Recording) (steps : List (Step B.Command × D))
         (w : World B.Command) (image : List ℕ) → B.holds first recording
         → (first_ones : ShowsFirst B.shows B.accepts B.next first steps w image)

@@ -63,7 +63,7 @@ impl Intake {
 
     /// Takes a page that begins at `offset` in the input, mended if it has to be, and has the commands run that it
     /// completes, with their pages written to `pages`. A refusal ends nothing. After `Memory` nothing of the page was
-    /// run; after `Write` some first commands of it were. Take no further page then.
+    /// run; after `Write` a prefix of its commands was. Take no further page then.
     pub fn take_page<T: Runner, P: Write>(
         &mut self,
         runner: &mut T,

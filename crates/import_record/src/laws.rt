@@ -48,8 +48,7 @@ pub fn recordings_are_runs_of_mended_commands<T: Runner>()
 }
 
 /// If a recorder runs them, they are steps of the history of its file: so at each moment every image of an honest disk
-/// shows some first ones of these commands, all that were acknowledged among them. The file grows by exactly those
-/// that are kept.
+/// shows a prefix of these commands, with all that were acknowledged. The file grows by exactly those that are kept.
 pub fn recordings_are_steps_of_their_file<D: Disk>()
     ensures steps { (events : List Event) (old new : IntakeState) (done : Done) (before after : Progress D)
         → Records (Answers D.is_honest D.state D.moment D.images_since D.failures) events old new done before after

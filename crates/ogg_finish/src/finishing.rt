@@ -1,4 +1,4 @@
-//! A link written as players like it.
+//! A link is written anew, so that players stop at the right sample.
 ghost use Rattle.std.specs.Prelude.{◌≡◌, ◌≢◌, ◌↔◌, ◌⊎◌, ◌≤◌, ◌<◌, ◌^◌, ◌-◌, List, [], Some, None, Err, OnOk, OnErr, IfOk, IfErr, length, map, slice_get};
 ghost use Rattle.std.specs.Io.KnownBytes.{Appends};
 ghost use Rattle.std.specs.List.{flat_map};

@@ -1,4 +1,5 @@
-//! Links as players like them: an ended stream ends on a page with a packet (RFC 3533, sections 4 and 6).
+//! Finished links, in which players stop at the right sample: an ended stream ends on a page with a packet (RFC 3533,
+//! sections 4 and 6).
 //!
 //! `End` marks a stream's last page by one page more, without packets. Many players then play a few samples too many,
 //! or too few. A finished link is the same but for these pages: they are left out, and the page before, with the

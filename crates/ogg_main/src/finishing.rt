@@ -1,4 +1,4 @@
-//! The command that writes a file as players like it.
+//! The command that writes a file anew, so that players stop at the right sample.
 
 use crate::files::{Reading, flushed, output, read};
 use disk_model::FileDisk;

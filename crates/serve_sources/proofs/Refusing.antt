@@ -13,7 +13,7 @@ use Rattle.serve_sources.specs.declared.reply.Reply.{Reply}
 use Rattle.serve_sources.specs.Credentials.{authorizes}
 use Rattle.serve_sources.specs.Fields.{only}
 use Rattle.serve_sources.specs.Framing.{framing_by, framing_of, has_host}
-use Rattle.serve_sources.specs.Offer.{IsOffer, Says, by_framing, verdict_by}
+use Rattle.serve_sources.specs.Offer.{IsOffer, Says, by_framing, decision_by}
 
 no_body : (framing : Option Framing) (reply : Reply) (used : ℕ) (offer : Offer) → IsOffer used (by_framing framing false reply) offer → (offer ≡ Offered.Refused BadRequest) ⊎ (offer ≡ Offered.Refused Unauthorized)
 no_body None reply used offer is = inl is
@@ -23,7 +23,7 @@ no_body (Some framing) reply used offer is = inr is
 pub none_without_password : (password : List ℕ) (head : RequestHead) (offer : Offer) → authorizes (only (codes "authorization") (map name_and_value head.fields)) password ≡ false → Says password head offer → (offer ≡ Offered.Refused BadRequest) ⊎ (offer ≡ Offered.Refused Unauthorized)
 none_without_password password head offer wrong says =
     no_body _ _ (length (print_request head)) offer
-    (subst (λ authorized. IsOffer (length (print_request head)) (verdict_by (bytes_eq head.method (codes "SOURCE")) (head.minor == 1) (known_fields (map name_and_value head.fields)) authorized) offer) wrong says)
+    (subst (λ authorized. IsOffer (length (print_request head)) (decision_by (bytes_eq head.method (codes "SOURCE")) (head.minor == 1) (known_fields (map name_and_value head.fields)) authorized) offer) wrong says)
 
 neither : (b : Bool) (x : Option Framing) → cond (b && not true) x None ≡ None
 neither true x = refl

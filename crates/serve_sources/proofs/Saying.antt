@@ -19,7 +19,7 @@ use Rattle.serve_sources.specs.declared.offer.Offer.{Offer}
 use Rattle.serve_sources.specs.Asking.{HasHead, LacksHead}
 use Rattle.serve_sources.specs.Credentials.{authorizes}
 use Rattle.serve_sources.specs.Fields.{only}
-use Rattle.serve_sources.specs.Offer.{IsOffer, Says, verdict_by, verdict_of}
+use Rattle.serve_sources.specs.Offer.{IsOffer, Says, decision_by, decision_of}
 
 -- the bytes in which a head is looked for
 pub looked_at : (n : ℕ) (bytes : List ℕ) → n ≡ min (length bytes) 8192 → take n bytes ≡ head_bytes bytes
@@ -84,13 +84,13 @@ has_head n bytes spans found head is room covers = (
   few (take n bytes) spans found.headers head.fields covers.fields room,
 )
 
--- the verdict by the spans is that on the head
+-- the decision by the spans is that on the head
 pub says : (bytes : List ℕ) (spans : List HeaderSpan) (found : RequestSpans) (head : RequestHead) (password : List ℕ) (is_source authorized : Bool) (known : KnownFields) (offer : Offer)
     → IsRequestAt bytes spans found head
     → is_source ≡ bytes_eq (span_bytes bytes found.method) (codes "SOURCE")
     → known ≡ known_fields (map (header_bytes bytes) (take found.headers spans))
     → authorized ≡ authorizes (only (codes "authorization") (map (header_bytes bytes) (take found.headers spans))) password
-    → IsOffer found.len (verdict_by is_source (found.version == 1) known authorized) offer
+    → IsOffer found.len (decision_by is_source (found.version == 1) known authorized) offer
     → Says password head offer
 says bytes spans found head password is_source authorized known offer covers source fields given decided =
     let by_source : is_source ≡ bytes_eq head.method (codes "SOURCE") = source ∙ ap (λ m. bytes_eq m (codes "SOURCE")) covers.method in
@@ -98,6 +98,6 @@ says bytes spans found head password is_source authorized known offer covers sou
     let by_fields : known ≡ known_fields (map name_and_value head.fields) = fields ∙ ap known_fields covers.fields in
     let by_password : authorized ≡ authorizes (only (codes "authorization") (map name_and_value head.fields)) password =
     given ∙ ap (λ fs. authorizes (only (codes "authorization") fs) password) covers.fields in
-    let verdict : verdict_by is_source (found.version == 1) known authorized ≡ verdict_of password head =
-    λ i. verdict_by (by_source i) (by_version i) (by_fields i) (by_password i) in
-    subst₂ (λ n v. IsOffer n v offer) covers.len verdict decided
+    let decision : decision_by is_source (found.version == 1) known authorized ≡ decision_of password head =
+    λ i. decision_by (by_source i) (by_version i) (by_fields i) (by_password i) in
+    subst₂ (λ n d. IsOffer n d offer) covers.len decision decided

@@ -6,7 +6,7 @@ ghost use Rattle.httparse.specs.Spans.{IsHeaderWithin, header_bytes};
 ghost use Rattle.serve_sources.specs.Asking.{HasHead};
 ghost use Rattle.serve_sources.specs.Credentials.{authorizes};
 ghost use Rattle.serve_sources.specs.Fields.{only};
-ghost use Rattle.serve_sources.specs.Offer.{IsOffer, IsUnread, LiesIn, Says, take_framed, verdict_by};
+ghost use Rattle.serve_sources.specs.Offer.{IsOffer, IsUnread, LiesIn, Says, take_framed, decision_by};
 ghost use Rattle.serve_sources.specs.Password.{password_bytes};
 
 use crate::body::Body;
@@ -88,7 +88,7 @@ fn decide(
     known: &KnownFields,
     authorized: bool,
 ) -> Offer
-    ensures { IsOffer used (verdict_by is_source http11 known.now authorized) result }
+    ensures { IsOffer used (decision_by is_source http11 known.now authorized) result }
 {
     match framing_of(http11, known) {
         None => Offer::Refused(Refused::BadRequest),

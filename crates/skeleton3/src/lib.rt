@@ -1,9 +1,9 @@
 //! Packets of an Ogg Skeleton, version 3.0, read and written (Xiph, "Ogg Skeleton 3.0").
 //!
 //! A Skeleton is a logical stream that says what the other streams of its link are: one fishead for the link, and one
-//! fisbone for each stream. Reading borrows from the packet and takes no memory; it accepts exactly the packets
-//! without a fault, and reports the first fault of any other. Writing appends the whole packet to the caller's vector,
-//! or nothing. What was written is read as the same value.
+//! fisbone for each stream. What is read borrows from the packet, and no memory is taken; exactly the packets without a
+//! fault are accepted, and of any other the first fault is reported. Writing appends the whole packet to the caller's
+//! vector, or nothing. What was written is read as the same value.
 //!
 //! Start at `specs/Fishead.antt` and `specs/Fisbone.antt`, which say what the packets are, and at
 //! `specs/Fields.antt` for the message fields, in which a fisbone names its media type.
