@@ -4,10 +4,9 @@ use crate::recorders::{open_recorder, reopen, seal_file};
 use crate::telling::Told;
 use disk_model::{FileDisk, FileMode};
 use fault_lines::Fault;
-use feed_recorder::end_open_streams;
 use import_feed::{ChangeOptions, Skeletons};
 use import_record::{ImportRun, RecordFault, Step, Taken, run_all};
-use ogg_recorder::Recorder;
+use ogg_recorder::{Recorder, end_open_streams};
 use std::io;
 
 /// How many bytes of the stream are read at once.

@@ -7,12 +7,11 @@ use disk_model::{FileDisk, FileMode};
 use fault_lines::Fault;
 use feed_codec::{FeedFault, RunFault, Tally};
 use feed_mux::{check_feed_for, mux_for};
-use feed_recorder::{end_open_streams, record_feed_for};
 use feed_run::{Batched, Buffered, FirstRefusal, Together, run_feed_for};
 use import_feed::{ChangeOptions, make_feed, make_mended_feed};
 use import_renumber::Renumbered;
 use ogg_page::write_whole;
-use ogg_recorder::Recorder;
+use ogg_recorder::{Recorder, end_open_streams, record_feed_for};
 use std::io::{self, BufReader, IsTerminal, Stdin, Write};
 use text_line::Line;
 

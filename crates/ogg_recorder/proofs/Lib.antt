@@ -10,3 +10,8 @@ mod Small
 pub mod Stepping
 pub mod Taken
 pub mod Walked
+pub mod Bytes
+pub mod Ended
+pub mod EndsInTurn
+pub mod Steps
+pub mod World

@@ -5,3 +5,5 @@ pub mod Recorder
 pub mod Answer
 pub mod Running
 pub mod Small
+pub mod Ending
+pub mod Recorded

@@ -8,19 +8,30 @@
 //! Start at `specs/Recovery.antt`, which says what is recovered from an image, and go on to `specs/Recorder.antt`,
 //! which says where a recorder stands in a history; `acknowledged_commands_survive` is what follows for every list of
 //! calls. `specs/Running.antt` says how a recorder runs the records of a feed.
+//!
+//! `record_feed` reads one record of a feed after the other and has a `Recorder` run it. Each command is answered by a
+//! line, which is written before the next record is read, once the command is on the disk or waits for its group. A
+//! refusal ends nothing, and after a disk fault each further command is refused. What waits is kept at the feed's end.
+//! `specs/Recorded.antt` says what a run has recorded at each moment and at its end.
 #![tactic(auto)]
 
 mod commanding;
+mod ending;
 mod laws;
 mod opening;
 mod recorder;
+mod recording;
 mod running;
 mod staging;
 mod taking;
 
 pub use commanding::Outcome;
-pub use feed_codec::Kept;
+pub use ending::end_open_streams;
+pub use feed_codec::{Kept, RunFault, Tally};
 pub use gate_file::OpenFault;
-pub use laws::{Recorded, acknowledged_commands_survive, images_show_one_recording};
+pub use laws::{
+    Recorded, acknowledged_commands_survive, images_show_one_recording, records_are_steps,
+};
 pub use recorder::Recorder;
+pub use recording::{record_feed, record_feed_for};
 pub use running::{reply_to, reply_to_flush};

@@ -1,14 +1,13 @@
-pub mod Fronts
-pub mod Heard
-pub mod Imaged
-pub mod Lasting
-pub mod Linked
-pub mod Listed
-pub mod Ordered
-pub mod FileRead
-pub mod Reopening
-pub mod Sessions
-pub mod Stages
-pub mod Stepping
-pub mod Steps
-pub mod Told
+mod Failing
+mod Faults
+mod Moves
+mod OnlyRead
+mod Received
+mod Sent
+mod Whole
+mod Written
+mod Alongside
+mod Taken
+mod Alone
+mod Lived
+mod ReadOn

@@ -1,7 +1,6 @@
-pub mod Images
-pub mod Indexing
-pub mod Listening
-pub mod Parts
+pub mod Feeding
+pub mod Keeping
+pub mod Life
+pub mod Pieces
 pub mod Serving
-pub mod Showing
-pub mod Running
+pub mod Steps

@@ -1,39 +1,25 @@
-//! A hub: one file that is recorded and served at the same time.
+//! One connection after the other: a request is read, and its response is written, while a feed may be recorded.
 //!
-//! A `Hub` owns a recorder and the sessions of the clients that fetch its file. Each of its calls is one step of the
-//! machine that crate `serve_machine` describes. So the laws of that machine hold of whatever calls come, in any order.
+//! `serve_one` gives a connection its session of a hub, and closes the session whatever happens. `live_one` does the
+//! same, and takes one step of a feed before each piece of the response. A connection is a reader and a writer, as two
+//! handles of one socket are.
 //!
-//! A session keeps the head of its request until it is complete, and then its response: a text, and a place in the
-//! committed bytes. The call that completes a head brings an index of the file up to the end of the committed bytes,
-//! so a request costs only the bytes that are new.
-//!
-//! A listener hears the file while it is recorded: it joins the open link, or waits for the next one, and hears what is
-//! committed. It is the caller's, and a hub keeps nothing of it, so its calls are no steps of the machine.
-//!
-//! Start at `specs/Showing.antt`, which says which machine a hub is seen as, and go on to `src/hub.rt`, which has the
-//! step of each call. `specs/Serving.antt` says what a call changes in its session, and `specs/Images.antt` what each
-//! image of the disk shows while a call goes on. `src/listening.rt` has the calls of listeners, and `src/laws.rt` their
-//! laws.
+//! Start at `specs/Serving.antt`, which says what a connection gets, and go on to `specs/Feeding.antt`, which says
+//! what a step of the feed does. `specs/Steps.antt` says which steps are taken while a connection is served, and
+//! `specs/Keeping.antt` what both leave of the hub. `specs/Life.antt` says what all steps of a feed have run;
+//! `feeds_are_run_beside_sessions` joins them.
 #![tactic(auto)]
 
-mod commanding;
-mod hub;
-mod indexing;
+mod feeding;
 mod laws;
-mod listening;
-mod opening;
-mod pulling;
-mod reading;
-mod receiving;
-mod running;
-mod session;
-mod telling;
+mod live;
+mod pieces;
+mod serve;
+mod trying;
 
-pub use gate_file::OpenFault;
-pub use hub::Hub;
-pub use laws::{
-    images_show_what_was_heard, listeners_go_on_hearing, what_a_hub_lets_hear_is_a_chain,
-};
-pub use ogg_recorder::Outcome;
-pub use serve_live::{JoinPlace, Listener};
-pub use serve_machine::{HubFault, Progress, Pulled};
+pub use feeding::{LiveFeed, Step};
+pub use laws::feeds_are_run_beside_sessions;
+pub use live::live_one;
+pub use pieces::Served;
+pub use serve::serve_one;
+pub use serve_hub::{Hub, HubFault, JoinPlace, Listener, OpenFault, Outcome, Progress, Pulled};

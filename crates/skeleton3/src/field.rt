@@ -40,4 +40,11 @@ impl Field {
     {
         self.value.as_slice()
     }
+    /// Gives back its name and its value.
+    pub fn into_parts(self) -> (Vec<u8>, Vec<u8>)
+        ensures { (result.0.items, result.1.items) ≡ self }
+    {
+        let Field { name, value } = self;
+        (name, value)
+    }
 }

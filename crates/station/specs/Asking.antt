@@ -6,7 +6,7 @@ use Rattle.serve_machine.specs.Hub.{HubState, Connect, Receive}
 use Rattle.serve_machine.specs.declared.answers.Progress.{Progress}
 use Rattle.serve_machine.specs.declared.answers.Progress.TheVariants.{More, Ready}
 use Rattle.serve_machine.specs.declared.fault.HubFault.{HubFault}
-use Rattle.ogg_serve.specs.Parts.{HubParts}
+use Rattle.serve_hub.specs.Parts.{HubParts}
 use Rattle.serve_clients.specs.Client.{ClientState, told}
 use Rattle.serve_clients.specs.declared.client.Stage.{Stage}
 use Rattle.serve_clients.specs.declared.client.Stage.TheVariants.{Reading, Sending, Hearing, Cut}

@@ -5,7 +5,7 @@ use Rattle.serve_machine.specs.declared.fault.HubFault.{HubFault}
 use Rattle.serve_clients.specs.Client.{ClientState, cut, with_stage}
 use Rattle.serve_live.specs.Listening.{ListenerState}
 use Rattle.serve_live.specs.Live.{Moment}
-use Rattle.ogg_serve.specs.Listening.{HearsMore}
+use Rattle.serve_hub.specs.Listening.{HearsMore}
 use Rattle.serve_clients.specs.declared.client.Stage.{Stage}
 use Rattle.serve_clients.specs.declared.client.Stage.TheVariants.{Sending as SendingOf, Ending}
 

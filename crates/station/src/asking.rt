@@ -1,6 +1,6 @@
 //! What a connection asks for.
 ghost use Rattle.std.specs.Prelude.{◌≡◌, ◌⊎◌, ◌++◌, Result};
-ghost use Rattle.ogg_serve.specs.Showing.{Shows};
+ghost use Rattle.serve_hub.specs.Showing.{Shows};
 ghost use Rattle.serve_machine.specs.Calls.{Steps};
 ghost use Rattle.serve_machine.specs.Hub.{Receive};
 ghost use Rattle.serve_machine.specs.declared.answers.Progress.{Progress as ProgressOf};
@@ -10,8 +10,8 @@ ghost use Rattle.serve_clients.specs.Client.{cut, with_stage};
 
 use crate::live_hub::LiveHub;
 use disk_model::Disk;
-use ogg_serve::Hub;
 use serve_clients::{Client, Stage};
+use serve_hub::Hub;
 use serve_live::Listener;
 use serve_machine::{HubFault, Progress};
 use serve_sources::{Asks, LIVE};

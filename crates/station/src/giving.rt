@@ -6,15 +6,15 @@ ghost use Rattle.serve_live.specs.Live.{Moment};
 ghost use Rattle.serve_machine.specs.Hub.{Given as GivenOf, HubState, Pull};
 ghost use Rattle.serve_machine.specs.Calls.{Steps};
 ghost use Rattle.serve_machine.specs.declared.fault.HubFault.{HubFault as HubFaultOf};
-ghost use Rattle.ogg_serve.specs.Images.{IfFile, Reads};
-ghost use Rattle.ogg_serve.specs.Listening.{KeepsMachine};
-ghost use Rattle.ogg_serve.specs.Showing.{Shows};
+ghost use Rattle.serve_hub.specs.Images.{IfFile, Reads};
+ghost use Rattle.serve_hub.specs.Listening.{KeepsMachine};
+ghost use Rattle.serve_hub.specs.Showing.{Shows};
 ghost use Rattle.station.specs.Giving.{HasHeard, HasPulled};
 ghost use Rattle.serve_clients.specs.declared.client.Stage.TheVariants.{Ending as EndingOf, Hearing as HearingOf, Sending as SendingOf};
 
 use disk_model::Disk;
-use ogg_serve::Hub;
 use serve_clients::{Client, Stage};
+use serve_hub::Hub;
 
 /// Gives the first of the bytes that couldn't be written before, and returns how many.
 fn give_again(client: &Client, buffer: &mut [u8]) -> usize

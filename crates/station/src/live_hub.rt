@@ -10,7 +10,7 @@ use feed_run::Runner;
 use link_chain::is_open;
 use ogg_command::Command;
 use ogg_page::WriteFault;
-use ogg_serve::Hub;
+use serve_hub::Hub;
 use serve_live::JoinPlace;
 use std::alloc::{AllocError as Memory, Global};
 use std::io::Write;
@@ -80,7 +80,7 @@ fn is_begin(command: &Command) -> bool
 
 /// It answers as its hub does.
 impl<D: Disk + Drop> Runner for LiveHub<D> {
-    ghost use Rattle.ogg_serve.specs.Running.{Progress, IsIn, Answers, waiting_in, end_in};
+    ghost use Rattle.serve_hub.specs.Running.{Progress, IsIn, Answers, waiting_in, end_in};
 
     ghost State = { Progress D };
 

@@ -1,9 +1,8 @@
 //! Feeds recorded onto disks in memory, and what an opening finds after them.
 use disk_model::{Disk, FuseDisk, MemDisk};
 use feed_codec::{FeedFault, RunFault};
-use feed_recorder::record_feed;
 use ogg_command::Memory;
-use ogg_recorder::Recorder;
+use ogg_recorder::{Recorder, record_feed};
 use std::alloc::Global;
 use std::process::Abort;
 use std::test::Fail;

@@ -4,10 +4,9 @@
 use chain_rules::{Command, Refusal};
 use disk_model::MemDisk;
 use feed_codec::{FeedFault, Kept, RunFault};
-use feed_recorder::record_feed;
 use gate_file::OpenFault;
 use ogg_command::{Begin, Listed, Memory, NewStream};
-use ogg_recorder::{Outcome, Recorder};
+use ogg_recorder::{Outcome, Recorder, record_feed};
 use std::alloc::Global;
 use std::process::Abort;
 use std::test::Fail;

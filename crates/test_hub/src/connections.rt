@@ -6,8 +6,7 @@ use crate::tools::{GET_ALL, OF_THREE, OF_TWO, TWO, ask, gives, hub_after_two, hu
 use chain_rules::{Command, Refusal};
 use disk_model::{Disk, FuseDisk, MemDisk};
 use feed_codec::{Kept, Reply};
-use ogg_serve::{Hub, HubFault, OpenFault, Outcome};
-use serving::{LiveFeed, Served, Step, live_one, serve_one};
+use ogg_serve::{Hub, HubFault, LiveFeed, OpenFault, Outcome, Served, Step, live_one, serve_one};
 use std::alloc::Global;
 use std::test::Fail;
 

@@ -4,8 +4,7 @@
 use crate::fakes::{FakeReader, FakeWriter};
 use crate::tools::{GET_ALL, OF_THREE, OF_TWO, TWO, hub_over};
 use disk_model::{Disk, MemDisk};
-use ogg_serve::{Hub, Progress};
-use serving::{LiveFeed, Served, live_one};
+use ogg_serve::{Hub, LiveFeed, Progress, Served, live_one};
 use std::alloc::Global;
 use std::test::Fail;
 

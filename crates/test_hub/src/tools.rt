@@ -1,7 +1,6 @@
 //! Hubs and sessions for the tests.
 use disk_model::{Disk, MemDisk};
-use feed_recorder::record_feed;
-use ogg_recorder::Recorder;
+use ogg_recorder::{Recorder, record_feed};
 use ogg_serve::{Hub, Progress};
 use std::alloc::Global;
 use std::test::Fail;

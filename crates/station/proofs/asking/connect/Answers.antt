@@ -1,7 +1,7 @@
 use Rattle.std.proofs.Common.{inl, inr, ap, ◌∙◌, subst, ℕ, List, Some, []}
 use Rattle.serve_machine.specs.Calls.{Steps}
 use Rattle.serve_machine.specs.Hub.{Receive}
-use Rattle.ogg_serve.specs.Showing.{Shows}
+use Rattle.serve_hub.specs.Showing.{Shows}
 use Rattle.serve_clients.specs.Client.{ClientState}
 use Rattle.serve_clients.specs.declared.client.Stage.{Stage}
 use Rattle.station.proofs.asking.connect.Goals as goal

@@ -1,7 +1,7 @@
 use Rattle.std.proofs.Common.{◌≡◌, Some, length, sym, ◌∙◌, ap, subst, inl}
 use Rattle.serve_live.specs.Hearing.{IsHearing}
 use Rattle.serve_live.specs.Listening.{ListenerState}
-use Rattle.ogg_serve.specs.Listening.{HearsMore}
+use Rattle.serve_hub.specs.Listening.{HearsMore}
 use Rattle.serve_clients.specs.Client.{ClientState}
 use Rattle.station.proofs.giving.hear.Goals as goal
 

@@ -1,6 +1,6 @@
 use Rattle.std.proofs.Common.{sym, subst}
-use Rattle.ogg_serve.specs.Parts.{HubParts}
-use Rattle.ogg_serve.specs.Running.{IsIn}
+use Rattle.serve_hub.specs.Parts.{HubParts}
+use Rattle.serve_hub.specs.Running.{IsIn}
 use Rattle.station.proofs.live_hub.LiveHubRunner.run_command.Goals as goal
 
 pub returns-in-Ok-clause-ok : goal.returns-in-Ok-clause-ok

@@ -1,6 +1,6 @@
 use Rattle.std.proofs.Common.{◌≡◌, Result, Some, is_some, length, take, sym, ◌∙◌, ap, subst}
 use Rattle.slab.specs.Slab.{get}
-use Rattle.ogg_serve.specs.Showing.{Shows}
+use Rattle.serve_hub.specs.Showing.{Shows}
 use Rattle.serve_clients.specs.Client.{ClientState, given}
 use Rattle.serve_clients.specs.declared.client.Stage.TheVariants.{Hearing, Sending, Waiting}
 use Rattle.serve_machine.specs.Calls.{Steps}

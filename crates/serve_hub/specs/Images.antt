@@ -1,0 +1,110 @@
+-- What each image of a hub's disk shows at each moment of a call, and which step of its file's history the call is.
+-- Ours.
+use Rattle.std.specs.Prelude.{◌≡◌, ◌⊎◌, ◌↔◌, ℕ, ◌-◌, ◌^◌, ◌<◌, ◌≤◌, Bool, true, false, IfOk, IfErr, Option, None, Some, Result, Err, List, ◌++◌, ⊤}
+use Rattle.disk_model.specs.Image.{DiskState}
+use Rattle.disk_model.specs.Clock.{LeavesOnly}
+use Rattle.gate_file.specs.Commit.{CommitsTo, CommitsToEither}
+use Rattle.gate_file.specs.Reading.{OnlyReads}
+use Rattle.gate_file.specs.declared.fault.OpenFault.{OpenFault}
+use Rattle.gate_file.specs.declared.fault.OpenFault.TheVariants.{Disk as DiskOf, Memory as MemoryOf}
+use Rattle.link_chain.specs.Recording.{Recording}
+use Rattle.chain_rules.specs.Encoding.{command_bytes}
+use Rattle.chain_rules.specs.Recording.{add}
+use Rattle.feed_codec.specs.declared.reply.Kept.{Kept}
+use Rattle.history.specs.Showing.{IsAsBefore}
+use Rattle.history.specs.World.{World, Opening, Opened, Looked, Faulted, happens}
+use Rattle.history.specs.History.{IsStep, StandsIn}
+use Rattle.ogg_command.specs.declared.command.Command.{Command}
+use Rattle.ogg_command.specs.declared.refusal.Refusal.{Refusal}
+use Rattle.ogg_command.specs.declared.refusal.Refusal.TheVariants.{Disk}
+use Rattle.ogg_recorder.specs.Answer.{call_of, command_step, flush_step}
+use Rattle.ogg_recorder.specs.Recorder.{RecorderState, IsIn, over_disk, committed, staged}
+use Rattle.ogg_recorder.specs.Recovery.{Commits, Shows, Accepts}
+use Rattle.ogg_recorder.specs.declared.commanding.Outcome.{Outcome}
+use Rattle.ogg_recorder.specs.declared.commanding.Outcome.TheVariants.{Held as WasHeld}
+use Rattle.serve_sending.specs.Sending.{HasFailed}
+use Rattle.serve_hub.specs.declared.opening.Lost.{Lost}
+use Rattle.serve_hub.specs.Parts.{HubParts}
+
+-- the disk of a hub
+abbrev pub disk_in : {D : Type 0} → Option (RecorderState D) → Option (Lost D) → Option D
+disk_in (Some recorder) lost = Some recorder.file.disk
+disk_in None (Some lost) = Some lost.disk
+disk_in None None = None
+
+-- how often it has failed
+abbrev pub failures_of : {D : Type 0} → (D → ℕ) → Option (RecorderState D) → Option (Lost D) → ℕ
+failures_of failures (Some recorder) lost = failures recorder.file.disk
+failures_of failures None (Some lost) = failures lost.disk
+failures_of failures None None = 0
+
+abbrev pub failures_in : {D : Type 0} → (D → ℕ) → HubParts D → ℕ
+failures_in failures hub = failures_of failures hub.file hub.lost
+
+-- P holds of the recorder before and after a call, if there is a file; else there is none after it
+abbrev pub IfFile : {R : Type 0} → (R → R → Type 0) → Option R → Option R → Type 0
+IfFile P None new = new ≡ None
+IfFile P (Some old) None = ⊥
+IfFile P (Some old) (Some new) = P old new
+
+module _ {D : Type 0} (is_honest : D → Type 0) (state : D → DiskState) (moment : D → ℕ) (images_since : D → ℕ → List ℕ → Type 0) (failures : D → ℕ) where
+  -- What a command leaves of the file, with its answer: each image since the call began commits to what was
+  -- committed, without the group or with all of it, and without it while the command waits. The command is a step
+  -- of each history in which the recorder stands.
+  pub record Records (command : Command) (result : Result Outcome Refusal) (old new : RecorderState D) : Type 0 where
+    pub any_moment : is_honest old.file.disk → old.file.failed ≡ false
+        → LeavesOnly moment images_since old.file.disk new.file.disk
+        (CommitsToEither (committed state old) (staged state old ++ command_bytes old.chain command))
+    pub waits : is_honest old.file.disk → IfOk result (λ outcome. (count : ℕ) → outcome ≡ WasHeld count
+        → LeavesOnly moment images_since old.file.disk new.file.disk (CommitsTo (committed state old)))
+    pub step : (first : Recording) (w : World Command) → IsIn is_honest state first w old → is_honest old.file.disk
+        → IsStep is_honest state moment images_since Shows Accepts add first w
+        (command_step result (call_of old.most w command) command) old.file.disk new.file.disk
+        × IsIn is_honest state first (happens w (command_step result (call_of old.most w command) command)) new
+    pub honest : is_honest old.file.disk ↔ is_honest new.file.disk
+    pub later : failures old.file.disk ≤ failures new.file.disk
+    pub cause : result ≡ Err Disk → (failures old.file.disk < failures new.file.disk) ⊎ (failures new.file.disk ≡ 2 ^ 64 - 1)
+
+  -- The same of a flush.
+  pub record Flushes (result : Result Kept Refusal) (old new : RecorderState D) : Type 0 where
+    pub any_moment : is_honest old.file.disk → old.file.failed ≡ false
+        → LeavesOnly moment images_since old.file.disk new.file.disk (CommitsToEither (committed state old) (staged state old))
+    pub step : (first : Recording) (w : World Command) → IsIn is_honest state first w old → w.is_open ≡ true → is_honest old.file.disk
+        → IsStep is_honest state moment images_since Shows Accepts add first w (flush_step result) old.file.disk new.file.disk
+        × IsIn is_honest state first (happens w (flush_step result)) new
+    pub honest : is_honest old.file.disk ↔ is_honest new.file.disk
+    pub later : failures old.file.disk ≤ failures new.file.disk
+    pub cause : result ≡ Err Disk → (failures old.file.disk < failures new.file.disk) ⊎ (failures new.file.disk ≡ 2 ^ 64 - 1)
+
+  -- What a call of a session leaves of the file: it is only read, so each image shows the same.
+  pub record Reads (old new : RecorderState D) : Type 0 where
+    pub only : OnlyReads is_honest state moment images_since old.file.disk new.file.disk
+    pub same : new ≡ over_disk new.file.disk old
+    pub step : (first : Recording) (w : World Command) → IsIn is_honest state first w old → is_honest old.file.disk
+        → IsStep is_honest state moment images_since Shows Accepts add first w Looked old.file.disk new.file.disk
+        × IsIn is_honest state first w new
+    pub later : failures old.file.disk ≤ failures new.file.disk
+
+  -- a failure of its disk was counted
+  abbrev pub Fails : RecorderState D → RecorderState D → Type 0
+  Fails old new = HasFailed (failures old.file.disk) (failures new.file.disk)
+
+  -- which step of a history a reopening is
+  abbrev pub OpensIn : Recording → World Command → D → D → Option (RecorderState D) → Type 0
+  OpensIn first w old new (Some recorder) =
+      (found : Bool) × IsStep is_honest state moment images_since Shows Accepts add first w (Opened found) old new
+      × IsIn is_honest state first (happens w (Opened found)) recorder
+  OpensIn first w old new None = IsStep is_honest state moment images_since Shows Accepts add first w (Faulted Opening) old new
+
+  -- What a reopening leaves of the disk, with its answer, and the recorder that it opened: each image since the call
+  -- began commits to what an image at its start commits to. A file that was ours, whatever happened to it, is refused
+  -- only for want of memory, or by the disk.
+  pub record Reopens (result : Result ⊤ OpenFault) (file : Option (RecorderState D)) (old new : D) : Type 0 where
+    pub any_moment : is_honest old → LeavesOnly moment images_since old new (IsAsBefore Commits (state old))
+    pub step : (first : Recording) (w : World Command) → StandsIn Shows add first w (state old) → w.is_open ≡ false → is_honest old
+        → OpensIn first w old new file
+    pub refused : (first : Recording) (w : World Command) → StandsIn Shows add first w (state old) → is_honest old
+        → IfErr result (λ fault. (fault ≡ DiskOf) ⊎ (fault ≡ MemoryOf))
+    pub honest : is_honest old ↔ is_honest new
+    pub later : failures old ≤ failures new
+    pub cause : result ≡ Err DiskOf → (failures old < failures new) ⊎ (failures new ≡ 2 ^ 64 - 1)

@@ -1,0 +1,58 @@
+-- How a hub answers the records of a feed. Ours.
+use Rattle.std.specs.Prelude.{◌≡◌, ℕ, Result, List, [], length}
+use Rattle.disk_model.specs.Image.{DiskState}
+use Rattle.feed_codec.specs.declared.item.Record.{Record}
+use Rattle.feed_codec.specs.declared.item.Record.TheVariants.{Command as CommandOf, Flush}
+use Rattle.feed_codec.specs.declared.reply.Kept.{Kept}
+use Rattle.feed_codec.specs.declared.reply.Reply.{Reply}
+use Rattle.ogg_command.specs.declared.command.Command.{Command}
+use Rattle.ogg_command.specs.declared.refusal.Refusal.{Refusal}
+use Rattle.ogg_recorder.specs.Running.{reply_of, reply_of_flush}
+use Rattle.ogg_recorder.specs.declared.commanding.Outcome.{Outcome}
+use Rattle.serve_machine.specs.Hub.{HubState, command_step, flush_step}
+use Rattle.serve_hub.specs.Images.{IfFile, Records, Flushes}
+use Rattle.serve_hub.specs.Parts.{HubParts, OnlyFile}
+use Rattle.serve_hub.specs.Showing.{Shows}
+
+-- a hub, and the machine that it is seen as
+pub record Progress (D : Type 0) : Type 0 where
+  pub now : HubParts D
+  pub machine : HubState
+
+-- how many commands wait
+abbrev pub waiting_in : {D : Type 0} → Progress D → ℕ
+waiting_in before = before.machine.waiting
+
+-- how many bytes are committed
+abbrev pub end_in : {D : Type 0} → Progress D → ℕ
+end_in before = length before.machine.committed
+
+module _ {D : Type 0} (is_honest : D → Type 0) (state : D → DiskState) where
+  -- the hub is this one, and is seen as this machine
+  abbrev pub IsIn : Progress D → HubParts D → Type 0
+  IsIn before hub = (before.now ≡ hub) × Shows is_honest state hub before.machine
+
+module _ {D : Type 0} (is_honest : D → Type 0) (state : D → DiskState) (moment : D → ℕ) (images_since : D → ℕ → List ℕ → Type 0) (failures : D → ℕ) where
+  -- a command got this reply: it was a step of the machine, and of the history of the file
+  pub record CommandAnswered (before after : Progress D) (command : Command) (reply : Reply) : Type 0 where
+    pub answer : Result Outcome Refusal
+    pub told : reply ≡ reply_of answer
+    pub step : command_step before.machine command answer after.machine
+    pub disk : IfFile (Records is_honest state moment images_since failures command answer) before.now.file after.now.file
+    pub only : OnlyFile before.now after.now
+
+  -- the same of a flush
+  pub record FlushAnswered (before after : Progress D) (reply : Reply) : Type 0 where
+    pub answer : Result Kept Refusal
+    pub told : reply ≡ reply_of_flush answer
+    pub step : flush_step before.machine answer after.machine
+    pub disk : IfFile (Flushes is_honest state moment images_since failures answer) before.now.file after.now.file
+    pub only : OnlyFile before.now after.now
+
+  abbrev pub RecordAnswered : Progress D → Record → Reply → Progress D → Type 0
+  RecordAnswered before (CommandOf command) reply after = CommandAnswered before after command reply
+  RecordAnswered before Flush reply after = FlushAnswered before after reply
+
+  -- The record gets this reply. The record has no pages of its own in the output: its pages go to the disk.
+  abbrev pub Answers : Progress D → Record → Reply → List ℕ → Progress D → Type 0
+  Answers before given reply own after = (own ≡ []) × RecordAnswered before given reply after

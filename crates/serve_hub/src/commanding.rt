@@ -1,0 +1,111 @@
+//! Commands go to the recorder of a hub, if there is a file.
+ghost use Rattle.std.specs.Prelude.{◌≡◌, ◌≢◌, ◌≤◌, ℕ, None, Some, Err, Option, length, IsSome, IfErr};
+ghost use Rattle.serve_machine.specs.Hub.{HubState, command_step, flush_step, group_step};
+ghost use Rattle.ogg_recorder.specs.Recorder.{RecorderState, recorder_state};
+ghost use Rattle.serve_hub.specs.declared.opening.Lost.{Lost};
+ghost use Rattle.serve_hub.specs.Images.{IfFile, Records, Flushes};
+ghost use Rattle.serve_hub.specs.Showing.{FindsLinks, ShowsFile, ShowsPlace, KeepsSessions};
+
+use chain_rules::{Command, Refusal, command_adds_its_packets, refusals_are_of_the_table};
+use disk_model::Disk;
+use feed_codec::Kept;
+use ogg_command::command_is_in_range;
+use ogg_recorder::{Outcome, Recorder};
+
+/// Records a command.
+fn record_command<D: Disk>(
+    recorder: &mut Recorder<D>,
+    command: &Command,
+) -> Result<Outcome, Refusal>
+    ensures step { (before : HubState) → ShowsFile D.is_honest D.state recorder.old before → (after : HubState)
+        × ShowsFile D.is_honest D.state recorder.new after × command_step before command.now result after × KeepsSessions before after }
+    ensures linked { (before after : HubState) → ShowsFile D.is_honest D.state recorder.old before → command_step before command.now result after
+        → FindsLinks before → FindsLinks after }
+    ensures disk { Records D.is_honest D.state D.moment D.images_since D.failures command.now result recorder.old recorder.new }
+    ensures same { IfErr result (λ refusal. refusal ≢ Refusal.Disk → recorder.new ≡ recorder.old) }
+{
+    command_is_in_range(command);
+    command_adds_its_packets();
+    refusals_are_of_the_table();
+    let _before = recorder.end();
+    let answer = recorder.command(command);
+    let _after = recorder.end();
+    answer
+}
+
+/// Commits what waits.
+fn flush_commands<D: Disk>(recorder: &mut Recorder<D>) -> Result<Kept, Refusal>
+    ensures step { (before : HubState) → ShowsFile D.is_honest D.state recorder.old before → (after : HubState)
+        × ShowsFile D.is_honest D.state recorder.new after × flush_step before result after × KeepsSessions before after }
+    ensures linked { (before after : HubState) → ShowsFile D.is_honest D.state recorder.old before → flush_step before result after
+        → FindsLinks before → FindsLinks after }
+    ensures disk { Flushes D.is_honest D.state D.moment D.images_since D.failures result recorder.old recorder.new }
+    ensures same { IfErr result (λ refusal. refusal ≢ Refusal.Disk → recorder.new ≡ recorder.old) }
+{
+    let _before = recorder.end();
+    let answer = recorder.flush();
+    let _after = recorder.end();
+    answer
+}
+
+/// Records a command, if there is a file.
+pub(crate) fn command_file<D: Disk>(
+    file: &mut Option<Recorder<D>>,
+    command: &Command,
+) -> Result<Outcome, Refusal>
+    ensures step { (lost : Option (Lost D)) (before : HubState) → ShowsPlace D.is_honest D.state file.old lost before → (after : HubState)
+        × ShowsPlace D.is_honest D.state file.new lost after × command_step before command.now result after × KeepsSessions before after }
+    ensures stays { file.new ≡ None → file.old ≡ None }
+    ensures linked { (lost : Option (Lost D)) (before after : HubState) → ShowsPlace D.is_honest D.state file.old lost before → command_step before command.now result after
+        → FindsLinks before → FindsLinks after }
+    ensures disk { IfFile (Records D.is_honest D.state D.moment D.images_since D.failures command.now result) file.old file.new }
+    ensures same { IfErr result (λ refusal. refusal ≢ Refusal.Disk → file.new ≡ file.old) }
+    ensures no_file { file.old ≡ None → result ≡ Err Refusal.Failed }
+{
+    match file {
+        Some(recorder) => record_command(recorder, command),
+        None => Err(Refusal::Failed),
+    }
+}
+
+/// Commits what waits, if there is a file.
+pub(crate) fn flush_file<D: Disk>(file: &mut Option<Recorder<D>>) -> Result<Kept, Refusal>
+    ensures step { (lost : Option (Lost D)) (before : HubState) → ShowsPlace D.is_honest D.state file.old lost before → (after : HubState)
+        × ShowsPlace D.is_honest D.state file.new lost after × flush_step before result after × KeepsSessions before after }
+    ensures stays { file.new ≡ None → file.old ≡ None }
+    ensures linked { (lost : Option (Lost D)) (before after : HubState) → ShowsPlace D.is_honest D.state file.old lost before → flush_step before result after
+        → FindsLinks before → FindsLinks after }
+    ensures disk { IfFile (Flushes D.is_honest D.state D.moment D.images_since D.failures result) file.old file.new }
+    ensures same { IfErr result (λ refusal. refusal ≢ Refusal.Disk → file.new ≡ file.old) }
+    ensures no_file { file.old ≡ None → result ≡ Err Refusal.Failed }
+{
+    match file {
+        Some(recorder) => flush_commands(recorder),
+        None => Err(Refusal::Failed),
+    }
+}
+
+/// Sets how many commands share a commit.
+pub(crate) fn group_file<D: Disk>(file: &mut Option<Recorder<D>>, most: u32)
+    requires some { 1 ≤ most }
+    requires few { most ≤ 1024 }
+    requires none { (recorder : RecorderState D) → file.old ≡ Some recorder → recorder.held ≡ 0 }
+    ensures set { (recorder : RecorderState D) → file.old ≡ Some recorder
+        → file.new ≡ Some (recorder_state recorder.file recorder.chain recorder.tail recorder.kept recorder.held most) }
+    ensures stays { file.new ≡ None → file.old ≡ None }
+{
+    if let Some(recorder) = file {
+        recorder.group(most);
+    }
+}
+
+/// How many commands wait.
+pub(crate) fn held_in<D: Disk>(file: &Option<Recorder<D>>) -> u64
+    ensures { (lost : Option (Lost D)) (machine : HubState) → ShowsPlace D.is_honest D.state file.now lost machine
+        → result ≡ machine.waiting }
+{
+    match file {
+        Some(recorder) => recorder.held(),
+        None => 0,
+    }
+}

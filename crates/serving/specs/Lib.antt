@@ -1,6 +1,0 @@
-pub mod Feeding
-pub mod Keeping
-pub mod Life
-pub mod Pieces
-pub mod Serving
-pub mod Steps
