@@ -1,7 +1,7 @@
 //! The faults, and how a line is written.
 ghost use Rattle.std.specs.Prelude.{◌≡◌, ◌≤◌, ◌+◌, ◌++◌, OnOk, OnErr, codes, decimal, length};
 ghost use Rattle.std.specs.Io.KnownBytes.{Appends};
-ghost use Rattle.ogg_page.specs.Output.{WritesPrefix};
+ghost use Rattle.ogg_page.specs.Output.{WritesPart};
 ghost use Rattle.feed_codec.specs.Reply.{line_end};
 ghost use Rattle.fault_lines.specs.Fault.{IsOfRun, coded, fault_line, index_rest, make_rest, numbered, open_rest, place};
 
@@ -88,10 +88,10 @@ impl From<RunFault> for Fault {
     }
 }
 
-/// Writes the fault's line. After a fault of the writer a prefix of the line was written.
+/// Writes the fault's line. After a fault of the writer a part of the line was written.
 pub fn write_fault<W: Write>(fault: &Fault, writer: &mut W) -> Result<(), WriteFault>
     ensures ok { OnOk result (Appends (W.contents writer.old) (W.contents writer.new) (fault_line fault.now)) }
-    ensures err { OnErr result (WritesPrefix (W.contents writer.old) (W.contents writer.new) (fault_line fault.now)) }
+    ensures err { OnErr result (WritesPart (W.contents writer.old) (W.contents writer.new) (fault_line fault.now)) }
 {
     write_whole(writer, line_of(*fault).as_slice())
 }

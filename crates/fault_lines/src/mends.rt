@@ -1,7 +1,7 @@
 //! The lines of what is mended.
 ghost use Rattle.std.specs.Prelude.{◌≡◌, ◌≤◌, ◌+◌, ◌++◌, OnOk, OnErr, codes, length};
 ghost use Rattle.std.specs.Io.KnownBytes.{Appends};
-ghost use Rattle.ogg_page.specs.Output.{WritesPrefix};
+ghost use Rattle.ogg_page.specs.Output.{WritesPart};
 ghost use Rattle.feed_codec.specs.Reply.{line_end};
 ghost use Rattle.fault_lines.specs.Fault.{coded, numbered};
 ghost use Rattle.fault_lines.specs.Mend.{mend_line, mend_rest};
@@ -12,10 +12,10 @@ use ogg_page::{WriteFault, write_whole};
 use std::io::Write;
 use text_line::Line;
 
-/// Writes the line of a mend. After a fault of the writer a prefix of the line was written.
+/// Writes the line of a mend. After a fault of the writer a part of the line was written.
 pub fn write_mend<W: Write>(mend: &Mend, writer: &mut W) -> Result<(), WriteFault>
     ensures ok { OnOk result (Appends (W.contents writer.old) (W.contents writer.new) (mend_line mend.now)) }
-    ensures err { OnErr result (WritesPrefix (W.contents writer.old) (W.contents writer.new) (mend_line mend.now)) }
+    ensures err { OnErr result (WritesPart (W.contents writer.old) (W.contents writer.new) (mend_line mend.now)) }
 {
     write_whole(writer, line_of(*mend).as_slice())
 }

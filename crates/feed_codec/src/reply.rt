@@ -1,7 +1,7 @@
 //! Replies to commands, as lines of text.
 ghost use Rattle.std.specs.Prelude.{◌≡◌, ◌≤◌, ◌+◌, ◌++◌, ◌∷◌, [], OnOk, OnErr, length, drop, decimal};
 ghost use Rattle.std.specs.Io.KnownBytes.{Appends};
-ghost use Rattle.ogg_page.specs.Output.{WritesPrefix};
+ghost use Rattle.ogg_page.specs.Output.{WritesPart};
 ghost use Rattle.feed_codec.specs.Reply.{reply_line};
 
 use itoa::write_digits;
@@ -32,11 +32,11 @@ pub struct Kept {
 /// How many bytes a line has at most: those of a word, two numbers of 20 digits and two separators.
 const LINE: usize = 48;
 
-/// Writes the reply's line in one call of `write_whole`. No memory is taken. After a fault a prefix of
-/// the line was written.
+/// Writes the reply's line in one call of `write_whole`. No memory is taken. After a fault not all of
+/// the line was written, but a part from its front.
 pub fn write_reply<W: Write>(reply: &Reply, writer: &mut W) -> Result<(), WriteFault>
     ensures ok { OnOk result (Appends (W.contents writer.old) (W.contents writer.new) (reply_line reply.now)) }
-    ensures err { OnErr result (WritesPrefix (W.contents writer.old) (W.contents writer.new) (reply_line reply.now)) }
+    ensures err { OnErr result (WritesPart (W.contents writer.old) (W.contents writer.new) (reply_line reply.now)) }
 {
     let mut line = [0u8; LINE];
     let start = put_line(reply, &mut line);

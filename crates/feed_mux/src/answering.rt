@@ -1,7 +1,7 @@
 //! The answer to one command: its pages written and the chain moved on, or a refusal.
 ghost use Rattle.std.specs.Prelude.{◌≡◌, ◌<◌, ◌≤◌, ◌^◌, ◌+◌, ℕ, List, [], Ok, IfOk, OnErr, length, vec_capacity};
 ghost use Rattle.std.specs.Io.KnownBytes.{Appends};
-ghost use Rattle.ogg_page.specs.Output.{WritesPrefix};
+ghost use Rattle.ogg_page.specs.Output.{WritesPart};
 ghost use Rattle.chain_rules.specs.Encoding.{command_bytes};
 ghost use Rattle.chain_rules.specs.Shape.{HasRoom};
 ghost use Rattle.feed_codec.specs.declared.reply.Reply.{Reply as ReplyOf};
@@ -14,7 +14,8 @@ use ogg_page::{WriteFault, write_whole};
 use std::io::Write;
 
 /// Writes the pages of a command, adds it to the chain, counts it, and returns the reply. A refusal writes nothing and
-/// leaves the chain and the count as they are. A fault leaves them too, and then a prefix of the pages was written.
+/// leaves the chain and the count as they are. A fault leaves them too, and then not all of the pages were
+/// written, but a part from their front.
 /// `bytes` is room for the pages, used again for each command.
 pub fn answer<P: Write>(
     shape: &mut Shape,
@@ -29,7 +30,7 @@ pub fn answer<P: Write>(
         × HasReached shape.new.chain count.new behind × Appends (P.contents pages.old) (P.contents pages.new) own) }
     ensures err { (before : Progress) → HasReached shape.old.chain count.old before →
         OnErr result ((reply : ReplyOf) × (own : List ℕ) × (behind : Progress) × Answers before command.now reply own behind
-        × HasReached shape.new.chain count.new before × WritesPrefix (P.contents pages.old) (P.contents pages.new) own) }
+        × HasReached shape.new.chain count.new before × WritesPart (P.contents pages.old) (P.contents pages.new) own) }
     ensures count { count.new ≤ count.old + 1 }
 
     // Memory is short only if there is no room for what the command adds, or for its pages.

@@ -1,5 +1,6 @@
 pub mod Bounds
 pub mod States
+mod Sent
 mod Staying
 pub mod ReadOn
 pub mod Kept

@@ -3,7 +3,7 @@ use Rattle.std.proofs.Common.{◌≡◌, ◌++◌, ◌∙◌, ℕ, List, [], Opt
 use Rattle.std.proofs.KnownBytes.{Appends-nil, Keeps-refl, Keeps-trans}
 use Rattle.std.proofs.Math.Seq.{take-length}
 use Rattle.std.specs.Io.KnownBytes.{Appends, Keeps, append_known}
-use Rattle.ogg_page.specs.Output.{WritesPrefix}
+use Rattle.ogg_page.specs.Output.{WritesPart, WritesPrefix}
 use Rattle.feed_codec.specs.declared.fault.RunFault.TheVariants.{Feed, Write, TooMany}
 use Rattle.feed_codec.specs.declared.version.Version.{Version}
 use Rattle.feed_codec.specs.Feed.{FeedState, GivesEnd}
@@ -11,7 +11,7 @@ use Rattle.feed_run.specs.declared.next.Next.{Next}
 use Rattle.feed_run.specs.declared.next.Next.TheVariants.{Run, Close}
 use Rattle.feed_codec.specs.Reply.{reply_line}
 use Rattle.feed_codec.specs.declared.reply.Reply.{Reply}
-use Rattle.feed_run.specs.Run.{Comes, EndsFeed, Leaves, Outcome, Stays, StopsAt}
+use Rattle.feed_run.specs.Run.{Comes, EndsFeed, Leaves, Outcome, Stays, StopsAt, TellsPart}
 
 pub stays_refl : (waits : Bool) (a : Option (List ℕ)) → Stays waits a a
 stays_refl false a = refl
@@ -37,6 +37,13 @@ appends_stays true (Some x) (Some y) (Some z) text p q = q ∙ p
 
 pub stays_prefix : (waits : Bool) (a b c : Option (List ℕ)) (text : List ℕ) → Stays waits a b → WritesPrefix b c text → WritesPrefix a c text
 stays_prefix waits a b c text p (n, within, q) = (n, within, stays_appends waits a b c _ p q)
+
+pub stays_part : (waits : Bool) (a b c : Option (List ℕ)) (text : List ℕ) → Stays waits a b → WritesPart b c text → WritesPart a c text
+stays_part waits a b c text p (n, less, q) = (n, less, stays_appends waits a b c _ p q)
+
+pub stays_told : (waits : Bool) (a b c : Option (List ℕ)) (line : List ℕ) → Stays waits a b → TellsPart waits b c line → TellsPart waits a c line
+stays_told false a b c line p told = stays_part false a b c line p told
+stays_told true a b c line p told = stays_prefix true a b c line p told
 
 -- the end of the feed is one reason among others
 ends_for : (enough : Bool) (known : Option Version) (old new : Option (List ℕ)) → GivesEnd known old new → EndsFeed enough known old new
@@ -72,9 +79,9 @@ pub stops_after : {S : Type 0} (waits : Bool) (p0 p1 p2 l0 l1 l2 : Option (List 
     → Stays waits p0 p1 → Stays waits l0 l1 → StopsAt waits p1 p2 l1 l2 own reply before reached after
     → StopsAt waits p0 p2 l0 l2 own reply before reached after
 stops_after waits p0 p1 p2 l0 l1 l2 own reply before reached after p l (inl (written, stays, same)) =
-    inl (stays_prefix waits p0 p1 p2 own p written, stays_trans waits l0 l1 l2 l stays, same)
+    inl (stays_part waits p0 p1 p2 own p written, stays_trans waits l0 l1 l2 l stays, same)
 stops_after waits p0 p1 p2 l0 l1 l2 own reply before reached after p l (inr (written, told, same)) =
-    inr (stays_appends waits p0 p1 p2 own p written, stays_prefix waits l0 l1 l2 (reply_line reply) l told, same)
+    inr (stays_appends waits p0 p1 p2 own p written, stays_told waits l0 l1 l2 (reply_line reply) l told, same)
 
 -- that no further record is wanted stays so
 ends_still : (enough more : Bool) (known : Option Version) (old new : Option (List ℕ)) → (enough ≡ true → more ≡ true)

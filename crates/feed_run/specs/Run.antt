@@ -2,7 +2,7 @@
 use Rattle.std.specs.Prelude.{◌≡◌, ◌≢◌, ◌⊎◌, ◌≤◌, ◌<◌, ◌+◌, ℕ, Option, Some, None, Result, Ok, Err, List, [], ◌∷◌, ◌++◌, length, Bool, true, false}
 use Rattle.std.specs.List.{flat_map, AllByRecursion}
 use Rattle.std.specs.Io.KnownBytes.{Appends, Consumes, Keeps}
-use Rattle.ogg_page.specs.Output.{WritesPrefix}
+use Rattle.ogg_page.specs.Output.{WritesPart, WritesPrefix}
 use Rattle.feed_codec.specs.declared.item.Record.{Record}
 use Rattle.feed_codec.specs.declared.item.Record.TheVariants.{Flush}
 use Rattle.feed_codec.specs.declared.version.Version.{Version}
@@ -44,6 +44,11 @@ streams_to feed pages lines waits enough = record { feed = feed; pages = pages; 
 abbrev pub Stays : Bool → Option (List ℕ) → Option (List ℕ) → Type 0
 Stays false old new = new ≡ old
 Stays true old new = Keeps old new
+
+-- A taker of replies failed at this line: it was told a part of the line, or all of it if the line may wait with it.
+abbrev pub TellsPart : Bool → Option (List ℕ) → Option (List ℕ) → List ℕ → Type 0
+TellsPart false old new line = WritesPart old new line
+TellsPart true old new line = WritesPrefix old new line
 
 -- how a run has ended: at the feed's end, or by a fault
 abbrev pub Outcome : Type 0
@@ -91,14 +96,14 @@ abbrev pub Comes : Next → FeedState → FeedState → ℕ → Bool → Option 
 Comes (Run given) was now count enough old new = (count < most_records) × (now.outcome ≡ None) × GivesRecord was.version now.version old new given
 Comes (Close outcome) was now count enough old new = Leaves outcome was.version count enough old new
 
--- A writer failed over a record with these pages and this reply. If it failed at the pages, the record hasn't been
--- run, and nothing of its line is written. If it failed at the line, all of the pages are written, and the record has
--- been run.
+-- A writer failed over a record with these pages and this reply. If it failed at the pages, not all of them are
+-- written, the record hasn't been run, and nothing of its line is written. If it failed at the line, all of the pages
+-- are written, the line isn't, and the record has been run.
 abbrev pub StopsAt : {S : Type 0} → Bool → Option (List ℕ) → Option (List ℕ) → Option (List ℕ) → Option (List ℕ)
     → List ℕ → Reply → S → S → S → Type 0
 StopsAt waits pages new_pages lines new_lines own reply before reached after =
-    (WritesPrefix pages new_pages own × Stays waits lines new_lines × (after ≡ before))
-    ⊎ (Appends pages new_pages own × WritesPrefix lines new_lines (reply_line reply) × (after ≡ reached))
+    (WritesPart pages new_pages own × Stays waits lines new_lines × (after ≡ before))
+    ⊎ (Appends pages new_pages own × TellsPart waits lines new_lines (reply_line reply) × (after ≡ reached))
 
 -- a run that has taken this record too
 abbrev pub with_record : RunState → Option Version → Record → Reply → RunState

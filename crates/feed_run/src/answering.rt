@@ -1,7 +1,7 @@
 //! One record, and its reply.
 ghost use Rattle.std.specs.Prelude.{◌≡◌, ◌≢◌, ◌⊎◌, ◌<◌, ◌≤◌, ◌+◌, ◌^◌, [], ℕ, List, IfOk, IfSome, IfNone, OnErr, true};
 ghost use Rattle.std.specs.Io.KnownBytes.{Appends};
-ghost use Rattle.ogg_page.specs.Output.{WritesPrefix};
+ghost use Rattle.ogg_page.specs.Output.{WritesPart};
 ghost use Rattle.ogg_command.specs.Command.{IsCommand};
 ghost use Rattle.feed_codec.specs.Reply.{reply_line};
 ghost use Rattle.feed_run.specs.Counting.{counts_with};
@@ -31,7 +31,7 @@ pub fn run_record<T: Runner, P: Write>(
         × Appends (P.contents pages.old) (P.contents pages.new) own) }
     ensures err { (before : T.State) → T.is_in before runner.old → OnErr result ((reply : ReplyOf) × (own : List ℕ) × (after : T.State)
         × T.answers before given.now reply own after × T.is_in before runner.new
-        × WritesPrefix (P.contents pages.old) (P.contents pages.new) own) }
+        × WritesPart (P.contents pages.old) (P.contents pages.new) own) }
     ensures count { T.counted runner.new ≤ T.counted runner.old + 1 }
 {
     match given {

@@ -1,7 +1,7 @@
 //! Lines of replies that are written together.
-ghost use Rattle.std.specs.Prelude.{◌≡◌, ◌⊎◌, [], true, false, IfOk, OnOk, OnErr};
+ghost use Rattle.std.specs.Prelude.{◌≡◌, ◌⊎◌, ◌<◌, ◌++◌, [], true, false, IfOk, OnOk, OnErr, length};
 ghost use Rattle.std.specs.Io.KnownBytes.{Appends, Keeps, append_known};
-ghost use Rattle.ogg_page.specs.Output.{WritesPrefix};
+ghost use Rattle.ogg_page.specs.Output.{WritesPart, WritesPrefix};
 ghost use Rattle.feed_codec.specs.Reply.{reply_line};
 ghost use Rattle.feed_run.specs.Together.{may_wait};
 
@@ -75,7 +75,9 @@ impl<W: Write + Drop> Batched<W> {
         ensures lines { Keeps (append_known (W.contents self.old.out) self.old.waiting.items)
             (append_known (W.contents self.new.out) self.new.waiting.items) }
         ensures pages { Keeps (P.contents pages.old) (P.contents pages.new) }
+        ensures out { WritesPrefix (W.contents self.old.out) (W.contents self.new.out) self.old.waiting.items }
         ensures sent { waits ≡ false → OnOk result (self.new.waiting.items ≡ []) }
+        ensures left { 0 < length self.old.waiting.items → OnErr result (0 < length self.new.waiting.items) }
         ensures stays { self.old.failed ≡ true → self.new.failed ≡ true }
         ensures together { self.new.together ≡ self.old.together }
     {
@@ -90,7 +92,9 @@ impl<W: Write + Drop> Batched<W> {
         ensures lines { Keeps (append_known (W.contents self.old.out) self.old.waiting.items)
             (append_known (W.contents self.new.out) self.new.waiting.items) }
         ensures pages { Keeps (P.contents pages.old) (P.contents pages.new) }
+        ensures out { WritesPrefix (W.contents self.old.out) (W.contents self.new.out) self.old.waiting.items }
         ensures ok { OnOk result (self.new.waiting.items ≡ []) }
+        ensures left { 0 < length self.old.waiting.items → OnErr result (0 < length self.new.waiting.items) }
         ensures err { OnErr result (self.new.failed ≡ true) }
         ensures stays { self.old.failed ≡ true → self.new.failed ≡ true }
         ensures together { self.new.together ≡ self.old.together }
@@ -124,6 +128,8 @@ impl<W: Write + Drop> Replies for Batched<W> {
             (append_known (W.contents self.new.out) self.new.waiting.items) (reply_line reply.now)) }
         ensures err { OnErr result (WritesPrefix (append_known (W.contents self.old.out) self.old.waiting.items)
             (append_known (W.contents self.new.out) self.new.waiting.items) (reply_line reply.now)) }
+        // Of what waited and the line not all is out then.
+        ensures part { OnErr result (WritesPart (W.contents self.old.out) (W.contents self.new.out) (self.old.waiting.items ++ reply_line reply.now)) }
         ensures pages { Keeps (P.contents pages.old) (P.contents pages.new) }
         ensures enough { self.old.failed ≡ true → self.new.failed ≡ true }
         // A line that may not wait is out, and so are those before it.
@@ -157,11 +163,13 @@ impl<W: Write + Drop> Replies for Batched<W> {
 }
 
 /// Writes what waits, and takes off what was written.
-#[tactic(auto, using(crate::proofs::Staying::drained, crate::proofs::Staying::drained_all))]
+#[tactic(auto, using(crate::proofs::Staying::drained, crate::proofs::Staying::drained_all, crate::proofs::Sent::all_out, crate::proofs::Sent::front_out, crate::proofs::Sent::some_left))]
 fn drain<W: Write>(waiting: &mut Vec<u8>, out: &mut W) -> Result<(), WriteFault>
     ensures lines { Keeps (append_known (W.contents out.old) waiting.old.items)
         (append_known (W.contents out.new) waiting.new.items) }
+    ensures out { WritesPrefix (W.contents out.old) (W.contents out.new) waiting.old.items }
     ensures ok { OnOk result (waiting.new.items ≡ []) }
+    ensures left { OnErr result (0 < length waiting.new.items) }
 {
     match write_counted(out, waiting.as_slice()) {
         Ok(()) => {

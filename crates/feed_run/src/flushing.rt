@@ -1,9 +1,8 @@
 //! The flush after the last record.
 ghost use Rattle.std.specs.Prelude.{◌≡◌, ◌<◌, ◌≤◌, ◌+◌, [], IfOk, IfSome, IfNone, OnErr, true};
 ghost use Rattle.std.specs.Io.KnownBytes.{Appends};
-ghost use Rattle.ogg_page.specs.Output.{WritesPrefix};
 ghost use Rattle.feed_codec.specs.Reply.{reply_line};
-ghost use Rattle.feed_run.specs.Run.{Stays};
+ghost use Rattle.feed_run.specs.Run.{Stays, TellsPart};
 ghost use Rattle.feed_codec.specs.declared.item.Record.{Record as RecordOf};
 ghost use Rattle.feed_codec.specs.declared.reply.Reply.{Reply as ReplyOf};
 
@@ -27,7 +26,7 @@ pub fn flush_waiting<T: Runner, P: Write, S: Replies>(
         (T.held_in before ≡ 0) × (runner.new ≡ runner.old) × Stays S.waits (S.lines replies.old) (S.lines replies.new))) }
     ensures err { (before : T.State) → T.is_in before runner.old → OnErr result ((0 < T.held_in before) × (reply : ReplyOf) × (after : T.State)
         × T.answers before RecordOf.Flush reply [] after × T.is_in after runner.new
-        × WritesPrefix (S.lines replies.old) (S.lines replies.new) (reply_line reply)) }
+        × TellsPart S.waits (S.lines replies.old) (S.lines replies.new) (reply_line reply)) }
     ensures pages { Stays S.waits (P.contents pages.old) (P.contents pages.new) }
     ensures enough { S.enough replies.old ≡ true → S.enough replies.new ≡ true }
     ensures count { T.counted runner.new ≤ T.counted runner.old + 1 }

@@ -1,8 +1,10 @@
 //! What always holds of runs.
-ghost use Rattle.std.specs.Prelude.{◌≡◌, ◌∷◌, ◌++◌, [], List, None};
+ghost use Rattle.std.specs.Prelude.{◌≡◌, ◌∷◌, ◌++◌, [], ℕ, List, Option, Bool, None};
+ghost use Rattle.std.specs.Io.KnownBytes.{Appends};
 ghost use Rattle.feed_codec.specs.declared.item.Record.{Record};
 ghost use Rattle.feed_codec.specs.declared.reply.Reply.{Reply};
-ghost use Rattle.feed_run.specs.Run.{HasRun, RunState, RunsOne, Streams};
+ghost use Rattle.feed_codec.specs.Reply.{reply_line};
+ghost use Rattle.feed_run.specs.Run.{HasRun, RunState, RunsOne, StopsAt, Streams, TellsPart};
 
 use crate::runner::Runner;
 
@@ -15,4 +17,11 @@ pub fn runs_go_on<T: Runner>()
         (before mid after : T.State) (reply : Reply) → HasRun T.answers start old was.version records replies before mid
         → (one : RunsOne T.answers old new was now mid after reply)
         → HasRun T.answers start new now.version (records ++ one.given ∷ []) (replies ++ reply ∷ []) before after }
+{}
+
+/// A writer that fails over a record without pages fails at its line: the record has been run.
+pub fn records_without_pages_are_run<T: Runner>()
+    ensures { (waits : Bool) (pages new_pages lines new_lines : Option (List ℕ)) (reply : Reply) (before reached after : T.State)
+        → StopsAt waits pages new_pages lines new_lines [] reply before reached after
+        → Appends pages new_pages [] × TellsPart waits lines new_lines (reply_line reply) × (after ≡ reached) }
 {}

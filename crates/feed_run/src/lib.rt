@@ -25,7 +25,7 @@ mod whole;
 pub use ahead::{Ahead, Buffered, Unknown};
 pub use batched::{Batched, Together};
 pub use counting::Counts;
-pub use laws::runs_go_on;
+pub use laws::{records_without_pages_are_run, runs_go_on};
 pub use refusing::FirstRefusal;
 pub use replies::Replies;
 pub use run::FeedRun;

@@ -1,9 +1,8 @@
 //! A run that ends after the first refusal.
 ghost use Rattle.std.specs.Prelude.{◌≡◌, ◌||◌, ◌&&◌, true, false, OnOk, OnErr};
 ghost use Rattle.std.specs.Io.KnownBytes.{Appends};
-ghost use Rattle.ogg_page.specs.Output.{WritesPrefix};
 ghost use Rattle.feed_codec.specs.Reply.{reply_line};
-ghost use Rattle.feed_run.specs.Run.{Stays};
+ghost use Rattle.feed_run.specs.Run.{Stays, TellsPart};
 ghost use Rattle.feed_run.specs.Refusing.{refuses};
 
 use crate::replies::Replies;
@@ -64,7 +63,7 @@ impl<S: Replies> Replies for FirstRefusal<S> {
 
     fn reply<P: Write>(&mut self, reply: &Reply, pages: &mut P) -> Result<(), WriteFault>
         ensures ok { OnOk result (Appends (S.lines self.old.replies) (S.lines self.new.replies) (reply_line reply.now)) }
-        ensures err { OnErr result (WritesPrefix (S.lines self.old.replies) (S.lines self.new.replies) (reply_line reply.now)) }
+        ensures err { OnErr result (TellsPart S.waits (S.lines self.old.replies) (S.lines self.new.replies) (reply_line reply.now)) }
         ensures pages { Stays S.waits (P.contents pages.old) (P.contents pages.new) }
         ensures enough { self.old.refused || S.enough self.old.replies ≡ true → self.new.refused || S.enough self.new.replies ≡ true }
         // The run ends with this reply only if it refuses a command, and refusals are to end it.

@@ -1,9 +1,8 @@
 //! What takes the replies of a run.
 ghost use Rattle.std.specs.Prelude.{◌≡◌, ℕ, List, Option, Bool, true, false, OnOk, OnErr};
 ghost use Rattle.std.specs.Io.KnownBytes.{Appends};
-ghost use Rattle.ogg_page.specs.Output.{WritesPrefix};
 ghost use Rattle.feed_codec.specs.Reply.{reply_line};
-ghost use Rattle.feed_run.specs.Run.{Stays};
+ghost use Rattle.feed_run.specs.Run.{Stays, TellsPart};
 
 use feed_codec::{Reply, write_reply};
 use ogg_page::WriteFault;
@@ -23,10 +22,11 @@ pub trait Replies {
     /// Whether it wants no further record.
     ghost enough: { Self → Bool };
 
-    /// Takes a reply, whose pages were written before. After a fault it may have taken a prefix of the line.
+    /// Takes a reply, whose pages were written before. After a fault it may have taken a part of the line, or
+    /// all of it if lines may wait with it.
     fn reply<P: Write>(&mut self, reply: &Reply, pages: &mut P) -> Result<(), WriteFault>
         ensures ok { OnOk result (Appends (lines self.old) (lines self.new) (reply_line reply.now)) }
-        ensures err { OnErr result (WritesPrefix (lines self.old) (lines self.new) (reply_line reply.now)) }
+        ensures err { OnErr result (TellsPart waits (lines self.old) (lines self.new) (reply_line reply.now)) }
         ensures pages { Stays waits (P.contents pages.old) (P.contents pages.new) }
         ensures enough { enough self.old ≡ true → enough self.new ≡ true };
 

@@ -1,7 +1,7 @@
 //! What runs the records of a feed.
 ghost use Rattle.std.specs.Prelude.{◌≡◌, ◌<◌, ◌≤◌, ◌+◌, ◌^◌, [], ℕ, List, IfOk, OnErr};
 ghost use Rattle.std.specs.Io.KnownBytes.{Appends};
-ghost use Rattle.ogg_page.specs.Output.{WritesPrefix};
+ghost use Rattle.ogg_page.specs.Output.{WritesPart};
 ghost use Rattle.feed_codec.specs.declared.item.Record.{Record as RecordOf};
 ghost use Rattle.feed_codec.specs.declared.reply.Reply.{Reply as ReplyOf};
 
@@ -34,8 +34,8 @@ pub trait Runner {
     /// here.
     ghost counted: { Self → ℕ };
 
-    /// Runs a command. Its pages are written to `pages`, if the runner doesn't keep them itself. If that fails, a
-    /// prefix of them was written, and the runner is as before.
+    /// Runs a command. Its pages are written to `pages`, if the runner doesn't keep them itself. If that fails, not
+    /// all of them were written, but a part from their front, and the runner is as before.
     fn run_command<P: Write>(
         &mut self,
         command: &Command,
@@ -47,7 +47,7 @@ pub trait Runner {
             × Appends (P.contents pages.old) (P.contents pages.new) own) }
         ensures err { (before : State) → is_in before self.old → OnErr result ((reply : ReplyOf) × (own : List ℕ) × (after : State)
             × answers before (RecordOf.Command command.now) reply own after × is_in before self.new
-            × WritesPrefix (P.contents pages.old) (P.contents pages.new) own) }
+            × WritesPart (P.contents pages.old) (P.contents pages.new) own) }
         ensures count { counted self.new ≤ counted self.old + 1 };
 
     /// Keeps what waits, and returns the reply of a flush. It writes no page.

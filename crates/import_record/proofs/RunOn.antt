@@ -3,7 +3,7 @@ use Rattle.std.proofs.Common.{◌≡◌, ◌<◌, ◌+◌, ℕ, Option, List, []
 use Rattle.std.proofs.lemmas.List.{map-append}
 use Rattle.std.proofs.KnownBytes.{Appends-nil, Appends-trans}
 use Rattle.std.specs.Io.KnownBytes.{Appends}
-use Rattle.ogg_page.specs.Output.{WritesPrefix}
+use Rattle.ogg_page.specs.Output.{WritesPart}
 use Rattle.ogg_command.specs.declared.command.Command.{Command}
 use Rattle.feed_codec.specs.declared.item.Record.{Record}
 use Rattle.feed_codec.specs.declared.item.Record.TheVariants.{Command as CommandOf}
@@ -52,7 +52,7 @@ module _ {S : Type 0} (answers : S → Record → Reply → List ℕ → S → T
   -- the writer fails at a command
   pub stops_at : (commands : List Command) (i : ℕ) (command : Command) (was : Answered) (reply : Reply) (own : List ℕ) (before mid reached : S) (a b c : Option (List ℕ))
       → commands ≡ take i commands ++ command ∷ drop (i + 1) commands → HasRun answers (take i commands) was before mid a b
-      → answers mid (CommandOf command) reply own reached → WritesPrefix b c own
+      → answers mid (CommandOf command) reply own reached → WritesPart b c own
       → StopsAt answers commands before mid a c
   stops_at commands i command was reply own before mid reached a b c is run next part = record {
     front = take i commands;

@@ -1,7 +1,7 @@
 -- Commands that are run in turn, and what became of them. Ours.
 use Rattle.std.specs.Prelude.{◌≡◌, ℕ, ◌+◌, ◌-◌, ◌^◌, min, Option, Some, None, List, [], ◌∷◌, ◌++◌, length, map}
 use Rattle.std.specs.Io.KnownBytes.{Appends}
-use Rattle.ogg_page.specs.Output.{WritesPrefix}
+use Rattle.ogg_page.specs.Output.{WritesPart}
 use Rattle.ogg_command.specs.declared.command.Command.{Command}
 use Rattle.ogg_command.specs.declared.command.Command.TheVariants.{Begin, Put, End}
 use Rattle.ogg_command.specs.declared.refusal.Refusal.{Refusal}
@@ -58,7 +58,7 @@ module _ {S : Type 0} (answers : S → Record → Reply → List ℕ → S → T
     pub runs : RunsAll commands replies before after old new
     pub result_is : result ≡ answered_by nothing commands replies
 
-  -- Some first commands were run, and of the next one the writer took only a part of the pages.
+  -- A prefix of the commands was run, and of the next one the writer took only a part of the pages.
   pub record StopsAt (commands : List Command) (before after : S) (old new : Option (List ℕ)) : Type 0 where
     pub front : List Command
     pub command : Command
@@ -71,4 +71,4 @@ module _ {S : Type 0} (answers : S → Record → Reply → List ℕ → S → T
     pub own : List ℕ
     pub reached : S
     pub next : answers after (CommandOf command) reply own reached
-    pub part : WritesPrefix mid new own
+    pub part : WritesPart mid new own

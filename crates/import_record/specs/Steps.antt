@@ -55,7 +55,7 @@ module _ {S : Type 0} (answers : S → Record → Reply → List ℕ → S → T
     pub begun : new.begun ≡ begun_after old.begun more given
     pub ran : HasRun answers given taken.answered before after pages new_pages
 
-  -- Why a page was not taken whole: nothing of it was run; or some first commands of it were, and of the next one only
+  -- Why a page was not taken whole: nothing of it was run; or a prefix of its commands was, and of the next one only
   -- a part of the pages was written.
   abbrev pub StopsBy : RecordFault → S → S → Option (List ℕ) → Option (List ℕ) → Type 0
   StopsBy Read before after old new = (after ≡ before) × (new ≡ old)

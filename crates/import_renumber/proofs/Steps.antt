@@ -3,7 +3,7 @@ use Rattle.std.proofs.Common.{◌≡◌, ℕ, true, false, cond, Option, List, [
 use Rattle.std.specs.Io.KnownBytes.{Appends}
 use Rattle.std.proofs.KnownBytes.{Appends-nil}
 use Rattle.std.proofs.lemmas.Bool.{cond-true, cond-false}
-use Rattle.ogg_page.specs.Output.{WritesPrefix}
+use Rattle.ogg_page.specs.Output.{WritesPart}
 use Rattle.ogg_command.specs.declared.command.Command.{Command}
 use Rattle.ogg_command.specs.declared.command.Command.TheVariants.{Begin as BeginOf, Put as PutOf, End as EndOf}
 use Rattle.ogg_command.specs.declared.command.Put.{Put}
@@ -42,7 +42,7 @@ module _ {S R : Type 0} (answers : S → Record → Reply → List ℕ → S →
 
   pub begin_fails : (before : Renumbering S) (begin now : Begin) (old below : R) (taken now_taken : List ℕ) (names given : List (ℕ × ℕ)) (pages new : Option (List ℕ)) → IsUnder is_in before old taken given
       → now_taken ≡ taken → BeginsUnder taken names begin now
-      → (reply : Reply) × (own : List ℕ) × (after : S) × answers before.below (CommandOf (BeginOf now)) reply own after × is_in before.below below × WritesPrefix pages new own
+      → (reply : Reply) × (own : List ℕ) × (after : S) × answers before.below (CommandOf (BeginOf now)) reply own after × is_in before.below below × WritesPart pages new own
       → Failed answers is_in before (BeginOf begin) below now_taken given pages new
   begin_fails before begin now old below taken now_taken names given pages new under same begins (reply, own, after, answered, still, part) =
       (reply, own, after_begin before now names reply after, inl (begun before begin now taken names reply own after under.1 begins answered), (still, under.1 ∙ sym same, under.2), part)
@@ -103,7 +103,7 @@ module _ {S R : Type 0} (answers : S → Record → Reply → List ℕ → S →
 
   pub put_fails : (before : Renumbering S) (put : Put) (now : Command) (old below : R) (taken : List ℕ) (names : List (ℕ × ℕ)) (pages new : Option (List ℕ)) → IsUnder is_in before old taken names
       → (spare : ℕ) × IsSpare names spare × (now ≡ put_given names spare put)
-      → (reply : Reply) × (own : List ℕ) × (after : S) × answers before.below (CommandOf now) reply own after × is_in before.below below × WritesPrefix pages new own
+      → (reply : Reply) × (own : List ℕ) × (after : S) × answers before.below (CommandOf now) reply own after × is_in before.below below × WritesPart pages new own
       → Failed answers is_in before (PutOf put) below taken names pages new
   put_fails before put now old below taken names pages new under given (reply, own, after, answered, still, part) =
       (reply, own, after_later before after, inl (later before (λ n s. put_given n s put) now names reply own after under.2 given answered), (still, under.1, under.2), part)
@@ -117,7 +117,7 @@ module _ {S R : Type 0} (answers : S → Record → Reply → List ℕ → S →
 
   pub end_fails : (before : Renumbering S) (serial : ℕ) (now : Command) (old below : R) (taken : List ℕ) (names : List (ℕ × ℕ)) (pages new : Option (List ℕ)) → IsUnder is_in before old taken names
       → (spare : ℕ) × IsSpare names spare × (now ≡ end_given names spare serial)
-      → (reply : Reply) × (own : List ℕ) × (after : S) × answers before.below (CommandOf now) reply own after × is_in before.below below × WritesPrefix pages new own
+      → (reply : Reply) × (own : List ℕ) × (after : S) × answers before.below (CommandOf now) reply own after × is_in before.below below × WritesPart pages new own
       → Failed answers is_in before (EndOf serial) below taken names pages new
   end_fails before serial now old below taken names pages new under given (reply, own, after, answered, still, part) =
       (reply, own, after_later before after, inl (later before (λ n s. end_given n s serial) now names reply own after under.2 given answered), (still, under.1, under.2), part)

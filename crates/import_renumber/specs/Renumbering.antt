@@ -4,7 +4,7 @@ use Rattle.std.specs.List.{list_any}
 use Rattle.std.specs.Option.{unwrap_or}
 use Rattle.std.specs.Map.{values_of}
 use Rattle.std.specs.Io.KnownBytes.{Appends}
-use Rattle.ogg_page.specs.Output.{WritesPrefix}
+use Rattle.ogg_page.specs.Output.{WritesPart}
 use Rattle.ogg_command.specs.declared.command.Command.{Command}
 use Rattle.ogg_command.specs.declared.command.Command.TheVariants.{Begin as BeginOf, Put as PutOf, End as EndOf}
 use Rattle.ogg_command.specs.declared.command.Begin.{Begin}
@@ -113,4 +113,4 @@ abbrev pub Failed : {S R : Type 0} → (S → Record → Reply → List ℕ → 
     → Option (List ℕ) → Option (List ℕ) → Type 0
 Failed {S} answers is_in before command below taken names old new =
     (reply : Reply) × (own : List ℕ) × (after : Renumbering S) × AnswersUnder answers before (CommandOf command) reply own after × IsUnder is_in before below taken names
-    × WritesPrefix old new own
+    × WritesPart old new own

@@ -1,16 +1,16 @@
 //! Bytes to a writer.
-ghost use Rattle.std.specs.Prelude.{◌≤◌, OnOk, OnErr, IfErr, length, take};
+ghost use Rattle.std.specs.Prelude.{◌<◌, OnOk, OnErr, IfErr, length, take};
 ghost use Rattle.std.specs.Io.KnownBytes.{Appends};
-ghost use Rattle.ogg_page.specs.Output.{WritesPrefix};
+ghost use Rattle.ogg_page.specs.Output.{WritesPart};
 
 use crate::fault::WriteFault;
 use std::io::Write;
 
 /// Writes all of the text, in order. An error of any kind, and a write that takes no byte, is a
-/// fault and isn't tried again; then a prefix of the text was written.
+/// fault and isn't tried again; then not all of the text was written, but a part from its front.
 pub fn write_whole<W: Write>(writer: &mut W, text: &[u8]) -> Result<(), WriteFault>
     ensures ok { OnOk result (Appends (W.contents writer.old) (W.contents writer.new) text.now) }
-    ensures err { OnErr result (WritesPrefix (W.contents writer.old) (W.contents writer.new) text.now) }
+    ensures err { OnErr result (WritesPart (W.contents writer.old) (W.contents writer.new) text.now) }
 {
     match write_counted(writer, text) {
         Ok(()) => Ok(()),
@@ -21,7 +21,7 @@ pub fn write_whole<W: Write>(writer: &mut W, text: &[u8]) -> Result<(), WriteFau
 /// The same, and at a fault it tells how many bytes of the text were written.
 pub fn write_counted<W: Write>(writer: &mut W, text: &[u8]) -> Result<(), usize>
     ensures ok { OnOk result (Appends (W.contents writer.old) (W.contents writer.new) text.now) }
-    ensures within { IfErr result (λ count. count ≤ length text.now) }
+    ensures within { IfErr result (λ count. count < length text.now) }
     ensures err { IfErr result (λ count. Appends (W.contents writer.old) (W.contents writer.new) (take count text.now)) }
 {
     let mut done = 0usize;

@@ -1,24 +1,23 @@
 -- Ends after ends.
-use Rattle.std.proofs.Common.{◌≡◌, ◌≤◌, ◌+◌, ◌++◌, ◌∷◌, ◌∙◌, [], ℕ, Option, List, refl, sym, ap, subst, arith, length, take, append_assoc, append-nil, length-append}
-use Rattle.std.proofs.Math.Seq.{take-append-add}
+use Rattle.std.proofs.Common.{◌≡◌, ◌<◌, ◌++◌, ◌∷◌, [], ℕ, Option, List, Bool, refl, sym, subst, arith, length, append-nil}
 use Rattle.std.proofs.lemmas.Grind.{flat_map-append}
 use Rattle.std.proofs.KnownBytes.{Appends-nil, Appends-trans}
 use Rattle.std.specs.List.{flat_map, AllByRecursion}
 use Rattle.std.specs.Io.KnownBytes.{Appends}
-use Rattle.ogg_page.specs.Output.{WritesPrefix}
 use Rattle.feed_codec.specs.declared.item.Record.{Record}
 use Rattle.feed_codec.specs.declared.reply.Reply.{Reply}
 use Rattle.feed_codec.specs.Reply.{reply_line}
 use Rattle.feed_run.specs.Laws.InTurn.{answers_both}
+use Rattle.feed_run.specs.Run.{TellsPart}
 use Rattle.ogg_recorder.specs.Ending.{HasEnded, HasToldSome, IsEnd}
 
 all_both : (xs ys : List Record) → AllByRecursion IsEnd xs → AllByRecursion IsEnd ys → AllByRecursion IsEnd (xs ++ ys)
 all_both [] ys all more = more
 all_both (x ∷ xs) ys (first, rest) more = (first, all_both xs ys rest more)
 
-prefix_both : (a b c : Option (List ℕ)) (xs ys : List ℕ) → Appends a b xs → WritesPrefix b c ys → WritesPrefix a c (xs ++ ys)
-prefix_both a b c xs ys whole (n, within, more) =
-    (length xs + n, omega (arith, within, length-append xs ys), subst (Appends a c) (sym (take-append-add xs ys n)) (Appends-trans a b c xs (take n ys) whole more))
+-- a record without pages can't be stopped at its pages
+pub no_part : (own : List ℕ) (count : ℕ) → own ≡ [] → count < length own → ⊥
+no_part own count none less = omega (arith, subst (λ (l : List ℕ). count < length l) none less)
 
 module _ {S : Type 0} (answers : S → Record → Reply → List ℕ → S → Type 0) where
   pub no_end : (before : S) (lines : Option (List ℕ)) → HasEnded answers before before lines lines
@@ -37,17 +36,18 @@ module _ {S : Type 0} (answers : S → Record → Reply → List ℕ → S → T
         (Appends-trans a b c (flat_map reply_line first.replies) (flat_map reply_line then'.replies) first.told then'.told);
   }
 
-  pub told_on : (before mid after : S) (a b c : Option (List ℕ)) → HasEnded answers before mid a b → HasToldSome answers mid after b c
-      → HasToldSome answers before after a c
-  told_on before mid after a b c first then' = record {
-    records = first.records ++ then'.records;
-    replies = first.replies ++ then'.replies;
-    bytes = first.bytes ++ then'.bytes;
-    answers_all = answers_both answers before mid after first.records then'.records first.replies then'.replies first.bytes then'.bytes first.answers_all then'.answers_all;
-    ends = all_both first.records then'.records first.ends then'.ends;
-    told =
-        subst (WritesPrefix a c) (sym (flat_map-append reply_line first.replies then'.replies))
-        (prefix_both a b c (flat_map reply_line first.replies) (flat_map reply_line then'.replies) first.told then'.told);
+  pub told_on : (waits : Bool) (before mid after : S) (a b c : Option (List ℕ)) → HasEnded answers before mid a b → HasToldSome answers waits mid after b c
+      → HasToldSome answers waits before after a c
+  told_on waits before mid after a b c first then' = record {
+    mid = then'.mid;
+    whole = then'.whole;
+    ended = ends_on before mid then'.mid a b then'.whole first then'.ended;
+    last = then'.last;
+    is_end = then'.is_end;
+    reply = then'.reply;
+    own = then'.own;
+    answers_it = then'.answers_it;
+    told = then'.told;
   }
 
   -- one end
@@ -62,16 +62,16 @@ module _ {S : Type 0} (answers : S → Record → Reply → List ℕ → S → T
     told = subst (Appends a b) (sym (append-nil (reply_line reply))) told;
   }
 
-  pub one_in_part : (before after : S) (given : Record) (reply : Reply) (own : List ℕ) (a b : Option (List ℕ)) → IsEnd given
-      → answers before given reply own after → WritesPrefix a b (reply_line reply) → HasToldSome answers before after a b
-  one_in_part before after given reply own a b is answered told = record {
-    records = given ∷ [];
-    replies = reply ∷ [];
-    bytes = own;
-    answers_all = (after, own, [], answered, (refl, refl), sym (append-nil own));
-    ends = (is, tt);
-    told = subst (WritesPrefix a b) (sym (append-nil (reply_line reply))) told;
+  pub one_in_part : (waits : Bool) (before after : S) (given : Record) (reply : Reply) (own : List ℕ) (a b : Option (List ℕ)) → IsEnd given
+      → answers before given reply own after → TellsPart waits a b (reply_line reply) → HasToldSome answers waits before after a b
+  one_in_part waits before after given reply own a b is answered told = record {
+    mid = before;
+    whole = a;
+    ended = no_end before a;
+    last = given;
+    is_end = is;
+    reply = reply;
+    own = own;
+    answers_it = answered;
+    told = told;
   }
-
-  pub none_told : (before : S) (lines : Option (List ℕ)) → HasToldSome answers before before lines lines
-  none_told before lines = record { records = []; replies = []; bytes = []; answers_all = (refl, refl); ends = tt; told = (0, omega arith, Appends-nil lines) }

@@ -31,7 +31,7 @@ pub fn end_open_streams<D: Disk, S: Replies>(
         (S.lines replies.old) (S.lines replies.new)) }
     ensures left { IfOk result (λ left. left ≡ is_open recorder.new.chain) }
     ensures err { (first : Recording) (w : World CommandOf) → OnErr result ((after : Progress D) × (after.now ≡ recorder.new)
-        × HasToldSome (Answers D.is_honest D.state D.moment D.images_since D.failures) (progress first w recorder.old) after
+        × HasToldSome (Answers D.is_honest D.state D.moment D.images_since D.failures) S.waits (progress first w recorder.old) after
         (S.lines replies.old) (S.lines replies.new)) }
 {
     for _ in 0..MOST_STREAMS {
@@ -52,7 +52,7 @@ fn end_first<D: Disk, S: Replies>(
     ensures ok { (before : Progress D) → before.now ≡ recorder.old → OnOk result ((after : Progress D) × (after.now ≡ recorder.new)
         × HasEnded (Answers D.is_honest D.state D.moment D.images_since D.failures) before after (S.lines replies.old) (S.lines replies.new)) }
     ensures err { (before : Progress D) → before.now ≡ recorder.old → OnErr result ((after : Progress D) × (after.now ≡ recorder.new)
-        × HasToldSome (Answers D.is_honest D.state D.moment D.images_since D.failures) before after (S.lines replies.old) (S.lines replies.new)) }
+        × HasToldSome (Answers D.is_honest D.state D.moment D.images_since D.failures) S.waits before after (S.lines replies.old) (S.lines replies.new)) }
 {
     match first_open(recorder.streams()) {
         Some(serial) => match end_stream(recorder, serial, replies) {
@@ -79,7 +79,7 @@ fn end_stream<D: Disk, S: Replies>(
     ensures ok { (before : Progress D) → before.now ≡ recorder.old → OnOk result ((after : Progress D) × (after.now ≡ recorder.new)
         × HasEnded (Answers D.is_honest D.state D.moment D.images_since D.failures) before after (S.lines replies.old) (S.lines replies.new)) }
     ensures err { (before : Progress D) → before.now ≡ recorder.old → OnErr result ((after : Progress D) × (after.now ≡ recorder.new)
-        × HasToldSome (Answers D.is_honest D.state D.moment D.images_since D.failures) before after (S.lines replies.old) (S.lines replies.new)) }
+        × HasToldSome (Answers D.is_honest D.state D.moment D.images_since D.failures) S.waits before after (S.lines replies.old) (S.lines replies.new)) }
 {
     let end = Command::End(serial);
     let mut none = io::sink();

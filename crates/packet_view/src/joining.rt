@@ -2,7 +2,7 @@
 ghost use Rattle.std.specs.Prelude.{◌≡◌, ◌<◌, ◌↔◌, IsTrue, OnOk, OnErr, length, slice_index};
 ghost use Rattle.std.specs.List.{concat};
 ghost use Rattle.std.specs.Io.KnownBytes.{Appends};
-ghost use Rattle.ogg_page.specs.Output.{WritesPrefix};
+ghost use Rattle.ogg_page.specs.Output.{WritesPart};
 
 use crate::parts::Parts;
 use ogg_page::{WriteFault, write_whole};
@@ -27,7 +27,7 @@ pub(crate) fn byte_at(parts: Parts<'_>, index: usize) -> u8
 /// Writes all the bytes, in order.
 pub(crate) fn write_parts<W: Write>(parts: Parts<'_>, writer: &mut W) -> Result<(), WriteFault>
     ensures ok { OnOk result (Appends (W.contents writer.old) (W.contents writer.new) (concat parts.entry)) }
-    ensures err { OnErr result (WritesPrefix (W.contents writer.old) (W.contents writer.new) (concat parts.entry)) }
+    ensures err { OnErr result (WritesPart (W.contents writer.old) (W.contents writer.new) (concat parts.entry)) }
 {
     let mut parts = parts;
     while let Some(part) = parts.next() {

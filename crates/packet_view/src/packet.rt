@@ -1,7 +1,7 @@
 //! One packet.
 ghost use Rattle.std.specs.Prelude.{◌≡◌, ◌<◌, ◌≤◌, ◌↔◌, [], length, slice_index, IsTrue, IsSome, IfSome, OnOk, OnErr};
 ghost use Rattle.std.specs.Io.KnownBytes.{Appends};
-ghost use Rattle.ogg_page.specs.Output.{WritesPrefix};
+ghost use Rattle.ogg_page.specs.Output.{WritesPart};
 ghost use Rattle.packet_view.specs.Packets.{joined_parts};
 ghost use Rattle.packet_view.specs.Packet.{ArePages, parts_of, slices_of};
 
@@ -106,10 +106,11 @@ impl<'a> Packet<'a> {
         are_bytes(self.parts(), bytes)
     }
 
-    /// Writes the packet's bytes, in order. After a fault a prefix of them was written.
+    /// Writes the packet's bytes, in order. After a fault not all of them were written, but a part from
+    /// their front.
     pub fn write_to<W: Write>(&self, writer: &mut W) -> Result<(), WriteFault>
         ensures ok { OnOk result (Appends (W.contents writer.old) (W.contents writer.new) (joined_parts self.now.parts)) }
-        ensures err { OnErr result (WritesPrefix (W.contents writer.old) (W.contents writer.new) (joined_parts self.now.parts)) }
+        ensures err { OnErr result (WritesPart (W.contents writer.old) (W.contents writer.new) (joined_parts self.now.parts)) }
     {
         write_parts(self.parts(), writer)
     }

@@ -1,6 +1,6 @@
 use Rattle.std.proofs.Common.{◌≡◌, ◌≤◌, ◌+◌, ℕ, List, refl, sym, ap, ◌∙◌, subst, arith, Ok}
 use Rattle.std.specs.Io.KnownBytes.{Appends}
-use Rattle.ogg_page.specs.Output.{WritesPrefix}
+use Rattle.ogg_page.specs.Output.{WritesPart}
 use Rattle.link_chain.specs.ChainState.{ChainState}
 use Rattle.chain_rules.specs.Decision.{decision}
 use Rattle.chain_rules.specs.Encoding.{command_bytes}
@@ -31,7 +31,7 @@ returns-in-Err-write_whole-clause-err g c = λ before reached.
       with_command before c.args.command.now,
       is_kept chain c.args.count.now before c.args.command.now c.in-Ok.field-0 end reached (sym c.in-Ok.ensures.decides) refl,
       reached_still chain c.prepare.new.self.chain c.args.count.now before reached c.prepare.ensures.chain,
-      subst (λ l. WritesPrefix (g.P.Write.contents c.args.pages.now) (g.P.Write.contents c.write_whole.new.writer) l) text c.in-Err-write_whole.ensures.err,
+      subst (λ l. WritesPart (g.P.Write.contents c.args.pages.now) (g.P.Write.contents c.write_whole.new.writer) l) text c.in-Err-write_whole.ensures.err,
     )
 
 pub returns-clause-ok : goal.returns-clause-ok

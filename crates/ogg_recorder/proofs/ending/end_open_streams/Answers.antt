@@ -24,7 +24,7 @@ returns-in-Err-clause-err g c = λ first w.
     let before = progress first w c.args.recorder.now in
     let (mid, there, so_far) = c.loop.invariant before refl in
     let (after, now, one) = c.in-Err.ensures.err mid there in
-    (after, now, told_on answers before mid after _ _ _ so_far one)
+    (after, now, told_on answers g.S.Replies.waits before mid after _ _ _ so_far one)
 
 pub returns-in-Ok-false-clause-ok : goal.returns-in-Ok-false-clause-ok
 returns-in-Ok-false-clause-ok g c = λ first w.

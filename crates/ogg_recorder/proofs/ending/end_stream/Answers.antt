@@ -1,5 +1,5 @@
 use Rattle.ogg_recorder.specs.Running.{Answers}
-use Rattle.ogg_recorder.proofs.EndsInTurn.{none_told, one_end, one_in_part}
+use Rattle.ogg_recorder.proofs.EndsInTurn.{no_part, one_end, one_in_part}
 use Rattle.ogg_recorder.proofs.ending.end_stream.Goals as goal
 
 pub returns-in-Err-clause-err : goal.returns-in-Err-clause-err
@@ -7,7 +7,7 @@ returns-in-Err-clause-err g c = λ before is.
     let d = g.D.Disk in
     let answers = Answers d.is_honest d.state d.moment d.images_since d.failures in
     let (reply, own, after, answered, there, part) = c.in-Err.ensures.err before is in
-    (before, there, none_told answers before (g.S.Replies.lines c.args.replies.now))
+    absurd (no_part own part.0 answered.none part.1)
 
 pub returns-in-Ok-reply-clause-ok : goal.returns-in-Ok-reply-clause-ok
 returns-in-Ok-reply-clause-ok g c = λ before is.
@@ -21,4 +21,4 @@ returns-clause-err g c = λ before is.
     let d = g.D.Disk in
     let answers = Answers d.is_honest d.state d.moment d.images_since d.failures in
     let (own, after, answered, there, written) = c.in-Ok.ensures.ok before is in
-    (after, there, one_in_part answers before after _ c.in-Ok.reply own _ _ tt answered c.in-Err-reply.ensures.err)
+    (after, there, one_in_part answers g.S.Replies.waits before after _ c.in-Ok.reply own _ _ tt answered c.in-Err-reply.ensures.err)

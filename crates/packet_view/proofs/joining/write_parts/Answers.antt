@@ -22,10 +22,10 @@ returns-in_err-write_whole-clause-err g c =
     let part : List ℕ = c.in-Some.part.now in
     let step : concat c.loop-part.parts ≡ part ++ concat c.next.new.self = ap concat c.in-Some.ensures.steps in
     let all : concat c.args.parts ≡ written ++ (part ++ concat c.next.new.self) = whole ∙ ap (λ l. written ++ l) step in
-    let (n, le, more) = c.in_err-write_whole.ensures.err in
+    let (n, less, more) = c.in_err-write_whole.ensures.err in
     let p = err_from_is_err_and c.from_residual.result c.from_residual.ensures.1 in
     rw p.1 (
       length written + n,
-      omega (arith, le, ap length all, length-append written (part ++ concat c.next.new.self), length-append part (concat c.next.new.self)),
-      subst (Appends _ _) (sym (front_part (concat c.args.parts) written part (concat c.next.new.self) n all le)) (Appends-trans _ _ _ _ _ appended more),
+      omega (arith, less, ap length all, length-append written (part ++ concat c.next.new.self), length-append part (concat c.next.new.self)),
+      subst (Appends _ _) (sym (front_part (concat c.args.parts) written part (concat c.next.new.self) n all (omega (arith, less)))) (Appends-trans _ _ _ _ _ appended more),
     )

@@ -1,7 +1,26 @@
 use Rattle.std.specs.Io.KnownBytes.{append_known}
 use Rattle.feed_codec.specs.Reply.{reply_line}
+use Rattle.feed_run.proofs.Sent.{line_left, lines_left, on_err}
 use Rattle.feed_run.proofs.Staying.{told_so_far}
 use Rattle.feed_run.proofs.batched.BatchedReplies.reply.Goals as goal
+
+pub returns-in_err-write_reply-clause-part : goal.returns-in_err-write_reply-clause-part
+returns-in_err-write_reply-clause-part g c =
+    let out = g.W.Write.contents in
+    let before = c.args.self.now in
+    let sent = c.send_unless.new.self in
+    on_err c.from_residual-in_err-write_reply.result _
+    (line_left (out before.out) (out sent.out) before.waiting.items sent.waiting.items c.args.reply.now c.in_ok-send_unless.ensures.out c.in_ok-send_unless.ensures.lines)
+
+pub returns-in-Err-clause-part : goal.returns-in-Err-clause-part
+returns-in-Err-clause-part g c =
+    let out = g.W.Write.contents in
+    let before = c.args.self.now in
+    let sent = c.send_unless.new.self in
+    let last = c.send_unless-2.new.self in
+    lines_left (out before.out) (out sent.out) (out last.out) before.waiting.items sent.waiting.items c.write_reply.new.writer.items last.waiting.items c.args.reply.now
+    c.in_ok-send_unless.ensures.out c.in_ok-send_unless.ensures.lines c.in_ok-write_reply.ensures.ok
+    c.in-Err.ensures.out c.in-Err.ensures.lines c.in-Err.ensures.left
 
 pub returns-in-Err-clause-err : goal.returns-in-Err-clause-err
 returns-in-Err-clause-err g c =

@@ -5,7 +5,7 @@ use Rattle.feed_codec.specs.declared.item.Record.TheVariants.{Flush}
 use Rattle.feed_run.specs.Counting.{counts_with}
 use Rattle.feed_run.specs.Run.{Leaves, RunState, most_records}
 use Rattle.feed_run.proofs.States.{has_record, state}
-use Rattle.feed_run.proofs.Staying.{leaves_still, stays_appends, stays_none, stays_prefix, stays_trans, stops_after}
+use Rattle.feed_run.proofs.Staying.{leaves_still, stays_appends, stays_none, stays_told, stays_trans, stops_after}
 use Rattle.feed_run.proofs.Bounds.{fits_so}
 use Rattle.feed_run.proofs.run.FeedRun.step_for.Goals as goal
 
@@ -100,7 +100,7 @@ returns-in-Err-flush_waiting-clause-stopped g c = λ before is_in is_open.
         written =
             inr (
               stays_none g.S.Replies.waits _ _ (stays_trans g.S.Replies.waits _ _ _ c.in-Close.ensures.pages c.in-Err-flush_waiting.ensures.pages),
-              stays_prefix g.S.Replies.waits _ _ _ _ c.in-Close.ensures.lines told,
+              stays_told g.S.Replies.waits _ _ _ _ c.in-Close.ensures.lines told,
               refl,
             );
       },
