@@ -1,5 +1,5 @@
 -- Pages that are added one by one while bytes are walked through.
-use Rattle.std.proofs.Common.{◌≡◌, ◌≢◌, ℕ, List, [], ◌∷◌, ◌++◌, refl, sym, ◌∙◌, ap, subst, append_assoc, Option, Some, None, Result, Err}
+use Rattle.std.proofs.Common.{◌≡◌, ◌≢◌, ℕ, List, [], ◌∷◌, ◌++◌, refl, sym, ◌∙◌, ap, subst, append_assoc, Option, Some, None, Result, Err, IsOk}
 use Rattle.std.proofs.Common.{cond}
 use Rattle.std.specs.Prelude.{⊤, Bool, true, false}
 use Rattle.std.proofs.lemmas.Bool.{cond_both}
@@ -109,12 +109,17 @@ module _ (chain : ChainState) (rest more : List ℕ) (page : Page) (offset : ℕ
   left_broken NoMemory e = absurd (no_memory chain page e)
 
   pub left_at : (result : Result ⊤ ChainFault) (fault : ChainFault) → result ≡ Err fault → ((f : ChainFault) → fault_of_page chain page ≡ Some f → result ≡ Err f)
-      → (fault_of_page chain page ≡ None → result ≡ Err NoMemory) → IsLeft chain rest (Err (fault_at offset fault))
-  left_at result fault was broken memory = by (fault_of_page chain page) refl
+      → (fault_of_page chain page ≡ None → result ≡ Err NoMemory) → (is_first page ≡ false → fault_of_page chain page ≡ None → IsOk result)
+      → IsLeft chain rest (Err (fault_at offset fault))
+  left_at result fault was broken memory later = by (fault_of_page chain page) refl
     where
       same : (f g : ChainFault) → result ≡ Err f → result ≡ Err g → f ≡ g
       same f g a b = cc
 
+      first : (b : Bool) → (b ≡ false → IsOk result) → b ≡ true
+      first true h = refl
+      first false h = let taken : false ≡ true = subst (λ (r : Result ⊤ ChainFault). IsOk r) was (h refl) in absurd (cc taken)
+
       by : (o : Option ChainFault) → fault_of_page chain page ≡ o → IsLeft chain rest (Err (fault_at offset fault))
-      by None e = subst (λ (f : ChainFault). IsLeft chain rest (Err (fault_at offset f))) (same NoMemory fault (memory e) was) (page, more, is, split, e)
+      by None e = subst (λ (f : ChainFault). IsLeft chain rest (Err (fault_at offset f))) (same NoMemory fault (memory e) was) (page, more, is, split, e, first (is_first page) (λ b. later b e))
       by (Some f) e = subst (λ (g : ChainFault). IsLeft chain rest (Err (fault_at offset g))) (same f fault (broken f e) was) (left_broken f e)

@@ -1,7 +1,8 @@
 -- Which links an index is of, and what adding bytes to it leaves. Ours.
-use Rattle.std.specs.Prelude.{◌≡◌, ◌≢◌, ⊤, ℕ, Result, Ok, Err, Some, None, List, [], ◌++◌}
+use Rattle.std.specs.Prelude.{◌≡◌, ◌≢◌, ⊤, ℕ, true, Result, Ok, Err, Some, None, List, [], ◌++◌}
 use Rattle.std.specs.List.{AllByRecursion}
 use Rattle.ogg_page.specs.Page.{Page, IsPage, page_bytes, bytes_of_pages}
+use Rattle.ogg_page.specs.LogicalStream.{is_first}
 use Rattle.ogg_page.specs.Reading.{page_at}
 use Rattle.link_chain.specs.ChainState.{ChainState, chain_state_of}
 use Rattle.link_chain.specs.Room.{ChainWithRoom}
@@ -30,7 +31,8 @@ abbrev pub fault_at : ℕ → ChainFault → IndexFault
 fault_at offset NoMemory = Memory
 fault_at offset fault = ChainOf offset fault
 
--- Why nothing more is added of what is left: memory may be refused for a page that would be added otherwise.
+-- Why nothing more is added of what is left: memory may be refused, but only for a stream's first page, which would be
+-- added otherwise.
 abbrev pub IsLeft : ChainState → List ℕ → Result ⊤ IndexFault → Type 0
 IsLeft chain rest (Ok done) = rest ≡ []
 IsLeft chain rest (Err (PageOf offset fault)) = (offset ≡ chain.length_of) × (rest ≢ []) × (page_at rest ≡ Err fault)
@@ -38,7 +40,7 @@ IsLeft chain rest (Err (ChainOf offset fault)) =
     (offset ≡ chain.length_of)
     × (page : Page) × (more : List ℕ) × IsPage page × (rest ≡ page_bytes page ++ more) × (fault_of_page chain page ≡ Some fault)
 IsLeft chain rest (Err Memory) =
-    (page : Page) × (more : List ℕ) × IsPage page × (rest ≡ page_bytes page ++ more) × (fault_of_page chain page ≡ None)
+    (page : Page) × (more : List ℕ) × IsPage page × (rest ≡ page_bytes page ++ more) × (fault_of_page chain page ≡ None) × (is_first page ≡ true)
 
 -- The bytes begin with these pages, which may follow the links in turn and were added, and then nothing more could be.
 pub record AddsPages (links : List (List Page)) (bytes : List ℕ) (index : IndexState) (result : Result ⊤ IndexFault) : Type 0 where

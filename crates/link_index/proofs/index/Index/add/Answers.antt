@@ -13,7 +13,8 @@ returns-in-Err-add_page c = λ links is.
     let left : IsLeft c.loop-rest.self.chain.chain c.loop-rest.rest.now (Err (fault_at c.end-in-Err-add_page.result c.in-Err-add_page.fault)) =
     left_at c.loop-rest.self.chain.chain c.loop-rest.rest.now c.in-Ok.split.1.now c.in-Ok.split.0 c.end-in-Err-add_page.result
     (c.end-in-Err-add_page.ensures ∙ ap (λ (ch : ChainState). ch.length_of) same.0) c.in-Ok.ensures.split.0 c.in-Ok.ensures.split.1
-    c.add_page.result c.in-Err-add_page.fault c.in-Err-add_page.is c.add_page.ensures.fault (λ none. c.in-Err-add_page.is ∙ (c.in-Err-add_page.ensures.memory none).0) in
+    c.add_page.result c.in-Err-add_page.fault c.in-Err-add_page.is c.add_page.ensures.fault (λ none. c.in-Err-add_page.is ∙ (c.in-Err-add_page.ensures.memory none).0)
+    c.add_page.ensures.later in
     subst (AddsPages links c.args.chunk.now c.add_page.new.self) (ap Err (sym c.fault_at.ensures))
     (stops links c.args.chunk.now c.loop-rest.rest.now c.add_page.new.self (Err (fault_at c.end-in-Err-add_page.result c.in-Err-add_page.fault))
     (same_index links c.args.chunk.now c.loop-rest.rest.now c.loop-rest.self c.add_page.new.self same (c.loop-rest.invariant.some links is))
