@@ -14,6 +14,7 @@ WORDS = [
     ("some first(?! of all)", "a number has its name: 'a prefix of the commands', 'the first n commands'"),
     ("so many(?! that)", "a number has its name: 'the first n bytes'"),
     ("as players like (?:it|them)", "say what for: 'so that players stop at the right sample'"),
+    ("[Rr]eading borrows", "say what borrows: 'what is read borrows from the packet'"),
     ("Neither: ", "a list has a verb: 'Not proved: that ..'"),
     ("pos(?!\\w)", "the word is 'position'"),
     ("seq(?!\\w)", "the word is 'sequence'"),

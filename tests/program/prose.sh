@@ -1,7 +1,7 @@
 #!/usr/bin/env bash
-# In README.md, in docs/ and in what --help says no line of prose is longer than 120 columns (rows of tables and indented
-# lines may be), no word stands that is wrong wherever it stands, and each row of a table has the cells of its head. What
-# is found is printed with its place: prose.py has the words, and why.
+# In README.md, in docs/, in the heads of crates and in what --help says no line of prose is longer than 120 columns
+# (rows of tables and indented lines may be), no word stands that is wrong wherever it stands, and each row of a table has
+# the cells of its head. What is found is printed with its place: prose.py has the words, and why.
 . "$(dirname "$0")/../helpers/counting.bash"
 cd "$top" || exit 1
 
@@ -38,6 +38,6 @@ check "rows with other cells than their head are found" is_text "$work/found" \
 pages=(README.md docs/*.md docs/proofs/* crates/*/promises.txt crates/*/tested.md)
 check "long lines" prose lines "${pages[@]}"
 check "tables" prose tables "${pages[@]}"
-check "words" prose words "${pages[@]}" crates/command_line/src/*.rt
+check "words" prose words "${pages[@]}" crates/*/src/lib.rt crates/*/src/main.rt crates/command_line/src/*.rt
 
 finish
