@@ -7,9 +7,12 @@
 // The Nth call, or with FAILING_ON each from the Nth on, fails with EIO, ENOSPC or EINTR and does nothing; or moves
 // half of the bytes; or writes half of them and fails; or isn't made, since the program ends before it. FILE is made
 // once a call has been met. With FAILING_OUTPUT=N the Nth write to standard output fails with EIO and does nothing.
+// With FAILING_LOG=FILE each device call that is made is a line of FILE: "write COUNT AT", "sync", or "cut SIZE".
 #include <dlfcn.h>
 #include <errno.h>
 #include <fcntl.h>
+#include <stdarg.h>
+#include <stdio.h>
 #include <stdlib.h>
 #include <string.h>
 #include <unistd.h>
@@ -28,6 +31,18 @@ static const char *met(void) {
     return how;
 }
 
+// Adds a line to the log, if there is one.
+static void tell(const char *format, ...) {
+    const char *log = getenv("FAILING_LOG");
+    if (!log) return;
+    int file = open(log, O_CREAT | O_WRONLY | O_APPEND, 0600);
+    va_list words;
+    va_start(words, format);
+    vdprintf(file, format, words);
+    va_end(words);
+    close(file);
+}
+
 static int number_of(const char *how) {
     return !strcmp(how, "full") ? ENOSPC : !strcmp(how, "interrupted") ? EINTR : EIO;
 }
@@ -36,7 +51,10 @@ ssize_t pwrite(int file, const void *bytes, size_t count, off_t at) {
     static ssize_t (*next)(int, const void *, size_t, off_t);
     if (!next) next = (ssize_t (*)(int, const void *, size_t, off_t))dlsym(RTLD_NEXT, "pwrite");
     const char *how = met();
-    if (!how) return next(file, bytes, count, at);
+    if (!how) {
+        tell("write %zu %lld\n", count, (long long)at);
+        return next(file, bytes, count, at);
+    }
     if (!strcmp(how, "short")) return next(file, bytes, count > 1 ? count / 2 : count, at);
     if (!strcmp(how, "torn") && count > 1 && next(file, bytes, count / 2, at) < 0) return -1;
     errno = number_of(how);
@@ -47,7 +65,10 @@ int fsync(int file) {
     static int (*next)(int);
     if (!next) next = (int (*)(int))dlsym(RTLD_NEXT, "fsync");
     const char *how = met();
-    if (!how || !strcmp(how, "short")) return next(file);
+    if (!how || !strcmp(how, "short")) {
+        tell("sync\n");
+        return next(file);
+    }
     errno = number_of(how);
     return -1;
 }
@@ -56,7 +77,10 @@ int ftruncate(int file, off_t size) {
     static int (*next)(int, off_t);
     if (!next) next = (int (*)(int, off_t))dlsym(RTLD_NEXT, "ftruncate");
     const char *how = met();
-    if (!how || !strcmp(how, "short")) return next(file, size);
+    if (!how || !strcmp(how, "short")) {
+        tell("cut %lld\n", (long long)size);
+        return next(file, size);
+    }
     errno = number_of(how);
     return -1;
 }

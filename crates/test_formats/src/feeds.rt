@@ -39,8 +39,8 @@ pub(crate) const FLUSH: [u8; 5] = *b"\x04\0\0\0\0";
 /// A feed of a begin, a packet and an end: 52, 28 and 9 bytes.
 const FEED: [&[u8]; 3] = [&BEGIN, &PUT, &END];
 
-/// A feed of version 2: its announcement, a begin and a flush: 6, 66 and 5 bytes.
-const FEED_2: [&[u8]; 3] = [&ANNOUNCEMENT, &BEGIN_2, &FLUSH];
+/// A feed of version 2: its announcement, a begin, a packet and a flush: 6, 66, 28 and 5 bytes.
+const FEED_2: [&[u8]; 4] = [&ANNOUNCEMENT, &BEGIN_2, &PUT, &FLUSH];
 
 /// A begin with a Skeleton and no stream: serial 7, 1000/-2, 3/4 and a time of 20 letters.
 const SKELETON: [u8; 64] =
@@ -162,7 +162,7 @@ fn run(
 /// A feed in pieces, how many bytes its announcement has, and where its records end.
 type Shape = (&'static [&'static [u8]], usize, &'static [usize]);
 
-const SHAPES: [Shape; 2] = [(&FEED, 0, &[52, 80, 89]), (&FEED_2, 6, &[72, 77])];
+const SHAPES: [Shape; 2] = [(&FEED, 0, &[52, 80, 89]), (&FEED_2, 6, &[72, 100, 105])];
 
 /// How many of the records end within the first `length` bytes.
 fn whole_records(ends: &[usize], length: usize) -> usize {
@@ -201,7 +201,7 @@ fn a_feed_cut_at_every_byte_ends_inside_a_record_or_between_two(
 const WRITTEN: [(&[&[u8]], usize, usize, usize); 3] = [
     (&FEED, 0, 1, 3),
     (&[&SKELETON], 0, 7, 1),
-    (&FEED_2, 6, 1, 2),
+    (&FEED_2, 6, 1, 3),
 ];
 
 #[test]
@@ -344,6 +344,7 @@ fn a_feed_tells_its_version_and_its_flushes(rt: HostRuntime) -> Result<(), Fail>
     assert!(rt; feed.version() == None);
     feed.next(&mut reader)?;
     assert!(rt; feed.version() == Some(Version::Two));
+    assert!(rt; matches!(feed.next(&mut reader), Ok(Some(Record::Command(_)))));
     assert!(rt; matches!(feed.next(&mut reader), Ok(Some(Record::Flush))));
     Ok(())
 }
