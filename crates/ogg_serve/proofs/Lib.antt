@@ -11,3 +11,4 @@ mod Taken
 mod Alone
 mod Lived
 mod ReadOn
+mod Continuing

@@ -4,3 +4,4 @@ pub mod Life
 pub mod Pieces
 pub mod Serving
 pub mod Steps
+pub mod Standing

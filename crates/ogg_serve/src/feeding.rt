@@ -5,12 +5,15 @@ ghost use Rattle.serve_hub.specs.Running.{Progress, IsIn};
 ghost use Rattle.serve_hub.specs.Showing.{Shows};
 ghost use Rattle.serve_machine.specs.Hub.{HubState};
 ghost use Rattle.ogg_serve.specs.Feeding.{Follows, HasStepped, feed_state, lasting, says_failed, step_at};
+ghost use Rattle.ogg_serve.specs.Standing.{ContinuesHistory};
 ghost use Rattle.ogg_serve.specs.Steps.{TakesStep};
 
 use chain_rules::Refusal;
 use disk_model::Disk;
 use feed_codec::{Reply, RunFault};
 use feed_run::FeedRun;
+use history::disks_stand_in_their_world;
+use ogg_recorder::Recorded;
 use serve_hub::{Hub, OpenFault};
 use std::alloc::Global;
 use std::io::{Read, Write, sink};
@@ -80,6 +83,10 @@ impl<R: Read, W: Write + Drop> LiveFeed<R, W> {
         ensures takes { (before : HubState) → Shows D.is_honest D.state hub.old before → (after : HubState) × Shows D.is_honest D.state hub.new after
             × TakesStep D.is_honest D.state D.moment D.images_since D.failures R.remaining W.contents self.old self.new before after }
 
+        // In each history in which the hub stood, the record is what comes next, and so is the reopening after it.
+        ensures history { (before : HubState) → Shows D.is_honest D.state hub.old before
+            → ContinuesHistory D.is_honest D.state D.moment D.images_since hub.old hub.new }
+
         // What it answers from then on.
         ensures ended { self.old.ended ≡ None → self.new.ended ≡ lasting result }
 
@@ -88,6 +95,7 @@ impl<R: Read, W: Write + Drop> LiveFeed<R, W> {
             × (self.new ≡ feed_state self.old.reader self.old.replies self.old.run (Some result)) × (hub.new ≡ hub.old)) }
         ensures stays { IfSome self.old.ended (λ answer. (result ≡ answer) × (self.new ≡ self.old) × (hub.new ≡ hub.old)) }
     {
+        disks_stand_in_their_world::<D, Recorded>();
         if let Some(answer) = self.ended {
             return answer;
         }

@@ -1,12 +1,20 @@
 //! What always holds of a feed that is recorded while its file is served.
-ghost use Rattle.std.specs.Prelude.{◌+◌, ℕ, List};
+ghost use Rattle.std.specs.Prelude.{◌+◌, ◌++◌, ℕ, List};
+ghost use Rattle.link_chain.specs.Recording.{Recording};
+ghost use Rattle.chain_rules.specs.Recording.{add};
 ghost use Rattle.feed_codec.specs.declared.item.Record.{Record};
 ghost use Rattle.feed_codec.specs.declared.reply.Reply.{Reply};
 ghost use Rattle.feed_run.specs.Answering.{AnswersAll};
+ghost use Rattle.ogg_command.specs.declared.command.Command.{Command as CommandOf};
+ghost use Rattle.history.specs.World.{World, Step as StepOf, run};
+ghost use Rattle.history.specs.History.{IsHistory};
+ghost use Rattle.ogg_recorder.specs.Recovery.{Shows, Accepts};
+ghost use Rattle.serve_hub.specs.Parts.{HubParts};
 ghost use Rattle.serve_machine.specs.Hub.{HubState};
 ghost use Rattle.serve_machine.specs.Own.{KeepsFile};
 ghost use Rattle.ogg_serve.specs.Feeding.{FeedState};
 ghost use Rattle.ogg_serve.specs.Life.{HasLived, HaveCounts, IsNewFeed, LiveAnswers};
+ghost use Rattle.ogg_serve.specs.Standing.{ContinuesHistory, StandsOn};
 ghost use Rattle.ogg_serve.specs.Steps.{TakesSteps};
 
 use disk_model::Disk;
@@ -27,4 +35,17 @@ pub fn feeds_are_run_beside_sessions<D: Disk, F: Read, L: Write>()
         → TakesSteps D.is_honest D.state D.moment D.images_since D.failures F.remaining L.contents (n + m) old new before after }
     ensures counts { (before after : HubState) (records : List Record) (replies : List Reply) (bytes : List ℕ)
         → AnswersAll LiveAnswers before records replies bytes after → HaveCounts before.count records replies }
+{}
+
+/// What a hub's calls add to a history makes a history. So whatever sessions are served, and whatever of a feed is
+/// recorded meanwhile, `acknowledged_commands_survive` (ogg_recorder) says what every image shows, between the calls of
+/// the disk and in each of them: a prefix of the commands, with every acknowledged one.
+pub fn histories_go_on_beside_sessions<D: Disk>()
+    ensures { (first : Recording) (begun disk : D) (w : World CommandOf) (steps : List (StepOf CommandOf × D)) (old new : HubParts D)
+        → IsHistory D.is_honest D.state D.moment D.images_since Shows Accepts add first begun steps w disk
+        → StandsOn D.is_honest D.state first w old.file old.lost disk
+        → ContinuesHistory D.is_honest D.state D.moment D.images_since old new
+        → (more : List (StepOf CommandOf × D)) × (now : D)
+        × IsHistory D.is_honest D.state D.moment D.images_since Shows Accepts add first begun (steps ++ more) (run w more) now
+        × StandsOn D.is_honest D.state first (run w more) new.file new.lost now }
 {}

@@ -7,6 +7,7 @@ ghost use Rattle.serve_hub.specs.Images.{failures_in};
 ghost use Rattle.serve_hub.specs.Showing.{Shows};
 ghost use Rattle.ogg_serve.specs.Keeping.{KeepsAll, KeepsOthers};
 ghost use Rattle.ogg_serve.specs.Serving.{HasTriedAll};
+ghost use Rattle.ogg_serve.specs.Standing.{ContinuesHistory};
 ghost use Rattle.ogg_serve.specs.Steps.{GetsIn, TakesStep, TakesSteps};
 
 use crate::feeding::LiveFeed;
@@ -14,6 +15,8 @@ use crate::pieces::{Served, read_head, send_piece};
 use crate::serve::MOST_PIECES;
 use crate::trying::Tries;
 use disk_model::Disk;
+use history::disks_stand_in_their_world;
+use ogg_recorder::Recorded;
 use serve_hub::{Hub, HubFault};
 use serve_machine::{
     calls_move_their_session, committed_bytes_grow, other_sessions_stay, sessions_are_numbered,
@@ -36,6 +39,10 @@ pub fn live_one<D: Disk + Drop, R: Read, W: Write, F: Read, L: Write + Drop>(
         × TakesSteps D.is_honest D.state D.moment D.images_since D.failures F.remaining L.contents n feed.old feed.new before after
         × GetsIn (R.remaining reader.old) (R.remaining reader.new) (W.contents writer.old) (W.contents writer.new)
         n after.has_file before.committed result) }
+
+    // In each history in which the hub stood, what was recorded and read is what comes next.
+    ensures history { (before : HubState) → Shows D.is_honest D.state hub.old before → AreNumbered before
+        → ContinuesHistory D.is_honest D.state D.moment D.images_since hub.old hub.new }
 
     // A fault has a cause.
     ensures cause { result ≡ Err HubFault.Source → (before : HubState) → Shows D.is_honest D.state hub.old before
@@ -76,9 +83,12 @@ fn exchange<D: Disk + Drop, R: Read, W: Write, F: Read, L: Write + Drop>(
         n after.has_file before.committed result) }
     ensures tried { (before : HubState) → Shows D.is_honest D.state hub.old before → phase_of before id ≡ Some (Reading [])
         → tries.old ≡ false → HasTriedAll tries.new before.committed result }
+    ensures history { (before : HubState) → Shows D.is_honest D.state hub.old before → phase_of before id ≡ Some (Reading [])
+        → ContinuesHistory D.is_honest D.state D.moment D.images_since hub.old hub.new }
     ensures cause { result ≡ Err HubFault.Source → (before : HubState) → Shows D.is_honest D.state hub.old before
         → phase_of before id ≡ Some (Reading []) → HasFailed (failures_in D.failures hub.old) (failures_in D.failures hub.new) }
 {
+    disks_stand_in_their_world::<D, Recorded>();
     match read_head(hub, id, reader, tries) {
         Ok(None) => {}
         Ok(Some(served)) => return Ok(served),
@@ -100,6 +110,8 @@ fn go_on<D: Disk + Drop, F: Read, L: Write + Drop>(hub: &mut Hub<D>, feed: &mut 
     ensures took { (before : HubState) → Shows D.is_honest D.state hub.old before
         → (after : HubState) × Shows D.is_honest D.state hub.new after × KeepsAll before after
         × TakesStep D.is_honest D.state D.moment D.images_since D.failures F.remaining L.contents feed.old feed.new before after }
+    ensures history { (before : HubState) → Shows D.is_honest D.state hub.old before
+        → ContinuesHistory D.is_honest D.state D.moment D.images_since hub.old hub.new }
     ensures later { (before : HubState) → Shows D.is_honest D.state hub.old before
         → failures_in D.failures hub.old ≤ failures_in D.failures hub.new }
 {

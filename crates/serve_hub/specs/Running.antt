@@ -1,5 +1,5 @@
 -- How a hub answers the records of a feed. Ours.
-use Rattle.std.specs.Prelude.{◌≡◌, ℕ, Result, List, [], length}
+use Rattle.std.specs.Prelude.{◌≡◌, ◌≢◌, ℕ, IfErr, Result, List, [], length}
 use Rattle.disk_model.specs.Image.{DiskState}
 use Rattle.feed_codec.specs.declared.item.Record.{Record}
 use Rattle.feed_codec.specs.declared.item.Record.TheVariants.{Command as CommandOf, Flush}
@@ -7,6 +7,7 @@ use Rattle.feed_codec.specs.declared.reply.Kept.{Kept}
 use Rattle.feed_codec.specs.declared.reply.Reply.{Reply}
 use Rattle.ogg_command.specs.declared.command.Command.{Command}
 use Rattle.ogg_command.specs.declared.refusal.Refusal.{Refusal}
+use Rattle.ogg_command.specs.declared.refusal.Refusal.TheVariants.{Disk}
 use Rattle.ogg_recorder.specs.Running.{reply_of, reply_of_flush}
 use Rattle.ogg_recorder.specs.declared.commanding.Outcome.{Outcome}
 use Rattle.serve_machine.specs.Hub.{HubState, command_step, flush_step}
@@ -33,13 +34,15 @@ module _ {D : Type 0} (is_honest : D → Type 0) (state : D → DiskState) where
   IsIn before hub = (before.now ≡ hub) × Shows is_honest state hub before.machine
 
 module _ {D : Type 0} (is_honest : D → Type 0) (state : D → DiskState) (moment : D → ℕ) (images_since : D → ℕ → List ℕ → Type 0) (failures : D → ℕ) where
-  -- a command got this reply: it was a step of the machine, and of the history of the file
+  -- a command got this reply: it was a step of the machine, and of the history of the file; a refusal other than `Disk`
+  -- changes nothing
   pub record CommandAnswered (before after : Progress D) (command : Command) (reply : Reply) : Type 0 where
     pub answer : Result Outcome Refusal
     pub told : reply ≡ reply_of answer
     pub step : command_step before.machine command answer after.machine
     pub disk : IfFile (Records is_honest state moment images_since failures command answer) before.now.file after.now.file
     pub only : OnlyFile before.now after.now
+    pub same : IfErr answer (λ refusal. refusal ≢ Disk → after.now ≡ before.now)
 
   -- the same of a flush
   pub record FlushAnswered (before after : Progress D) (reply : Reply) : Type 0 where
@@ -48,6 +51,7 @@ module _ {D : Type 0} (is_honest : D → Type 0) (state : D → DiskState) (mome
     pub step : flush_step before.machine answer after.machine
     pub disk : IfFile (Flushes is_honest state moment images_since failures answer) before.now.file after.now.file
     pub only : OnlyFile before.now after.now
+    pub same : IfErr answer (λ refusal. refusal ≢ Disk → after.now ≡ before.now)
 
   abbrev pub RecordAnswered : Progress D → Record → Reply → Progress D → Type 0
   RecordAnswered before (CommandOf command) reply after = CommandAnswered before after command reply

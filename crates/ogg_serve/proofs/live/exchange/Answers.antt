@@ -4,6 +4,7 @@ use Rattle.serve_machine.specs.Hub.{phase_of}
 use Rattle.serve_machine.specs.declared.fault.HubFault.{HubFault}
 use Rattle.serve_machine.specs.declared.fault.HubFault.TheVariants.{Source}
 use Rattle.ogg_serve.specs.Pieces.{LeftBy}
+use Rattle.ogg_serve.proofs.Continuing.{read, then_on}
 use Rattle.ogg_serve.proofs.Failing.{was_read, has_failed, has_file, failed_later}
 use Rattle.ogg_serve.proofs.Faults.{same_fault}
 use Rattle.ogg_serve.proofs.Moves.{of_all, others_both}
@@ -48,6 +49,18 @@ returns-in-Err-clause-cause g c = λ is before shown phase.
     has_failed d.is_honest d.state d.moment d.images_since d.failures _ _ _ _ some
     (c.in-Err.ensures.cause (ap Err (same_fault c.in-Err.fault Source is)) before shown phase)
 
+pub returns-in-Ok-Some-clause-history : goal.returns-in-Ok-Some-clause-history
+returns-in-Ok-Some-clause-history g c = λ before shown phase.
+    let d = g.D.Disk in
+    read d.is_honest d.state d.moment d.images_since d.failures c.disks_stand_in_their_world.ensures.step c.args.hub.now c.read_head.new.hub
+    c.in-Ok-Some.ensures.disk c.in-Ok-Some.ensures.lost
+
+pub returns-in-Err-clause-history : goal.returns-in-Err-clause-history
+returns-in-Err-clause-history g c = λ before shown phase.
+    let d = g.D.Disk in
+    read d.is_honest d.state d.moment d.images_since d.failures c.disks_stand_in_their_world.ensures.step c.args.hub.now c.read_head.new.hub
+    c.in-Err.ensures.disk c.in-Err.ensures.lost
+
 -- ---- the pieces
 pub loop-init : goal.loop-init
 loop-init g c = record {
@@ -60,6 +73,10 @@ loop-init g c = record {
         at_first_in c.args.id _ _ _ before after (read_as _ _ c.args.id before.committed after _ None c.in-Ok-None.field-0-is has),
       );
   tries = λ before shown phase none. tried_as _ _ None c.in-Ok-None.field-0-is (c.in-Ok-None.ensures.tried before shown phase none);
+  history = λ before shown phase.
+      let d = g.D.Disk in
+      read d.is_honest d.state d.moment d.images_since d.failures c.disks_stand_in_their_world.ensures.step c.args.hub.now c.read_head.new.hub
+      c.in-Ok-None.ensures.disk c.in-Ok-None.ensures.lost;
   later = λ before shown phase.
       let d = g.D.Disk in
       was_read d.is_honest d.state d.moment d.images_since d.failures _ _ _ _ c.in-Ok-None.ensures.disk c.in-Ok-None.ensures.lost;
@@ -123,6 +140,28 @@ returns-in-Err-send_piece-clause-cause g c = λ is before shown phase.
     (has_failed d.is_honest d.state d.moment d.images_since d.failures _ _ _ _ some
     (c.in-Err-send_piece.ensures.cause (ap Err (same_fault c.in-Err-send_piece.fault Source is)) then shown_then))
 
+pub returns-in-Ok-Some-send_piece-clause-history : goal.returns-in-Ok-Some-send_piece-clause-history
+returns-in-Ok-Some-send_piece-clause-history g c = λ before shown phase.
+    let d = g.D.Disk in
+    let (now, shows, keeps, took, s) = c.loop.invariant.sending before shown phase in
+    let so_far = c.loop.invariant.history before shown phase in
+    let step = c.go_on.ensures.history now shows in
+    let piece = read d.is_honest d.state d.moment d.images_since d.failures c.disks_stand_in_their_world.ensures.step c.go_on.new.hub c.send_piece.new.hub
+    c.in-Ok-Some-send_piece.ensures.disk c.in-Ok-Some-send_piece.ensures.lost in
+    then_on d.is_honest d.state d.moment d.images_since d.failures c.args.hub.now c.loop.hub c.send_piece.new.hub so_far
+    (then_on d.is_honest d.state d.moment d.images_since d.failures c.loop.hub c.go_on.new.hub c.send_piece.new.hub step piece)
+
+pub returns-in-Err-send_piece-clause-history : goal.returns-in-Err-send_piece-clause-history
+returns-in-Err-send_piece-clause-history g c = λ before shown phase.
+    let d = g.D.Disk in
+    let (now, shows, keeps, took, s) = c.loop.invariant.sending before shown phase in
+    let so_far = c.loop.invariant.history before shown phase in
+    let step = c.go_on.ensures.history now shows in
+    let piece = read d.is_honest d.state d.moment d.images_since d.failures c.disks_stand_in_their_world.ensures.step c.go_on.new.hub c.send_piece.new.hub
+    c.in-Err-send_piece.ensures.disk c.in-Err-send_piece.ensures.lost in
+    then_on d.is_honest d.state d.moment d.images_since d.failures c.args.hub.now c.loop.hub c.send_piece.new.hub so_far
+    (then_on d.is_honest d.state d.moment d.images_since d.failures c.loop.hub c.go_on.new.hub c.send_piece.new.hub step piece)
+
 pub loop-preserved : goal.loop-preserved
 loop-preserved g c = record {
   sending = λ before shown phase.
@@ -139,6 +178,15 @@ loop-preserved g c = record {
       );
   tries = λ before shown phase none.
       tried_as _ _ None c.in-Ok-None-send_piece.field-0-is (c.in-Ok-None-send_piece.ensures.tried (c.loop.invariant.tries before shown phase none));
+  history = λ before shown phase.
+      let d = g.D.Disk in
+      let (now, shows, keeps, took, s) = c.loop.invariant.sending before shown phase in
+      let so_far = c.loop.invariant.history before shown phase in
+      let step = c.go_on.ensures.history now shows in
+      let piece = read d.is_honest d.state d.moment d.images_since d.failures c.disks_stand_in_their_world.ensures.step c.go_on.new.hub c.send_piece.new.hub
+      c.in-Ok-None-send_piece.ensures.disk c.in-Ok-None-send_piece.ensures.lost in
+      then_on d.is_honest d.state d.moment d.images_since d.failures c.args.hub.now c.loop.hub c.send_piece.new.hub so_far
+      (then_on d.is_honest d.state d.moment d.images_since d.failures c.loop.hub c.go_on.new.hub c.send_piece.new.hub step piece);
   later = λ before shown phase.
       let d = g.D.Disk in
       let (now, shows, keeps, took, s) = c.loop.invariant.sending before shown phase in
@@ -158,3 +206,6 @@ pub returns-clause-tried : goal.returns-clause-tried
 returns-clause-tried g c = λ before shown phase none.
     let (now, shows, keeps, took, s) = c.loop.invariant.sending before shown phase in
     too_long _ c.args.id _ _ _ _ _ before now s (omega (arith, c.loop-test.false, c.loop.auto.counter-end))
+
+pub returns-clause-history : goal.returns-clause-history
+returns-clause-history g c = λ before shown phase. c.loop.invariant.history before shown phase

@@ -3,6 +3,7 @@ use Rattle.serve_hub.specs.Images.{failures_in}
 use Rattle.serve_machine.specs.Hub.{HubState, Reading, phase_of}
 use Rattle.serve_hub.specs.Showing.{Shows}
 use Rattle.ogg_serve.specs.Keeping.{KeepsOthers}
+use Rattle.ogg_serve.specs.Standing.{ContinuesHistory}
 use Rattle.ogg_serve.specs.Steps.{TakesSteps}
 use Rattle.ogg_serve.proofs.Sent.{IsSendingIn}
 use Rattle.ogg_serve.proofs.live.exchange.Given as goal
@@ -18,6 +19,8 @@ invariant-loop g l = record {
       (g.W.Write.contents l.fn.writer) (g.W.Write.contents l.writer) before now;
   tries : (before : HubState) → Shows g.D.Disk.is_honest g.D.Disk.state l.fn.hub before → phase_of before l.fn.id ≡ Some (Reading [])
       → l.fn.tries ≡ false → l.tries ≡ false;
+  history : (before : HubState) → Shows g.D.Disk.is_honest g.D.Disk.state l.fn.hub before → phase_of before l.fn.id ≡ Some (Reading [])
+      → ContinuesHistory g.D.Disk.is_honest g.D.Disk.state g.D.Disk.moment g.D.Disk.images_since l.fn.hub l.hub;
   later : (before : HubState) → Shows g.D.Disk.is_honest g.D.Disk.state l.fn.hub before → phase_of before l.fn.id ≡ Some (Reading [])
       → failures_in g.D.Disk.failures l.fn.hub ≤ failures_in g.D.Disk.failures l.hub;
 }

@@ -1,7 +1,9 @@
 use Rattle.std.proofs.Common.{ℕ, Ok, refl, sym, ap, subst}
 use Rattle.serve_hub.specs.Images.{failures_in}
+use Rattle.serve_hub.specs.Parts.{HubParts}
 use Rattle.serve_sending.specs.Sending.{HasFailed}
 use Rattle.serve_machine.specs.Hub.{Connect, Close}
+use Rattle.ogg_serve.proofs.Continuing.{same, stays, then_on}
 use Rattle.ogg_serve.proofs.Moves.{only_serves, others_both}
 use Rattle.ogg_serve.proofs.Taken.{led, followed}
 use Rattle.ogg_serve.proofs.Whole.{connected, others_of}
@@ -34,3 +36,20 @@ returns-in-Ok-clause-cause g c is before shown numbered =
     let led = ap (failures_in d.failures) c.in-Ok.ensures.parts in
     let left = ap (failures_in d.failures) c.close.ensures.parts in
     subst (λ (n : ℕ). HasFailed n (failures_in d.failures c.close.new.self)) led (subst (λ (n : ℕ). HasFailed (failures_in d.failures c.connect.new.self) n) (sym left) failed)
+
+pub returns-in-Ok-clause-history : goal.returns-in-Ok-clause-history
+returns-in-Ok-clause-history g c = λ before shown numbered.
+    let d = g.D.Disk in
+    let s = c.in-Ok.ensures.step before shown in
+    let begun = c.calls_move_their_session.ensures.connect before s.0 c.in-Ok.id s.2 (connected before c.in-Ok.id s.2.1 (c.sessions_are_numbered.ensures.unused before numbered)) in
+    let come = stays d.is_honest d.state d.moment d.images_since d.failures c.args.hub.now c.connect.new.self
+    (ap (λ (hub : HubParts _). hub.file) c.in-Ok.ensures.parts) (ap (λ (hub : HubParts _). hub.lost) c.in-Ok.ensures.parts) in
+    let gone = stays d.is_honest d.state d.moment d.images_since d.failures c.exchange-served.new.hub c.close.new.self
+    (ap (λ (hub : HubParts _). hub.file) c.close.ensures.parts) (ap (λ (hub : HubParts _). hub.lost) c.close.ensures.parts) in
+    then_on d.is_honest d.state d.moment d.images_since d.failures c.args.hub.now c.connect.new.self c.close.new.self come
+    (then_on d.is_honest d.state d.moment d.images_since d.failures c.connect.new.self c.exchange-served.new.hub c.close.new.self (c.exchange-served.ensures.history s.0 s.1 begun) gone)
+
+pub returns-in-Err-clause-history : goal.returns-in-Err-clause-history
+returns-in-Err-clause-history g c = λ before shown numbered.
+    let d = g.D.Disk in
+    same d.is_honest d.state d.moment d.images_since d.failures c.args.hub.now c.connect.new.self c.in-Err.ensures.refused.1

@@ -6,6 +6,7 @@ use Rattle.serve_hub.specs.Showing.{Shows}
 use Rattle.serve_machine.specs.Hub.{HubState}
 use Rattle.ogg_serve.specs.Feeding.{feed_state}
 use Rattle.ogg_serve.specs.declared.feeding.Step.{Step}
+use Rattle.ogg_serve.proofs.Continuing.{by_outcome, hub_stepped, same}
 use Rattle.ogg_serve.proofs.Taken.{ended_so, taken}
 use Rattle.ogg_serve.proofs.feeding.LiveFeed.step.Goals as goal
 
@@ -30,3 +31,19 @@ returns-clause-takes g c =
     let (now, is_in, has) = e.stepped (record { now = c.args.hub.now; machine = before }) (refl, shown) unended in
     (now.machine, is_in.1, tt, record { was = c.args.hub.now; now = now.now; answer = answer; stepped = has; ended = lasts })) in
     (after, shown_after, step))
+
+pub returns-clause-history : goal.returns-clause-history
+returns-clause-history g c = λ before shown.
+    let d = g.D.Disk in
+    let in_ = c.self.inside in
+    let e = c.take_step-answer.ensures in
+    let n = c.take_step-answer.new in
+    by_outcome d.is_honest d.state d.moment d.images_since d.failures in_.run.outcome _ c.args.hub.now n.hub e.closed (λ outcome (told, run, hub, reader, replies). hub)
+    (λ unended.
+    let (after, is_in, has) = e.stepped (record { now = c.args.hub.now; machine = before }) (refl, shown) unended in
+    hub_stepped d.is_honest d.state d.moment d.images_since d.failures c.disks_stand_in_their_world.ensures.step _ _ _ _ c.args.hub.now n.hub before after _ shown is_in has)
+
+pub returns-in-Some-clause-history : goal.returns-in-Some-clause-history
+returns-in-Some-clause-history g c = λ before shown.
+    let d = g.D.Disk in
+    same d.is_honest d.state d.moment d.images_since d.failures c.args.hub.now c.args.hub.now refl

@@ -1,4 +1,6 @@
-use Rattle.std.proofs.Common.{refl, sym, subst}
+use Rattle.std.proofs.Common.{◌≡◌, ◌≢◌, refl, sym, subst}
+use Rattle.std.specs.Prelude.{IfErr}
+use Rattle.ogg_command.specs.declared.refusal.Refusal.TheVariants.{Disk}
 use Rattle.serve_hub.specs.Images.{IfFile, Flushes}
 use Rattle.serve_hub.specs.Parts.{HubParts, OnlyFile}
 use Rattle.serve_hub.proofs.running.HubRunner.run_flush.Goals as goal
@@ -10,4 +12,5 @@ returns-clause-answers g c = λ before is_in.
     let s = e.step before.machine is_in.1 in
     let disk = subst (λ (hub : HubParts _). IfFile (Flushes d.is_honest d.state d.moment d.images_since d.failures c.flush-answer.result) hub.file c.flush-answer.new.self.file) (sym is_in.0) e.disk in
     let only = subst (λ (hub : HubParts _). OnlyFile hub c.flush-answer.new.self) (sym is_in.0) e.parts in
-    (record { now = c.flush-answer.new.self; machine = s.0 }, (refl, record { answer = c.flush-answer.result; told = c.reply_to_flush.ensures; step = s.2; disk = disk; only = only }), (refl, s.1))
+    let same = subst (λ (hub : HubParts _). IfErr c.flush-answer.result (λ refusal. refusal ≢ Disk → c.flush-answer.new.self ≡ hub)) (sym is_in.0) e.same in
+    (record { now = c.flush-answer.new.self; machine = s.0 }, (refl, record { answer = c.flush-answer.result; told = c.reply_to_flush.ensures; step = s.2; disk = disk; only = only; same = same }), (refl, s.1))
