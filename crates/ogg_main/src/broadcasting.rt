@@ -2,19 +2,17 @@
 
 use crate::logging::Log;
 use crate::recorders::{HeardDisk, open_heard, seal_file};
+use crate::running::Running;
 use crate::sockets::Sockets;
 use crate::telling::Told;
 use fault_lines::Fault;
 use import_feed::Skeletons;
-use ogg_page::write_whole;
 use ogg_serve::Hub;
-use station::{Done, Options as StationOptions, Password, Station, station_line};
+use station::{Options as StationOptions, Password, Station};
 use std::fs::File;
-use std::io::{self, IsTerminal, Read};
+use std::io::Read;
 use std::net::SocketAddr;
-
-/// How many steps of the recording are taken in one round.
-const IN_ROUND: u32 = 64;
+use std::time::Instant;
 
 /// The greatest number of bytes of a password file that are read.
 const MOST_PASSWORD: usize = 4096;
@@ -38,26 +36,37 @@ pub struct Options<'a> {
 /// Records what comes into the file, which is made if there is none, and serves it to whoever connects, until a fault; or
 /// until the input has ended, if the file is to be sealed then.
 pub fn station(rt: &HostRuntime, options: Options<'_>) -> Result<(), Fault> {
-    let Ok(address) = options.address.parse::<SocketAddr>() else {
-        return Err(Fault::Net);
-    };
-    let mut station = open_station(rt, options)?;
-    let has_input = !rt.stdin().is_terminal();
-    let mut sockets = match Sockets::new(rt, address, has_input) {
-        Ok(sockets) => sockets,
-        Err(_) => return Err(Fault::Net),
-    };
-    let mut told = Told::new(rt, false, station.hub().end());
-    tell_address(rt, &sockets);
-    let mut log = Log::new(rt, options.log, station.counts());
-    let ran = run(rt, &mut station, &mut sockets, &mut told, &mut log);
-    told.close();
+    let mut running = open(rt, options)?;
+    let ran = running.run();
+    running.told.close();
     ran?;
-    match (told.fault(), station.into_hub().into_recorder()) {
-        (Some(fault), _) => Err(fault),
-        (None, Ok(recorder)) => seal_file(recorder),
-        (None, Err(_)) => Ok(()),
+    if let Some(fault) = running.told.fault() {
+        return Err(fault);
     }
+    match running.station.into_hub().into_recorder() {
+        Ok(recorder) => seal_file(recorder),
+        Err(_) => Ok(()),
+    }
+}
+
+/// Opens a station, listens, and tells where it can be reached.
+fn open<'a>(rt: &'a HostRuntime, options: Options<'_>) -> Result<Running<'a>, Fault> {
+    let address: SocketAddr = options.address.parse().map_err(|_| Fault::Net)?;
+    let station = open_station(rt, options)?;
+    let sockets = Sockets::new(rt, address).map_err(|_| Fault::Net)?;
+    let start = Instant::now(rt).map_err(|_| Fault::Net)?;
+    if let Ok(address) = sockets.listener.local_addr() {
+        let _ = eprintln!(rt; "serving http://{address}/");
+    }
+    Ok(Running {
+        rt,
+        told: Told::new(rt, false, station.hub().end()),
+        log: Log::new(rt, options.log, station.counts()),
+        station,
+        sockets,
+        start,
+        now: 0,
+    })
 }
 
 /// Opens the file, makes a station over it, and ends what an earlier run left open.
@@ -75,26 +84,20 @@ fn open_station(rt: &HostRuntime, options: Options<'_>) -> Result<Station<HeardD
         ends_with_input: options.seal,
         log: options.log,
     };
-    match Station::new(rt.alloc(), hub, options) {
-        Ok(mut station) => {
-            station.end_open();
-            Ok(station)
-        }
-        Err(_) => Err(Fault::Memory),
-    }
+    let mut station = Station::new(rt.alloc(), hub, options).map_err(|_| Fault::Memory)?;
+    station.end_open();
+    Ok(station)
 }
 
 /// A hub over the file, with room for so many sessions. The station commits what waits.
 fn open_hub(rt: &HostRuntime, file: &str, most: usize) -> Result<Hub<HeardDisk>, Fault> {
     let recorder = open_heard(rt, file)?;
-    match Hub::with_room(rt.alloc(), recorder, most) {
-        Ok(mut hub) => {
-            hub.group(1024);
-            look_through(&mut hub);
-            Ok(hub)
-        }
-        Err(_) => Err(Fault::Memory),
-    }
+    let Ok(mut hub) = Hub::with_room(rt.alloc(), recorder, most) else {
+        return Err(Fault::Memory);
+    };
+    hub.group(1024);
+    look_through(&mut hub);
+    Ok(hub)
 }
 
 /// Has the hub find where all links lie, as for a listing, so that the first request needn't wait for that.
@@ -107,138 +110,8 @@ fn look_through(hub: &mut Hub<HeardDisk>) {
 
 /// The password that stands in a file.
 fn read_password(rt: &HostRuntime, file: &str) -> Result<Password, Fault> {
-    let Ok(mut file) = File::open(rt, file) else {
-        return Err(Fault::File);
-    };
     let mut bytes = [0; MOST_PASSWORD];
-    let Ok(count) = file.read(&mut bytes) else {
-        return Err(Fault::File);
-    };
-    match Password::new(rt.alloc(), &bytes[..count]) {
-        Ok(password) => Ok(password),
-        Err(_) => Err(Fault::File),
-    }
-}
-
-/// Tells where the station can be reached.
-fn tell_address(rt: &HostRuntime, sockets: &Sockets) {
-    if let Ok(address) = sockets.address() {
-        let _ = eprintln!(rt; "serving http://{address}/");
-    }
-}
-
-/// Round after round, until a fault, or until the station has come to its end.
-fn run(
-    rt: &HostRuntime,
-    station: &mut Station<HeardDisk>,
-    sockets: &mut Sockets,
-    told: &mut Told<'_>,
-    log: &mut Log<'_>,
-) -> Result<(), Fault> {
-    let mut busy = true;
-    for _ in 0..u64::MAX {
-        let now = match wait(rt, station, sockets, busy) {
-            Ok(now) => now,
-            Err(_) => return Err(Fault::Net),
-        };
-        take(rt, station, sockets, told, log, now);
-        busy = record(rt, station, sockets, told, log, now)?;
-        serve(station, sockets, told, log, now);
-        if station.is_finished(now) {
-            break;
-        }
-    }
-    Ok(())
-}
-
-/// Takes the connections that wait, and bytes of standard input.
-fn take(
-    rt: &HostRuntime,
-    station: &mut Station<HeardDisk>,
-    sockets: &mut Sockets,
-    told: &mut Told<'_>,
-    log: &mut Log<'_>,
-    now: u64,
-) {
-    sockets.accept(station, log, now);
-    if let Err(fault) = sockets.read_input(rt, station, now) {
-        told.given_up(fault);
-    }
-}
-
-/// Gives each connection its turn, and tells how it goes.
-fn serve(
-    station: &mut Station<HeardDisk>,
-    sockets: &mut Sockets,
-    told: &mut Told<'_>,
-    log: &mut Log<'_>,
-    now: u64,
-) {
-    sockets.turns(station, log, now);
-    log.tell(told);
-    if station.look(now) {
-        told.show_other(station_line(station.shown()).as_slice());
-    }
-}
-
-/// Waits until something can be done, and returns the time. If the station is busy nothing is waited for.
-fn wait(
-    rt: &HostRuntime,
-    station: &mut Station<HeardDisk>,
-    sockets: &mut Sockets,
-    busy: bool,
-) -> io::Result<u64> {
-    let most = if busy {
-        0
-    } else {
-        station.until_next(sockets.now(rt)?)
-    };
-    sockets.wait(station, most)?;
-    sockets.now(rt)
-}
-
-/// Takes some steps of what is recorded, and tells them. It returns whether there may be more of them now.
-fn record(
-    rt: &HostRuntime,
-    station: &mut Station<HeardDisk>,
-    sockets: &Sockets,
-    told: &mut Told<'_>,
-    log: &mut Log<'_>,
-    now: u64,
-) -> Result<bool, Fault> {
-    for _ in 0..IN_ROUND {
-        log.source(station, sockets.address_of(station.feeder()));
-        let commits = station.counts().commits;
-        let begun = sockets.microseconds(rt);
-        let done = station.step(now);
-        if station.counts().commits != commits {
-            station.spent(sockets.microseconds(rt).saturating_sub(begun));
-        }
-        match done {
-            Done::Nothing => return Ok(false),
-            Done::Bytes | Done::Flushed(_) => {}
-            Done::Stepped(step) => told.stepped(&step),
-            Done::Ended {
-                offset,
-                junk,
-                taken,
-            } => {
-                told.mended(junk);
-                told.taken(offset, &taken);
-                log.source_ended(station.counts());
-            }
-            Done::GivenUp(fault) => {
-                told.given_up(fault);
-                log.source_ended(station.counts());
-            }
-            Done::Reopened => {
-                let _ = told.lost(0, station.hub().end());
-            }
-            Done::Lost(fault) => return Err(Fault::Open(fault)),
-            Done::Failed => return Err(Fault::Failed),
-        }
-        let hub = station.hub();
-        told.settle(hub.held(), hub.is_failed(), hub.end());
-    }
-    Ok(true)
+    let mut file = File::open(rt, file).map_err(|_| Fault::File)?;
+    let count = file.read(&mut bytes).map_err(|_| Fault::File)?;
+    Password::new(rt.alloc(), &bytes[..count]).map_err(|_| Fault::File)
 }

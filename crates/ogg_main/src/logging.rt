@@ -1,8 +1,7 @@
 //! The log of a station: a line for each connection at its end, and two for each source.
 
-use crate::recorders::HeardDisk;
 use crate::telling::Told;
-use station::{Counts, FULL, Feeder, Station, Visit};
+use station::{Counts, Done, FULL, Visit};
 use std::alloc::AllocError;
 use std::net::SocketAddr;
 use std::time::{SystemTime, UNIX_EPOCH};
@@ -49,23 +48,29 @@ impl<'a> Log<'a> {
     }
 
     /// If a source has begun since this was asked before, that is told. Its address is known of a connection.
-    pub fn source(&mut self, station: &Station<HeardDisk>, address: Option<SocketAddr>) {
-        let counts = station.counts();
+    pub fn source(&mut self, counts: Counts, address: Option<SocketAddr>) {
         if counts.sources == self.begun.sources {
             return;
         }
         self.begun = counts;
-        let line = match (station.feeder(), address) {
-            (Some(Feeder::Peer(_)), Some(address)) => {
+        let line = match address {
+            Some(address) => {
                 format!(in self.rt.alloc(); "source {} {} begins\n", counts.sources, address)
             }
-            _ => format!(in self.rt.alloc(); "source {} input begins\n", counts.sources),
+            None => format!(in self.rt.alloc(); "source {} input begins\n", counts.sources),
         };
         self.add(line);
     }
 
+    /// A station has done this. If its source has ended by it, that is told.
+    pub fn done(&mut self, done: &Done, counts: Counts) {
+        if let Done::Ended { .. } | Done::GivenUp(_) = done {
+            self.source_ended(counts);
+        }
+    }
+
     /// The source has ended.
-    pub fn source_ended(&mut self, counts: Counts) {
+    fn source_ended(&mut self, counts: Counts) {
         let begun = self.begun;
         let links = counts.links.saturating_sub(begun.links);
         let packets = counts.packets.saturating_sub(begun.packets);

@@ -12,6 +12,7 @@ mod indexing;
 mod logging;
 mod mends;
 mod recorders;
+mod running;
 mod salvaging;
 mod server;
 mod sockets;

@@ -2,12 +2,15 @@
 //! to.
 
 use crate::mends::MendLines;
+use crate::recorders::HeardDisk;
 use fault_lines::{Fault, write_fault};
 use import_feed::Mends;
 use import_mend::Mend;
 use import_record::{RecordFault, Step, Taken, Totals, archived_line, progress_line, refused_line};
 use ogg_command::Refusal;
 use ogg_page::write_whole;
+use ogg_serve::Hub;
+use station::Done;
 use std::io::{IsTerminal, Stderr};
 use std::time::{Duration, Instant};
 
@@ -81,6 +84,30 @@ impl<'a> Told<'a> {
             }
             Step::Ended { junk } => self.mended(*junk),
         }
+    }
+
+    /// The station of this hub has done this. It is a fault if the file is lost.
+    pub fn done(&mut self, done: &Done, hub: &Hub<HeardDisk>) -> Result<(), Fault> {
+        match done {
+            Done::Nothing | Done::Bytes | Done::Flushed(_) => {}
+            Done::Stepped(step) => self.stepped(step),
+            Done::Ended {
+                offset,
+                junk,
+                taken,
+            } => {
+                self.mended(*junk);
+                self.taken(*offset, taken);
+            }
+            Done::GivenUp(fault) => self.given_up(*fault),
+            Done::Reopened => {
+                let _ = self.lost(0, hub.end());
+            }
+            Done::Lost(fault) => return Err(Fault::Open(*fault)),
+            Done::Failed => return Err(Fault::Failed),
+        }
+        self.settle(hub.held(), hub.is_failed(), hub.end());
+        Ok(())
     }
 
     /// A source was given up: what it sent later is lost.
