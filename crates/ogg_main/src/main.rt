@@ -23,10 +23,13 @@ use command_line::{Action, Error, Skeletons, action_of, not_text};
 use fault_lines::{Fault, write_fault};
 use import_feed::{ChangeOptions, Skeletons as SkeletonsOf};
 use std::alloc::AllocError;
+use std::fs::File;
 use std::process::ExitCode;
 use std::{env, io};
 
 fn main(rt: HostRuntime) -> ExitCode {
+    // Held to the end: see `nothing`.
+    let _streams = [nothing(&rt), nothing(&rt), nothing(&rt)];
     let words = match words(&rt) {
         Ok(words) => words,
         Err(error) => return show(&rt, &error),
@@ -41,6 +44,17 @@ fn main(rt: HostRuntime) -> ExitCode {
             let _ = write_fault(&fault, &mut rt.stderr());
             ExitCode::from(1)
         }
+    }
+}
+
+/// A file in which there is nothing, under the least number that is free. The next file that is opened would get the
+/// number of a standard stream that is closed, and what is told there would be written into a recording. So such a
+/// stream has nothing to read, and what is written to it fails.
+fn nothing(rt: &HostRuntime) -> Option<File> {
+    match File::open(rt, "/dev/null") {
+        Ok(file) => Some(file),
+        // A folder can't be read or written; there is always this one.
+        Err(_) => File::open(rt, "/").ok(),
     }
 }
 
