@@ -1,7 +1,8 @@
 -- The connections of a server, and whose turn it is. Ours.
-use Rattle.std.specs.Prelude.{◌≡◌, ◌≢◌, ◌⊎◌, ◌≤◌, ◌+◌, ℕ, Bool, true, false, ◌||◌, [], ◌∷◌, ◌++◌, Some}
+use Rattle.std.specs.Prelude.{◌≡◌, ◌≢◌, ◌⊎◌, ◌≤◌, ◌+◌, ℕ, Bool, true, false, ◌||◌, [], ◌∷◌, ◌++◌, Option, Some, None}
 use Rattle.slab.specs.Slab.{get}
-use Rattle.serve_clients.specs.Client.{ClientState, after_of, cut, with_line}
+use Rattle.serve_clients.specs.Client.{ClientState, after_of, cut, is_hearing, with_line}
+use Rattle.serve_clients.specs.Patience.{looked_at}
 use Rattle.serve_clients.specs.Line.{queued_as, read_failed_by, told_of, write_failed_by}
 use Rattle.serve_clients.specs.declared.clients.Clients.{Clients}
 use Rattle.serve_clients.specs.declared.client.After.{After}
@@ -34,6 +35,29 @@ HasTurn key client old new =
 abbrev pub HasRoom : Clients → Type 0
 HasRoom clients = clients.turns.len + clients.slots.capacity ≤ clients.turns.cap
 
+-- The connection became this one, and it has a turn if there was room for it. Without a turn nothing else of it is changed.
+abbrev pub MayHaveTurn : ClientState → Option ClientState → Type 0
+MayHaveTurn client found = (found ≡ Some (with_turn client)) ⊎ (found ≡ Some client)
+
+-- ---- rounds over all connections
+-- Whoever hears what is recorded has a turn, if there is room for a turn of each, and nothing else is changed.
+pub record AreWoken (old new : Clients) : Type 0 where
+  pub hearing : HasRoom old → (key : ℕ) (client : ClientState) → get old.slots key ≡ Some client → is_hearing client.stage ≡ true
+      → get new.slots key ≡ Some (with_turn client)
+  pub without : (key : ℕ) (client : ClientState) → get old.slots key ≡ Some client → is_hearing client.stage ≡ true
+      → MayHaveTurn client (get new.slots key)
+  pub others : (key : ℕ) (client : ClientState) → get old.slots key ≡ Some client → is_hearing client.stage ≡ false
+      → get new.slots key ≡ Some client
+  pub none : (key : ℕ) → get old.slots key ≡ None → get new.slots key ≡ None
+
+-- Everybody has a turn, if there is room for a turn of each, and who was silent for too long is cut.
+pub record AreLookedAt (now : ℕ) (old new : Clients) : Type 0 where
+  pub turns : HasRoom old → (key : ℕ) (client : ClientState) → get old.slots key ≡ Some client
+      → get new.slots key ≡ Some (with_turn (looked_at client now))
+  pub without : (key : ℕ) (client : ClientState) → get old.slots key ≡ Some client → MayHaveTurn (looked_at client now) (get new.slots key)
+  pub none : (key : ℕ) → get old.slots key ≡ None → get new.slots key ≡ None
+
+-- ---- what is told of a socket
 -- the system has told that a connection may have bytes, or room for some
 abbrev pub told_by : Bool → Bool → ClientState → ClientState
 told_by readable writable client = with_line (told_of readable writable client.line) client

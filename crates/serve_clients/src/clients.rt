@@ -2,7 +2,7 @@
 ghost use Rattle.std.specs.Prelude.{◌≡◌, ◌≢◌, ◌≤◌, ◌+◌, ◌∷◌, [], ℕ, None, Some, false, true, IfOk, IfErr, IfSome, length};
 ghost use Rattle.slab.specs.Slab.{get, slab_len};
 ghost use Rattle.serve_clients.specs.Client.{ClientState, HasWritten, after_of, is_hearing, with_line};
-ghost use Rattle.serve_clients.specs.Clients.{AllStay, HasRoom, HasTurn, OthersStay, goes_again, told_by, turned_at, unread_by, unwritten_by, with_turn};
+ghost use Rattle.serve_clients.specs.Clients.{AllStay, AreLookedAt, AreWoken, HasRoom, HasTurn, OthersStay, goes_again, told_by, turned_at, unread_by, unwritten_by};
 ghost use Rattle.serve_clients.specs.Line.{taken_off};
 ghost use Rattle.serve_clients.specs.Patience.{looked_at};
 
@@ -180,6 +180,7 @@ impl Clients {
     /// This connection is cut if the patience with it is over.
     fn look_at(&mut self, key: usize, now: u64)
         ensures cut { (client : ClientState) → get self.old.slots key ≡ Some client → get self.new.slots key ≡ Some (looked_at client now) }
+        ensures none { get self.old.slots key ≡ None → self.new ≡ self.old }
         ensures others { OthersStay key self.old self.new }
         ensures turns { self.new.turns ≡ self.old.turns }
     {
@@ -203,10 +204,7 @@ impl Clients {
 
     /// Whoever hears what is recorded gets a turn.
     pub fn wake_hearing(&mut self)
-        ensures hearing { HasRoom self.old → (key : ℕ) (client : ClientState) → get self.old.slots key ≡ Some client
-            → is_hearing client.stage ≡ true → get self.new.slots key ≡ Some (with_turn client) }
-        ensures others { (key : ℕ) (client : ClientState) → get self.old.slots key ≡ Some client
-            → is_hearing client.stage ≡ false → get self.new.slots key ≡ Some client }
+        ensures woken { AreWoken self.old self.new }
     {
         for key in 0..self.slots.capacity() {
             self.wake_if_hearing(key);
@@ -219,6 +217,7 @@ impl Clients {
             → HasTurn key client self.old self.new }
         ensures other { (client : ClientState) → get self.old.slots key ≡ Some client → is_hearing client.stage ≡ false
             → self.new ≡ self.old }
+        ensures none { get self.old.slots key ≡ None → self.new ≡ self.old }
         ensures others { OthersStay key self.old self.new }
         ensures room { self.old.turns.cap ≤ self.new.turns.cap }
         ensures len { self.new.turns.len ≤ self.old.turns.len + 1 }
@@ -230,8 +229,7 @@ impl Clients {
 
     /// Everybody gets a turn, and who was silent for too long is cut.
     pub fn look(&mut self, now: u64)
-        ensures looks { HasRoom self.old → (key : ℕ) (client : ClientState) → get self.old.slots key ≡ Some client
-            → get self.new.slots key ≡ Some (with_turn (looked_at client now)) }
+        ensures looks { AreLookedAt now self.old self.new }
     {
         for key in 0..self.slots.capacity() {
             self.look_at(key, now);

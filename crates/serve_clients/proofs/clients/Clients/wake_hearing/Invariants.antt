@@ -7,5 +7,6 @@ use Rattle.serve_clients.proofs.clients.Clients.wake_hearing.Given as goal
 abbrev pub invariant-loop-key : goal.invariant-loop-key
 invariant-loop-key l =
     Reached (λ (client : ClientState). is_hearing client.stage ≡ false)
-    (λ (client : ClientState). if is_hearing client.stage then with_turn client else client) l.initial.self l.self l.key
+    (λ (client : ClientState). if is_hearing client.stage then with_turn client else client) (λ (client : ClientState). client)
+    l.initial.self l.self l.key
     × (l.key-end ≡ l.initial.self.slots.capacity)
