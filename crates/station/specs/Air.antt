@@ -1,5 +1,5 @@
 -- The source that is on the air. Ours.
-use Rattle.std.specs.Prelude.{◌≡◌, Bool, true, false, ◌&&◌, not, if◌then◌else◌, Option, Some, None, Err, is_some}
+use Rattle.std.specs.Prelude.{◌≡◌, ℕ, ◌+◌, ◌-◌, vec_len, Bool, true, false, ◌&&◌, not, if◌then◌else◌, Option, Some, None, Err, is_some}
 use Rattle.ogg_page.specs.Reading.{page_at}
 use Rattle.ogg_page.specs.declared.fault.PageFault.TheVariants.{Short}
 use Rattle.import_record.specs.declared.intake.Taken.{Taken}
@@ -40,3 +40,10 @@ wants_answer (Some body) = body.framed && not body.answered
 -- packets that were refused are lost
 abbrev pub noted : Taken → OnAir → OnAir
 noted taken air = if is_some taken.answered.refused then record air { lost = true } else air
+
+-- so many bytes more wait, or it is known that there was no memory for them
+abbrev pub HoldsMore : ℕ → OnAir → OnAir → Type 0
+HoldsMore count old new = (vec_len new.pending - new.at ≡ vec_len old.pending - old.at + count) × (new.short ≡ old.short)
+
+abbrev pub IsShort : OnAir → Type 0
+IsShort air = (air.short ≡ true) × (air.ended ≡ true)

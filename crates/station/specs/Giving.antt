@@ -1,13 +1,16 @@
 -- What a connection is given to be written. Ours.
-use Rattle.std.specs.Prelude.{◌≡◌, ◌⊎◌, ℕ, if◌then◌else◌, Option, Some, None, Result, Ok, Err, List, ◌++◌, take}
-use Rattle.serve_machine.specs.Hub.{Given, HubState, Phase, Sending, phase_of}
+use Rattle.std.specs.Prelude.{◌≡◌, ◌≢◌, ◌⊎◌, ℕ, if◌then◌else◌, Option, Some, None, Result, Ok, Err, List, [], ◌++◌, take}
+use Rattle.serve_machine.specs.Calls.{Steps}
+use Rattle.serve_machine.specs.Hub.{Given, HubState, Phase, Pull, Sending, phase_of}
 use Rattle.serve_machine.specs.declared.fault.HubFault.{HubFault}
 use Rattle.serve_clients.specs.Client.{ClientState, cut, with_stage}
+use Rattle.serve_live.specs.Hearing.{IsHearing}
 use Rattle.serve_live.specs.Listening.{ListenerState}
 use Rattle.serve_live.specs.Live.{Moment}
 use Rattle.serve_hub.specs.Listening.{HearsMore}
+use Rattle.serve_hub.specs.Parts.{HubParts}
 use Rattle.serve_clients.specs.declared.client.Stage.{Stage}
-use Rattle.serve_clients.specs.declared.client.Stage.TheVariants.{Sending as SendingOf, Ending}
+use Rattle.serve_clients.specs.declared.client.Stage.TheVariants.{Sending as SendingOf, Hearing, Ending}
 
 -- A pull of the connection's session had this answer: so many bytes of the buffer are the session's next ones, and once
 -- nothing is left they are its last. After a fault the connection is cut.
@@ -41,3 +44,15 @@ abbrev pub HasHeard : Moment → List ℕ → List ℕ → List ℕ → ℕ → 
 HasHeard moment committed given rest size old count buffer new =
     ((listener : ListenerState) × HearsMore moment committed given rest size count buffer listener × (new ≡ record old { listener = Some listener }))
     ⊎ ((count ≡ 0) × (new ≡ cut old))
+
+-- ---- what a call gives
+-- So many bytes of the buffer are the next ones for a connection, which is this one after that: those that couldn't be
+-- written before; if there are none, the next ones of its response, or of what it hears; and else there is nothing.
+pub record Gives {D : Type 0} (shows : HubParts D → HubState → Type 0) (old new : HubParts D) (size : ℕ) (client : ClientState) (count : ℕ) (buffer : List ℕ) (after : ClientState) : Type 0 where
+  pub again : client.unsent ≢ [] → (new ≡ old) × (after ≡ client) × (take count buffer ≡ take size client.unsent)
+  pub pulls : (id : ℕ) → client.unsent ≡ [] → client.stage ≡ SendingOf → client.session ≡ Some id
+      → (answer : Result Given HubFault) × Steps shows old new (λ machine. Pull id size answer) × HasPulled answer client count buffer after
+  pub hears : (machine : HubState) (moment : Moment) (heard : List ℕ) (listener : ListenerState) → client.unsent ≡ [] → client.stage ≡ Hearing
+      → shows old machine → client.listener ≡ Some listener → (hearing : IsHearing moment machine.committed listener heard)
+      → HasHeard moment machine.committed heard hearing.rest size client count buffer after
+  pub nothing : client.unsent ≡ [] → client.stage ≢ SendingOf → client.stage ≢ Hearing → (count ≡ 0) × (new ≡ old) × (after ≡ client)

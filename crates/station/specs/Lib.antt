@@ -1,5 +1,6 @@
 pub mod Counting
 pub mod Air
+pub mod Faring
 pub mod Offering
 pub mod Parting
 pub mod Patience
@@ -10,3 +11,4 @@ pub mod Stepping
 pub mod Lines
 pub mod Telling
 pub mod Turning
+pub mod Waking

@@ -1,5 +1,6 @@
 //! The source that is on the air: its bytes, as they come, and what is recorded of them.
-ghost use Rattle.std.specs.Prelude.{◌≡◌, ◌≢◌, ◌+◌, ◌-◌, ◌≤◌, Err, false, true, vec_len};
+ghost use Rattle.std.specs.Prelude.{◌≡◌, ◌≢◌, ◌+◌, ◌-◌, ◌≤◌, Err, OnOk, drop, false, length, true, vec_len};
+ghost use Rattle.station.specs.Faring.{HasDecoded};
 ghost use Rattle.ogg_page.specs.Reading.{page_at};
 ghost use Rattle.ogg_page.specs.declared.fault.PageFault.TheVariants.{Short};
 
@@ -118,7 +119,10 @@ impl OnAir {
     }
 
     /// Further bytes have come. After `Memory` none of them are kept.
-    pub fn push(&mut self, bytes: &[u8]) -> Result<(), Memory> {
+    pub fn push(&mut self, bytes: &[u8]) -> Result<(), Memory>
+        ensures ok { OnOk result (vec_len self.new.pending - self.new.at ≡ vec_len self.old.pending - self.old.at + length bytes.now) }
+        ensures stays { (self.new.feeder ≡ self.old.feeder) × (self.new.short ≡ self.old.short) × (self.new.lost ≡ self.old.lost) × (self.new.complete ≡ self.old.complete) }
+    {
         drop_front(&mut self.pending, self.at);
         self.at = 0;
         self.starved = false;
@@ -175,13 +179,17 @@ impl OnAir {
         &mut self,
         streams: &[StreamState],
         serials: &[u32],
-    ) -> Result<Vec<Command>, Memory> {
+    ) -> Result<Vec<Command>, Memory>
+        ensures { self.new ≡ record self.old { import = self.new.import } }
+    {
         self.import.resume(streams, serials)
     }
 
     /// Finds the next bytes of the stream among those that have come.
     fn decode(&mut self)
         requires { self.old.decoded ≡ 0 }
+        ensures noted { HasDecoded self.old.body (drop self.old.at self.old.pending.items) self.old.ended self.old.complete self.new.ended self.new.complete }
+        ensures stays { (self.new.lost ≡ self.old.lost) × (self.new.short ≡ self.old.short) × (self.new.feeder ≡ self.old.feeder) }
     {
         let bytes = &self.pending[self.at..];
         let Some(body) = &mut self.body else {
@@ -209,7 +217,8 @@ impl OnAir {
     /// What follows is no part of the stream.
     fn stop(&mut self)
         requires { self.old.decoded ≡ 0 }
-        ensures { (self.new.complete ≡ self.old.complete) × (self.new.lost ≡ self.old.lost) × (self.new.decoded ≡ self.old.decoded) }
+        ensures { (self.new.complete ≡ self.old.complete) × (self.new.lost ≡ self.old.lost) × (self.new.decoded ≡ self.old.decoded)
+            × (self.new.ended ≡ true) × (self.new.short ≡ self.old.short) × (self.new.feeder ≡ self.old.feeder) }
     {
         self.pending.clear();
         self.at = 0;

@@ -1,6 +1,7 @@
 //! How a source that is on the air fares.
-ghost use Rattle.std.specs.Prelude.{◌≡◌, false, true};
-ghost use Rattle.station.specs.Air.{IsStarved, noted, outcome_of, wants_answer};
+ghost use Rattle.std.specs.Prelude.{◌≡◌, ◌⊎◌, false, length, true};
+ghost use Rattle.station.specs.Air.{HoldsMore, IsShort, IsStarved, noted, outcome_of, wants_answer};
+ghost use Rattle.station.specs.Parting.{parting_answer};
 
 use crate::air::OnAir;
 use import_record::Taken;
@@ -26,6 +27,28 @@ impl OnAir {
             Some(body) if body.is_framed() && !self.complete => Outcome::Broken,
             _ => Outcome::Whole,
         }
+    }
+
+    /// Further bytes have come. Without memory for them the source is given up, once what came before is taken.
+    pub fn take(&mut self, bytes: &[u8])
+        ensures { HoldsMore (length bytes.now) self.old self.new ⊎ IsShort self.new }
+    {
+        if self.push(bytes).is_err() {
+            self.break_off();
+        }
+    }
+
+    /// What the peer is answered once its body has ended, if it waits for that. Something of it may be lost.
+    pub fn answer(&self, lost: bool) -> Option<Outcome>
+        ensures { result ≡ parting_answer lost self.now }
+    {
+        if !self.wants_answer() {
+            return None;
+        }
+        if lost {
+            return Some(Outcome::Lost);
+        }
+        Some(self.outcome())
     }
 
     /// Whether nothing can be done before further bytes come.

@@ -29,6 +29,7 @@ mod station;
 mod stepping;
 mod telling;
 mod turning;
+mod waking;
 
 pub use air::Feeder;
 pub use counting::{Counts, MendCounts};

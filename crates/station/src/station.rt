@@ -1,11 +1,8 @@
 //! A station, by what happens to it.
 ghost use Rattle.std.specs.Prelude.{◌≡◌, ◌≢◌, ◌↔◌, ◌≤◌, ◌<◌, ◌-◌, ◌⊎◌, ℕ, List, [], None, Some, Result, Err, IfOk, IfErr, false, is_some, length, min, take, true};
 ghost use Rattle.slab.specs.Slab.{get, slab_len};
-ghost use Rattle.serve_live.specs.Hearing.{IsHearing};
-ghost use Rattle.serve_live.specs.Listening.{ListenerState};
-ghost use Rattle.serve_live.specs.Live.{Moment};
 ghost use Rattle.serve_machine.specs.Calls.{Steps};
-ghost use Rattle.serve_machine.specs.Hub.{Given as GivenOf, HubState, Pull, Receive};
+ghost use Rattle.serve_machine.specs.Hub.{Receive};
 ghost use Rattle.serve_machine.specs.declared.answers.Progress.{Progress as ProgressOf};
 ghost use Rattle.serve_machine.specs.declared.fault.HubFault.{HubFault as HubFaultOf};
 ghost use Rattle.serve_hub.specs.Images.{IfFile, Reads};
@@ -13,11 +10,13 @@ ghost use Rattle.serve_hub.specs.Showing.{Shows};
 ghost use Rattle.serve_clients.specs.Client.{ClientState, HasWritten, fresh, given, moved_if, with_line, with_stage};
 ghost use Rattle.serve_clients.specs.Line.{moved_on};
 ghost use Rattle.station.specs.Asking.{stage_after};
-ghost use Rattle.serve_clients.specs.declared.client.Stage.TheVariants.{Hearing as HearingOf, Reading as ReadingOf, Sending as SendingOf, Waiting as WaitingOf};
-ghost use Rattle.station.specs.Air.{IsFedBy};
+ghost use Rattle.serve_clients.specs.declared.client.Stage.TheVariants.{Reading as ReadingOf, Waiting as WaitingOf};
+ghost use Rattle.station.specs.Air.{HoldsMore, IsFedBy, IsShort};
+ghost use Rattle.station.specs.declared.air.OnAir.{OnAir as OnAirOf};
 ghost use Rattle.station.specs.Counting.{counted};
-ghost use Rattle.station.specs.Giving.{HasHeard, HasPulled};
+ghost use Rattle.station.specs.Giving.{Gives};
 ghost use Rattle.station.specs.Turning.{IsTurnedAway};
+ghost use Rattle.station.specs.Waking.{is_over};
 ghost use Rattle.serve_clients.specs.Clients.{OthersStay};
 
 use crate::Memory;
@@ -27,6 +26,7 @@ use crate::counting::{Counts, counted};
 use crate::giving::give;
 use crate::live_hub::LiveHub;
 use crate::telling::tell_player;
+use crate::waking::Waking;
 use disk_model::Disk;
 use import_changes::Skeletons;
 use serve_clients::{Client, Clients, Stage, Trouble, is_refused};
@@ -83,6 +83,8 @@ pub struct Station<D: Disk> {
     pub(crate) commits_a_second: u64,
     // since when it comes to its end
     pub(crate) ending: Option<u64>,
+    // what those who hear what is recorded were woken for
+    pub(crate) waking: Waking,
 }
 
 impl<D: Disk + Drop> Station<D> {
@@ -101,6 +103,7 @@ impl<D: Disk + Drop> Station<D> {
             commits: 0,
             commits_a_second: 0,
             ending: None,
+            waking: Waking::at(0),
             options,
         })
     }
@@ -144,6 +147,7 @@ impl<D: Disk + Drop> Station<D> {
             → self.new.counts ≡ record self.old.counts { connections_refused = counted self.old.counts.connections_refused 1 } }
         ensures none { IfOk result (λ key. get self.old.clients.slots key ≡ None) }
         ensures some { slab_len self.old.clients.slots < self.old.options.most → IfOk result (λ key. get self.new.clients.slots key ≡ Some (fresh now)) }
+        ensures uncounted { slab_len self.old.clients.slots < self.old.options.most → IfOk result (λ key. self.new.counts ≡ self.old.counts) }
         ensures turned_away { self.old.options.most ≤ slab_len self.old.clients.slots → IfOk result (λ key. (client : ClientState)
             × (get self.new.clients.slots key ≡ Some client) × IsTurnedAway now client
             × (self.new.counts ≡ record self.old.counts { connections_refused = counted self.old.counts.connections_refused 1 })) }
@@ -280,21 +284,9 @@ impl<D: Disk + Drop> Station<D> {
     /// its response, or of what it hears. It returns how many these are; 0 if there is nothing to send now. No memory is
     /// taken. Say with `wrote` how many of them were written, before it is called again.
     pub fn next(&mut self, key: usize, buffer: &mut [u8], now: u64) -> usize
-        ensures again { (client : ClientState) → get self.old.clients.slots key ≡ Some client → client.stage ≢ WaitingOf → client.unsent ≢ []
-            → (self.new.live.hub ≡ self.old.live.hub) × (take result buffer.new ≡ take (length buffer.old) client.unsent)
-            × (get self.new.clients.slots key ≡ Some (given result (is_some self.old.ending) now client)) }
-        ensures pulls { (client : ClientState) (id : ℕ) → get self.old.clients.slots key ≡ Some client → client.stage ≡ SendingOf
-            → client.session ≡ Some id → client.unsent ≡ []
-            → (answer : Result GivenOf HubFaultOf) × (after : ClientState)
-            × Steps (Shows D.is_honest D.state) self.old.live.hub self.new.live.hub (λ machine. Pull id (length buffer.old) answer)
-            × HasPulled answer client result buffer.new after
-            × (get self.new.clients.slots key ≡ Some (given result (is_some self.old.ending) now after)) }
-        ensures hears { (client : ClientState) (machine : HubState) (moment : Moment) (heard : List ℕ) (listener : ListenerState)
-            → get self.old.clients.slots key ≡ Some client → client.stage ≡ HearingOf → client.unsent ≡ []
-            → Shows D.is_honest D.state self.old.live.hub machine → client.listener ≡ Some listener
-            → (hearing : IsHearing moment machine.committed listener heard)
-            → (after : ClientState) × HasHeard moment machine.committed heard hearing.rest (length buffer.old) client result buffer.new after
-            × (get self.new.clients.slots key ≡ Some (given result (is_some self.old.ending) now after)) }
+        ensures gives { (client : ClientState) → get self.old.clients.slots key ≡ Some client → client.stage ≢ WaitingOf → (after : ClientState)
+            × Gives (Shows D.is_honest D.state) self.old.live.hub self.new.live.hub (length buffer.old) client result buffer.new after
+            × (get self.new.clients.slots key ≡ Some (given result (is_over self.old.air self.old.ending) now after)) }
         ensures disk { (self.new.live.hub.file ≡ self.old.live.hub.file)
             ⊎ IfFile (Reads D.is_honest D.state D.moment D.images_since D.failures) self.old.live.hub.file self.new.live.hub.file }
         ensures others { OthersStay key self.old.clients self.new.clients }
@@ -319,33 +311,21 @@ impl<D: Disk + Drop> Station<D> {
 
     /// The next bytes for this connection.
     fn give(&mut self, key: usize, buffer: &mut [u8], now: u64) -> usize
-        ensures again { (client : ClientState) → get self.old.clients.slots key ≡ Some client → client.unsent ≢ []
-            → (self.new.live.hub ≡ self.old.live.hub) × (take result buffer.new ≡ take (length buffer.old) client.unsent)
-            × (get self.new.clients.slots key ≡ Some (given result (is_some self.old.ending) now client)) }
-        ensures pulls { (client : ClientState) (id : ℕ) → get self.old.clients.slots key ≡ Some client → client.stage ≡ SendingOf
-            → client.session ≡ Some id → client.unsent ≡ []
-            → (answer : Result GivenOf HubFaultOf) × (after : ClientState)
-            × Steps (Shows D.is_honest D.state) self.old.live.hub self.new.live.hub (λ machine. Pull id (length buffer.old) answer)
-            × HasPulled answer client result buffer.new after
-            × (get self.new.clients.slots key ≡ Some (given result (is_some self.old.ending) now after)) }
-        ensures hears { (client : ClientState) (machine : HubState) (moment : Moment) (heard : List ℕ) (listener : ListenerState)
-            → get self.old.clients.slots key ≡ Some client → client.stage ≡ HearingOf → client.unsent ≡ []
-            → Shows D.is_honest D.state self.old.live.hub machine → client.listener ≡ Some listener
-            → (hearing : IsHearing moment machine.committed listener heard)
-            → (after : ClientState) × HasHeard moment machine.committed heard hearing.rest (length buffer.old) client result buffer.new after
-            × (get self.new.clients.slots key ≡ Some (given result (is_some self.old.ending) now after)) }
+        ensures gives { (client : ClientState) → get self.old.clients.slots key ≡ Some client → (after : ClientState)
+            × Gives (Shows D.is_honest D.state) self.old.live.hub self.new.live.hub (length buffer.old) client result buffer.new after
+            × (get self.new.clients.slots key ≡ Some (given result (is_over self.old.air self.old.ending) now after)) }
         ensures disk { (self.new.live.hub.file ≡ self.old.live.hub.file)
             ⊎ IfFile (Reads D.is_honest D.state D.moment D.images_since D.failures) self.old.live.hub.file self.new.live.hub.file }
         ensures others { OthersStay key self.old.clients self.new.clients }
         ensures air { self.new.air ≡ self.old.air }
         ensures within { result ≤ length buffer.new }
     {
-        let ending = self.ending.is_some();
+        let over = self.is_over();
         let Some(client) = self.clients.slots.get_mut(key) else {
             return 0;
         };
         let count = give(&mut self.live.hub, client, buffer);
-        client.given(count, ending, now);
+        client.given(count, over, now);
         count
     }
 
@@ -414,13 +394,15 @@ impl<D: Disk + Drop> Station<D> {
 
     /// Further bytes of a source. Without memory for them it is given up, once what came before is taken.
     fn feed(&mut self, feeder: Feeder, bytes: &[u8])
+        ensures noted { (air : OnAirOf) → self.old.air ≡ Some air → air.feeder ≡ feeder
+            → (after : OnAirOf) × (self.new.air ≡ Some after) × (HoldsMore (length bytes.now) air after ⊎ IsShort after) }
         ensures clients { self.new.clients ≡ self.old.clients }
         ensures live { self.new.live ≡ self.old.live }
         ensures options { self.new.options ≡ self.old.options }
     {
         if let Some(air) = &mut self.air {
-            if air.feeder() == feeder && air.push(bytes).is_err() {
-                air.break_off();
+            if air.feeder() == feeder {
+                air.take(bytes);
             }
         }
     }

@@ -1,11 +1,15 @@
 //! What is recorded, step by step.
-ghost use Rattle.std.specs.Prelude.{◌≡◌, Some};
+ghost use Rattle.std.specs.Prelude.{◌≡◌, ◌≢◌, ◌⊎◌, ℕ, Some, length, true};
+ghost use Rattle.station.specs.Waking.{woken_at};
 ghost use Rattle.slab.specs.Slab.{get};
 ghost use Rattle.serve_clients.specs.Client.{ClientState};
 ghost use Rattle.serve_clients.specs.Clients.{OthersStay};
 ghost use Rattle.serve_clients.specs.declared.client.Stage.TheVariants.{Feeding as FeedingOf};
 ghost use Rattle.station.specs.Parting.{HasParted};
+ghost use Rattle.station.specs.Patience.{until_due};
 ghost use Rattle.station.specs.Stepping.{with_done};
+ghost use Rattle.serve_hub.specs.Showing.{Shows};
+ghost use Rattle.serve_machine.specs.Hub.{HubState};
 
 use crate::air::{Feeder, Took};
 use crate::counting::counted;
@@ -57,23 +61,26 @@ impl<D: Disk + Drop> Station<D> {
     /// Does what is next to be done for what is recorded: commits what waits, if it is time, or takes the next page of
     /// the source, or its end. A fault of the disk is answered by one reopening, unless nothing was kept since the one
     /// before. Call it until it has done `Nothing`.
-    pub fn step(&mut self, now: u64) -> Done {
+    pub fn step(&mut self, now: u64) -> Done
+        // If more is committed, listeners are woken now, or it is remembered that they are to be.
+        ensures wakes { (before after : HubState) → Shows D.is_honest D.state self.old.live.hub before → Shows D.is_honest D.state self.new.live.hub after
+            → length before.committed ≢ length after.committed → (self.new.waking ≡ woken_at now) ⊎ (self.new.waking.unheard ≡ true) }
+    {
         let end = self.live.hub.end();
         let done = self.step_once(now);
         self.count(done);
         if self.live.hub.end() != end {
             self.counts.commits = counted(self.counts.commits, 1);
-            self.wake_listeners();
+            self.waking = self.waking.with_more();
         }
+        self.wake_listeners(now);
         self.wake_feeder();
         done
     }
 
     /// Counts what a step has done.
     fn count(&mut self, done: Done)
-        ensures counts { self.new.counts ≡ with_done done self.old.counts }
-        ensures live { self.new.live ≡ self.old.live }
-        ensures clients { self.new.clients ≡ self.old.clients }
+        ensures { self.new ≡ record self.old { counts = with_done done self.old.counts } }
     {
         match done {
             Done::Stepped(step) => self.counts = self.counts.with_step(step),
@@ -134,15 +141,14 @@ impl<D: Disk + Drop> Station<D> {
     /// Nobody is on the air any more. What is open is ended, what waits is committed, and the peer is answered if it
     /// waits for that. If the source was given up, or the disk fails now, something of it may be lost.
     fn leave_the_air(&mut self, given_up: bool, now: u64) {
-        let Some(mut air) = self.air.take() else {
+        let Some(air) = self.air.take() else {
             return;
         };
+        self.waking = self.waking.with_more();
         self.end_open();
-        if given_up || self.live.hub.is_failed() {
-            air.lose();
-        }
+        let lost = given_up || self.live.hub.is_failed();
         if let Feeder::Peer(key) = air.feeder() {
-            self.part(key, air.wants_answer().then_some(air.outcome()));
+            self.part(key, air.answer(lost));
         }
         self.offer_again(now);
     }
@@ -223,8 +229,11 @@ impl<D: Disk + Drop> Station<D> {
         }
     }
 
-    /// How many milliseconds may be waited before `step` has something to do, if nothing comes; none if nothing waits.
-    pub(crate) fn until_due(&self, now: u64) -> Option<u64> {
+    /// How many milliseconds may be waited before `step` commits what waits, if nothing comes; none if nothing waits.
+    pub(crate) fn until_due(&self, now: u64) -> Option<u64>
+        ensures { (machine : HubState) → Shows D.is_honest D.state self.now.live.hub machine
+            → result ≡ until_due machine.waiting self.now.waiting_since now }
+    {
         until_due(self.live.hub.held(), self.waiting_since, now)
     }
 }

@@ -1,18 +1,21 @@
 //! Whose turn it is.
-ghost use Rattle.std.specs.Prelude.{◌≡◌, ◌≢◌, ◌⊎◌, ◌∷◌, [], ℕ, None, Some, false, true, IfSome};
-ghost use Rattle.slab.specs.Slab.{get};
+ghost use Rattle.std.specs.Prelude.{◌≡◌, ◌≢◌, ◌≤◌, ◌<◌, ◌-◌, ◌==◌, ◌∷◌, [], ℕ, None, Some, false, true, not, is_some, length, IfSome};
+ghost use Rattle.slab.specs.Slab.{get, slab_len};
+ghost use Rattle.serve_hub.specs.Showing.{Shows};
+ghost use Rattle.serve_machine.specs.Hub.{HubState};
 ghost use Rattle.serve_clients.specs.Client.{ClientState, HasWritten, after_of, with_line};
-ghost use Rattle.serve_clients.specs.Clients.{HasTurn, OthersStay, told_by, turned_at, unread_by, unwritten_by};
+ghost use Rattle.serve_clients.specs.Clients.{AreLookedAt, AreWoken, HasTurn, OthersStay, told_by, turned_at, unread_by, unwritten_by};
 ghost use Rattle.serve_clients.specs.Line.{taken_off};
-ghost use Rattle.serve_clients.specs.declared.client.After.TheVariants.{Closes, Shuts};
-ghost use Rattle.station.specs.Air.{IsFedBy};
-ghost use Rattle.station.specs.Turning.{TakesIn};
-ghost use Rattle.station.specs.declared.air.Feeder.TheVariants.{Peer};
+ghost use Rattle.serve_clients.specs.declared.client.After.TheVariants.{Closes};
+ghost use Rattle.station.specs.Patience.{until_due as until_commit};
+ghost use Rattle.station.specs.Turning.{GoesOn, IsRead, has_finished};
+ghost use Rattle.station.specs.Waking.{gathers, is_due, is_over, until_due, until_next, woken_at};
 
 use crate::air::Feeder;
 use crate::counting::counted;
 use crate::lines::Shown;
 use crate::station::Station;
+use crate::waking::{Waking, sooner};
 use disk_model::Disk;
 use serve_clients::{After, Stage, Trouble};
 
@@ -28,8 +31,7 @@ impl<D: Disk + Drop> Station<D> {
         ensures turn { (client : ClientState) → get self.old.clients.slots key ≡ Some client
             → HasTurn key (told_by readable writable client) self.old.clients self.new.clients }
         ensures others { OthersStay key self.old.clients self.new.clients }
-        ensures live { self.new.live ≡ self.old.live }
-        ensures air { self.new.air ≡ self.old.air }
+        ensures rest { self.new ≡ record self.old { clients = self.new.clients } }
     {
         self.clients.wake(key, readable, writable);
     }
@@ -57,10 +59,8 @@ impl<D: Disk + Drop> Station<D> {
     /// Whether bytes of this connection are to be read in its turn. Only those of a source may have to wait.
     pub fn reads(&self, key: usize) -> bool
         ensures none { get self.now.clients.slots key ≡ None → result ≡ false }
-        ensures yes { (client : ClientState) → get self.now.clients.slots key ≡ Some client → result ≡ true
-            → (client.line.readable ≡ true) × TakesIn client.stage (IsFedBy (Peer key) self.now.air) }
-        ensures no { (client : ClientState) → get self.now.clients.slots key ≡ Some client → result ≡ false → client.line.readable ≡ true
-            → ¬ (TakesIn client.stage (IsFedBy (Peer key) self.now.air)) }
+        ensures yes { (client : ClientState) → get self.now.clients.slots key ≡ Some client → result ≡ true → IsRead key client self.now.air }
+        ensures no { (client : ClientState) → get self.now.clients.slots key ≡ Some client → result ≡ false → ¬ (IsRead key client self.now.air) }
     {
         let Some(client) = self.clients.slots.get(key) else {
             return false;
@@ -103,12 +103,14 @@ impl<D: Disk + Drop> Station<D> {
         self.clients.write_failed(key, bytes, trouble);
     }
 
-    /// The turn is over, and this becomes of the connection. It gets another one if bytes went over it, or may at once.
+    /// The turn is over, and this becomes of the connection. It gets another one if bytes went over it, or may at once:
+    /// if bytes of it are to be read.
     pub fn turned(&mut self, key: usize, now: u64) -> After
         ensures after { (client : ClientState) → get self.old.clients.slots key ≡ Some client → result ≡ after_of client }
         ensures again { (client : ClientState) → get self.old.clients.slots key ≡ Some client
-            → (client.line.moved ≡ true) ⊎ (after_of client ≡ Shuts)
-            → HasTurn key (told_by false false (turned_at now client)) self.old.clients self.new.clients }
+            → GoesOn key client self.old.air → HasTurn key (turned_at now client) self.old.clients self.new.clients }
+        ensures rests { (client : ClientState) → get self.old.clients.slots key ≡ Some client
+            → ¬ (GoesOn key client self.old.air) → (get self.new.clients.slots key ≡ Some client) × (self.new.clients.turns ≡ self.old.clients.turns) }
         ensures none { get self.old.clients.slots key ≡ None → result ≡ Closes }
         ensures others { OthersStay key self.old.clients self.new.clients }
         ensures live { self.new.live ≡ self.old.live }
@@ -118,18 +120,37 @@ impl<D: Disk + Drop> Station<D> {
         self.clients.turned(key, reads, now)
     }
 
-    /// More is committed: whoever hears it has a turn.
-    pub(crate) fn wake_listeners(&mut self)
+    /// Whoever hears what is recorded has a turn, if there is more for them and it is time.
+    pub(crate) fn wake_listeners(&mut self, now: u64)
+        ensures due { is_due (gathers self.old.air self.old.ending) self.old.waking now ≡ true
+            → (self.new.waking ≡ woken_at now) × AreWoken self.old.clients self.new.clients }
+        ensures waits { is_due (gathers self.old.air self.old.ending) self.old.waking now ≡ false → self.new ≡ self.old }
         ensures live { self.new.live ≡ self.old.live }
         ensures air { self.new.air ≡ self.old.air }
     {
-        self.clients.wake_hearing();
+        if self.waking.is_due(self.gathers(), now) {
+            self.waking = Waking::at(now);
+            self.clients.wake_hearing();
+        }
+    }
+
+    /// Whether pages are gathered for those who hear them: not at the end of a source, nor of the station.
+    fn gathers(&self) -> bool
+        ensures { result ≡ gathers self.now.air self.now.ending }
+    {
+        self.air.is_some() && self.ending.is_none()
+    }
+
+    /// Whether what is recorded has come to its end: no source has the air, and none gets it any more.
+    pub(crate) fn is_over(&self) -> bool
+        ensures { result ≡ is_over self.now.air self.now.ending }
+    {
+        self.ending.is_some() && self.air.is_none()
     }
 
     /// Bytes of the source are wanted again.
     pub(crate) fn wake_feeder(&mut self)
-        ensures live { self.new.live ≡ self.old.live }
-        ensures air { self.new.air ≡ self.old.air }
+        ensures { self.new ≡ record self.old { clients = self.new.clients } }
     {
         if let Some(Feeder::Peer(key)) = self.feeder() {
             if self.reads(key) {
@@ -141,6 +162,10 @@ impl<D: Disk + Drop> Station<D> {
     /// Once a second everybody has a turn, and who was silent for too long is cut. Call it in each round; it returns
     /// whether the second is over.
     pub fn look(&mut self, now: u64) -> bool
+        ensures early { now - self.old.looked < 1000 → (result ≡ false) × (self.new ≡ self.old) }
+        ensures late { 1000 ≤ now - self.old.looked → (result ≡ true) × (self.new.looked ≡ now) × AreLookedAt now self.old.clients self.new.clients }
+        ensures commits { 1000 ≤ now - self.old.looked → (self.new.commits ≡ self.old.counts.commits)
+            × (self.new.commits_a_second ≡ self.old.counts.commits - self.old.commits) }
         ensures live { self.new.live ≡ self.old.live }
         ensures air { self.new.air ≡ self.old.air }
     {
@@ -166,7 +191,11 @@ impl<D: Disk + Drop> Station<D> {
     }
 
     /// How it does.
-    pub fn shown(&self) -> Shown {
+    pub fn shown(&self) -> Shown
+        ensures recorded { (machine : HubState) → Shows D.is_honest D.state self.now.live.hub machine → result.bytes ≡ length machine.committed }
+        ensures source { (result.on_air ≡ is_some self.now.air) × (result.packets ≡ self.now.counts.packets) }
+        ensures commits { result.commits ≡ self.now.commits_a_second }
+    {
         Shown {
             on_air: self.air.is_some(),
             listeners: self.listeners(),
@@ -177,11 +206,19 @@ impl<D: Disk + Drop> Station<D> {
     }
 
     /// How many milliseconds may be waited, if nothing comes, until there is something to do.
-    pub fn until_next(&self, now: u64) -> u64 {
+    pub fn until_next(&self, now: u64) -> u64
+        ensures exactly { (machine : HubState) → Shows D.is_honest D.state self.now.live.hub machine
+            → result ≡ until_next self.now.clients.turns.len (until_commit machine.waiting self.now.waiting_since now)
+            (until_due (gathers self.now.air self.now.ending) self.now.waking now) }
+        ensures turn { 0 < self.now.clients.turns.len → result ≡ 0 }
+        ensures waking { self.now.waking.unheard ≡ true → result ≤ 400 - (now - self.now.waking.woken) }
+        ensures most { result ≤ 1000 }
+    {
         if self.clients.turns() > 0 {
             return 0;
         }
-        self.until_due(now).unwrap_or(LOOKS).min(LOOKS)
+        let waking = self.waking.until_due(self.gathers(), now);
+        sooner(self.until_due(now), sooner(waking, LOOKS))
     }
 
     /// The station comes to its end: no connection is taken any more, and who hears what is recorded is closed once it has
@@ -193,12 +230,15 @@ impl<D: Disk + Drop> Station<D> {
     {
         if self.ending.is_none() {
             self.ending = Some(now);
+            self.waking = self.waking.with_more();
         }
     }
 
     /// Whether the station has come to its end: all that came is recorded, and nobody is connected any more, or those who
     /// are have had a minute.
-    pub fn is_finished(&self, now: u64) -> bool {
+    pub fn is_finished(&self, now: u64) -> bool
+        ensures { result ≡ has_finished self.now.ending (is_some self.now.air) (not (slab_len self.now.clients.slots == 0)) now }
+    {
         match self.ending {
             Some(since) => {
                 self.air.is_none()
