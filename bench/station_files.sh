@@ -66,15 +66,16 @@ measure() {
             printf "%-30s %-20s %9.0f %9.1f %9.1f %9.1f %8.1f\n", name, which, small ? $1 / $3 : $2 / $3,
                 small ? 1e6 * ($4 + $5) / ($1 ? $1 : 1) : 1e6 * ($4 + $5) / $2, $7, $8, $6 }'
     stop
-    # The rate, and the CPU milliseconds for a GB or microseconds for a request.
-    read -r rate cpu <<<"$(awk -v small="$([ $what = MB/s ] || echo 1)" '{
-        printf "%.1f %.1f", small ? $1 / $3 : $2 / $3, 1e6 * ($4 + $5) / (small ? ($1 ? $1 : 1) : $2) }' "$work/line")"
+    # The rate, the CPU milliseconds for a GB or microseconds for a request, and the memory.
+    read -r rate cpu memory <<<"$(awk -v small="$([ $what = MB/s ] || echo 1)" '{
+        printf "%.1f %.1f %.1f", small ? $1 / $3 : $2 / $3, 1e6 * ($4 + $5) / (small ? ($1 ? $1 : 1) : $2), $6 }' "$work/line")"
     if [ "$1" = station ]; then
-        found[$2]="$rate $cpu"
+        found[$2]="$rate $cpu $memory"
     else
-        ours=${found[$2]}
-        row "\`station\`, $2" "$what" "${ours% *}" "${1/,/, sendfile }" "$rate"
-        row "\`station\`, $2" "CPU $([ $what = MB/s ] && echo 'ms a GB' || echo 'us a request')" "${ours#* }" "${1/,/, sendfile }" "$cpu"
+        read -r our_rate our_cpu our_memory <<<"${found[$2]}"
+        row "\`station\`, $2" "$what" "$our_rate" "${1/,/, sendfile }" "$rate"
+        row "\`station\`, $2" "CPU $([ $what = MB/s ] && echo 'ms a GB' || echo 'us a request')" "$our_cpu" "${1/,/, sendfile }" "$cpu"
+        [ "$4" -lt 1000 ] || row "the memory of \`station\`, $2" MB "$our_memory" "${1/,/, sendfile }" "$memory"
     fi
 }
 
