@@ -32,11 +32,13 @@ closed "archive with neither" 0 '"$program" archive "$work/file.ogg" <"$work/pag
 closed "archive twice with neither" 0 \
     '"$program" record "$work/file.ogg" <"$feed" >"$work/out"; "$program" archive "$work/file.ogg" <"$work/pages" >&- 2>&-'
 cp "$work/whole.ogg" "$work/file.ogg"
-closed "archive without any" 0 '"$program" archive "$work/file.ogg" <&- >&- 2>&-'
+closed "archive without any" 1 '"$program" archive "$work/file.ogg" <&- >&- 2>&-'
 cp "$work/whole.ogg" "$work/file.ogg"
-closed "record without standard input" 0 '"$program" record "$work/file.ogg" <&- >"$work/out" 2>"$work/err"'
+closed "record without standard input" 1 '"$program" record "$work/file.ogg" <&- >"$work/out" 2>"$work/err"'
 cp "$work/whole.ogg" "$work/file.ogg"
-closed "a station without standard input" 0 '"$program" station "$work/file.ogg" 127.0.0.1:0 --seal <&- >"$work/out" 2>"$work/err"'
-check "a station without standard input records nothing" is_text <(tail -n 1 "$work/err") 'archived 0 0 91 0\n'
+check "record without standard input: the fault" is_text "$work/err" 'fault feed 5 Read\n'
+cp "$work/whole.ogg" "$work/file.ogg"
+closed "a station without standard input" 1 '"$program" station "$work/file.ogg" 127.0.0.1:0 --seal <&- >"$work/out" 2>"$work/err"'
+check "a station without standard input records nothing" grep -qx 'archived 0 0 91 0' "$work/err"
 
 finish

@@ -28,8 +28,8 @@ use std::process::ExitCode;
 use std::{env, io};
 
 fn main(rt: HostRuntime) -> ExitCode {
-    // Held to the end: see `nothing`.
-    let _streams = [nothing(&rt), nothing(&rt), nothing(&rt)];
+    // Held to the end: see `folder`.
+    let _streams = [folder(&rt), folder(&rt), folder(&rt)];
     let words = match words(&rt) {
         Ok(words) => words,
         Err(error) => return show(&rt, &error),
@@ -47,15 +47,10 @@ fn main(rt: HostRuntime) -> ExitCode {
     }
 }
 
-/// A file in which there is nothing, under the least number that is free. The next file that is opened would get the
-/// number of a standard stream that is closed, and what is told there would be written into a recording. So such a
-/// stream has nothing to read, and what is written to it fails.
-fn nothing(rt: &HostRuntime) -> Option<File> {
-    match File::open(rt, "/dev/null") {
-        Ok(file) => Some(file),
-        // A folder can't be read or written; there is always this one.
-        Err(_) => File::open(rt, "/").ok(),
-    }
+/// A folder, which can't be read or written, under the least number that is free. The next file that is opened would get
+/// the number of a standard stream that is closed, and what is told there would be written into a recording.
+fn folder(rt: &HostRuntime) -> Option<File> {
+    File::open(rt, "/").ok()
 }
 
 /// The words of the command line. An error is the text to show in their place.
