@@ -3,7 +3,7 @@
 
 Connects COUNT listeners to a server that sends a live stream, all at once, and reads for SECONDS. Prints how long the
 first byte of audio took (in the middle, at worst), how many listeners got one, the longest pause in the middle, and
-what the server took meanwhile: CPU milliseconds for each listener and minute, and MB of memory.
+what the server took meanwhile: CPU milliseconds for each listener that heard something and minute, and MB of memory.
 """
 import os
 import selectors
@@ -65,7 +65,7 @@ def main():
     print("first byte %.2f s in the middle, %.2f s at worst; %d of %d hear; longest pause %.2f s in the middle; "
           "%.1f ms of CPU a listener and minute; %.1f MB"
           % (first[len(first) // 2], first[-1], len(first), count, pauses[len(pauses) // 2],
-             took * 1000 / count / (seconds / 60), memory(pid)))
+             took * 1000 / len(first) / (seconds / 60), memory(pid)))
     return 0
 
 
