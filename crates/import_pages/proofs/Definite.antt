@@ -5,7 +5,7 @@ use Rattle.std.specs.List.{starts_with}
 use Rattle.std.proofs.lemmas.Bool.{le-ltb, ltb-true, ltb-false}
 use Rattle.std.proofs.lemmas.List.{length-drop, take-append-le, drop-append-le, get_or_append_left}
 use Rattle.byteorder.specs.Endian.{little_number}
-use Rattle.ogg_page.specs.Checksum.{checksum_of}
+use Rattle.page_checksum.specs.Checksum.{checksum_of}
 use Rattle.ogg_page.specs.Page.{Page, AreBytes}
 use Rattle.ogg_page.specs.Reading.{page_at, fields_at, lacing_at, behind_lacing, size_at, blanked}
 use Rattle.ogg_page.specs.declared.fault.PageFault.{PageFault}

@@ -1,7 +1,7 @@
 -- A page in its room, part by part.
 use Rattle.std.proofs.Common.{◌≡◌, ℕ, ◌+◌, ◌≤◌, List, [], ◌∷◌, ◌++◌, length, take, drop, sum, refl, sym, ◌∙◌, ap, subst, arith, append_assoc, length-append, append-nil, add-zero, Option, Some, None}
 use Rattle.std.proofs.lemmas.List.{take-append-drop, length-take-le, length-drop, take-take, take_at, drop_at, drop-drop}
-use Rattle.ogg_page.specs.Checksum.{checksum_of}
+use Rattle.page_checksum.specs.Checksum.{checksum_of}
 use Rattle.ogg_page.specs.Page.{Page, AreBytes, fixed_part, page_bytes, page_of, bytes_with}
 use Rattle.ogg_page.specs.PageInWork.{IsInRoom, lacing_in, body_in, page_in, finished_in}
 use Rattle.ogg_page.specs.Laws.Prefixes.{parts}

@@ -1,26 +1,10 @@
--- The definitions compute: the checksum's vectors, and one page byte by byte, written and read.
+-- The definitions compute: one page byte by byte, written and read.
 use Rattle.std.proofs.Common.{◌≡◌, ℕ, List, [], ◌∷◌, ◌++◌, refl, length, take, drop, Ok, Err}
-use Rattle.ogg_page.specs.Checksum.{checksum_of, message_bits, number_of, remainder, bits_of, add, divisor}
+use Rattle.page_checksum.specs.Checksum.{checksum_of, message_bits, number_of, remainder, bits_of, add, divisor}
 use Rattle.ogg_page.specs.Page.{Page, page_bytes, fixed_part}
 use Rattle.ogg_page.specs.Reading.{page_at}
 use Rattle.ogg_page.specs.Pages.{located, fault_at}
 use Rattle.ogg_page.specs.declared.fault.PageFault.TheVariants.{Short, Pattern, Version, Checksum}
-
-of_nothing : checksum_of [] ≡ 0
-unfolding checksum_of message_bits number_of remainder bits_of add divisor
-of_nothing = refl
-
-of_1 : checksum_of (1 ∷ []) ≡ 0x04C11DB7
-unfolding checksum_of message_bits number_of remainder bits_of add divisor
-of_1 = refl
-
-of_80 : checksum_of (0x80 ∷ []) ≡ 0x690CE0EE
-unfolding checksum_of message_bits number_of remainder bits_of add divisor
-of_80 = refl
-
-of_digits : checksum_of (49 ∷ 50 ∷ 51 ∷ 52 ∷ 53 ∷ 54 ∷ 55 ∷ 56 ∷ 57 ∷ []) ≡ 0x89A1897F
-unfolding checksum_of message_bits number_of remainder bits_of add divisor
-of_digits = refl
 
 pub first : Page
 first = record { flags = 2; position = 0; serial = 1; sequence = 0; lacing = 3 ∷ []; body = 97 ∷ 98 ∷ 99 ∷ [] }

@@ -1,6 +1,6 @@
 -- The head of a page that stands in front of bytes (RFC 3533, section 6).
 use Rattle.std.specs.Prelude.{◌≡◌, ℕ, ◌+◌, List, ◌++◌, length}
-use Rattle.ogg_page.specs.Checksum.{checksum_of}
+use Rattle.page_checksum.specs.Checksum.{checksum_of}
 use Rattle.ogg_page.specs.Page.{Page, IsPage, bytes_with, page_bytes}
 use Rattle.ogg_page.specs.Sizes.{fixed_size}
 

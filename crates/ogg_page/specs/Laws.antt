@@ -1,7 +1,4 @@
 -- Why the laws of PageLaws, ReadingLaws and PagesLaws hold. Nobody needs these to read a contract.
-pub mod Division
-pub mod BitNumbers
-pub mod ByteStep
 pub mod Prefixes
 pub mod NumberBytes
 pub mod ReadAgain

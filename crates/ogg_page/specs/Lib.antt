@@ -1,6 +1,4 @@
 pub mod Sizes
-pub mod Checksum
-pub mod Pending
 pub mod Numbers
 pub mod Page
 pub mod Head

@@ -2,7 +2,7 @@
 use Rattle.std.specs.Prelude.{◌≡◌, ◌≤◌, ℕ, ◌+◌, not, nat_eq, nat_lt, if◌then◌else◌, Result, Ok, Err, List, [], ◌∷◌, ◌++◌, length, take, drop, sum, slice_index, codes}
 use Rattle.std.specs.List.{starts_with}
 use Rattle.byteorder.specs.Endian.{little_number}
-use Rattle.ogg_page.specs.Checksum.{checksum_of}
+use Rattle.page_checksum.specs.Checksum.{checksum_of}
 use Rattle.ogg_page.specs.Page.{Page}
 use Rattle.ogg_page.specs.declared.fault.PageFault.{PageFault}
 use Rattle.ogg_page.specs.declared.fault.PageFault.TheVariants.{Short, Pattern, Version, Checksum}

@@ -1,9 +1,9 @@
-//! Pages of an Ogg bitstream: their checksum and their bytes, written and read (RFC 3533, section 6).
+//! Pages of an Ogg bitstream: their bytes, written and read (RFC 3533, section 6).
 //!
 //! A page is a head of 27 bytes, a table of at most 255 lacing values, and a body whose length is their sum. Writing
 //! appends to the caller's vector, and leaves it as it was if memory is refused. Reading lends the parts of the page
 //! at the front of bytes, and takes no memory. The bytes of no page begin those of another, so bytes are joined pages
-//! in one way at most.
+//! in one way at most. Their checksum is that of `page_checksum`, which is handed on.
 //!
 //! A file may be larger than memory: a `Window` over a `PageSource` lends its pages one at a time, out
 //! of the room of one `PageBuffer`.
@@ -16,10 +16,8 @@
 #![tactic(auto)]
 
 mod buffer;
-mod crc;
 mod fault;
 mod finding;
-mod folding;
 mod head;
 mod held;
 mod lacing;
@@ -33,12 +31,10 @@ mod placing;
 mod reading;
 mod sizes;
 mod source;
-mod table;
 mod window;
 mod writing;
 
 pub use buffer::PageBuffer;
-pub use crc::{checksum, checksum_on};
 pub use fault::{PageFault, SourceFault, WindowFault, WriteFault};
 pub use head::{CONTINUED, FIRST, LAST, PageHead};
 pub use laws::{
@@ -49,6 +45,7 @@ pub use lent::LentPage;
 pub use numbers::{take_fraction, take_i64, take_u8, take_u16, take_u32, take_u64};
 pub use output::{write_counted, write_whole};
 pub use page::Page;
+pub use page_checksum::{checksum, checksum_on};
 pub use pages::Pages;
 pub use reading::{read_page, split_known_page, split_page};
 pub use sizes::{FIXED_SIZE, FULL_VALUE, LONGEST_PAGE, MOST_VALUES, SEGMENT};

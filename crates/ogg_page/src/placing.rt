@@ -4,10 +4,10 @@ ghost use Rattle.ogg_page.specs.Page.{page_bytes};
 ghost use Rattle.ogg_page.specs.PageInWork.{page_in};
 ghost use Rattle.ogg_page.specs.Sizes.{fixed_size, most_values};
 
-use crate::crc::checksum;
 use crate::head::PageHead;
 use crate::sizes::FIXED_SIZE;
 use crate::writing::blank_fixed_part;
+use page_checksum::checksum;
 
 /// Puts bytes over those at `at`.
 pub(crate) fn put_at(room: &mut [u8], at: usize, bytes: &[u8])

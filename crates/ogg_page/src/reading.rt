@@ -4,16 +4,16 @@ ghost use Rattle.byteorder.specs.Endian.{little_number};
 ghost use Rattle.ogg_page.specs.Page.{Page as PageValue, IsPage, AreBytes, page_bytes, page_size};
 ghost use Rattle.ogg_page.specs.Reading.{page_at, fields_at, size_at, blanked, IsPageOf};
 ghost use Rattle.ogg_page.specs.Room.{BeginsWithPage};
-ghost use Rattle.ogg_page.specs.Checksum.{checksum_of};
+ghost use Rattle.page_checksum.specs.Checksum.{checksum_of};
 ghost use Rattle.ogg_page.specs.Sizes.{fixed_size};
 
-use crate::crc::{checksum, checksum_on, checksum_on_words};
 use crate::fault::PageFault;
 use crate::head::PageHead;
 use crate::lacing::body_size;
 use crate::page::Page;
 use crate::sizes::FIXED_SIZE;
 use byteorder::{ByteOrder, LittleEndian};
+use page_checksum::{checksum, checksum_on, checksum_on_words};
 
 /// Reads the page at the front of the bytes (RFC 3533, section 6), and lends its parts. Bytes after
 /// it are not read. If no page stands there, the fault is the first one of [`PageFault`] in the

@@ -5,10 +5,10 @@ ghost use Rattle.ogg_page.specs.Page.{Page, page_of, page_bytes, bytes_with, fix
 ghost use Rattle.ogg_page.specs.Sizes.{fixed_size, most_values};
 
 use crate::Memory;
-use crate::crc::checksum;
 use crate::head::PageHead;
 use crate::sizes::FIXED_SIZE;
 use byteorder::{ByteOrder, LittleEndian};
+use page_checksum::checksum;
 
 /// Appends a page (RFC 3533, section 6). After `Memory` the vector is unchanged.
 pub fn write_page(

@@ -9,9 +9,9 @@ use Rattle.std.proofs.lemmas.Bool.{false≢true, eqb-true, eq-eqb, ltb-false, le
 use Rattle.std.proofs.lemmas.List.{take-append-drop, length-take-le, length-drop, take_at, drop_at, get_or-drop}
 use Rattle.std.proofs.lemmas.List.Elements.{All-from_get_or, All-take, All-drop, recursion_from_All}
 use Rattle.byteorder.specs.Endian.{little_bytes, little_number}
-use Rattle.ogg_page.specs.Checksum.{checksum_of, number_of, message_bits}
-use Rattle.ogg_page.specs.Laws.ByteStep.{left_of, length-left_of}
-use Rattle.ogg_page.specs.Laws.BitNumbers.{number_lt}
+use Rattle.page_checksum.specs.Checksum.{checksum_of, number_of, message_bits}
+use Rattle.page_checksum.specs.Laws.ByteStep.{left_of, length-left_of}
+use Rattle.page_checksum.specs.Laws.BitNumbers.{number_lt}
 use Rattle.ogg_page.specs.Laws.Prefixes.{parts, same_page}
 use Rattle.ogg_page.specs.Page.{Page, IsPage, IsByte, AreBytes, fixed_part, page_bytes, bytes_with}
 use Rattle.ogg_page.specs.Reading.{page_at, fields_at, lacing_at, behind_lacing, size_at, blanked, IsPageOf}

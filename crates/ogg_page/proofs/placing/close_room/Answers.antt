@@ -2,7 +2,7 @@ use Rattle.std.proofs.Common.{◌≡◌, ℕ, ◌+◌, List, [], ◌∷◌, ◌+
 use Rattle.std.specs.Prelude.{codes}
 use Rattle.std.proofs.lemmas.List.{take-append-drop, length-take-le, length-drop, take_at, drop-drop}
 use Rattle.byteorder.specs.Endian.{little_bytes}
-use Rattle.ogg_page.specs.Checksum.{checksum_of}
+use Rattle.page_checksum.specs.Checksum.{checksum_of}
 use Rattle.ogg_page.specs.Page.{Page, fixed_part, page_bytes, bytes_with}
 use Rattle.ogg_page.specs.PageInWork.{page_in}
 use Rattle.ogg_page.specs.Laws.Prefixes.{parts}

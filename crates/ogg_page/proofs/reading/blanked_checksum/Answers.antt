@@ -1,6 +1,6 @@
 use Rattle.std.proofs.Common.{◌∙◌, ◌≡◌, ap, take, ◌++◌, ◌∷◌, [], ℕ, List}
 use Rattle.std.proofs.lemmas.List.{take_rest, take-append-drop}
-use Rattle.ogg_page.specs.Checksum.{checksum_of}
+use Rattle.page_checksum.specs.Checksum.{checksum_of}
 use Rattle.ogg_page.specs.Reading.{blanked}
 use Rattle.ogg_page.proofs.reading.blanked_checksum.Goals as goal
 

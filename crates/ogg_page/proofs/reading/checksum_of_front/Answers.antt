@@ -1,7 +1,7 @@
 use Rattle.std.proofs.Common.{◌≡◌, ◌++◌, ◌∷◌, [], ℕ, List, get_or, sym, ap, ◌∙◌, refl}
-use Rattle.ogg_page.specs.Checksum.{bytes_of, checksum_of, message_bits, number_of, remainder}
+use Rattle.page_checksum.specs.Checksum.{bytes_of, checksum_of, message_bits, number_of, remainder}
 use Rattle.ogg_page.specs.Reading.{blanked}
-use Rattle.ogg_page.proofs.Slices.{four_words, gets, bytes_are, word_behind_two, word_of, word_of_two}
+use Rattle.page_checksum.specs.Laws.Words.{four_words, gets, bytes_are, word_behind_two, word_of, word_of_two}
 use Rattle.ogg_page.proofs.reading.checksum_of_front.Goals as goal
 
 no_bytes : 0 ≡ checksum_of []
