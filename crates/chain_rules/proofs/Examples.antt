@@ -3,8 +3,8 @@ use Rattle.std.proofs.Common.{◌≡◌, ℕ, ℤ, List, [], ◌∷◌, ◌++◌
 use Rattle.std.specs.Prelude.{pos}
 use Rattle.ogg_page.specs.Page.{Page, page_bytes, page_size, fixed_part as page_head}
 use Rattle.ogg_page.specs.Lacing.{lacing_of}
-use Rattle.ogg_page.specs.Checksum.{checksum_of, message_bits, number_of, remainder, bits_of, divisor}
-use Rattle.ogg_page.specs.Checksum as crc
+use Rattle.page_checksum.specs.Checksum.{checksum_of, message_bits, number_of, remainder, bits_of, divisor}
+use Rattle.page_checksum.specs.Checksum as crc
 use Rattle.packetiser.specs.Run.{pages_of_run, page_of_run, page_position, run_lacing, run_bytes, values_at, values_before}
 use Rattle.skeleton3.specs.Fields.{NamedValue}
 use Rattle.skeleton3.specs.Fisbone.{fixed_part}

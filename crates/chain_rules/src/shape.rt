@@ -117,13 +117,14 @@ impl Shape {
         lay_command(&self.chain, command, out)
     }
 
-    /// The pages of a command that `check` takes, as `lay` appends them, to be made one at a time. It
-    /// takes all the memory that they need.
-    pub fn pages<'a>(&self, alloc: Global, command: &'a Command) -> Result<CommandPages<'a>, Memory>
+    /// The pages of a command that `check` takes, as `lay` appends them, to be made one at a time. Neither this nor
+    /// making them takes memory, so there are always pages.
+    pub fn pages<'a>(&self, command: &'a Command) -> Result<CommandPages<'a>, Memory>
         requires { IsOk (decision self.now.chain command.now) }
-        ensures { IfOk result (λ pages. pages ≡ pages_of_command self.now.chain command.now) }
+        ensures always { IsOk result }
+        ensures pages { IfOk result (λ pages. pages ≡ pages_of_command self.now.chain command.entry.now) }
     {
-        CommandPages::of(alloc, &self.chain, command)
+        Ok(CommandPages::of(&self.chain, command))
     }
 
     /// Makes the room that `accept` needs for a command. The chain stays as it is. After `Memory` a

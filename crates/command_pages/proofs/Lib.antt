@@ -6,5 +6,5 @@ pub mod DescribedPages
 pub mod SizesWithin
 pub mod LaidHeaders
 pub mod LaidRuns
+pub mod MadePages
 pub mod Commands
-pub mod AddedRuns

@@ -8,11 +8,11 @@
 //! which says what is asked of a command.
 #![tactic(auto)]
 
+mod beginning;
 mod laying;
 mod limits;
 mod paging;
-mod part;
-mod parts;
+mod putting;
 mod runs;
 mod sizes;
 mod skeleton;

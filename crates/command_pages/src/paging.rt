@@ -1,66 +1,67 @@
 //! The pages of a command, one at a time.
-ghost use Rattle.std.specs.Prelude.{◌≡◌, ◌<◌, ◌^◌, length, drop};
+ghost use Rattle.std.specs.Prelude.{◌≡◌, length};
 ghost use Rattle.packetiser.specs.RunPages.{NextPage};
-ghost use Rattle.command_pages.specs.CommandPages.{pages_of_parts};
+ghost use Rattle.command_pages.specs.CommandPages.{WorkGoesOn, bare_pages, pages_to_make};
 
-use crate::Memory;
-use crate::part::Part;
-use crate::parts::parts_of;
+use crate::beginning::{BeginPages, begin_pages, count_begin};
+use crate::laying::end_head;
+use crate::putting::{PutPages, count_put, put_pages};
 use link_chain::Chain;
 use ogg_command::Command;
-use ogg_page::PageBuffer;
-use std::alloc::Global;
+use ogg_page::{PageBuffer, PageHead};
 use std::marker::Model;
 
-/// The pages of a command that are still to come. `next` makes one at a time, in the caller's buffer.
+/// The pages of a command that are still to come. `next` makes one at a time, in the caller's buffer. It takes no
+/// memory but its own size.
 #[derive(Drop)]
 pub struct CommandPages<'a> {
-    parts: Vec<Part<'a>>,
-    done: usize,
+    work: Work<'a>,
     left: u64,
 }
 
+/// What is still to be made, by the command's kind.
+#[derive(Drop)]
+pub enum Work<'a> {
+    Begin(BeginPages<'a>),
+    Put(PutPages<'a>),
+    /// A page without packets, until it is made.
+    End(Option<PageHead>),
+}
+
 impl<'a> Model for CommandPages<'a> {
-    ghost use Rattle.std.specs.Prelude.{◌≡◌, List, drop, length};
+    ghost use Rattle.std.specs.Prelude.{◌≡◌, List, length};
     ghost use Rattle.ogg_page.specs.Page.{Page};
-    ghost use Rattle.command_pages.specs.CommandPages.{pages_of_parts};
+    ghost use Rattle.command_pages.specs.CommandPages.{WorkGoesOn, pages_to_make};
 
     ghost Value = { List Page };
 
-    ghost view = { λ p. pages_of_parts (drop p.done p.parts.items) };
+    ghost view = { λ p. pages_to_make p.work };
 
-    ghost invariant = { λ p. p.left ≡ length (pages_of_parts (drop p.done p.parts.items)) };
+    ghost invariant = { λ p. (p.left ≡ length (pages_to_make p.work)) × WorkGoesOn p.work };
 }
 
 impl<'a> CommandPages<'a> {
-    ghost use Rattle.std.specs.Prelude.{IfOk};
     ghost use Rattle.command_pages.specs.Encoding.{pages_of_command};
     ghost use Rattle.command_pages.specs.Fits.{CommandFits};
 
-    /// The pages of a command, as [`lay_command`](crate::lay_command) appends them. All the memory that the pages need
-    /// is taken here.
-    pub fn of(
-        alloc: Global,
-        chain: &Chain,
-        command: &'a Command,
-    ) -> Result<CommandPages<'a>, Memory>
+    /// The pages of a command, as [`lay_command`](crate::lay_command) appends them.
+    pub fn of(chain: &Chain, command: &'a Command) -> CommandPages<'a>
         requires { CommandFits chain.now.chain command.now }
-        ensures { IfOk result (λ pages. pages ≡ pages_of_command chain.now.chain command.now) }
+        ensures { result ≡ pages_of_command chain.now.chain command.entry.now }
     {
-        let parts = parts_of(alloc, chain, command)?;
-        Ok(CommandPages::over(parts))
-    }
-
-    /// The pages of these parts, one part after the other.
-    fn over(parts: Vec<Part<'a>>) -> CommandPages<'a>
-        requires { length parts.items < 2 ^ 31 }
-        ensures { result ≡ pages_of_parts parts.entry.items }
-    {
-        let left = count_left(&parts);
-        CommandPages {
-            parts,
-            done: 0,
-            left,
+        match command {
+            Command::Begin(begin) => CommandPages {
+                work: Work::Begin(begin_pages(begin.skeleton, begin.streams.as_slice())),
+                left: count_begin(begin.skeleton, begin.streams.as_slice()),
+            },
+            Command::Put(put) => CommandPages {
+                work: Work::Put(put_pages(chain.streams(), put.entries.as_slice())),
+                left: count_put(put.entries.as_slice()),
+            },
+            Command::End(serial) => CommandPages {
+                work: Work::End(Some(end_head(chain.streams(), *serial))),
+                left: 1,
+            },
         }
     }
 
@@ -71,12 +72,11 @@ impl<'a> CommandPages<'a> {
         self.left
     }
 
-    /// Makes the next page in the buffer, if one is still to come. No memory is taken.
+    /// Makes the next page in the buffer, if one is still to come. It takes no memory.
     pub fn next(&mut self, buffer: &mut PageBuffer) -> bool
         ensures { NextPage self.old result self.new buffer.new.finished }
     {
-        let (done, made) = next_of(self.parts.as_mut_slice(), self.done, buffer);
-        self.done = done;
+        let made = self.work.next(buffer);
         if made {
             self.left -= 1;
         }
@@ -84,29 +84,29 @@ impl<'a> CommandPages<'a> {
     }
 }
 
-/// How many pages of these parts are still to come.
-fn count_left(parts: &[Part<'_>]) -> u64
-    requires { length parts.now < 2 ^ 31 }
-    ensures { result ≡ length (pages_of_parts parts.now) }
-{
-    let mut left = 0;
-    for part in parts {
-        left += part.left();
+impl Work<'_> {
+    /// Makes the next page in the buffer, if one is still to come.
+    fn next(&mut self, buffer: &mut PageBuffer) -> bool
+        requires on { WorkGoesOn self.old }
+        ensures page { NextPage (pages_to_make self.old) result (pages_to_make self.new) buffer.new.finished }
+        ensures on { WorkGoesOn self.new }
+    {
+        match self {
+            Work::Begin(pages) => pages.next(buffer),
+            Work::Put(pages) => pages.next(buffer),
+            Work::End(head) => next_bare(head, buffer),
+        }
     }
-    left
 }
 
-/// Makes the next page of these parts, from part `done` on, if one is still to come, and says whether it did. The
-/// number is that of the first part that may have pages left.
-fn next_of(parts: &mut [Part<'_>], done: usize, buffer: &mut PageBuffer) -> (usize, bool)
-    ensures { NextPage (pages_of_parts (drop done parts.old)) result.1 (pages_of_parts (drop result.0 parts.new)) buffer.new.finished }
+/// Makes the page with this head and no packets, if it is still to come.
+fn next_bare(head: &mut Option<PageHead>, buffer: &mut PageBuffer) -> bool
+    ensures { NextPage (bare_pages head.old) result (bare_pages head.new) buffer.new.finished }
 {
-    let mut at = done;
-    while at < parts.len() {
-        if parts[at].next(buffer) {
-            return (at, true);
-        }
-        at += 1;
-    }
-    (at, false)
+    let Some(next) = head.take() else {
+        return false;
+    };
+    buffer.start(&[]);
+    buffer.finish(&next);
+    true
 }

@@ -14,8 +14,8 @@ use std::marker::Model;
 
 /// The pages of a run that are still to come. They are made one at a time, in the caller's buffer.
 #[derive(Drop)]
-pub struct RunPages<T: TimedPacket + Drop> {
-    run: Vec<T>,
+pub struct RunPages<'a, T: TimedPacket> {
+    run: &'a [T],
     serial: u32,
     first_sequence: u32,
     flags: u8,
@@ -25,28 +25,28 @@ pub struct RunPages<T: TimedPacket + Drop> {
     done: usize,
 }
 
-impl<T: TimedPacket + Drop> Model for RunPages<T> {
+impl<'a, T: TimedPacket> Model for RunPages<'a, T> {
     ghost use Rattle.std.specs.Prelude.{List, map};
     ghost use Rattle.ogg_page.specs.Page.{Page};
     ghost use Rattle.packetiser.specs.RunPages.{IsBeforePage, pages_from};
 
     ghost Value = { List Page };
 
-    ghost view = { λ p. pages_from p.next p.serial p.first_sequence p.flags (map T.timed p.run.items) };
+    ghost view = { λ p. pages_from p.next p.serial p.first_sequence p.flags (map T.timed p.run.now) };
 
-    ghost invariant = { λ p. IsBeforePage (map T.timed p.run.items) p.next p.ended p.done p.first_sequence p.flags p.count };
+    ghost invariant = { λ p. IsBeforePage (map T.timed p.run.now) p.next p.ended p.done p.first_sequence p.flags p.count };
 }
 
-impl<T: TimedPacket + Drop> RunPages<T> {
+impl<'a, T: TimedPacket> RunPages<'a, T> {
     /// The pages of a run, as [`lay_run`](crate::lay_run) appends them. `flags` are added to those of
-    /// the first page.
-    pub fn of(serial: u32, first_sequence: u32, flags: u8, run: Vec<T>) -> RunPages<T>
-        requires lengths { lengths (map T.timed run.items) + length run.items ≤ 2 ^ 62 }
-        requires numbers { first_sequence + pages_for (length (run_lacing (map T.timed run.items))) ≤ 2 ^ 32 }
+    /// the first page. It takes no memory.
+    pub fn of(serial: u32, first_sequence: u32, flags: u8, run: &'a [T]) -> RunPages<'a, T>
+        requires lengths { lengths (map T.timed run.now) + length run.now ≤ 2 ^ 62 }
+        requires numbers { first_sequence + pages_for (length (run_lacing (map T.timed run.now))) ≤ 2 ^ 32 }
         requires flags { flags < 255 }
-        ensures { result ≡ flagged flags (pages_of_run serial first_sequence (map T.timed run.items)) }
+        ensures { result ≡ flagged flags (pages_of_run serial first_sequence (map T.timed run.entry.now)) }
     {
-        let (values, _) = values_and_bytes(&run);
+        let (values, _) = values_and_bytes(run);
         RunPages {
             run,
             serial,
@@ -57,6 +57,13 @@ impl<T: TimedPacket + Drop> RunPages<T> {
             ended: 0,
             done: 0,
         }
+    }
+
+    /// No pages.
+    pub fn none() -> RunPages<'a, T>
+        ensures { result ≡ [] }
+    {
+        RunPages::of(0, 0, 0, &[])
     }
 
     /// How many pages are still to come.

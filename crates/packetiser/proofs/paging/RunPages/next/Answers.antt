@@ -10,7 +10,7 @@ use Rattle.packetiser.proofs.paging.RunPages.next.Goals as goal
 pub returns-then-self : goal.returns-then-self
 returns-then-self g c =
     let in_it = c.self.inside in
-    let run : List Timed = map g.T.TimedPacket.timed in_it.run.items in
+    let run : List Timed = map g.T.TimedPacket.timed in_it.run.now in
     let pages : List Page = flagged in_it.flags (pages_of_run in_it.serial in_it.first_sequence run) in
     let all : length pages ≡ in_it.count = count_of_pages in_it.serial in_it.first_sequence in_it.flags run ∙ sym c.self.invariant.count_is in
     let none : c.args.self.now ≡ [] = sym c.self.view_is ∙ drop_past in_it.next pages (omega (arith, all, c.if-self.true)) in
@@ -20,13 +20,13 @@ pub invariant_of-self : goal.invariant_of-self
 invariant_of-self g c =
     let in_it = c.self.inside in
     let timed = g.T.TimedPacket.timed in
-    let run : List Timed = map timed in_it.run.items in
+    let run : List Timed = map timed in_it.run.now in
     let e : ℕ = c.make_page-ended.result.0 in
     let done : ℕ = c.make_page-ended.result.1 in
     let is = c.self.invariant in
     let lt : in_it.next < pages_for (length (run_lacing run)) = omega (arith, is.count_is, is.before, c.if-self.false) in
     let rest : map timed c.split_at.result.1.now ≡ drop in_it.ended run =
-    ap (map timed) (c.split_at.ensures.back ∙ ap (drop in_it.ended) c.deref.ensures.value) ∙ drop_map timed in_it.ended in_it.run.items in
+    ap (map timed) c.split_at.ensures.back ∙ drop_map timed in_it.ended in_it.run.now in
     let behind : IsBehind in_it.done (drop in_it.ended run) done (drop (in_it.ended + e) run) =
     subst (λ l. IsBehind in_it.done (drop in_it.ended run) done l) (drop-drop e in_it.ended run)
     (subst (λ (l : List Timed). IsBehind in_it.done l done (drop e l)) rest c.make_page-ended.ensures.behind) in
@@ -44,13 +44,13 @@ pub returns : goal.returns
 returns g c =
     let in_it = c.self.inside in
     let timed = g.T.TimedPacket.timed in
-    let run : List Timed = map timed in_it.run.items in
+    let run : List Timed = map timed in_it.run.now in
     let k : ℕ = in_it.next in
     let left : List Timed = drop in_it.ended run in
     let is = c.self.invariant in
     let lt : k < pages_for (length (run_lacing run)) = omega (arith, is.count_is, is.before, c.if-self.false) in
     let rest : map timed c.split_at.result.1.now ≡ left =
-    ap (map timed) (c.split_at.ensures.back ∙ ap (drop in_it.ended) c.deref.ensures.value) ∙ drop_map timed in_it.ended in_it.run.items in
+    ap (map timed) c.split_at.ensures.back ∙ drop_map timed in_it.ended in_it.run.now in
     let page : Page = next_page in_it.serial (in_it.first_sequence + k) (added in_it.flags k) in_it.done left in (
       page,
       sym c.self.view_is
