@@ -9,10 +9,10 @@ use Rattle.gate_file.specs.declared.fault.OpenFault.TheVariants.{Disk, Page as O
 use Rattle.link_index.specs.IndexFault as I
 use Rattle.link_index.specs.declared.fault.IndexFault.{IndexFault}
 use Rattle.link_index.specs.declared.fault.IndexFault.TheVariants.{Page as IndexPage, Chain as IndexChain, Memory as IndexMemory}
-use Rattle.feed_codec.specs.Reply.{line_end}
-use Rattle.feed_codec.specs.FeedFault as F
-use Rattle.feed_codec.specs.declared.fault.RunFault.{RunFault}
-use Rattle.feed_codec.specs.declared.fault.RunFault.TheVariants.{Feed as RunFeed, Write as RunWrite, TooMany as RunTooMany}
+use Rattle.feed_replies.specs.Reply.{line_end}
+use Rattle.feed_replies.specs.FeedFault as F
+use Rattle.feed_replies.specs.declared.fault.RunFault.{RunFault}
+use Rattle.feed_replies.specs.declared.fault.RunFault.TheVariants.{Feed as RunFeed, Write as RunWrite, TooMany as RunTooMany}
 use Rattle.import_feed.specs.MakingFault as M
 use Rattle.import_feed.specs.declared.fault.MakingFault.{MakingFault}
 use Rattle.import_feed.specs.declared.fault.MakingFault.TheVariants.{Page as MakePage, Chain as MakeChain, PacketTooLong, Unfinished as MakeUnfinished, TooLong, Read as MakeRead, Limit, Write as MakeWrite, Memory as MakeMemory}

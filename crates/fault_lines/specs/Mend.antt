@@ -1,6 +1,6 @@
 -- The lines of what is mended, each with its line feed. They are ours.
 use Rattle.std.specs.Prelude.{ℕ, List, ◌++◌, codes}
-use Rattle.feed_codec.specs.Reply.{line_end}
+use Rattle.feed_replies.specs.Reply.{line_end}
 use Rattle.import_mend.specs.Mend as M
 use Rattle.import_mend.specs.declared.mend.Mend.{Mend}
 use Rattle.import_mend.specs.declared.mend.Mend.TheVariants.{Junk, Gap, Restart, Stranger, Repeated, Unfinished, TooLong, Misshapen, Full}

@@ -2,10 +2,10 @@
 ghost use Rattle.std.specs.Prelude.{◌≡◌, ◌≤◌, ◌+◌, ◌++◌, OnOk, OnErr, codes, decimal, length};
 ghost use Rattle.std.specs.Io.KnownBytes.{Appends};
 ghost use Rattle.ogg_page.specs.Output.{WritesPart};
-ghost use Rattle.feed_codec.specs.Reply.{line_end};
+ghost use Rattle.feed_replies.specs.Reply.{line_end};
 ghost use Rattle.fault_lines.specs.Fault.{IsOfRun, coded, fault_line, index_rest, make_rest, numbered, open_rest, place};
 
-use feed_codec::{FeedFault, RunFault};
+use feed_replies::{FeedFault, RunFault};
 use gate_file::OpenFault;
 use import_feed::MakingFault;
 use import_record::RecordFault;

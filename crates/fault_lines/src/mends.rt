@@ -2,7 +2,7 @@
 ghost use Rattle.std.specs.Prelude.{◌≡◌, ◌≤◌, ◌+◌, ◌++◌, OnOk, OnErr, codes, length};
 ghost use Rattle.std.specs.Io.KnownBytes.{Appends};
 ghost use Rattle.ogg_page.specs.Output.{WritesPart};
-ghost use Rattle.feed_codec.specs.Reply.{line_end};
+ghost use Rattle.feed_replies.specs.Reply.{line_end};
 ghost use Rattle.fault_lines.specs.Fault.{coded, numbered};
 ghost use Rattle.fault_lines.specs.Mend.{mend_line, mend_rest};
 

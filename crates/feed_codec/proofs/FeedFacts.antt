@@ -6,13 +6,13 @@ use Rattle.std.specs.Io.KnownBytes.{Consumes, Keeps, IsAtEnd}
 use Rattle.std.proofs.KnownBytes.{Consumes-nil, Consumes-trans}
 use Rattle.ogg_command.specs.declared.command.Command.TheVariants.{Begin as BeginOf, Put as PutOf, End as EndOf}
 use Rattle.ogg_page.specs.Numbers.{u32_bytes}
-use Rattle.feed_codec.specs.declared.version.Version.{Version}
-use Rattle.feed_codec.specs.declared.version.Version.TheVariants.{One, Two}
-use Rattle.feed_codec.specs.declared.item.Record.{Record as RecordOf}
-use Rattle.feed_codec.specs.declared.item.Record.TheVariants.{Command as CommandOf, Flush}
-use Rattle.feed_codec.specs.declared.item.Item.{Item}
-use Rattle.feed_codec.specs.declared.item.Item.TheVariants.{Announcement, Record as RecordItem}
-use Rattle.feed_codec.specs.Record.{HasItem, announcement, item_bytes, kind_in, most_payload, payload_in}
+use Rattle.feed_records.specs.declared.version.Version.{Version}
+use Rattle.feed_records.specs.declared.version.Version.TheVariants.{One, Two}
+use Rattle.feed_records.specs.declared.item.Record.{Record as RecordOf}
+use Rattle.feed_records.specs.declared.item.Record.TheVariants.{Command as CommandOf, Flush}
+use Rattle.feed_records.specs.declared.item.Item.{Item}
+use Rattle.feed_records.specs.declared.item.Item.TheVariants.{Announcement, Record as RecordItem}
+use Rattle.feed_records.specs.Record.{HasItem, announcement, item_bytes, kind_in, most_payload, payload_in}
 use Rattle.feed_codec.specs.RecordKind.{number_of}
 use Rattle.feed_codec.specs.Room.{FeedRoom, LacksRoomFor}
 use Rattle.feed_codec.specs.Feed.{GivesEnd, HasFaultAt, HasItemFault, TakesItemPart, head_fault, is_kind, payload_length}
@@ -21,8 +21,8 @@ use Rattle.feed_codec.specs.Payload.{IsItem, IsPayload}
 use Rattle.feed_codec.specs.declared.head.Head.{Head}
 use Rattle.feed_codec.specs.declared.head.RecordKind.{RecordKind}
 use Rattle.feed_codec.specs.declared.head.RecordKind.TheVariants.{Announcement as AnnouncementKind, Begin, Put, End, Flush as FlushKind}
-use Rattle.feed_codec.specs.declared.fault.FeedFault.{FeedFault}
-use Rattle.feed_codec.specs.declared.fault.FeedFault.TheVariants.{Truncated, Form, Read, Memory}
+use Rattle.feed_replies.specs.declared.fault.FeedFault.{FeedFault}
+use Rattle.feed_replies.specs.declared.fault.FeedFault.TheVariants.{Truncated, Form, Read, Memory}
 use Rattle.ogg_page.specs.Laws.Prefixes.{same_fronts}
 use Rattle.ogg_page.specs.Laws.NumberBytes.{same_u32, length-u32_bytes}
 use Rattle.feed_codec.proofs.HeadFacts.{head_is_fine, length_field}

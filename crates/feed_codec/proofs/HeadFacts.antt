@@ -4,12 +4,12 @@ use Rattle.std.specs.Prelude.{slice_index, nat_lt}
 use Rattle.std.proofs.lemmas.Bool.{lt-ltb, le-ltb}
 use Rattle.byteorder.specs.Numbers.{little_number-reads_back}
 use Rattle.ogg_page.specs.Numbers.{u32_bytes}
-use Rattle.feed_codec.specs.Record.{most_payload}
+use Rattle.feed_records.specs.Record.{most_payload}
 use Rattle.feed_codec.specs.Feed.{is_kind, head_fault, payload_length}
 use Rattle.feed_codec.specs.RecordKind.{number_of}
 use Rattle.feed_codec.specs.declared.head.RecordKind.{RecordKind}
 use Rattle.ogg_page.specs.Laws.NumberBytes.{length-u32_bytes}
-use Rattle.feed_codec.specs.declared.fault.FeedFault.TheVariants.{Length}
+use Rattle.feed_replies.specs.declared.fault.FeedFault.TheVariants.{Length}
 
 fault_length : (first : Bool) (bytes : List ℕ) → 5 ≤ length bytes → is_kind first (slice_index bytes 0) ≡ true → most_payload < payload_length bytes → head_fault first bytes ≡ Some Length
 fault_length first bytes l kind n =

@@ -4,7 +4,3 @@ pub mod PayloadFacts
 pub mod HeadFacts
 pub mod RoomFacts
 pub mod FeedFacts
-pub mod SizeFacts
-pub mod FitsFacts
-pub mod WritingFacts
-pub mod ReplyFacts

@@ -13,15 +13,17 @@ use Rattle.ogg_command.specs.declared.command.NewStream.{NewStream}
 use Rattle.ogg_command.specs.declared.command.Entry.{Entry}
 use Rattle.ogg_page.specs.Numbers.{u16_bytes, u32_bytes, u64_bytes, i64_bytes, fraction_bytes, IsFraction}
 use Rattle.skeleton3.specs.Fields.{NamedValue}
-use Rattle.feed_codec.specs.declared.version.Version.{Version}
-use Rattle.feed_codec.specs.declared.version.Version.TheVariants.{One, Two}
-use Rattle.feed_codec.specs.declared.item.Record.TheVariants.{Command as CommandOf, Flush}
-use Rattle.feed_codec.specs.declared.item.Item.TheVariants.{Announcement, Record as RecordItem}
-use Rattle.feed_codec.specs.Record.{packet_bytes, media_bytes, skeleton_bytes, field_bytes, fields_bytes, stream_bytes, entry_bytes, payload_of, FitsFields, FitsField, FitsMessage, FitsHeader, FitsStream, FitsEntry}
-use Rattle.feed_codec.specs.Payload.{Begins, BeginsNone, AreMany, IsPacket, IsMedia, IsFieldOfFeed, AreFields, IsEntryOfFeed, IsStreamOfFeed, Tail, IsTail, tail_bytes, Behind, IsBehind, behind_bytes, behind_of_stream, skeleton_head_bytes, IsPayload}
+use Rattle.feed_records.specs.declared.version.Version.{Version}
+use Rattle.feed_records.specs.declared.version.Version.TheVariants.{One, Two}
+use Rattle.feed_records.specs.declared.item.Record.TheVariants.{Command as CommandOf, Flush}
+use Rattle.feed_records.specs.declared.item.Item.TheVariants.{Announcement, Record as RecordItem}
+use Rattle.feed_records.specs.Record.{packet_bytes, media_bytes, skeleton_bytes, field_bytes, fields_bytes, stream_bytes, entry_bytes, payload_of, FitsFields, FitsField, FitsMessage, FitsHeader, FitsStream, FitsEntry}
+use Rattle.feed_codec.specs.Payload.{Begins, BeginsNone, AreMany, IsPacket, IsMedia, IsFieldOfFeed, AreFields, IsEntryOfFeed, IsStreamOfFeed, IsTail, IsBehind, skeleton_head_bytes, IsPayload}
+use Rattle.feed_records.specs.Tail.{Tail, tail_bytes, Behind, behind_bytes, behind_of_stream}
 use Rattle.feed_codec.proofs.Lists.{all_front, all_back, all_joined, all_as, split_joins}
 use Rattle.ogg_page.specs.Laws.NumberBytes.{IsU16, IsU32, IsU64, same_u16, same_u32, same_u64, length-u16_bytes, length-u32_bytes, length-u64_bytes, length-i64_bytes, read_u32}
-use Rattle.feed_codec.proofs.Spellings.{PrefixFree, front, fronts, same_packet, same_media, same_many, same_tail, same_skeleton, entry_packet, stream_parts, stream_headers, stream_behind_headers, command_streams, command_entries}
+use Rattle.feed_records.specs.Laws.{stream_parts}
+use Rattle.feed_codec.proofs.Spellings.{PrefixFree, front, fronts, same_packet, same_media, same_many, same_tail, same_skeleton, entry_packet, stream_headers, stream_behind_headers, command_streams, command_entries}
 
 -- ---- packets and media types
 

@@ -6,12 +6,12 @@ use Rattle.std.proofs.lemmas.Grind.{flat_map-append}
 use Rattle.std.proofs.lemmas.List.{drop-drop}
 use Rattle.ogg_command.specs.declared.command.Entry.{Entry}
 use Rattle.ogg_command.specs.declared.command.Command.TheVariants.{Put as PutOf}
-use Rattle.feed_codec.specs.declared.item.Record.TheVariants.{Command as CommandOf}
-use Rattle.feed_codec.specs.declared.item.Item.{Item}
-use Rattle.feed_codec.specs.declared.item.Item.TheVariants.{Record as RecordItem}
+use Rattle.feed_records.specs.declared.item.Record.TheVariants.{Command as CommandOf}
+use Rattle.feed_records.specs.declared.item.Item.{Item}
+use Rattle.feed_records.specs.declared.item.Item.TheVariants.{Record as RecordItem}
 use Rattle.ogg_command.specs.Command.{IsCommand}
-use Rattle.feed_codec.specs.declared.version.Version.{Version}
-use Rattle.feed_codec.specs.Record.{FitsFields, entry_bytes, kind_in, payload_in, payload_of}
+use Rattle.feed_records.specs.declared.version.Version.{Version}
+use Rattle.feed_records.specs.Record.{FitsFields, entry_bytes, kind_in, payload_in, payload_of}
 use Rattle.feed_codec.specs.Payload.{AreMany, Begins, IsEntryOfFeed, IsItem}
 use Rattle.feed_codec.proofs.Lists.{all_joined}
 use Rattle.feed_codec.specs.Room.{LacksEntryRoom, LacksPacketRoom, LacksRoomFor}

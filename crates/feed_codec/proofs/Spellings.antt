@@ -10,16 +10,18 @@ use Rattle.ogg_command.specs.declared.command.Put.{Put}
 use Rattle.ogg_command.specs.declared.command.NewStream.{NewStream}
 use Rattle.ogg_command.specs.declared.command.Entry.{Entry}
 use Rattle.ogg_page.specs.Numbers.{u16_bytes, u32_bytes, u64_bytes, i64_bytes, fraction_bytes, IsFraction}
-use Rattle.feed_codec.specs.Record.{packet_bytes, media_bytes, skeleton_bytes, field_bytes, fields_bytes, stream_bytes, entry_bytes, payload_of, kind_of, kind_in, payload_in, item_bytes, record_of, announcement, most_payload, FitsFields, FitsField, FitsMessage, FitsHeader, FitsStream, FitsEntry, HasItem, HasRecord, BeginsNoRecord, IsFeed}
+use Rattle.feed_records.specs.Record.{packet_bytes, media_bytes, skeleton_bytes, field_bytes, fields_bytes, stream_bytes, entry_bytes, payload_of, kind_of, kind_in, payload_in, item_bytes, record_of, announcement, most_payload, FitsFields, FitsField, FitsMessage, FitsHeader, FitsStream, FitsEntry, HasItem, HasRecord, BeginsNoRecord, IsFeed}
 use Rattle.skeleton3.specs.Fields.{NamedValue}
-use Rattle.feed_codec.specs.declared.version.Version.{Version}
-use Rattle.feed_codec.specs.declared.version.Version.TheVariants.{One, Two}
-use Rattle.feed_codec.specs.declared.item.Record.{Record as RecordOf}
-use Rattle.feed_codec.specs.declared.item.Record.TheVariants.{Command as CommandOf, Flush}
-use Rattle.feed_codec.specs.declared.item.Item.{Item}
-use Rattle.feed_codec.specs.declared.item.Item.TheVariants.{Announcement, Record as RecordItem}
-use Rattle.feed_codec.specs.Payload.{AreMany, IsPacket, IsMedia, IsFieldOfFeed, AreFields, IsEntryOfFeed, IsStreamOfFeed, IsTail, tail_bytes, tail_of_stream, IsBehind, behind_bytes, behind_of_stream, IsItem, skeleton_head_bytes}
+use Rattle.feed_records.specs.declared.version.Version.{Version}
+use Rattle.feed_records.specs.declared.version.Version.TheVariants.{One, Two}
+use Rattle.feed_records.specs.declared.item.Record.{Record as RecordOf}
+use Rattle.feed_records.specs.declared.item.Record.TheVariants.{Command as CommandOf, Flush}
+use Rattle.feed_records.specs.declared.item.Item.{Item}
+use Rattle.feed_records.specs.declared.item.Item.TheVariants.{Announcement, Record as RecordItem}
+use Rattle.feed_codec.specs.Payload.{AreMany, IsPacket, IsMedia, IsFieldOfFeed, AreFields, IsEntryOfFeed, IsStreamOfFeed, IsTail, IsBehind, IsItem, skeleton_head_bytes}
+use Rattle.feed_records.specs.Tail.{tail_bytes, tail_of_stream, behind_bytes, behind_of_stream}
 use Rattle.ogg_page.specs.Laws.Prefixes.{same_fronts}
+use Rattle.feed_records.specs.Laws.{stream_parts}
 use Rattle.feed_codec.proofs.Lists.{all_of_two}
 use Rattle.ogg_page.specs.Laws.NumberBytes.{IsU16, IsU32, IsU64, IsI64, same_u16, same_u32, same_u64, same_i64, same_fraction}
 
@@ -123,10 +125,6 @@ field_of_feed field bytes fits = record { name = record { bytes = bytes.0; fits 
 fields_of_feed : (v : Version) (fields : List NamedValue) → AllByRecursion AreFieldBytes fields → FitsMessage v fields → AreFields v fields
 fields_of_feed One fields bytes fits = fits
 fields_of_feed Two fields bytes fits = (fits.0, all_of_two AreFieldBytes FitsField IsFieldOfFeed field_of_feed fields bytes fits.1)
-
-pub stream_parts : (v : Version) (s : NewStream) → stream_bytes v s ≡ u32_bytes s.serial ++ (u16_bytes (length s.headers) ++ (flat_map packet_bytes s.headers ++ behind_bytes v (behind_of_stream s)))
-unfolding stream_bytes tail_bytes
-stream_parts v s = refl
 
 pub stream_headers : (v : Version) (s : NewStream) → IsStreamOfFeed v s → AllByRecursion IsPacket s.headers
 stream_headers v s h =

@@ -3,14 +3,14 @@ use Rattle.std.specs.Prelude.{Bool, true, false, nat_eq, nat_lt, nat_le, not, �
 use Rattle.std.specs.Prelude.{◌≡◌, ◌≢◌, ◌⊎◌, ℕ, ◌+◌, Option, Some, None, Result, Ok, Err, List, [], ◌++◌, ◌<◌, length, drop, slice_index, ⊤}
 use Rattle.std.specs.Io.KnownBytes.{Consumes, IsAtEnd, Keeps}
 use Rattle.byteorder.specs.Endian.{little_number}
-use Rattle.feed_codec.specs.declared.fault.FeedFault.{FeedFault}
-use Rattle.feed_codec.specs.declared.fault.FeedFault.TheVariants.{Truncated, Kind, Length, Form}
-use Rattle.feed_codec.specs.declared.version.Version.{Version}
-use Rattle.feed_codec.specs.declared.version.Version.TheVariants.{One, Two}
-use Rattle.feed_codec.specs.declared.item.Item.{Item}
-use Rattle.feed_codec.specs.declared.item.Record.{Record as RecordOf}
+use Rattle.feed_replies.specs.declared.fault.FeedFault.{FeedFault}
+use Rattle.feed_replies.specs.declared.fault.FeedFault.TheVariants.{Truncated, Kind, Length, Form}
+use Rattle.feed_records.specs.declared.version.Version.{Version}
+use Rattle.feed_records.specs.declared.version.Version.TheVariants.{One, Two}
+use Rattle.feed_records.specs.declared.item.Item.{Item}
+use Rattle.feed_records.specs.declared.item.Record.{Record as RecordOf}
 use Rattle.feed_codec.specs.Room.{FeedRoom, LacksRoomFor}
-use Rattle.feed_codec.specs.Record.{BeginsNoItem, HasItem, HasRecord, announcement, item_bytes, most_payload, opening, record_of}
+use Rattle.feed_records.specs.Record.{BeginsNoItem, HasItem, HasRecord, announcement, item_bytes, most_payload, opening, record_of}
 
 -- a record's head: one byte for the kind, and the payload's length
 abbrev pub head_size : ℕ

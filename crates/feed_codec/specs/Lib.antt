@@ -1,12 +1,6 @@
-pub mod Record
 pub mod RecordKind
 pub mod Feed
-pub mod FeedFault
-pub mod Fits
 pub mod Reading
 pub mod Room
-pub mod Writing
-pub mod RunFault
-pub mod Reply
 pub mod Payload
 pub mod PayloadParts

@@ -1,5 +1,5 @@
 -- How the front of a payload is checked. Ours.
-use Rattle.std.specs.Prelude.{◌≡◌, ◌≢◌, ℕ, ℤ, ◌<◌, ◌^◌, List, [], ◌∷◌, ◌++◌, length, ⊤}
+use Rattle.std.specs.Prelude.{◌≡◌, ◌≢◌, ℕ, ◌<◌, ◌^◌, List, [], ◌++◌, length, ⊤}
 use Rattle.std.specs.Int.{w64}
 use Rattle.std.specs.Prelude.{FitsSigned}
 use Rattle.std.specs.List.{AllByRecursion}
@@ -8,14 +8,15 @@ use Rattle.ogg_command.specs.Command.{IsCommand, IsNewStream, IsEntry}
 use Rattle.ogg_command.specs.declared.command.SkeletonHead.{SkeletonHead}
 use Rattle.ogg_command.specs.declared.command.NewStream.{NewStream}
 use Rattle.ogg_command.specs.declared.command.Entry.{Entry}
-use Rattle.ogg_page.specs.Numbers.{u32_bytes, i64_bytes, fraction_bytes, IsFraction}
+use Rattle.ogg_page.specs.Numbers.{u32_bytes, fraction_bytes, IsFraction}
 use Rattle.skeleton3.specs.Fields.{NamedValue}
-use Rattle.feed_codec.specs.declared.version.Version.{Version}
-use Rattle.feed_codec.specs.declared.version.Version.TheVariants.{One, Two}
-use Rattle.feed_codec.specs.declared.item.Record.TheVariants.{Command as CommandOf, Flush}
-use Rattle.feed_codec.specs.declared.item.Item.{Item}
-use Rattle.feed_codec.specs.declared.item.Item.TheVariants.{Announcement, Record as RecordItem}
-use Rattle.feed_codec.specs.Record.{FitsStream, FitsEntry, FitsFields, media_bytes, fields_bytes, kind_in, payload_in}
+use Rattle.feed_records.specs.declared.version.Version.{Version}
+use Rattle.feed_records.specs.declared.version.Version.TheVariants.{One, Two}
+use Rattle.feed_records.specs.declared.item.Record.TheVariants.{Command as CommandOf, Flush}
+use Rattle.feed_records.specs.declared.item.Item.{Item}
+use Rattle.feed_records.specs.declared.item.Item.TheVariants.{Announcement, Record as RecordItem}
+use Rattle.feed_records.specs.Tail.{Tail, Behind}
+use Rattle.feed_records.specs.Record.{FitsStream, FitsEntry, FitsFields, kind_in, payload_in}
 
 -- the bytes begin with the spelling of some x, and the rest follows
 abbrev pub Begins : {X : Type 0} → (X → Type 0) → (X → List ℕ) → List ℕ → List ℕ → Type 0
@@ -55,14 +56,6 @@ pub record IsStreamOfFeed (version : Version) (stream : NewStream) : Type 0 wher
   pub numbers : IsNewStream stream
   pub fits : FitsStream version stream
 
--- what follows a stream's headers, but for its message fields
-pub record Tail : Type 0 where
-  pub media : List ℕ
-  pub rate : ℤ × ℤ
-  pub base_granule : ℤ
-  pub preroll : ℕ
-  pub shift : ℕ
-
 pub record IsTail (tail : Tail) : Type 0 where
   pub media : IsMedia tail.media
   pub rate : IsFraction tail.rate
@@ -70,22 +63,9 @@ pub record IsTail (tail : Tail) : Type 0 where
   pub preroll : tail.preroll < 2 ^ 32
   pub shift : tail.shift < 256
 
-unfoldable pub tail_bytes : Tail → List ℕ
-tail_bytes tail =
-    media_bytes tail.media
-    ++ (fraction_bytes tail.rate
-    ++ (i64_bytes tail.base_granule ++ (u32_bytes tail.preroll ++ tail.shift ∷ [])))
-
--- all that follows a stream's headers
-abbrev pub Behind : Type 0
-Behind = Tail × List NamedValue
-
 pub record IsBehind (version : Version) (behind : Behind) : Type 0 where
   pub tail : IsTail behind.0
   pub fields : AreFields version behind.1
-
-abbrev pub behind_bytes : Version → Behind → List ℕ
-behind_bytes version behind = tail_bytes behind.0 ++ fields_bytes version behind.1
 
 -- what an item of this version can hold
 abbrev pub IsItem : Version → Item → Type 0
@@ -102,11 +82,3 @@ IsPayload version kind payload =
 unfoldable pub skeleton_head_bytes : SkeletonHead → List ℕ
 skeleton_head_bytes head =
     u32_bytes head.serial ++ (fraction_bytes head.presentation ++ (fraction_bytes head.base ++ head.utc))
-
--- what follows the stream's headers
-abbrev pub tail_of_stream : NewStream → Tail
-tail_of_stream stream =
-    record { media = stream.media; rate = stream.rate; base_granule = stream.base_granule; preroll = stream.preroll; shift = stream.shift }
-
-abbrev pub behind_of_stream : NewStream → Behind
-behind_of_stream stream = (tail_of_stream stream, stream.fields)

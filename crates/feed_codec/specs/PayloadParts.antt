@@ -1,6 +1,6 @@
 -- The parts of a payload, without their places in memory. Ours.
 use Rattle.ogg_command.specs.declared.command.Entry.{Entry}
-use Rattle.feed_codec.specs.Payload.{Tail}
+use Rattle.feed_records.specs.Tail.{Tail}
 use Rattle.feed_codec.specs.declared.payload.EntryPart.{EntryPart}
 use Rattle.feed_codec.specs.declared.payload.TailPart.{TailPart}
 

@@ -1,11 +1,11 @@
 -- What reading takes from a reader. Ours.
 use Rattle.std.specs.Prelude.{◌≡◌, ◌≢◌, ℕ, ◌<◌, ◌≤◌, Bool, IsTrue, Option, Some, None, List, [], ◌∷◌, length, ⊤}
 use Rattle.ogg_page.specs.Numbers.{u32_bytes}
-use Rattle.feed_codec.specs.Record.{most_payload}
+use Rattle.feed_records.specs.Record.{most_payload}
 use Rattle.feed_codec.specs.Feed.{head_fault, is_kind}
 use Rattle.feed_codec.specs.RecordKind.{number_of}
 use Rattle.feed_codec.specs.declared.head.Head.{Head}
-use Rattle.feed_codec.specs.declared.fault.FeedFault.{FeedFault}
+use Rattle.feed_replies.specs.declared.fault.FeedFault.{FeedFault}
 
 abbrev pub head_bytes : Head → List ℕ
 head_bytes head = number_of head.kind ∷ u32_bytes head.length

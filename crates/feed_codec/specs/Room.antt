@@ -3,9 +3,9 @@ use Rattle.std.specs.Prelude.{◌⊎◌, ℕ, ◌<◌, List, [], ◌∷◌, drop
 use Rattle.std.specs.Global.{Vec}
 use Rattle.ogg_command.specs.declared.command.Entry.{Entry}
 use Rattle.ogg_command.specs.declared.command.Command.TheVariants.{Begin as BeginOf, Put as PutOf, End as EndOf}
-use Rattle.feed_codec.specs.declared.item.Record.TheVariants.{Command as CommandOf, Flush}
-use Rattle.feed_codec.specs.declared.item.Item.{Item}
-use Rattle.feed_codec.specs.declared.item.Item.TheVariants.{Announcement, Record as RecordItem}
+use Rattle.feed_records.specs.declared.item.Record.TheVariants.{Command as CommandOf, Flush}
+use Rattle.feed_records.specs.declared.item.Item.{Item}
+use Rattle.feed_records.specs.declared.item.Item.TheVariants.{Announcement, Record as RecordItem}
 
 pub record FeedRoom : Type 0 where
   -- bytes of a payload

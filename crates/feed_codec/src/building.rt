@@ -1,20 +1,19 @@
 //! Records, built from payloads that have been checked.
 ghost use Rattle.std.specs.Prelude.{◌≡◌, ◌++◌, [], IfOk, OnErr, Ok, List, ℕ, vec_capacity};
 ghost use Rattle.feed_codec.specs.Room.{LacksEntryRoom, LacksRoomFor, rooms_of};
-ghost use Rattle.feed_codec.specs.declared.item.Item.{Item as ItemOf};
+ghost use Rattle.feed_records.specs.declared.item.Item.{Item as ItemOf};
 ghost use Rattle.ogg_command.specs.declared.command.Entry.{Entry as EntryOf};
 ghost use Rattle.std.specs.List.{flat_map};
-ghost use Rattle.feed_codec.specs.Record.{packet_bytes, field_bytes, fields_bytes, entry_bytes, stream_bytes, kind_in, kind_of, payload_in, payload_of, FitsFields};
+ghost use Rattle.feed_records.specs.Record.{packet_bytes, field_bytes, fields_bytes, entry_bytes, stream_bytes, kind_in, kind_of, payload_in, payload_of, FitsFields};
 ghost use Rattle.feed_codec.specs.RecordKind.{number_of};
 ghost use Rattle.feed_codec.specs.Payload.{Begins, AreMany, IsPacket, IsFieldOfFeed, AreFields, IsEntryOfFeed, IsStreamOfFeed, IsItem, IsPayload};
 ghost use Rattle.ogg_command.specs.Command.{IsCommand};
 ghost use Rattle.skeleton3.specs.Fields.{shown};
 
 use crate::head::RecordKind;
-use crate::item::{Item, Record};
 use crate::payload::{split_entry, split_field, split_packet, split_skeleton, split_tail};
 use crate::spare::Spare;
-use crate::version::Version;
+use feed_records::{Item, Record, Version};
 use ogg_command::{Begin, Command, Entry, Listed, Memory, NewStream, Put};
 use ogg_page::{take_u16, take_u32};
 use skeleton3::Field;

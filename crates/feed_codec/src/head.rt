@@ -4,14 +4,9 @@ ghost use Rattle.feed_codec.specs.Feed.{is_kind, head_fault};
 ghost use Rattle.feed_codec.specs.RecordKind.{number_of};
 ghost use Rattle.feed_codec.specs.Reading.{IsHead, head_bytes};
 
-use crate::fault::FeedFault;
+use feed_records::{HEAD, MOST_PAYLOAD};
+use feed_replies::FeedFault;
 use ogg_page::{take_u8, take_u32};
-
-/// How many bytes a record's head has.
-pub const HEAD: usize = 5;
-
-/// How many bytes a payload may have.
-pub const MOST_PAYLOAD: usize = 33_554_432;
 
 /// What a record holds.
 #[derive(Clone, Copy, Debug, PartialEq, Eq)]

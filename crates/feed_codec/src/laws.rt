@@ -1,12 +1,12 @@
 //! What always holds of records.
 ghost use Rattle.std.specs.Prelude.{◌≡◌, ◌++◌, Bool, true, List, ℕ, Option, Some, None};
 ghost use Rattle.std.specs.Io.KnownBytes.{Consumes, IsAtEnd};
-ghost use Rattle.feed_codec.specs.Record.{HasItem, HasRecord, IsFeed, item_bytes, record_of};
+ghost use Rattle.feed_records.specs.Record.{HasItem, HasRecord, IsFeed, item_bytes, record_of};
 ghost use Rattle.feed_codec.specs.Feed.{HasFault};
-ghost use Rattle.feed_codec.specs.declared.fault.FeedFault.{FeedFault};
-ghost use Rattle.feed_codec.specs.declared.item.Item.{Item};
-ghost use Rattle.feed_codec.specs.declared.item.Record.{Record};
-ghost use Rattle.feed_codec.specs.declared.version.Version.{Version};
+ghost use Rattle.feed_replies.specs.declared.fault.FeedFault.{FeedFault};
+ghost use Rattle.feed_records.specs.declared.item.Item.{Item};
+ghost use Rattle.feed_records.specs.declared.item.Record.{Record};
+ghost use Rattle.feed_records.specs.declared.version.Version.{Version};
 
 /// If two records of one version begin the same bytes, they are one record, and the same bytes follow. So no record's
 /// bytes are a proper prefix of another's, nor of the announcement's.

@@ -1,18 +1,21 @@
 //! Payloads, checked without taking memory.
 ghost use Rattle.std.specs.Prelude.{◌≡◌, ◌++◌, ◌↔◌, IsTrue, MatchOption};
 ghost use Rattle.std.specs.List.{flat_map};
-ghost use Rattle.feed_codec.specs.Record.{packet_bytes, media_bytes, field_bytes, fields_bytes, entry_bytes, stream_bytes, skeleton_bytes};
+ghost use Rattle.feed_records.specs.Record.{packet_bytes, media_bytes, field_bytes, fields_bytes, entry_bytes, stream_bytes, skeleton_bytes};
 ghost use Rattle.feed_codec.specs.RecordKind.{number_of};
-ghost use Rattle.feed_codec.specs.Payload.{Begins, BeginsNone, AreMany, IsPacket, IsMedia, IsFieldOfFeed, AreFields, IsEntryOfFeed, IsStreamOfFeed, IsTail, tail_bytes, IsBehind, behind_bytes, skeleton_head_bytes, IsPayload};
+ghost use Rattle.feed_codec.specs.Payload.{Begins, BeginsNone, AreMany, IsPacket, IsMedia, IsFieldOfFeed, AreFields, IsEntryOfFeed, IsStreamOfFeed, IsTail, IsBehind, skeleton_head_bytes, IsPayload};
+ghost use Rattle.feed_records.specs.Tail.{tail_bytes, behind_bytes};
 ghost use Rattle.feed_codec.specs.PayloadParts.{entry_of, tail_of};
 ghost use Rattle.skeleton3.specs.Fields.{shown};
 ghost use Rattle.ogg_command.specs.Command.{IsSkeleton, IsSkeletonHead};
 
 use crate::head::RecordKind;
-use crate::version::Version;
-use crate::widths::{COUNT, ENTRY_FRONT, LENGTH, SERIAL, SKELETON_HEAD, STREAM_FRONT, TAIL};
+use feed_records::{COUNT, ENTRY_FRONT, LENGTH, SERIAL, STREAM_FRONT, TAIL, Version};
 use ogg_command::SkeletonHead;
 use ogg_page::{take_fraction, take_i64, take_u8, take_u16, take_u32, take_u64};
+
+/// A Skeleton's head, without the byte that announces it.
+const SKELETON_HEAD: usize = 56;
 
 /// An entry of a put, where it lies.
 #[derive(Clone, Copy)]

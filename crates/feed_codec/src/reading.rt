@@ -2,17 +2,16 @@
 ghost use Rattle.std.specs.Prelude.{◌≡◌, ◌≢◌, ◌≤◌, ◌<◌, ◌⊎◌, false, IfOk, IfErr, IfSome, IfNone, OnOk, length, take, vec_len, vec_capacity, Some, None, Err, Ok};
 ghost use Rattle.feed_codec.specs.Room.{feed_room};
 ghost use Rattle.std.specs.Io.KnownBytes.{Consumes, Keeps, IsAtEnd};
-ghost use Rattle.feed_codec.specs.Record.{HasItem, HasRecord, item_bytes, record_of};
+ghost use Rattle.feed_records.specs.Record.{HasItem, HasRecord, item_bytes, record_of};
 ghost use Rattle.feed_codec.specs.Feed.{GivesEnd, GivesRecord, HasFault, HasItemFault, TakesItemPart, TakesWhereMemoryEnds, answer_at};
 ghost use Rattle.feed_codec.specs.Reading.{IsHead, head_bytes, HasHeadFault, IsShort};
 
 use crate::building::item_of;
-use crate::fault::FeedFault;
-use crate::head::{HEAD, Head, head_of};
-use crate::item::{Item, Record};
+use crate::head::{Head, head_of};
 use crate::payload::is_payload;
 use crate::spare::Spare;
-use crate::version::Version;
+use feed_records::{HEAD, Item, Record, Version};
+use feed_replies::FeedFault;
 use ogg_command::Command;
 use std::alloc::Global;
 use std::io::Read;

@@ -1,7 +1,7 @@
 -- Records answered by a check, and by a run.
 use Rattle.std.proofs.Common.{◌≡◌, ℕ, List, [], ◌∷◌, ◌++◌, refl, ap, ◌∙◌}
-use Rattle.feed_codec.specs.declared.reply.Reply.{Reply}
-use Rattle.feed_codec.specs.declared.item.Record.{Record}
+use Rattle.feed_replies.specs.declared.reply.Reply.{Reply}
+use Rattle.feed_records.specs.declared.item.Record.{Record}
 use Rattle.feed_run.specs.Answering.{AnswersAll}
 use Rattle.feed_mux.specs.Checking.{ChecksRecord}
 use Rattle.feed_mux.specs.Progress.{Progress, AnswersRecord}

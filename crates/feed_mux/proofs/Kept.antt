@@ -6,8 +6,8 @@ use Rattle.chain_rules.specs.Encoding.{command_bytes, links_after}
 use Rattle.ogg_command.specs.declared.command.Command.{Command}
 use Rattle.ogg_command.specs.declared.refusal.Refusal.{Refusal}
 use Rattle.ogg_command.specs.declared.refusal.Refusal.TheVariants.{Memory}
-use Rattle.feed_codec.specs.declared.reply.Reply.{Reply}
-use Rattle.feed_codec.specs.declared.reply.Reply.TheVariants.{Kept as KeptOf, Refused}
+use Rattle.feed_replies.specs.declared.reply.Reply.{Reply}
+use Rattle.feed_replies.specs.declared.reply.Reply.TheVariants.{Kept as KeptOf, Refused}
 use Rattle.feed_mux.specs.Progress.{Progress, end_of, with_command, Answers, AnsweredBy}
 use Rattle.feed_mux.specs.Reached.{HasReached}
 

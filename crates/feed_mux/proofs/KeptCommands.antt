@@ -8,10 +8,10 @@ use Rattle.chain_rules.specs.Encoding.{command_bytes}
 use Rattle.ogg_command.specs.declared.command.Command.{Command}
 use Rattle.ogg_command.specs.declared.refusal.Refusal.{Refusal}
 use Rattle.ogg_command.specs.declared.refusal.Refusal.TheVariants.{Failed, Disk}
-use Rattle.feed_codec.specs.declared.reply.Reply.{Reply}
-use Rattle.feed_codec.specs.declared.reply.Reply.TheVariants.{Held, Kept as KeptOf, Refused}
-use Rattle.feed_codec.specs.declared.item.Record.{Record}
-use Rattle.feed_codec.specs.declared.item.Record.TheVariants.{Command as CommandOf, Flush}
+use Rattle.feed_replies.specs.declared.reply.Reply.{Reply}
+use Rattle.feed_replies.specs.declared.reply.Reply.TheVariants.{Held, Kept as KeptOf, Refused}
+use Rattle.feed_records.specs.declared.item.Record.{Record}
+use Rattle.feed_records.specs.declared.item.Record.TheVariants.{Command as CommandOf, Flush}
 use Rattle.feed_run.specs.Answering.{AnswersAll}
 use Rattle.feed_run.specs.Counting.{kept_after, kept_of, left_by}
 use Rattle.feed_mux.specs.Progress.{Progress, AnsweredBy, AnswersRecord, with_command}

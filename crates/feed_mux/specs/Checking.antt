@@ -1,7 +1,7 @@
 -- How the check of a feed answers its records. Ours.
 use Rattle.std.specs.Prelude.{◌≡◌, ℕ, List, []}
-use Rattle.feed_codec.specs.declared.item.Record.{Record}
-use Rattle.feed_codec.specs.declared.reply.Reply.{Reply}
+use Rattle.feed_records.specs.declared.item.Record.{Record}
+use Rattle.feed_replies.specs.declared.reply.Reply.{Reply}
 use Rattle.feed_mux.specs.Progress.{Progress, AnswersRecord}
 
 -- the record is answered as by a run that has some pages to write for it, but no page is made

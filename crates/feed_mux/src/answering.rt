@@ -4,12 +4,12 @@ ghost use Rattle.std.specs.Io.KnownBytes.{Appends};
 ghost use Rattle.ogg_page.specs.Output.{WritesPart};
 ghost use Rattle.chain_rules.specs.Encoding.{command_bytes};
 ghost use Rattle.chain_rules.specs.Shape.{HasRoom};
-ghost use Rattle.feed_codec.specs.declared.reply.Reply.{Reply as ReplyOf};
+ghost use Rattle.feed_replies.specs.declared.reply.Reply.{Reply as ReplyOf};
 ghost use Rattle.feed_mux.specs.Progress.{Progress, Answers};
 ghost use Rattle.feed_mux.specs.Reached.{HasReached};
 
 use chain_rules::{Command, Refusal, Shape, refusals_are_of_the_table};
-use feed_codec::{Kept, Reply};
+use feed_replies::{Kept, Reply};
 use ogg_page::{WriteFault, write_whole};
 use std::io::Write;
 

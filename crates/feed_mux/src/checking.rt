@@ -7,7 +7,7 @@ ghost use Rattle.feed_mux.specs.Progress.{Progress, Answers, at_start, end_of, n
 ghost use Rattle.feed_mux.specs.Reached.{HasReached};
 
 use chain_rules::{Command, Refusal, Shape, refusals_are_of_the_table};
-use feed_codec::{Kept, Reply, RunFault, Tally};
+use feed_replies::{Kept, Reply, RunFault, Tally};
 use feed_run::{Ahead, Replies, Runner, Unknown, run_feed_for};
 use ogg_page::WriteFault;
 use std::alloc::Global;

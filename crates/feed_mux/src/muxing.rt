@@ -6,7 +6,7 @@ ghost use Rattle.feed_mux.specs.Reached.{HasReached};
 
 use crate::answering::answer;
 use chain_rules::{Command, Shape};
-use feed_codec::{Kept, Reply, RunFault, Tally};
+use feed_replies::{Kept, Reply, RunFault, Tally};
 use feed_run::{Ahead, Replies, Runner, Unknown, run_feed_for};
 use ogg_page::WriteFault;
 use std::alloc::Global;

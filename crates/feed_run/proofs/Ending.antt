@@ -1,11 +1,11 @@
 -- How far a run over a whole feed has come, and how it ends.
 use Rattle.std.proofs.Common.{◌≡◌, ◌⊎◌, ◌≤◌, ◌+◌, ℕ, List, [], ◌∷◌, ◌++◌, length, inl, inr, refl, sym, ap, ◌∙◌, subst, arith, append-nil, length-append, Some, None, Ok, Err}
-use Rattle.feed_codec.specs.declared.item.Record.{Record}
-use Rattle.feed_codec.specs.declared.item.Record.TheVariants.{Flush}
-use Rattle.feed_codec.specs.declared.reply.Reply.{Reply}
-use Rattle.feed_codec.specs.declared.tally.Tally.{Tally}
-use Rattle.feed_codec.specs.declared.fault.RunFault.{RunFault}
-use Rattle.feed_codec.specs.declared.fault.RunFault.TheVariants.{Feed, Write, TooMany}
+use Rattle.feed_records.specs.declared.item.Record.{Record}
+use Rattle.feed_records.specs.declared.item.Record.TheVariants.{Flush}
+use Rattle.feed_replies.specs.declared.reply.Reply.{Reply}
+use Rattle.feed_replies.specs.declared.tally.Tally.{Tally}
+use Rattle.feed_replies.specs.declared.fault.RunFault.{RunFault}
+use Rattle.feed_replies.specs.declared.fault.RunFault.TheVariants.{Feed, Write, TooMany}
 use Rattle.feed_run.specs.declared.counting.Counts.{Counts}
 use Rattle.feed_run.specs.Counting.{Counted, IsTally}
 use Rattle.feed_run.specs.Run.{Outcome, RunState, Streams, answer_at, ClosesOne, EndsBy, EndsOne, HasRun, Leaves, RunsOne, RunsTo, RunsWhole, Steps, StopsBy, StopsOne, most_records}

@@ -4,10 +4,10 @@ use Rattle.std.proofs.lemmas.Grind.{flat_map-append}
 use Rattle.std.proofs.KnownBytes.{Consumes-trans}
 use Rattle.std.specs.List.{flat_map, AllByRecursion}
 use Rattle.std.specs.Io.KnownBytes.{Consumes}
-use Rattle.feed_codec.specs.declared.item.Record.{Record}
-use Rattle.feed_codec.specs.declared.version.Version.{Version}
+use Rattle.feed_records.specs.declared.item.Record.{Record}
+use Rattle.feed_records.specs.declared.version.Version.{Version}
 use Rattle.feed_codec.specs.Feed.{GivesRecord}
-use Rattle.feed_codec.specs.Record.{HasRecord, opening, record_of}
+use Rattle.feed_records.specs.Record.{HasRecord, opening, record_of}
 use Rattle.feed_run.specs.Run.{HasRead}
 
 all_and_one : (P : Record → Type 0) (xs : List Record) (x : Record) → AllByRecursion P xs → P x → AllByRecursion P (xs ++ x ∷ [])

@@ -8,9 +8,9 @@ use Rattle.std.specs.Fmt.{decimal}
 use Rattle.std.specs.Io.KnownBytes.{Appends, Keeps, append_known}
 use Rattle.ogg_page.specs.Output.{WritesPart, WritesPrefix}
 use Rattle.ogg_command.specs.Refusal.{code_of, name_of}
-use Rattle.feed_codec.specs.Reply.{line_end, reply_line}
-use Rattle.feed_codec.specs.declared.reply.Reply.{Reply}
-use Rattle.feed_codec.specs.declared.reply.Reply.TheVariants.{Held, Kept, Refused}
+use Rattle.feed_replies.specs.Reply.{line_end, reply_line}
+use Rattle.feed_replies.specs.declared.reply.Reply.{Reply}
+use Rattle.feed_replies.specs.declared.reply.Reply.TheVariants.{Held, Kept, Refused}
 
 pub on_err : {T E : Type 0} → (result : Result T E) (P : Type 0) → P → OnErr result P
 on_err (Ok done) P p = tt

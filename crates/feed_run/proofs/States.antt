@@ -1,8 +1,8 @@
 -- A run with one more record.
 use Rattle.std.proofs.Common.{◌≡◌, ◌+◌, ℕ, Option, None, sym, ap, ◌∙◌}
-use Rattle.feed_codec.specs.declared.version.Version.{Version}
-use Rattle.feed_codec.specs.declared.reply.Reply.{Reply}
-use Rattle.feed_codec.specs.declared.item.Record.{Record}
+use Rattle.feed_records.specs.declared.version.Version.{Version}
+use Rattle.feed_replies.specs.declared.reply.Reply.{Reply}
+use Rattle.feed_records.specs.declared.item.Record.{Record}
 use Rattle.feed_run.specs.declared.counting.Counts.{Counts}
 use Rattle.feed_run.specs.Counting.{counts_with}
 use Rattle.feed_run.specs.Run.{RunState, Outcome, with_record}

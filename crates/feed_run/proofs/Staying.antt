@@ -4,13 +4,13 @@ use Rattle.std.proofs.KnownBytes.{Appends-nil, Keeps-refl, Keeps-trans}
 use Rattle.std.proofs.Math.Seq.{take-length}
 use Rattle.std.specs.Io.KnownBytes.{Appends, Keeps, append_known}
 use Rattle.ogg_page.specs.Output.{WritesPart, WritesPrefix}
-use Rattle.feed_codec.specs.declared.fault.RunFault.TheVariants.{Feed, Write, TooMany}
-use Rattle.feed_codec.specs.declared.version.Version.{Version}
+use Rattle.feed_replies.specs.declared.fault.RunFault.TheVariants.{Feed, Write, TooMany}
+use Rattle.feed_records.specs.declared.version.Version.{Version}
 use Rattle.feed_codec.specs.Feed.{FeedState, GivesEnd}
 use Rattle.feed_run.specs.declared.next.Next.{Next}
 use Rattle.feed_run.specs.declared.next.Next.TheVariants.{Run, Close}
-use Rattle.feed_codec.specs.Reply.{reply_line}
-use Rattle.feed_codec.specs.declared.reply.Reply.{Reply}
+use Rattle.feed_replies.specs.Reply.{reply_line}
+use Rattle.feed_replies.specs.declared.reply.Reply.{Reply}
 use Rattle.feed_run.specs.Run.{Comes, EndsFeed, Leaves, Outcome, Stays, StopsAt, TellsPart}
 
 pub stays_refl : (waits : Bool) (a : Option (List ℕ)) → Stays waits a a

@@ -3,9 +3,9 @@ use Rattle.std.proofs.Common.{◌≡◌, ℕ, List, [], ◌∷◌, ◌++◌, len
 use Rattle.std.proofs.KnownBytes.{Consumes-nil, Appends-nil, Appends-trans}
 use Rattle.std.specs.List.{flat_map}
 use Rattle.std.specs.Io.KnownBytes.{Appends}
-use Rattle.feed_codec.specs.declared.item.Record.{Record}
-use Rattle.feed_codec.specs.declared.reply.Reply.{Reply}
-use Rattle.feed_codec.specs.Reply.{reply_line}
+use Rattle.feed_records.specs.declared.item.Record.{Record}
+use Rattle.feed_replies.specs.declared.reply.Reply.{Reply}
+use Rattle.feed_replies.specs.Reply.{reply_line}
 use Rattle.feed_run.specs.Answering.{AnswersAll}
 use Rattle.feed_run.specs.Run.{RunState, Streams, HasRead, HasRun, RunsOne}
 use Rattle.feed_run.specs.Laws.InTurn.{one_more}

@@ -3,17 +3,17 @@ use Rattle.std.specs.Prelude.{◌≡◌, ◌≢◌, ◌⊎◌, ◌≤◌, ◌<�
 use Rattle.std.specs.List.{flat_map, AllByRecursion}
 use Rattle.std.specs.Io.KnownBytes.{Appends, Consumes, Keeps}
 use Rattle.ogg_page.specs.Output.{WritesPart, WritesPrefix}
-use Rattle.feed_codec.specs.declared.item.Record.{Record}
-use Rattle.feed_codec.specs.declared.item.Record.TheVariants.{Flush}
-use Rattle.feed_codec.specs.declared.version.Version.{Version}
-use Rattle.feed_codec.specs.declared.fault.FeedFault.TheVariants.{Read, Memory}
-use Rattle.feed_codec.specs.declared.fault.RunFault.{RunFault}
-use Rattle.feed_codec.specs.declared.fault.RunFault.TheVariants.{Feed, Write, TooMany}
-use Rattle.feed_codec.specs.declared.reply.Reply.{Reply}
-use Rattle.feed_codec.specs.declared.tally.Tally.{Tally}
+use Rattle.feed_records.specs.declared.item.Record.{Record}
+use Rattle.feed_records.specs.declared.item.Record.TheVariants.{Flush}
+use Rattle.feed_records.specs.declared.version.Version.{Version}
+use Rattle.feed_replies.specs.declared.fault.FeedFault.TheVariants.{Read, Memory}
+use Rattle.feed_replies.specs.declared.fault.RunFault.{RunFault}
+use Rattle.feed_replies.specs.declared.fault.RunFault.TheVariants.{Feed, Write, TooMany}
+use Rattle.feed_replies.specs.declared.reply.Reply.{Reply}
+use Rattle.feed_replies.specs.declared.tally.Tally.{Tally}
 use Rattle.feed_codec.specs.Feed.{FeedState, GivesEnd, GivesRecord, HasFault}
-use Rattle.feed_codec.specs.Record.{HasRecord, opening, record_of}
-use Rattle.feed_codec.specs.Reply.{reply_line}
+use Rattle.feed_records.specs.Record.{HasRecord, opening, record_of}
+use Rattle.feed_replies.specs.Reply.{reply_line}
 use Rattle.feed_run.specs.declared.counting.Counts.{Counts}
 use Rattle.feed_run.specs.declared.next.Next.{Next}
 use Rattle.feed_run.specs.declared.next.Next.TheVariants.{Run, Close}

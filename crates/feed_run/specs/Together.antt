@@ -1,7 +1,7 @@
 -- Which lines of replies may wait for others. Ours.
 use Rattle.std.specs.Prelude.{Bool, true, false}
-use Rattle.feed_codec.specs.declared.reply.Reply.{Reply}
-use Rattle.feed_codec.specs.declared.reply.Reply.TheVariants.{Held, Kept, Refused}
+use Rattle.feed_replies.specs.declared.reply.Reply.{Reply}
+use Rattle.feed_replies.specs.declared.reply.Reply.TheVariants.{Held, Kept, Refused}
 use Rattle.feed_run.specs.declared.batched.Together.{Together}
 use Rattle.feed_run.specs.declared.batched.Together.TheVariants.{Groups, Ahead}
 

@@ -3,18 +3,20 @@ ghost use Rattle.std.specs.Prelude.{◌≡◌, ◌≢◌, ◌⊎◌, ◌<◌, �
 ghost use Rattle.std.specs.Io.KnownBytes.{Appends};
 ghost use Rattle.ogg_page.specs.Output.{WritesPart};
 ghost use Rattle.ogg_command.specs.Command.{IsCommand};
-ghost use Rattle.feed_codec.specs.Reply.{reply_line};
+ghost use Rattle.feed_replies.specs.Reply.{reply_line};
 ghost use Rattle.feed_run.specs.Counting.{counts_with};
 ghost use Rattle.feed_run.specs.Run.{StopsAt};
-ghost use Rattle.feed_codec.specs.Record.{HasRecord};
-ghost use Rattle.feed_codec.specs.declared.version.Version.{Version as VersionOf};
-ghost use Rattle.feed_codec.specs.declared.item.Record.{Record as RecordOf};
-ghost use Rattle.feed_codec.specs.declared.reply.Reply.{Reply as ReplyOf};
+ghost use Rattle.feed_records.specs.Record.{HasRecord};
+ghost use Rattle.feed_records.specs.declared.version.Version.{Version as VersionOf};
+ghost use Rattle.feed_records.specs.declared.item.Record.{Record as RecordOf};
+ghost use Rattle.feed_replies.specs.declared.reply.Reply.{Reply as ReplyOf};
 
 use crate::counting::Counts;
 use crate::replies::Replies;
 use crate::runner::Runner;
-use feed_codec::{Feed, Record, Reply};
+use feed_codec::Feed;
+use feed_records::Record;
+use feed_replies::Reply;
 use ogg_page::WriteFault;
 use std::io::Write;
 

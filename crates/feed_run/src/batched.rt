@@ -2,11 +2,11 @@
 ghost use Rattle.std.specs.Prelude.{◌≡◌, ◌⊎◌, ◌<◌, ◌++◌, [], true, false, IfOk, OnOk, OnErr, length};
 ghost use Rattle.std.specs.Io.KnownBytes.{Appends, Keeps, append_known};
 ghost use Rattle.ogg_page.specs.Output.{WritesPart, WritesPrefix};
-ghost use Rattle.feed_codec.specs.Reply.{reply_line};
+ghost use Rattle.feed_replies.specs.Reply.{reply_line};
 ghost use Rattle.feed_run.specs.Together.{may_wait};
 
 use crate::replies::Replies;
-use feed_codec::{Reply, write_reply};
+use feed_replies::{Reply, write_reply};
 use ogg_page::{Memory, WriteFault, write_counted};
 use std::alloc::Global;
 use std::io::Write;

@@ -1,9 +1,10 @@
 //! The counts of a run.
 ghost use Rattle.std.specs.Prelude.{◌≡◌, ◌≤◌, ◌<◌, ◌+◌, ◌^◌};
 ghost use Rattle.feed_run.specs.Counting.{counts_with, left_by};
-ghost use Rattle.feed_codec.specs.declared.item.Record.{Record as RecordOf};
+ghost use Rattle.feed_records.specs.declared.item.Record.{Record as RecordOf};
 
-use feed_codec::{Record, Reply, Tally};
+use feed_records::Record;
+use feed_replies::{Reply, Tally};
 use ogg_command::Refusal;
 
 /// The commands of a run: how many there were, how many of them were kept, and how many wait.

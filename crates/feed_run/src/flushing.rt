@@ -1,14 +1,14 @@
 //! The flush after the last record.
 ghost use Rattle.std.specs.Prelude.{◌≡◌, ◌<◌, ◌≤◌, ◌+◌, [], IfOk, IfSome, IfNone, OnErr, true};
 ghost use Rattle.std.specs.Io.KnownBytes.{Appends};
-ghost use Rattle.feed_codec.specs.Reply.{reply_line};
+ghost use Rattle.feed_replies.specs.Reply.{reply_line};
 ghost use Rattle.feed_run.specs.Run.{Stays, TellsPart};
-ghost use Rattle.feed_codec.specs.declared.item.Record.{Record as RecordOf};
-ghost use Rattle.feed_codec.specs.declared.reply.Reply.{Reply as ReplyOf};
+ghost use Rattle.feed_records.specs.declared.item.Record.{Record as RecordOf};
+ghost use Rattle.feed_replies.specs.declared.reply.Reply.{Reply as ReplyOf};
 
 use crate::replies::Replies;
 use crate::runner::Runner;
-use feed_codec::Reply;
+use feed_replies::Reply;
 use ogg_page::WriteFault;
 use std::io::Write;
 

@@ -1,9 +1,9 @@
 //! What always holds of runs.
 ghost use Rattle.std.specs.Prelude.{◌≡◌, ◌∷◌, ◌++◌, [], ℕ, List, Option, Bool, None};
 ghost use Rattle.std.specs.Io.KnownBytes.{Appends};
-ghost use Rattle.feed_codec.specs.declared.item.Record.{Record};
-ghost use Rattle.feed_codec.specs.declared.reply.Reply.{Reply};
-ghost use Rattle.feed_codec.specs.Reply.{reply_line};
+ghost use Rattle.feed_records.specs.declared.item.Record.{Record};
+ghost use Rattle.feed_replies.specs.declared.reply.Reply.{Reply};
+ghost use Rattle.feed_replies.specs.Reply.{reply_line};
 ghost use Rattle.feed_run.specs.Run.{HasRun, RunState, RunsOne, StopsAt, Streams, TellsPart};
 
 use crate::runner::Runner;

@@ -4,7 +4,9 @@ ghost use Rattle.feed_run.specs.Run.{Comes, Stays, answer_at};
 
 use crate::ahead::Ahead;
 use crate::replies::Replies;
-use feed_codec::{Feed, Record, Reply, RunFault};
+use feed_codec::Feed;
+use feed_records::Record;
+use feed_replies::{Reply, RunFault};
 use std::io::{Read, Write};
 
 /// How many records a run takes. The announcement of a feed's version isn't counted.

@@ -1,12 +1,12 @@
 //! A run that ends after the first refusal.
 ghost use Rattle.std.specs.Prelude.{◌≡◌, ◌||◌, ◌&&◌, true, false, OnOk, OnErr};
 ghost use Rattle.std.specs.Io.KnownBytes.{Appends};
-ghost use Rattle.feed_codec.specs.Reply.{reply_line};
+ghost use Rattle.feed_replies.specs.Reply.{reply_line};
 ghost use Rattle.feed_run.specs.Run.{Stays, TellsPart};
 ghost use Rattle.feed_run.specs.Refusing.{refuses};
 
 use crate::replies::Replies;
-use feed_codec::Reply;
+use feed_replies::Reply;
 use ogg_page::WriteFault;
 use std::io::Write;
 

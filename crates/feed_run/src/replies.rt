@@ -1,10 +1,10 @@
 //! What takes the replies of a run.
 ghost use Rattle.std.specs.Prelude.{◌≡◌, ℕ, List, Option, Bool, true, false, OnOk, OnErr};
 ghost use Rattle.std.specs.Io.KnownBytes.{Appends};
-ghost use Rattle.feed_codec.specs.Reply.{reply_line};
+ghost use Rattle.feed_replies.specs.Reply.{reply_line};
 ghost use Rattle.feed_run.specs.Run.{Stays, TellsPart};
 
-use feed_codec::{Reply, write_reply};
+use feed_replies::{Reply, write_reply};
 use ogg_page::WriteFault;
 use std::io::Write;
 

@@ -2,10 +2,10 @@
 ghost use Rattle.std.specs.Prelude.{◌≡◌, ◌<◌, ◌≤◌, ◌+◌, ◌^◌, [], ℕ, List, IfOk, OnErr};
 ghost use Rattle.std.specs.Io.KnownBytes.{Appends};
 ghost use Rattle.ogg_page.specs.Output.{WritesPart};
-ghost use Rattle.feed_codec.specs.declared.item.Record.{Record as RecordOf};
-ghost use Rattle.feed_codec.specs.declared.reply.Reply.{Reply as ReplyOf};
+ghost use Rattle.feed_records.specs.declared.item.Record.{Record as RecordOf};
+ghost use Rattle.feed_replies.specs.declared.reply.Reply.{Reply as ReplyOf};
 
-use feed_codec::Reply;
+use feed_replies::Reply;
 use ogg_command::Command;
 use ogg_page::WriteFault;
 use std::io::Write;

@@ -6,7 +6,7 @@ use crate::ahead::{Ahead, Unknown};
 use crate::replies::Replies;
 use crate::run::FeedRun;
 use crate::runner::Runner;
-use feed_codec::{RunFault, Tally};
+use feed_replies::{RunFault, Tally};
 use std::alloc::Global;
 use std::io::{Read, Write};
 

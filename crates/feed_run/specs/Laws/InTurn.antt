@@ -1,7 +1,7 @@
 -- Records that are answered in turn, and one more.
 use Rattle.std.proofs.Common.{◌≡◌, ℕ, List, [], ◌∷◌, ◌++◌, length, refl, sym, ap, ◌∙◌, subst, arith, append_assoc, append-nil}
-use Rattle.feed_codec.specs.declared.item.Record.{Record}
-use Rattle.feed_codec.specs.declared.reply.Reply.{Reply}
+use Rattle.feed_records.specs.declared.item.Record.{Record}
+use Rattle.feed_replies.specs.declared.reply.Reply.{Reply}
 use Rattle.feed_run.specs.Answering.{AnswersAll}
 
 module _ {S : Type 0} (answers : S → Record → Reply → List ℕ → S → Type 0) where

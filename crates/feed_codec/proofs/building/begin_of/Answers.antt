@@ -1,5 +1,5 @@
 use Rattle.std.proofs.Common.{List, ℕ, refl}
-use Rattle.feed_codec.specs.Record.{stream_bytes}
+use Rattle.feed_records.specs.Record.{stream_bytes}
 use Rattle.feed_codec.specs.Payload.{IsStreamOfFeed}
 use Rattle.feed_codec.proofs.PayloadFacts.{begin_behind, begin_facts, counted_long, counted_stand, counted_found}
 use Rattle.feed_codec.proofs.building.begin_of.Goals as goal

@@ -1,7 +1,7 @@
 use Rattle.std.proofs.Common.{◌≡◌, ◌+◌, ◌++◌, List, ℕ, sym, ap, ◌∙◌, subst, arith}
 use Rattle.std.specs.List.{flat_map}
 use Rattle.skeleton3.specs.Fields.{NamedValue, shown}
-use Rattle.feed_codec.specs.Record.{field_bytes}
+use Rattle.feed_records.specs.Record.{field_bytes}
 use Rattle.feed_codec.specs.Payload.{AreMany, IsFieldOfFeed, BeginsNone}
 use Rattle.feed_codec.proofs.Spellings.{same_field}
 use Rattle.feed_codec.proofs.PayloadFacts.{stands, left_stands, left_behind, built_more}

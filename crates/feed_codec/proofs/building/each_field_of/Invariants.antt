@@ -1,6 +1,6 @@
 use Rattle.std.proofs.Common.{◌≡◌, ◌≤◌, ◌-◌, ◌++◌, List, ℕ, vec_len, vec_capacity}
 use Rattle.std.specs.List.{flat_map}
-use Rattle.feed_codec.specs.Record.{field_bytes}
+use Rattle.feed_records.specs.Record.{field_bytes}
 use Rattle.feed_codec.specs.Payload.{Begins, AreMany, IsFieldOfFeed}
 use Rattle.feed_codec.proofs.building.each_field_of.Given as goal
 

@@ -1,7 +1,7 @@
 use Rattle.std.proofs.Common.{◌≡◌, ◌<◌, ◌+◌, ◌++◌, List, [], ℕ, drop, length, sym, ap, ◌∙◌, subst, arith}
 use Rattle.std.specs.List.{flat_map}
 use Rattle.ogg_command.specs.declared.command.Entry.{Entry}
-use Rattle.feed_codec.specs.Record.{entry_bytes}
+use Rattle.feed_records.specs.Record.{entry_bytes}
 use Rattle.feed_codec.specs.Payload.{AreMany, IsEntryOfFeed, BeginsNone}
 use Rattle.feed_codec.proofs.Spellings.{same_entry}
 use Rattle.feed_codec.proofs.PayloadFacts.{stands, left_stands, left_behind, built_more}

@@ -1,6 +1,6 @@
 use Rattle.std.proofs.Common.{◌≡◌, ◌≤◌, ◌-◌, ◌++◌, [], drop, vec_len, vec_capacity}
 use Rattle.std.specs.List.{flat_map}
-use Rattle.feed_codec.specs.Record.{entry_bytes}
+use Rattle.feed_records.specs.Record.{entry_bytes}
 use Rattle.feed_codec.specs.Payload.{Begins, AreMany, IsEntryOfFeed}
 use Rattle.feed_codec.specs.Room.{rooms_of}
 use Rattle.feed_codec.proofs.building.entries_of.Given as goal

@@ -1,5 +1,5 @@
 use Rattle.std.proofs.Common.{List, ℕ, subst}
-use Rattle.feed_codec.specs.Record.{fields_bytes}
+use Rattle.feed_records.specs.Record.{fields_bytes}
 use Rattle.feed_codec.specs.Payload.{Begins, AreFields}
 use Rattle.feed_codec.proofs.PayloadFacts.{fields_long, fields_stand}
 use Rattle.feed_codec.proofs.building.fields_of.Goals as goal

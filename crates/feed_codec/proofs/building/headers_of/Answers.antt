@@ -1,6 +1,6 @@
 use Rattle.std.proofs.Common.{◌≡◌, ◌+◌, ◌++◌, List, ℕ, sym, ap, ◌∙◌, subst, arith}
 use Rattle.std.specs.List.{flat_map}
-use Rattle.feed_codec.specs.Record.{packet_bytes}
+use Rattle.feed_records.specs.Record.{packet_bytes}
 use Rattle.feed_codec.specs.Payload.{AreMany, IsPacket, BeginsNone}
 use Rattle.feed_codec.proofs.Spellings.{same_packet}
 use Rattle.feed_codec.proofs.PayloadFacts.{stands, left_stands, left_behind, built_more}

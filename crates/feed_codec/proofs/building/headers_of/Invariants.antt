@@ -1,6 +1,6 @@
 use Rattle.std.proofs.Common.{◌≡◌, ◌≤◌, ◌-◌, ◌++◌, List, ℕ, vec_len, vec_capacity}
 use Rattle.std.specs.List.{flat_map}
-use Rattle.feed_codec.specs.Record.{packet_bytes}
+use Rattle.feed_records.specs.Record.{packet_bytes}
 use Rattle.feed_codec.specs.Payload.{Begins, AreMany, IsPacket}
 use Rattle.feed_codec.proofs.building.headers_of.Given as goal
 

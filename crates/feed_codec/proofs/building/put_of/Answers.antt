@@ -1,5 +1,5 @@
 use Rattle.std.proofs.Common.{List, ℕ, refl}
-use Rattle.feed_codec.specs.Record.{entry_bytes}
+use Rattle.feed_records.specs.Record.{entry_bytes}
 use Rattle.feed_codec.specs.Payload.{IsEntryOfFeed}
 use Rattle.feed_codec.proofs.PayloadFacts.{put_behind, put_facts, counted_long, counted_stand, counted_found}
 use Rattle.feed_codec.proofs.building.put_of.Goals as goal

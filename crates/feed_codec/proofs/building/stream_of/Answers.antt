@@ -1,7 +1,8 @@
 use Rattle.std.proofs.Common.{◌≡◌, ◌++◌, List, ℕ, sym, ap, ◌∙◌, subst, arith}
 use Rattle.std.specs.Int.{w64}
 use Rattle.std.proofs.lemmas.Int.{to_z-of_z}
-use Rattle.feed_codec.specs.Payload.{BeginsNone, Tail, IsTail, tail_bytes}
+use Rattle.feed_codec.specs.Payload.{BeginsNone, IsTail}
+use Rattle.feed_records.specs.Tail.{Tail, tail_bytes}
 use Rattle.feed_codec.specs.PayloadParts.{tail_of}
 use Rattle.feed_codec.proofs.PayloadFacts.{stands, stream_long, stream_headers_stand, stream_behind_stands, behind_tail_stands, behind_fields_stand, behind_found, stream_found}
 use Rattle.feed_codec.proofs.building.stream_of.Goals as goal

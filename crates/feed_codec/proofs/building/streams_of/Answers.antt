@@ -1,7 +1,7 @@
 use Rattle.std.proofs.Common.{◌≡◌, ◌+◌, ◌++◌, List, [], ℕ, sym, subst, arith}
 use Rattle.std.specs.List.{flat_map}
 use Rattle.ogg_command.specs.declared.command.NewStream.{NewStream}
-use Rattle.feed_codec.specs.Record.{stream_bytes}
+use Rattle.feed_records.specs.Record.{stream_bytes}
 use Rattle.feed_codec.specs.Payload.{AreMany, IsStreamOfFeed}
 use Rattle.feed_codec.proofs.Spellings.{same_stream}
 use Rattle.feed_codec.proofs.PayloadFacts.{left_first, left_behind, built_more}

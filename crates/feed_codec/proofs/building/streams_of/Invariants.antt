@@ -1,6 +1,6 @@
 use Rattle.std.proofs.Common.{◌≡◌, ◌≤◌, ◌-◌, ◌++◌, [], vec_len, vec_capacity}
 use Rattle.std.specs.List.{flat_map}
-use Rattle.feed_codec.specs.Record.{stream_bytes}
+use Rattle.feed_records.specs.Record.{stream_bytes}
 use Rattle.feed_codec.specs.Payload.{Begins, AreMany, IsStreamOfFeed}
 use Rattle.feed_codec.proofs.building.streams_of.Given as goal
 

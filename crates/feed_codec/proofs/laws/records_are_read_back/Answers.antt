@@ -1,6 +1,6 @@
 use Rattle.std.proofs.Common.{refl, sym}
-use Rattle.feed_codec.specs.Record.{item_bytes}
-use Rattle.feed_codec.specs.declared.item.Item.TheVariants.{Record as RecordItem}
+use Rattle.feed_records.specs.Record.{item_bytes}
+use Rattle.feed_records.specs.declared.item.Item.TheVariants.{Record as RecordItem}
 use Rattle.feed_codec.proofs.Spellings.{same_record}
 use Rattle.feed_codec.proofs.laws.records_are_read_back.Goals as goal
 

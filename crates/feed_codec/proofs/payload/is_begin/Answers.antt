@@ -1,6 +1,6 @@
 use Rattle.std.proofs.Common.{◌≡◌, ℕ, List, [], ◌++◌, ◌∙◌, ap, append-nil}
 use Rattle.std.specs.List.{flat_map}
-use Rattle.feed_codec.specs.Record.{stream_bytes}
+use Rattle.feed_records.specs.Record.{stream_bytes}
 use Rattle.feed_codec.specs.Payload.{IsStreamOfFeed, IsPayload}
 use Rattle.feed_codec.proofs.Spellings.{same_stream}
 use Rattle.feed_codec.proofs.PayloadFacts.{begin_behind, begin_found, counted_short, counted_cut, counted_whole, counted_found, is_nothing, nothing_is}

@@ -1,6 +1,6 @@
 use Rattle.std.proofs.Common.{refl, sym}
-use Rattle.feed_codec.specs.declared.item.Record.TheVariants.{Flush}
-use Rattle.feed_codec.specs.declared.item.Item.TheVariants.{Record as RecordItem}
+use Rattle.feed_records.specs.declared.item.Record.TheVariants.{Flush}
+use Rattle.feed_records.specs.declared.item.Item.TheVariants.{Record as RecordItem}
 use Rattle.feed_codec.proofs.PayloadFacts.{flush_behind, is_nothing, nothing_is}
 use Rattle.feed_codec.proofs.payload.is_flush.Goals as goal
 

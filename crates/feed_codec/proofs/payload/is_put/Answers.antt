@@ -1,6 +1,6 @@
 use Rattle.std.proofs.Common.{◌≡◌, ℕ, List, [], ◌++◌, ◌∙◌, ap, append-nil}
 use Rattle.std.specs.List.{flat_map}
-use Rattle.feed_codec.specs.Record.{entry_bytes}
+use Rattle.feed_records.specs.Record.{entry_bytes}
 use Rattle.feed_codec.specs.Payload.{IsEntryOfFeed, IsPayload}
 use Rattle.feed_codec.proofs.Spellings.{same_entry}
 use Rattle.feed_codec.proofs.PayloadFacts.{put_behind, put_found, counted_short, counted_cut, counted_whole, counted_found, is_nothing, nothing_is}

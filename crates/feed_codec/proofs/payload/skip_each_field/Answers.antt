@@ -1,6 +1,6 @@
 use Rattle.std.proofs.Common.{◌≡◌, subst, arith}
 use Rattle.std.specs.List.{flat_map}
-use Rattle.feed_codec.specs.Record.{field_bytes}
+use Rattle.feed_records.specs.Record.{field_bytes}
 use Rattle.feed_codec.specs.Payload.{Begins, AreMany, IsFieldOfFeed}
 use Rattle.skeleton3.specs.Fields.{shown}
 use Rattle.feed_codec.proofs.Spellings.{same_field}

@@ -1,5 +1,5 @@
 use Rattle.std.specs.List.{flat_map}
-use Rattle.feed_codec.specs.Record.{field_bytes}
+use Rattle.feed_records.specs.Record.{field_bytes}
 use Rattle.feed_codec.specs.Payload.{Begins, AreMany, IsFieldOfFeed}
 use Rattle.feed_codec.proofs.payload.skip_each_field.Given as goal
 

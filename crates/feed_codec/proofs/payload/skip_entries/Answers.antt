@@ -1,6 +1,6 @@
 use Rattle.std.proofs.Common.{◌≡◌, subst, arith}
 use Rattle.std.specs.List.{flat_map}
-use Rattle.feed_codec.specs.Record.{entry_bytes}
+use Rattle.feed_records.specs.Record.{entry_bytes}
 use Rattle.feed_codec.specs.Payload.{Begins, AreMany, IsEntryOfFeed}
 use Rattle.feed_codec.specs.PayloadParts.{entry_of}
 use Rattle.feed_codec.proofs.Spellings.{same_entry}

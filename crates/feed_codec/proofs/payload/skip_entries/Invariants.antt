@@ -1,5 +1,5 @@
 use Rattle.std.specs.List.{flat_map}
-use Rattle.feed_codec.specs.Record.{entry_bytes}
+use Rattle.feed_records.specs.Record.{entry_bytes}
 use Rattle.feed_codec.specs.Payload.{Begins, AreMany, IsEntryOfFeed}
 use Rattle.feed_codec.proofs.payload.skip_entries.Given as goal
 

@@ -1,6 +1,6 @@
 use Rattle.std.proofs.Common.{sym, subst}
 use Rattle.std.specs.Prelude.{MatchOption}
-use Rattle.feed_codec.specs.Record.{fields_bytes}
+use Rattle.feed_records.specs.Record.{fields_bytes}
 use Rattle.feed_codec.specs.Payload.{Begins, BeginsNone, AreFields}
 use Rattle.feed_codec.proofs.PayloadFacts.{fields_short, fields_split}
 use Rattle.feed_codec.proofs.payload.skip_fields.Goals as goal

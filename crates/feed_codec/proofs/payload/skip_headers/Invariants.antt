@@ -1,5 +1,5 @@
 use Rattle.std.specs.List.{flat_map}
-use Rattle.feed_codec.specs.Record.{packet_bytes}
+use Rattle.feed_records.specs.Record.{packet_bytes}
 use Rattle.feed_codec.specs.Payload.{Begins, AreMany, IsPacket}
 use Rattle.feed_codec.proofs.payload.skip_headers.Given as goal
 

@@ -1,6 +1,6 @@
 use Rattle.std.proofs.Common.{◌≡◌, subst, arith}
 use Rattle.std.specs.List.{flat_map}
-use Rattle.feed_codec.specs.Record.{stream_bytes}
+use Rattle.feed_records.specs.Record.{stream_bytes}
 use Rattle.feed_codec.specs.Payload.{Begins, AreMany, IsStreamOfFeed}
 use Rattle.feed_codec.proofs.Spellings.{same_stream}
 use Rattle.feed_codec.proofs.PayloadFacts.{many_none, many_more, many_cut}

@@ -1,5 +1,5 @@
 use Rattle.std.specs.List.{flat_map}
-use Rattle.feed_codec.specs.Record.{stream_bytes}
+use Rattle.feed_records.specs.Record.{stream_bytes}
 use Rattle.feed_codec.specs.Payload.{Begins, AreMany, IsStreamOfFeed}
 use Rattle.feed_codec.proofs.payload.skip_streams.Given as goal
 

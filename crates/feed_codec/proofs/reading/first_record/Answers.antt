@@ -2,7 +2,7 @@ use Rattle.std.proofs.Common.{ap, inr, refl, false}
 use Rattle.std.specs.Prelude.{vec_capacity}
 use Rattle.feed_codec.specs.Room.{feed_room, rooms_of}
 use Rattle.feed_codec.specs.declared.spare.Spare.{Spare}
-use Rattle.feed_codec.specs.declared.version.Version.TheVariants.{Two}
+use Rattle.feed_records.specs.declared.version.Version.TheVariants.{Two}
 use Rattle.feed_codec.proofs.FeedFacts.{end_here, end_behind_announcement, later_room}
 use Rattle.feed_codec.proofs.reading.first_record.Goals as goal
 

@@ -1,5 +1,5 @@
 use Rattle.std.specs.Io.KnownBytes.{append_known}
-use Rattle.feed_codec.specs.Reply.{reply_line}
+use Rattle.feed_replies.specs.Reply.{reply_line}
 use Rattle.feed_run.proofs.Sent.{line_left, lines_left, on_err}
 use Rattle.feed_run.proofs.Staying.{told_so_far}
 use Rattle.feed_run.proofs.batched.BatchedReplies.reply.Goals as goal

@@ -1,7 +1,7 @@
 use Rattle.std.proofs.Common.{◌<◌, ◌+◌, [], ap, sym, refl, ◌∙◌, arith, inl, inr, subst}
 use Rattle.feed_codec.specs.Feed.{FeedState}
 use Rattle.feed_codec.specs.Feed.{GivesRecord}
-use Rattle.feed_codec.specs.declared.item.Record.TheVariants.{Flush}
+use Rattle.feed_records.specs.declared.item.Record.TheVariants.{Flush}
 use Rattle.feed_run.specs.Counting.{counts_with}
 use Rattle.feed_run.specs.Run.{Leaves, RunState, most_records}
 use Rattle.feed_run.proofs.States.{has_record, state}

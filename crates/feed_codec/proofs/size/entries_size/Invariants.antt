@@ -1,8 +1,0 @@
-use Rattle.std.proofs.Common.{◌≡◌, length, take}
-use Rattle.std.specs.List.{flat_map}
-use Rattle.feed_codec.specs.Record.{entry_bytes}
-use Rattle.feed_codec.proofs.size.entries_size.Given as goal
-
--- the entries so far are counted
-abbrev pub invariant-loop-entry : goal.invariant-loop-entry
-invariant-loop-entry l = l.size ≡ length (flat_map entry_bytes (take l.entry-index l.entries))

@@ -1,8 +1,0 @@
-use Rattle.std.proofs.Common.{◌≡◌, length, take}
-use Rattle.std.specs.List.{flat_map}
-use Rattle.feed_codec.specs.Record.{packet_bytes}
-use Rattle.feed_codec.proofs.size.headers_size.Given as goal
-
--- the headers so far are counted
-abbrev pub invariant-loop-header : goal.invariant-loop-header
-invariant-loop-header l = l.size ≡ length (flat_map packet_bytes (take l.header-index l.headers))

@@ -1,8 +1,0 @@
-use Rattle.std.proofs.Common.{◌≡◌, length, take}
-use Rattle.std.specs.List.{flat_map}
-use Rattle.feed_codec.specs.Record.{stream_bytes}
-use Rattle.feed_codec.proofs.size.streams_size.Given as goal
-
--- the streams so far are counted
-abbrev pub invariant-loop-stream : goal.invariant-loop-stream
-invariant-loop-stream l = l.size ≡ length (flat_map (stream_bytes l.version) (take l.stream-index l.streams))

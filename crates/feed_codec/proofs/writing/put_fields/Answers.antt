@@ -1,8 +1,0 @@
-use Rattle.std.proofs.Common.{length, ap, arith}
-use Rattle.feed_codec.specs.Record.{fields_bytes}
-use Rattle.feed_codec.proofs.SizeFacts.{length-fields_bytes}
-use Rattle.feed_codec.proofs.writing.put_fields.Goals as goal
-
-pub put_u16-requires : goal.put_u16-requires
-put_u16-requires c =
-    omega (arith, c.requires.room, ap (λ v. length (fields_bytes v c.args.fields.now)) c.in-Two.is, length-fields_bytes c.args.fields.now)

@@ -1,0 +1,3 @@
+pub mod SizeFacts
+pub mod FitsFacts
+pub mod WritingFacts

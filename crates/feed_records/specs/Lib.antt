@@ -1,0 +1,5 @@
+pub mod Record
+pub mod Tail
+pub mod Fits
+pub mod Writing
+pub mod Laws
