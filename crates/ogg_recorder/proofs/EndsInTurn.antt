@@ -4,9 +4,9 @@ use Rattle.std.proofs.lemmas.Grind.{flat_map-append}
 use Rattle.std.proofs.KnownBytes.{Appends-nil, Appends-trans}
 use Rattle.std.specs.List.{flat_map, AllByRecursion}
 use Rattle.std.specs.Io.KnownBytes.{Appends}
-use Rattle.feed_codec.specs.declared.item.Record.{Record}
-use Rattle.feed_codec.specs.declared.reply.Reply.{Reply}
-use Rattle.feed_codec.specs.Reply.{reply_line}
+use Rattle.feed_records.specs.declared.item.Record.{Record}
+use Rattle.feed_replies.specs.declared.reply.Reply.{Reply}
+use Rattle.feed_replies.specs.Reply.{reply_line}
 use Rattle.feed_run.specs.Laws.InTurn.{answers_both}
 use Rattle.feed_run.specs.Run.{TellsPart}
 use Rattle.ogg_recorder.specs.Ending.{HasEnded, HasToldSome, IsEnd}

@@ -1,4 +1,4 @@
--- A refusal by the rules is no fault of the disk.
+-- A refusal by the rules is no fault of the disk, and no want of memory.
 use Rattle.std.proofs.Common.{◌≡◌, ◌≢◌, ◌≤◌, refl, ap, arith}
 use Rattle.history.specs.World.{Call, Refused}
 use Rattle.ogg_command.specs.Refusal.{code_of}
@@ -9,6 +9,9 @@ use Rattle.ogg_recorder.specs.Answer.{refused_step}
 
 pub not_disk : (refusal : Refusal) → code_of refusal ≤ 19 → refusal ≢ Disk
 not_disk refusal few is = absurd (omega (arith, few, ap code_of is))
+
+pub not_memory : (refusal : Refusal) → code_of refusal ≤ 19 → refusal ≢ Memory
+not_memory refusal few is = absurd (omega (arith, few, ap code_of is))
 
 pub is_refused : (refusal : Refusal) (call : Call Command) (command : Command) → code_of refusal ≤ 19 → refused_step refusal call command ≡ Refused command
 is_refused Failed call command few = refl

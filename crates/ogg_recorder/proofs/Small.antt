@@ -6,7 +6,7 @@ use Rattle.chain_rules.specs.Shape.{ShapeState, HasRoom}
 use Rattle.ogg_command.specs.declared.command.Command.{Command}
 use Rattle.ogg_command.specs.declared.command.Command.TheVariants.{Begin as BeginOf, Put as PutOf, End as EndOf}
 use Rattle.ogg_recorder.proofs.Lasting.{never}
-use Rattle.ogg_recorder.specs.Small.{is_small, most_small}
+use Rattle.ogg_recorder.specs.Small.{is_small, most_small, begins_link}
 
 both : (a b : Bool) → a && b ≡ true → b ≡ true
 both true b e = e
@@ -18,7 +18,7 @@ small_size (PutOf put) size e = leb-true size most_small (both (nat_eq (length p
 small_size (EndOf serial) size e = leb-true size most_small e
 
 -- if there was no room in the chain, it was for a new link
-pub prepared_small : (shape : ShapeState) (command : Command) (size : ℕ) → (HasRoom shape command → ⊥) → is_small command size ≡ false
-prepared_small shape (BeginOf begin) size none = refl
-prepared_small shape (PutOf put) size none = absurd (none tt)
-prepared_small shape (EndOf serial) size none = absurd (none tt)
+pub begun_without_room : (shape : ShapeState) (command : Command) → (HasRoom shape command → ⊥) → begins_link command ≡ true
+begun_without_room shape (BeginOf begin) none = refl
+begun_without_room shape (PutOf put) none = absurd (none tt)
+begun_without_room shape (EndOf serial) none = absurd (none tt)

@@ -2,10 +2,10 @@
 use Rattle.std.proofs.Common.{◌≡◌, ℕ, ◌+◌, ◌≤◌, Bool, true, false, nat_lt, if◌then◌else◌, List, [], ◌∷◌, ◌++◌, length, refl, sym, ap, ◌∙◌, subst, arith, append_assoc, Result, Ok, Err}
 use Rattle.std.proofs.lemmas.List.{append-nil}
 use Rattle.disk_model.specs.Image.{DiskState}
-use Rattle.feed_codec.specs.declared.item.Record.{Record}
-use Rattle.feed_codec.specs.declared.item.Record.TheVariants.{Command as CommandOf, Flush}
-use Rattle.feed_codec.specs.declared.reply.Reply.{Reply}
-use Rattle.feed_codec.specs.declared.reply.Reply.TheVariants.{Held as HeldReply, Kept as KeptReply, Refused as RefusedReply}
+use Rattle.feed_records.specs.declared.item.Record.{Record}
+use Rattle.feed_records.specs.declared.item.Record.TheVariants.{Command as CommandOf, Flush}
+use Rattle.feed_replies.specs.declared.reply.Reply.{Reply}
+use Rattle.feed_replies.specs.declared.reply.Reply.TheVariants.{Held as HeldReply, Kept as KeptReply, Refused as RefusedReply}
 use Rattle.feed_run.specs.Answering.{AnswersAll}
 use Rattle.feed_run.specs.Counting.{kept_by, kept_after, waiting_after, left_by}
 use Rattle.link_chain.specs.ChainState.{ChainState}

@@ -1,6 +1,6 @@
 -- What the answer to a command says, and which step of a history it is. Ours.
 use Rattle.std.specs.Prelude.{◌≡◌, ℕ, ◌+◌, ◌<◌, ◌≤◌, nat_lt, if◌then◌else◌, Result, Ok, Err, length}
-use Rattle.feed_codec.specs.declared.reply.Kept.{Kept as KeptOf}
+use Rattle.feed_replies.specs.declared.reply.Kept.{Kept as KeptOf}
 use Rattle.ogg_command.specs.declared.command.Command.{Command}
 use Rattle.ogg_command.specs.declared.refusal.Refusal.{Refusal}
 use Rattle.ogg_command.specs.declared.refusal.Refusal.TheVariants.{Disk}

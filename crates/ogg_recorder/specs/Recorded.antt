@@ -3,12 +3,12 @@ use Rattle.std.specs.Prelude.{◌≡◌, ℕ, false, Option, List, [], ◌∷◌
 use Rattle.std.proofs.Common.{inl, inr}
 use Rattle.disk_model.specs.Image.{DiskState}
 use Rattle.disk_model.specs.Clock.{LeavesOnly}
-use Rattle.feed_codec.specs.declared.item.Record.{Record}
-use Rattle.feed_codec.specs.declared.item.Record.TheVariants.{Command as CommandOf}
-use Rattle.feed_codec.specs.declared.fault.RunFault.{RunFault}
-use Rattle.feed_codec.specs.declared.fault.RunFault.TheVariants.{Feed, Write, TooMany}
-use Rattle.feed_codec.specs.declared.reply.Reply.{Reply}
-use Rattle.feed_codec.specs.declared.reply.Reply.TheVariants.{Held as HeldReply, Kept as KeptReply, Refused as RefusedReply}
+use Rattle.feed_records.specs.declared.item.Record.{Record}
+use Rattle.feed_records.specs.declared.item.Record.TheVariants.{Command as CommandOf}
+use Rattle.feed_replies.specs.declared.fault.RunFault.{RunFault}
+use Rattle.feed_replies.specs.declared.fault.RunFault.TheVariants.{Feed, Write, TooMany}
+use Rattle.feed_replies.specs.declared.reply.Reply.{Reply}
+use Rattle.feed_replies.specs.declared.reply.Reply.TheVariants.{Held as HeldReply, Kept as KeptReply, Refused as RefusedReply}
 use Rattle.feed_run.specs.Counting.{kept_after}
 use Rattle.feed_run.specs.Run.{Streams, Outcome, RunsTo, StopsWriting, StopsAt, EndsBy}
 use Rattle.link_chain.specs.ChainState.{chain_state_of}

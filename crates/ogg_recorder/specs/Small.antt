@@ -1,4 +1,4 @@
--- Which commands are made in room that a recorder keeps. Ours.
+-- Which commands are made in room that a recorder keeps, and which take memory. Ours.
 use Rattle.std.specs.Prelude.{ℕ, Bool, true, false, ◌&&◌, nat_eq, nat_le, length}
 use Rattle.ogg_command.specs.declared.command.Command.{Command}
 use Rattle.ogg_command.specs.declared.command.Command.TheVariants.{Begin as BeginOf, Put as PutOf, End as EndOf}
@@ -12,3 +12,9 @@ abbrev pub is_small : Command → ℕ → Bool
 is_small (BeginOf begin) size = false
 is_small (PutOf put) size = nat_eq (length put.entries) 1 && nat_le size most_small
 is_small (EndOf serial) size = nat_le size most_small
+
+-- whether a command begins a link
+abbrev pub begins_link : Command → Bool
+begins_link (BeginOf begin) = true
+begins_link (PutOf put) = false
+begins_link (EndOf serial) = false

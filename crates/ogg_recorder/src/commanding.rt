@@ -10,12 +10,12 @@ ghost use Rattle.chain_rules.specs.Encoding.{command_bytes, links_after};
 ghost use Rattle.chain_rules.specs.Recording.{add};
 ghost use Rattle.ogg_command.specs.declared.command.Command.{Command as CommandOf};
 ghost use Rattle.ogg_command.specs.declared.refusal.Refusal.{Refusal as RefusalOf};
-ghost use Rattle.feed_codec.specs.declared.reply.Kept.{Kept as KeptOf};
+ghost use Rattle.feed_replies.specs.declared.reply.Kept.{Kept as KeptOf};
 ghost use Rattle.history.specs.World.{World, happens};
 ghost use Rattle.history.specs.History.{IsStep};
 ghost use Rattle.ogg_recorder.specs.Recovery.{Links, Shows, Accepts};
 ghost use Rattle.ogg_recorder.specs.Recorder.{RecorderState, IsIn, recorder_state, committed, staged};
-ghost use Rattle.ogg_recorder.specs.Small.{is_small};
+ghost use Rattle.ogg_recorder.specs.Small.{begins_link};
 ghost use Rattle.ogg_recorder.specs.Answer.{Tells, kept_by, call_of, command_step, flush_step};
 
 use crate::Recorder;
@@ -24,7 +24,7 @@ use chain_rules::{
     Command, Refusal, command_adds_its_packets, command_adds_pages, refusals_are_of_the_table,
 };
 use disk_model::{Disk, DiskFault};
-use feed_codec::Kept;
+use feed_replies::Kept;
 use ogg_command::command_is_in_range;
 
 /// What became of a command that wasn't refused.
@@ -51,8 +51,9 @@ impl<D: Disk> Recorder<D> {
         self.most = most;
     }
 
-    /// Records a command. First the rules may refuse it, then want of memory, then the disk. Each of its pages is
-    /// staged by one call of the disk, and the command that makes a group whole commits it by three more. A refusal
+    /// Records a command. First the rules may refuse it, then want of memory, then the disk. Memory is taken for the
+    /// streams of a new link alone. Each of a command's pages is staged by one call of the disk, and the command that
+    /// makes a group whole commits it by three more. A refusal
     /// up to `Memory` makes no call of the disk and changes nothing: what waits still waits. After `Disk` the
     /// recorder has failed, what waited is lost, and opening finds what was kept, without this group or with all of
     /// it.
@@ -62,9 +63,8 @@ impl<D: Disk> Recorder<D> {
             → decision self.old.chain command.now ≡ Err refusal → result ≡ Err refusal }
         ensures otherwise { self.old.file.failed ≡ false → IsOk (decision self.old.chain command.now)
             → IfErr result (λ refusal. (refusal ≡ Refusal.Memory) ⊎ (refusal ≡ Refusal.Disk)) }
-        // A small command takes no memory.
-        ensures memory { (size : ℕ) → decision self.old.chain command.now ≡ Ok size → is_small command.now size ≡ true
-            → result ≢ Err Refusal.Memory }
+        // Only a new link takes memory, for its streams.
+        ensures memory { begins_link command.now ≡ false → result ≢ Err Refusal.Memory }
         ensures accepted { OnOk result ((self.old.file.failed ≡ false) × IsOk (decision self.old.chain command.now)) }
         ensures same { IfErr result (λ refusal. refusal ≢ Refusal.Disk → self.new ≡ self.old) }
         ensures faulted { IfErr result (λ refusal. refusal ≡ Refusal.Disk → (self.new.file.failed ≡ true)

@@ -10,7 +10,7 @@ ghost use Rattle.ogg_recorder.specs.Ending.{HasEnded, HasToldSome};
 use crate::recorder::Recorder;
 use chain_rules::{Command, StreamState};
 use disk_model::Disk;
-use feed_codec::Reply;
+use feed_replies::Reply;
 use feed_run::{Replies, Runner};
 use link_chain::is_open;
 use ogg_page::WriteFault;

@@ -10,7 +10,7 @@ ghost use Rattle.ogg_recorder.specs.Recorded.{HasRecorded, answered_to, answered
 use crate::laws::{Recorded, records_are_steps};
 use crate::recorder::Recorder;
 use disk_model::Disk;
-use feed_codec::{RunFault, Tally};
+use feed_replies::{RunFault, Tally};
 use feed_run::{Ahead, Replies, Unknown, run_feed_for};
 use history::{disks_stand_in_their_world, runs_show_first_commands};
 use std::alloc::Global;

@@ -5,7 +5,7 @@ ghost use Rattle.ogg_recorder.specs.Running.{reply_of, reply_of_flush};
 use crate::{Outcome, Recorder};
 use chain_rules::{Command, Refusal, refusals_are_of_the_table};
 use disk_model::Disk;
-use feed_codec::{Kept, Reply};
+use feed_replies::{Kept, Reply};
 use feed_run::Runner;
 use ogg_page::WriteFault;
 use std::io::Write;

@@ -61,11 +61,6 @@ impl SmallPage {
     {
         self.bytes.as_slice()
     }
-
-    /// The allocator of the room.
-    fn allocator(&self) -> Global {
-        *self.bytes.allocator()
-    }
 }
 
 /// Why the pages of a command aren't staged.
@@ -75,9 +70,8 @@ pub(crate) enum Unstaged {
     Disk,
 }
 
-/// Makes the room for a command in the chain, and stages its pages, which have this many bytes. All memory is taken
-/// before the first call of the disk. The one page of a small command is made in `small`, which takes no memory, and
-/// other pages in turn in the buffer.
+/// Makes the room for a command in the chain, and stages its pages, which have this many bytes. No other memory is
+/// taken. The one page of a small command is made in `small`, and other pages in turn in the buffer.
 pub(crate) fn stage_command<D: Disk>(
     file: &mut GateFile<D>,
     shape: &mut Shape,
@@ -94,7 +88,7 @@ pub(crate) fn stage_command<D: Disk>(
     ensures chain { shape.new.chain ≡ shape.old.chain }
     ensures room { OnOk result (HasRoom shape.new command.now) }
     ensures memory { result ≡ Err Unstaged.Memory → file.new ≡ file.old }
-    ensures small { result ≡ Err Unstaged.Memory → is_small command.now size ≡ false }
+    ensures full { result ≡ Err Unstaged.Memory → HasRoom shape.old command.now → ⊥ }
     ensures failed { result ≡ Err Unstaged.Disk → file.new.failed ≡ true }
     ensures good { OnOk result (file.new.failed ≡ false) }
     ensures whole { OnOk result (file.new.whole ≡ true) }
@@ -116,22 +110,45 @@ pub(crate) fn stage_command<D: Disk>(
         Ok(()) => {}
         Err(Memory) => return Err(Unstaged::Memory),
     }
-    if is_small(command, size) {
+    let staged = if is_small(command, size) {
         small.make(shape, command);
-        match file.stage_last(small.as_slice()) {
-            Ok(()) => Ok(()),
-            Err(DiskFault) => Err(Unstaged::Disk),
-        }
+        file.stage_last(small.as_slice())
     } else {
-        let mut pages = match shape.pages(small.allocator(), command) {
-            Ok(pages) => pages,
-            Err(Memory) => return Err(Unstaged::Memory),
-        };
-        match stage_pages(file, &mut pages, buffer) {
-            Ok(()) => Ok(()),
-            Err(DiskFault) => Err(Unstaged::Disk),
-        }
+        stage_large(file, shape, command, buffer)
+    };
+    match staged {
+        Ok(()) => Ok(()),
+        Err(DiskFault) => Err(Unstaged::Disk),
     }
+}
+
+/// Stages the pages of a command, made in turn in the buffer. What is still to be made of them takes 2 KB of the stack,
+/// which no small command is to clear: so this is a function of its own.
+#[inline(never)]
+fn stage_large<D: Disk>(
+    file: &mut GateFile<D>,
+    shape: &Shape,
+    command: &Command,
+    buffer: &mut PageBuffer,
+) -> Result<(), DiskFault>
+    requires kept { IsOk (decision shape.now.chain command.now) }
+    requires are { AllByRecursion IsPage (pages_of_command shape.now.chain command.now) }
+    requires some { 0 < length (pages_of_command shape.now.chain command.now) }
+    requires good { file.old.failed ≡ false }
+    requires images { D.is_honest file.old.disk → EachImage (D.state file.old.disk) (CommitsTo (committed D.state file.old)) }
+    ensures failed { file.new.failed ≡ true ↔ IsErr result }
+    ensures whole { OnOk result (file.new.whole ≡ true) }
+    ensures end { file.new.end ≡ file.old.end }
+    ensures staged { OnOk result (D.is_honest file.old.disk
+        → staged_bytes D.state file.new ≡ staged_bytes D.state file.old ++ command_bytes shape.now.chain command.now) }
+    ensures front { D.is_honest file.old.disk → committed D.state file.new ≡ committed D.state file.old }
+    ensures any_moment { D.is_honest file.old.disk → LeavesOnly D.moment D.images_since file.old.disk file.new.disk
+        (CommitsTo (committed D.state file.old)) }
+    ensures honest { D.is_honest file.old.disk ↔ D.is_honest file.new.disk }
+    ensures cause { HasCause (D.failures file.old.disk) (D.failures file.new.disk) result }
+{
+    let mut pages = shape.pages(command).unwrap();
+    stage_pages(file, &mut pages, buffer)
 }
 
 /// Whether a command whose pages have this many bytes has one page, and a small one.

@@ -3,11 +3,8 @@ use Rattle.link_chain.specs.ChainState.{ChainState}
 use Rattle.chain_rules.specs.Decision.{decision}
 use Rattle.chain_rules.specs.Encoding.{command_bytes, pages_of_command}
 use Rattle.ogg_recorder.proofs.Growing.{pages_append}
-use Rattle.ogg_recorder.proofs.Small.{small_size, prepared_small}
+use Rattle.ogg_recorder.proofs.Small.{small_size}
 use Rattle.ogg_recorder.proofs.staging.stage_command.Goals as goal
-
-pub returns-in-Err-clause-small : goal.returns-in-Err-clause-small
-returns-in-Err-clause-small g c = λ is. prepared_small c.args.shape.now c.args.command.now c.args.size c.in-Err.ensures.full
 
 pub make-requires-clause-kept : goal.make-requires-clause-kept
 make-requires-clause-kept g c =
@@ -21,8 +18,8 @@ make-requires-clause-small g c =
     let short = small_size command c.args.size (sym c.is_small.ensures ∙ c.if-is_small.true) in
     omega (arith, long, short, ap (λ (s : ChainState). length (command_bytes s command)) c.prepare.ensures.chain)
 
-pub stage_last-requires-clause-pages : goal.stage_last-requires-clause-pages
-stage_last-requires-clause-pages g c =
+pub stage_last-staged-requires-clause-pages : goal.stage_last-staged-requires-clause-pages
+stage_last-staged-requires-clause-pages g c =
     let command = c.args.command.now in
     pages_append (pages_of_command c.args.shape.now.chain command) c.as_slice.result.now c.requires.are c.requires.some
     (c.as_slice.ensures ∙ c.make.ensures ∙ ap (λ (chain : ChainState). command_bytes chain command ++ 0 ∷ []) c.prepare.ensures.chain)

@@ -6,7 +6,7 @@ use Rattle.link_chain.specs.ChainState.{ChainState}
 use Rattle.chain_rules.specs.Decision.{decision}
 use Rattle.chain_rules.specs.Encoding.{command_bytes}
 use Rattle.ogg_recorder.specs.Recorder.{recorder_state}
-use Rattle.ogg_recorder.proofs.Refused.{not_disk}
+use Rattle.ogg_recorder.proofs.Refused.{not_disk, not_memory}
 use Rattle.ogg_recorder.proofs.Growing.{command_pages, command_some}
 use Rattle.ogg_recorder.proofs.Lasting.{not_failed, never, lt_false, same_refusal, staged_then, same_front, is_waiting, is_kept}
 use Rattle.ogg_recorder.proofs.Opened.{images_have, nothing_in}
@@ -28,6 +28,11 @@ pub returns-in-Err-clause-cause : goal.returns-in-Err-clause-cause
 returns-in-Err-clause-cause g c = λ e.
     let few = (c.refusals_are_of_the_table.ensures c.self.inside.shape.chain c.args.command.now c.in-Err.refusal (sym c.check.ensures.decides ∙ c.in-Err.is)).1 in
     absurd (not_disk c.in-Err.refusal few (same_refusal c.in-Err.refusal _ e))
+
+pub returns-in-Err-clause-memory : goal.returns-in-Err-clause-memory
+returns-in-Err-clause-memory g c = λ _ e.
+    let few = (c.refusals_are_of_the_table.ensures c.self.inside.shape.chain c.args.command.now c.in-Err.refusal (sym c.check.ensures.decides ∙ c.in-Err.is)).1 in
+    absurd (not_memory c.in-Err.refusal few (same_refusal c.in-Err.refusal _ e))
 
 pub stage_command-requires-clause-are : goal.stage_command-requires-clause-are
 stage_command-requires-clause-are g c =

@@ -1,7 +1,7 @@
 use Rattle.std.proofs.Common.{[], sym, subst}
 use Rattle.std.proofs.KnownBytes.{Appends-nil}
-use Rattle.feed_codec.specs.declared.item.Record.TheVariants.{Command as CommandOf}
-use Rattle.feed_codec.specs.declared.reply.Reply.{Reply}
+use Rattle.feed_records.specs.declared.item.Record.TheVariants.{Command as CommandOf}
+use Rattle.feed_replies.specs.declared.reply.Reply.{Reply}
 use Rattle.chain_rules.specs.Decision.{decision}
 use Rattle.ogg_recorder.specs.Answer.{call_of, command_step}
 use Rattle.ogg_recorder.proofs.Refused.{not_disk}

@@ -1,6 +1,6 @@
 use Rattle.std.proofs.Common.{refl, sym, subst}
-use Rattle.feed_codec.specs.declared.item.Record.TheVariants.{Flush}
-use Rattle.feed_codec.specs.declared.reply.Reply.{Reply}
+use Rattle.feed_records.specs.declared.item.Record.TheVariants.{Flush}
+use Rattle.feed_replies.specs.declared.reply.Reply.{Reply}
 use Rattle.ogg_recorder.specs.Running.{progress}
 use Rattle.ogg_recorder.proofs.Answered.{ComesTo, at_reached, flushed_by, flush_answered, flush_fault, writes_flush}
 use Rattle.ogg_recorder.proofs.running.RecorderRunner.run_flush.Goals as goal
