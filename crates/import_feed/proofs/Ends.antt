@@ -14,7 +14,7 @@ use Rattle.std.specs.List.{AllByRecursion}
 use Rattle.import_changes.specs.Changed.{IsChanged}
 use Rattle.import_changes.specs.Skeletons.{BeginThose, IsBegunAs}
 use Rattle.import_feed.specs.Source.{HasSourced, Sourced, gathered_of}
-use Rattle.feed_codec.specs.Record.{announcement}
+use Rattle.feed_records.specs.Record.{announcement}
 use Rattle.import_feed.specs.Feed.{Fits, GivesNot, HasTooLong, records_of}
 use Rattle.import_feed.specs.Making.{Breaks, HasGiven, HasTaken, MakesFeed, Stops, StopsAtFault}
 use Rattle.import_feed.specs.Turn.{EndsAt, EndsWell, GivesRest, GivesRestNot, Finishes, GoesOn, IsStarted, StillMakes, TakesAll, Turns, of_input}

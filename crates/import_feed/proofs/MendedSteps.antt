@@ -15,7 +15,7 @@ use Rattle.import_mend.specs.declared.import.Import.{Import}
 use Rattle.import_mend.specs.declared.import.Step.{Step}
 use Rattle.import_changes.specs.Changed.{ChangeState, HasChanged, IsPlain}
 use Rattle.import_changes.specs.declared.options.ChangeOptions.{ChangeOptions}
-use Rattle.feed_codec.specs.Record.{announcement}
+use Rattle.feed_records.specs.Record.{announcement}
 use Rattle.import_feed.specs.Feed.{Fits, GivesNot, feed_of, records_of}
 use Rattle.import_feed.specs.Mending.{AreJoined, AreSteps, AreTold, BreaksMended, ClosesWell, EndsMended, FinishesMended, GivesMended, GivesMendedNot, GivesNoMore}
 use Rattle.import_feed.specs.Mending.{HasMended, HaveEnded, ImportStep, IsChangedAs, IsImportStep, IsMendedFeed, IsMendingStart, IsNextFault, MendsFeed, StillMends, StopsMended}

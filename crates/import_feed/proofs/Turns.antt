@@ -15,7 +15,7 @@ use Rattle.link_chain.specs.Taking.{begins_link, fault_of_page, links_with}
 use Rattle.link_chain.specs.Laws.TakenLinks.{page_is_taken}
 use Rattle.ogg_command.specs.declared.command.Command.{Command}
 use Rattle.import_feed.specs.Source.{GoesFurther, HasSourced, Sourced, gathered_of}
-use Rattle.feed_codec.specs.Record.{announcement}
+use Rattle.feed_records.specs.Record.{announcement}
 use Rattle.import_feed.specs.Feed.{Fits, GivesNot, HasTooLong, feed_of, record_bytes, records_of}
 use Rattle.import_feed.specs.Making.{Breaks, HasGiven, HasTaken, IsFaultOfInput}
 use Rattle.import_feed.specs.Turn.{EndsAt, Gives, GivesNoFurther, GoesOn, HasMade, IsFaultBehind, MeetsFault, NextOf, StillMakes, TakesPage, Turns}

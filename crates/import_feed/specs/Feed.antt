@@ -5,9 +5,9 @@ use Rattle.import_feed.specs.declared.fault.MakingFault.{MakingFault}
 use Rattle.import_feed.specs.declared.fault.MakingFault.TheVariants.{Limit, Write, Memory}
 use Rattle.std.specs.List.{AllByRecursion, flat_map}
 use Rattle.ogg_command.specs.declared.command.Command.{Command}
-use Rattle.feed_codec.specs.declared.version.Version.TheVariants.{Two}
-use Rattle.feed_codec.specs.declared.item.Record.TheVariants.{Command as CommandOf}
-use Rattle.feed_codec.specs.Record.{FitsRecord, announcement, record_of}
+use Rattle.feed_records.specs.declared.version.Version.TheVariants.{Two}
+use Rattle.feed_records.specs.declared.item.Record.TheVariants.{Command as CommandOf}
+use Rattle.feed_records.specs.Record.{FitsRecord, announcement, record_of}
 
 -- a command that can be written as a record
 abbrev pub Fits : Command → Type 0

@@ -1,5 +1,5 @@
 -- Pages gathered into commands, which are changed as asked. Ours.
-use Rattle.std.specs.Prelude.{◌≡◌, ◌+◌, false, None, List, ◌++◌}
+use Rattle.std.specs.Prelude.{◌≡◌, ◌+◌, Bool, false, None, List, ◌++◌}
 use Rattle.std.specs.List.{AllByRecursion}
 use Rattle.ogg_page.specs.Page.{Page as PageValue, page_size}
 use Rattle.link_chain.specs.ChainState.{ChainState}
@@ -14,10 +14,11 @@ use Rattle.import_changes.specs.declared.options.ChangeOptions.{ChangeOptions}
 pub record Sourced : Type 0 where
   pub chain : ChainState
   pub link : KeptLink
+  pub refused : Bool
   pub changes : ChangeState
 
 abbrev pub gathered_of : Sourced → Gathered
-gathered_of sourced = record { chain = sourced.chain; link = sourced.link }
+gathered_of sourced = record { chain = sourced.chain; link = sourced.link; refused = sourced.refused }
 
 -- The commands of the links, as far as they are gathered, became these, changed as asked.
 pub record HasSourced (options : ChangeOptions) (links : List (List PageValue)) (sourced : Sourced) (given : List Command) : Type 0 where

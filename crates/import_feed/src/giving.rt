@@ -3,11 +3,11 @@ ghost use Rattle.std.specs.Prelude.{◌≡◌, [], ◌++◌, IfErr, OnOk, OnErr}
 ghost use Rattle.std.specs.List.{AllByRecursion};
 ghost use Rattle.std.specs.Io.KnownBytes.{Appends, Keeps};
 ghost use Rattle.ogg_page.specs.Output.{WritesPrefix};
-ghost use Rattle.feed_codec.specs.Record.{announcement};
+ghost use Rattle.feed_records.specs.Record.{announcement};
 ghost use Rattle.import_feed.specs.Feed.{Fits, GivesNot, IsOwnFault, records_of};
 
 use crate::fault::MakingFault;
-use feed_codec::{fits_record_2, write_command_2, write_version};
+use feed_records::{fits_record_2, write_command_2, write_version};
 use ogg_command::Command;
 use ogg_page::write_whole;
 use std::io::Write;

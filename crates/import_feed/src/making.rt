@@ -1,7 +1,7 @@
 //! The feed of an input.
 ghost use Rattle.std.specs.Prelude.{◌≡◌, ℕ, Bool, List, Option, IfOk, IfErr, true, false};
 ghost use Rattle.std.specs.Io.KnownBytes.{Appends};
-ghost use Rattle.feed_codec.specs.Record.{announcement};
+ghost use Rattle.feed_records.specs.Record.{announcement};
 ghost use Rattle.import_changes.specs.declared.options.ChangeOptions.{ChangeOptions as OptionsOf};
 ghost use Rattle.import_feed.specs.Making.{MakesFeed, Stops};
 ghost use Rattle.import_feed.specs.Turn.{EndsWell, Finishes, GoesOn, IsStarted, TakesAll, of_input};

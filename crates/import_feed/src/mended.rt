@@ -1,7 +1,7 @@
 //! The feed of any input, which is mended.
 ghost use Rattle.std.specs.Prelude.{◌≡◌, [], ℕ, List, Option, IfOk, IfErr};
 ghost use Rattle.std.specs.Io.KnownBytes.{Appends};
-ghost use Rattle.feed_codec.specs.Record.{announcement};
+ghost use Rattle.feed_records.specs.Record.{announcement};
 ghost use Rattle.import_mend.specs.declared.import.Import.{Import as ImportOf};
 ghost use Rattle.import_changes.specs.declared.options.ChangeOptions.{ChangeOptions as OptionsOf};
 ghost use Rattle.import_feed.specs.Mending.{FinishesMended, MendsFeed, StillMends, StopsMended, TakesAllMended};

@@ -27,7 +27,7 @@ impl Model for Source {
 
     ghost Value = { Sourced };
 
-    ghost view = { λ s. record { chain = s.gatherer.chain; link = s.gatherer.link; changes = s.changes } };
+    ghost view = { λ s. record { chain = s.gatherer.chain; link = s.gatherer.link; refused = s.gatherer.refused; changes = s.changes } };
 }
 
 impl Source {

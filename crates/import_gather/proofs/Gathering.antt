@@ -23,13 +23,16 @@ use Rattle.import_gather.specs.Giving.{Follows, TakesOn, begun_if, begin_if, wit
 use Rattle.import_gather.specs.Gathered.{Gathered, HoldsSoFar, HasGathered, CanGoOn, before_last}
 use Rattle.import_gather.proofs.Others.{absent_all, has_from}
 use Rattle.import_gather.proofs.Steps.{before_with, before_new}
-use Rattle.import_gather.proofs.Onward.{state, follows_on, joins_on, no_pages_yet, gives_on}
+use Rattle.import_gather.proofs.Onward.{state, holds_alike, as_state, follows_on, joins_on, no_pages_yet, gives_on}
 use Rattle.import_gather.proofs.Whole.{closed_where_ended, closed_where_held, whole_held}
 
 module _ (links : List (List Page)) (g : Gathered) (given : List Command) (page : Page) (new : KeptLink) (chain' : ChainState) (more : List Command)
     (is : IsPage page) (fits : fault_of_page g.chain page ≡ None) (h : HasGathered links g given) (c : chain' ≡ chain_state_of (links_with links page)) where
   abbrev Next : Type 0
   Next = HasGathered (links_with links page) (state chain' new) (given ++ more) × CanGoOn (state chain' new)
+
+  so_far : HoldsSoFar (before_last links) (last_link links) (state g.chain g.link) given
+  so_far = as_state (before_last links) (last_link links) g given h.so_far
 
   fits' : fault_of_page (chain_state_of links) page ≡ None
   fits' = ap (λ (s : ChainState). fault_of_page s page) (sym h.chain) ∙ fits
@@ -58,7 +61,7 @@ module _ (links : List (List Page)) (g : Gathered) (given : List Command) (page 
       let last : last_link (links_with links page) ≡ last_link links ++ page ∷ [] = ap last_link same ∙ last_with links (page ∷ []) some in
       let before : before_last (links_with links page) ≡ before_last links = ap before_last same ∙ before_with links (page ∷ []) in (
         taken (before_last links) (last_link links ++ page ∷ []) before last
-            (follows_on (before_last links) (last_link links) page g.link new given more g.chain chain' later (last_is_link links h.are.each some).distinct h.so_far (f has)),
+            (follows_on (before_last links) (last_link links) page g.link new given more g.chain chain' later (last_is_link links h.are.each some).distinct so_far (f has)),
         λ _. data_is (last_link links ++ page ∷ []) last ∙ data_with (last_link links) (page ∷ []) (omega arith) (later, tt),
       )
 
@@ -82,7 +85,7 @@ module _ (links : List (List Page)) (g : Gathered) (given : List Command) (page 
             (joins_on (before_last links) (last_link links) page g.link given g.chain chain' is first (not_false (is_whole_packet page) kept.1.1.0)
             (no_pages (last_link links) page.serial bare_is fresh)
             (absent_all page.serial g.link.streams (ap (list_any (nat_eq page.serial)) h.so_far.order ∙ fresh))
-            begun no_data h.so_far))),
+            begun no_data so_far))),
         λ b. absurd (false≢true (sym begun ∙ sym (ap (λ (l : KeptLink). l.begun) made.0) ∙ b)),
       )
     where
@@ -101,7 +104,7 @@ module _ (links : List (List Page)) (g : Gathered) (given : List Command) (page 
       let no_data : chain'.has_data ≡ false = data_is (page ∷ []) last ∙ ap (λ b. not b || false) first in
       let commands : List Command = given ++ begin_if (waits g.link) g.link in
       let whole : HoldsLinks links (after [] commands) =
-      whole_held h.bytes links (begun_if (waits g.link) g.link) g.chain commands h.are (gives_on (before_last links) (last_link links) g.link given g.chain h.so_far)
+      whole_held h.bytes links (begun_if (waits g.link) g.link) g.chain commands h.are (gives_on (before_last links) (last_link links) g.link given g.chain so_far)
       (none_waits g.link) (closed_where_ended h.bytes links h.are shut) in
       let part : HoldsSoFar links (page ∷ []) (state chain' (with_first page no_link)) (commands ++ []) =
       joins_on links [] page no_link commands chain' chain' is first (not_false (is_whole_packet page) kept.0) refl tt refl no_data
@@ -133,13 +136,23 @@ takes links g given page new chain' more is fits h goes_on t c =
       | inr later ↦ take_later links g given page new chain' more is fits h c later (t.follows later)
     ]
 
+-- What is gathered doesn't depend on whether a growth was refused.
+pub gathered_alike : (links : List (List Page)) (g new : Gathered) (given : List Command) → new.chain ≡ g.chain → new.link ≡ g.link → HasGathered links g given →
+    HasGathered links new given
+gathered_alike links g new given c l h = record {
+  bytes = h.bytes;
+  are = h.are;
+  chain = c ∙ h.chain;
+  so_far = holds_alike (before_last links) (last_link links) g new given c l h.so_far;
+}
+
 -- before any page
 pub nothing_taken : (g : Gathered) → g.chain ≡ chain_state_of [] → g.link ≡ no_link → HasGathered [] g []
 nothing_taken g c e = record {
   bytes = [];
   are = record { spelled = refl; pages = tt; few = omega arith; each = tt; ended = tt };
   chain = c;
-  so_far = subst (λ (l : KeptLink). HoldsSoFar [] [] (state g.chain l) []) (sym e) (no_pages_yet [] [] [] g.chain (ap (λ (s : ChainState). s.has_data) c) tt refl);
+  so_far = holds_alike [] [] (state g.chain no_link) g [] refl e (no_pages_yet [] [] [] g.chain (ap (λ (s : ChainState). s.has_data) c) tt refl);
 }
 
 -- the end of the input
@@ -149,7 +162,7 @@ ends links g given h = record {
   bytes = h.bytes;
   are = h.are;
   chain = h.chain;
-  so_far = gives_on (before_last links) (last_link links) g.link given g.chain h.so_far;
+  so_far = gives_on (before_last links) (last_link links) g.link given g.chain (as_state (before_last links) (last_link links) g given h.so_far);
 }
 
 pub no_more_waits : (link : KeptLink) → waits (begun_if (waits link) link) ≡ false
@@ -163,4 +176,4 @@ no_more_waits link =
 pub all_given : (bytes : List ℕ) (links : List (List Page)) (g : Gathered) (given : List Command) (recording : Recording) → AreLinks bytes links → HasGathered links g given →
     waits g.link ≡ false → HoldsLinks links recording → after [] given ≡ recording
 all_given bytes links g given recording are h w holds =
-    one_recording links (after [] given) recording (whole_held h.bytes links g.link g.chain given h.are h.so_far w (closed_where_held links recording holds)) holds
+    one_recording links (after [] given) recording (whole_held h.bytes links g.link g.chain given h.are (as_state (before_last links) (last_link links) g given h.so_far) w (closed_where_held links recording holds)) holds

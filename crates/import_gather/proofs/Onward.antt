@@ -45,7 +45,27 @@ and_true true b e = cc
 and_true false b e = refl
 
 abbrev pub state : ChainState → KeptLink → Gathered
-state chain link = record { chain = chain; link = link }
+state chain link = record { chain = chain; link = link; refused = false }
+
+-- What the commands hold doesn't depend on whether a growth was refused.
+pub holds_alike : (front : List (List Page)) (pages : List Page) (g new : Gathered) (given : List Command) → new.chain ≡ g.chain → new.link ≡ g.link → HoldsSoFar front pages g given →
+    HoldsSoFar front pages new given
+holds_alike front pages g new given c l h = record {
+  done = h.done;
+  before = h.before;
+  held = h.held;
+  last = subst (λ (k : KeptLink). AllZip (KeepsUp pages) k.streams h.held) (sym l) h.last;
+  order = subst (λ (k : KeptLink). map (λ (stream : KeptStream). stream.serial) k.streams ≡ serials_of pages) (sym l) h.order;
+  some = subst (λ (k : KeptLink). k.begun ≡ true → has_some k.streams ≡ true) (sym l) h.some;
+  out = subst (λ (k : KeptLink). after [] given ≡ cond k.begun (h.done ++ h.held ∷ []) h.done) (sym l) h.out;
+  waiting = subst (λ (k : KeptLink). k.begun ≡ false → Waits pages new.chain k h.held) (sym l)
+      (λ w. subst (λ (s : ChainState). Waits pages s g.link h.held) (sym c) (h.waiting w));
+}
+
+-- the same with nothing known of refused growths
+pub as_state : (front : List (List Page)) (pages : List Page) (g : Gathered) (given : List Command) → HoldsSoFar front pages g given →
+    HoldsSoFar front pages (state g.chain g.link) given
+as_state front pages g given h = holds_alike front pages g (state g.chain g.link) given refl refl h
 
 -- commands after those that were given
 given_more : (given more : List Command) (r s : Recording) → after [] given ≡ r → after r more ≡ s → after [] (given ++ more) ≡ s

@@ -1,5 +1,5 @@
 -- How the commands given so far and the pages taken so far belong together. Ours.
-use Rattle.std.specs.Prelude.{◌≡◌, ℕ, ◌≤◌, ◌<◌, true, false, nat_eq, if◌then◌else◌, List, [], ◌∷◌, ◌++◌, length, map}
+use Rattle.std.specs.Prelude.{◌≡◌, ℕ, ◌≤◌, ◌<◌, Bool, true, false, nat_eq, if◌then◌else◌, List, [], ◌∷◌, ◌++◌, length, map}
 use Rattle.std.specs.List.{AllByRecursion, AllZip, list_any}
 use Rattle.ogg_page.specs.Page.{Page}
 use Rattle.ogg_page.specs.LogicalStream.{HoldsPackets}
@@ -13,9 +13,11 @@ use Rattle.import_gather.specs.Headers.{wanted}
 use Rattle.import_gather.specs.Giving.{IsPlain, TakesOn}
 use Rattle.import_gather.specs.Kept.{KeptStream, KeptLink, has_some, is_ready, rest_of, size_of_rest, without_rest}
 
+-- The pages so far, what is kept of the last link, and whether a growth of a vector was refused.
 pub record Gathered : Type 0 where
   pub chain : ChainState
   pub link : KeptLink
+  pub refused : Bool
 
 -- The pages of a link hold the whole packets of this stream so far. If a packet goes on, its bytes are kept.
 pub record KeepsUp (pages : List Page) (kept : KeptStream) (stream : Stream) : Type 0 where
@@ -81,7 +83,7 @@ pub record GathersPage (page : Page) (old new : Gathered) (more : List Command) 
 -- the unfinished packet of the stream with this serial is dropped
 abbrev pub without_packet : ℕ → Gathered → Gathered
 without_packet serial gathered =
-    record {
+    record gathered {
       chain = dropped gathered.chain serial (size_of_rest (rest_of serial gathered.link.streams));
       link = record gathered.link { streams = map (without_rest serial) gathered.link.streams };
     }

@@ -5,3 +5,4 @@ pub mod Giving
 pub mod Headers
 pub mod Kept
 pub mod Limits
+pub mod Refusals

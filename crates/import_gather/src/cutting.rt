@@ -2,43 +2,46 @@
 ghost use Rattle.std.specs.Prelude.{◌≡◌, ◌≤◌, ◌*◌, ◌++◌, ◌∷◌, [], ℕ, IfOk, OnOk, length, sum};
 ghost use Rattle.ogg_page.specs.Page.{IsPage};
 ghost use Rattle.import_gather.specs.Cutting.{CutsInto, EndIn, first_size};
+ghost use Rattle.import_gather.specs.Refusals.{IsNoted};
 ghost use Rattle.ogg_page.specs.Sizes.{most_values, full_value, longest_body};
 
+use crate::grower::Grower;
 use ogg_command::{Listed, Memory};
 use ogg_page::{FULL_VALUE, Page};
-use std::alloc::Global;
 use std::mem;
 
 /// Cuts a page into the packets that end in it. `rest` has the bytes of the packet that the pages before it left
 /// unfinished, and then those that this page leaves. After `Memory` it may have some of the page's.
 pub fn cut_page(
-    alloc: Global,
+    grower: &mut Grower,
     rest: &mut Vec<u8>,
     page: &Page<'_>,
 ) -> Result<Vec<Listed<u8>>, Memory>
-    ensures { IfOk result (λ packets. EndIn rest.old.items page.now packets.items rest.new.items) }
+    ensures noted { IsNoted result grower.old grower.new }
+    ensures packets { IfOk result (λ packets. EndIn rest.old.items page.now packets.items rest.new.items) }
 {
     let _bytes = page.whole();
-    cut(alloc, rest, page.lacing(), page.body())
+    cut(grower, rest, page.lacing(), page.body())
 }
 
 fn cut(
-    alloc: Global,
+    grower: &mut Grower,
     rest: &mut Vec<u8>,
     lacing: &[u8],
     body: &[u8],
 ) -> Result<Vec<Listed<u8>>, Memory>
     requires { sum lacing.now ≡ length body.now }
-    ensures { IfOk result (λ packets. (segments : ℕ) → length rest.old.items ≡ full_value * segments
+    ensures noted { IsNoted result grower.old grower.new }
+    ensures packets { IfOk result (λ packets. (segments : ℕ) → length rest.old.items ≡ full_value * segments
         → CutsInto segments rest.old.items lacing.now body.now packets.items rest.new.items) }
 {
-    let mut packets = Vec::new(alloc);
+    let mut packets = grower.empty();
     let mut left = body;
     for value in lacing {
         let (piece, others) = left.split_at(usize::from(*value));
-        rest.extend_from_slice(piece)?;
+        grower.append(rest, piece)?;
         if *value < FULL_VALUE {
-            end_packet(alloc, rest, &mut packets)?;
+            end_packet(grower, rest, &mut packets)?;
         }
         left = others;
     }
@@ -47,15 +50,16 @@ fn cut(
 
 /// The packet with these bytes has ended.
 fn end_packet(
-    alloc: Global,
+    grower: &mut Grower,
     rest: &mut Vec<u8>,
     packets: &mut Vec<Listed<u8>>,
 ) -> Result<(), Memory>
     ensures packets { OnOk result (packets.new.items ≡ packets.old.items ++ rest.old.items ∷ []) }
     ensures rest { rest.new.items ≡ [] }
+    ensures noted { IsNoted result grower.old grower.new }
 {
-    let packet = mem::replace(rest, Vec::new(alloc));
-    packets.push(Listed::of(packet))?;
+    let packet = mem::replace(rest, grower.empty());
+    grower.push(packets, Listed::of(packet))?;
     Ok(())
 }
 

@@ -15,7 +15,7 @@ pub enum GatherFault {
     /// A packet is longer than a packet may be.
     #[error("a packet is too long")]
     PacketTooLong,
-    /// Memory was refused.
+    /// A growth of a vector was refused.
     #[error("out of memory")]
     Memory,
 }

@@ -7,11 +7,12 @@ ghost use Rattle.link_chain.specs.declared.chain_fault.ChainFault.{ChainFault as
 ghost use Rattle.ogg_command.specs.declared.command.Command.{Command as CommandOf};
 
 use crate::fault::GatherFault;
+use crate::grower::Grower;
 use crate::link::LastLink;
 use link_chain::{Chain, is_open};
 use ogg_command::{Command, Memory};
 use ogg_page::{Page, SEGMENT};
-use std::alloc::{AllocError, Global};
+use std::alloc::Global;
 use std::marker::Model;
 
 /// The pages so far, as far as the commands of the next ones depend on them.
@@ -19,6 +20,7 @@ use std::marker::Model;
 pub struct Gatherer {
     chain: Chain,
     link: LastLink,
+    grower: Grower,
 }
 
 impl Model for Gatherer {
@@ -26,28 +28,32 @@ impl Model for Gatherer {
 
     ghost Value = { Gathered };
 
-    ghost view = { λ g. record { chain = g.chain.chain; link = g.link } };
+    ghost view = { λ g. record { chain = g.chain.chain; link = g.link; refused = g.grower } };
 }
 
 impl Gatherer {
     ghost use Rattle.import_gather.specs.Kept.{is_too_long, waits};
     ghost use Rattle.import_gather.specs.Giving.{begin_if};
     ghost use Rattle.import_gather.specs.Gathered.{HasGathered, GathersPage, CanGoOn, without_packet};
+    ghost use Rattle.import_gather.specs.Refusals.{IsNoted};
 
-    /// No pages. It takes no memory.
+    /// No pages, and no growth was refused. It takes no memory.
     pub fn new(alloc: Global) -> Gatherer
         ensures gathered { HasGathered [] result [] }
         ensures goes_on { CanGoOn result }
+        ensures refused { result.refused ≡ false }
     {
         Gatherer {
             chain: Chain::new(alloc),
             link: LastLink::new(alloc),
+            grower: Grower::new(alloc),
         }
     }
 
     /// Takes the next page, and appends the commands that it completes. `Chain` says that the page may not follow,
-    /// `PacketTooLong` that a packet is too long with it; after these nothing has changed. After `Memory` the
-    /// commands and the chain are as they were, but what is kept of the streams may be lost: take no further page.
+    /// `PacketTooLong` that a packet is too long with it; after these nothing has changed. `Memory` comes only if a
+    /// growth of a vector was refused, which is noted. Then the commands and the chain are as they were, but what is
+    /// kept of the streams may be lost: take no further page.
     pub fn take_page(
         &mut self,
         page: &Page<'_>,
@@ -62,6 +68,8 @@ impl Gatherer {
             → result ≡ Err GatherFault.PacketTooLong }
         ensures memory { fault_of_page self.old.chain page.now ≡ None → is_too_long self.old.link page.now ≡ false
             → OnErr result (result ≡ Err GatherFault.Memory) }
+        ensures cause { result ≡ Err GatherFault.Memory → self.new.refused ≡ true }
+        ensures refused { OnOk result (self.new.refused ≡ self.old.refused) }
         ensures after { OnOk result (self.new.chain ≡ after_page self.old.chain page.now) }
         ensures grows { OnOk result (self.new.chain.length_of ≡ self.old.chain.length_of + page_size page.now) }
         ensures same { OnErr result (result ≢ Err GatherFault.Memory → self.new ≡ self.old) }
@@ -93,13 +101,12 @@ impl Gatherer {
         ensures grows { OnOk result (self.new.chain.length_of ≡ self.old.chain.length_of + page_size page.now) }
         ensures more { (given : List CommandOf) × (commands.new.items ≡ commands.old.items ++ given) }
         ensures pages { OnErr result (self.new.chain ≡ self.old.chain) }
+        ensures noted { IsNoted result self.old.refused self.new.refused }
     {
         let _bytes = page.whole();
         let open = is_open(self.chain.streams());
-        self.link.take_page(page, open, commands)?;
-        if let Err(_) = self.chain.take_page(page) {
-            return Err(AllocError);
-        }
+        self.link.take_page(&mut self.grower, page, open, commands)?;
+        self.grower.take_page(&mut self.chain, page)?;
         Ok(())
     }
 
@@ -114,8 +121,9 @@ impl Gatherer {
         self.link.drop_rest(serial);
     }
 
-    /// Appends the commands that still wait: at the end of the input, or at its fault. Take no further page. After
-    /// `Memory`, its one fault, the commands are as they were, but what waited may be lost.
+    /// Appends the commands that still wait: at the end of the input, or at its fault. Take no further page. Its one
+    /// fault is `Memory`, which comes only if a growth of a vector was refused. Then the commands are as they were, but
+    /// what waited may be lost.
     pub fn end(&mut self, commands: &mut Vec<Command>) -> Result<(), GatherFault>
         ensures commands { OnOk result (commands.new.items ≡ commands.old.items ++ begin_if (waits self.old.link) self.old.link) }
         ensures gathered { OnOk result ((links : List (List PageValue)) (given : List CommandOf) → HasGathered links self.old given →
@@ -123,10 +131,12 @@ impl Gatherer {
         ensures pages { OnOk result (self.new.chain ≡ self.old.chain) }
         ensures waits { OnOk result (waits self.new.link ≡ false) }
         ensures memory { OnErr result ((result ≡ Err GatherFault.Memory) × (waits self.old.link ≡ true)) }
+        ensures cause { OnErr result (self.new.refused ≡ true) }
+        ensures refused { OnOk result (self.new.refused ≡ self.old.refused) }
         ensures same { OnErr result (commands.new.items ≡ commands.old.items) }
     {
         let len = commands.len();
-        if let Err(_) = self.link.give_waiting(commands) {
+        if let Err(_) = self.link.give_waiting(&mut self.grower, commands) {
             commands.truncate(len);
             return Err(GatherFault::Memory);
         }

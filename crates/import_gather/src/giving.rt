@@ -3,35 +3,38 @@ ghost use Rattle.std.specs.Prelude.{◌≡◌, ◌∷◌, ◌++◌, [], ℕ, Non
 ghost use Rattle.import_commands.specs.Commands.{end_of, entry_of, put_of};
 ghost use Rattle.import_gather.specs.Kept.{KeptStream, ends_by};
 ghost use Rattle.import_gather.specs.Giving.{bare, new_stream};
+ghost use Rattle.import_gather.specs.Refusals.{IsNoted};
 ghost use Rattle.ogg_command.specs.declared.command.Command.{Command as CommandOf};
 
+use crate::grower::Grower;
 use crate::kept::Kept;
 use ogg_command::{Begin, Command, Entry, Listed, Memory, NewStream, Put};
 use ogg_page::Page;
-use std::alloc::Global;
 
 /// The streams of a `Begin`, with the headers that were kept. These are taken out.
-fn new_streams(alloc: Global, streams: &mut [Kept]) -> Result<Vec<NewStream>, Memory>
+fn new_streams(grower: &mut Grower, streams: &mut [Kept]) -> Result<Vec<NewStream>, Memory>
     ensures new { IfOk result (λ new. new.items ≡ map new_stream streams.old) }
     ensures bare { OnOk result (streams.new ≡ map bare streams.old) }
+    ensures noted { IsNoted result grower.old grower.new }
 {
-    let mut new = Vec::new(alloc);
+    let mut new = grower.empty();
     for stream in streams.iter_mut() {
         let serial = stream.serial();
-        let headers = stream.take_headers(alloc);
-        new.push(new_stream(alloc, serial, headers))?;
+        let headers = stream.take_headers(grower);
+        let stream = new_stream(grower, serial, headers);
+        grower.push(&mut new, stream)?;
     }
     Ok(new)
 }
 
-fn new_stream(alloc: Global, serial: u32, headers: Vec<Listed<u8>>) -> NewStream
+fn new_stream(grower: &Grower, serial: u32, headers: Vec<Listed<u8>>) -> NewStream
     ensures { (stream : KeptStream) → stream.serial ≡ serial → stream.headers ≡ headers.items → result ≡ new_stream stream }
 {
     NewStream {
         serial,
         headers: Listed::of(headers),
-        media: Listed::of(Vec::new(alloc)),
-        fields: Listed::of(Vec::new(alloc)),
+        media: Listed::of(grower.empty()),
+        fields: Listed::of(grower.empty()),
         rate: (0, 0),
         base_granule: 0,
         preroll: 0,
@@ -41,7 +44,7 @@ fn new_stream(alloc: Global, serial: u32, headers: Vec<Listed<u8>>) -> NewStream
 
 /// Appends the `Begin` of a link of these streams, whose headers are taken out.
 pub fn push_begin(
-    alloc: Global,
+    grower: &mut Grower,
     streams: &mut [Kept],
     commands: &mut Vec<Command>,
 ) -> Result<(), Memory>
@@ -49,81 +52,98 @@ pub fn push_begin(
         ≡ commands.old.items ++ CommandOf.Begin (record { skeleton = None; streams = map new_stream streams.old }) ∷ []) }
     ensures bare { OnOk result (streams.new ≡ map bare streams.old) }
     ensures same { OnErr result (commands.new.items ≡ commands.old.items) }
+    ensures noted { IsNoted result grower.old grower.new }
 {
-    let new = new_streams(alloc, streams)?;
-    commands.push(Command::Begin(Begin {
+    let new = new_streams(grower, streams)?;
+    let begin = Begin {
         skeleton: None,
         streams: Listed::of(new),
-    }))?;
+    };
+    grower.push(commands, Command::Begin(begin))?;
     Ok(())
 }
 
 /// Appends the ends of streams. After `Memory` some of them may have been appended.
-pub fn push_ends(ends: &[u32], commands: &mut Vec<Command>) -> Result<(), Memory>
+pub fn push_ends(
+    grower: &mut Grower,
+    ends: &[u32],
+    commands: &mut Vec<Command>,
+) -> Result<(), Memory>
     ensures ok { OnOk result (commands.new.items ≡ commands.old.items ++ map (λ serial. CommandOf.End serial) ends.now) }
     ensures more { (given : List CommandOf) × (commands.new.items ≡ commands.old.items ++ given) }
+    ensures noted { IsNoted result grower.old grower.new }
 {
     for serial in ends {
-        commands.push(Command::End(*serial))?;
+        grower.push(commands, Command::End(*serial))?;
     }
     Ok(())
 }
 
 fn entries_of(
-    alloc: Global,
+    grower: &mut Grower,
     page: &Page<'_>,
     packets: Vec<Listed<u8>>,
 ) -> Result<Vec<Entry>, Memory>
-    ensures { IfOk result (λ entries. entries.items ≡ map (entry_of page.now) packets.items) }
+    ensures noted { IsNoted result grower.old grower.new }
+    ensures entries { IfOk result (λ entries. entries.items ≡ map (entry_of page.now) packets.items) }
 {
-    let mut entries = Vec::new(alloc);
+    let mut entries = grower.empty();
     for packet in packets {
-        entries.push(Entry {
+        let entry = Entry {
             serial: page.serial(),
             position: page.position(),
             packet,
-        })?;
+        };
+        grower.push(&mut entries, entry)?;
     }
     Ok(entries)
 }
 
 /// Appends a `Put` of packets that end in the page, if there are any.
 pub fn push_put(
-    alloc: Global,
+    grower: &mut Grower,
     page: &Page<'_>,
     packets: Vec<Listed<u8>>,
     commands: &mut Vec<Command>,
 ) -> Result<(), Memory>
     ensures ok { OnOk result (commands.new.items ≡ commands.old.items ++ put_of (map (entry_of page.now) packets.items)) }
     ensures same { OnErr result (commands.new.items ≡ commands.old.items) }
+    ensures noted { IsNoted result grower.old grower.new }
 {
     if packets.is_empty() {
         return Ok(());
     }
-    let entries = entries_of(alloc, page, packets)?;
-    commands.push(Command::Put(Put {
+    let entries = entries_of(grower, page, packets)?;
+    let put = Put {
         entries: Listed::of(entries),
-    }))?;
+    };
+    grower.push(commands, Command::Put(put))?;
     Ok(())
 }
 
 /// Appends the end of the page's stream, if the page is its last.
-pub fn push_end(page: &Page<'_>, commands: &mut Vec<Command>) -> Result<(), Memory>
+pub fn push_end(
+    grower: &mut Grower,
+    page: &Page<'_>,
+    commands: &mut Vec<Command>,
+) -> Result<(), Memory>
     ensures ok { OnOk result (commands.new.items ≡ commands.old.items ++ end_of page.now) }
     ensures same { OnErr result (commands.new.items ≡ commands.old.items) }
+    ensures noted { IsNoted result grower.old grower.new }
 {
     if page.is_last() {
-        commands.push(Command::End(page.serial()))?;
+        grower.push(commands, Command::End(page.serial()))?;
     }
     Ok(())
 }
 
 /// Adds the serial of the page's stream to those whose ends wait, if the page is its last.
-pub fn push_serial(page: &Page<'_>, ends: &mut Vec<u32>) -> Result<(), Memory>
-    ensures { OnOk result (ends.new.items ≡ ends.old.items ++ ends_by page.now) }
+pub fn push_serial(grower: &mut Grower, page: &Page<'_>, ends: &mut Vec<u32>) -> Result<(), Memory>
+    ensures noted { IsNoted result grower.old grower.new }
+    ensures ends { OnOk result (ends.new.items ≡ ends.old.items ++ ends_by page.now) }
 {
     if page.is_last() {
-        ends.push(page.serial())?;
+        grower.push(ends, page.serial())?;
     }
     Ok(())
 }

@@ -2,11 +2,12 @@
 ghost use Rattle.std.specs.Prelude.{◌≡◌, ◌≤◌, ◌++◌, ◌-◌, [], List, ℕ, IfOk, length, sum_by, take, drop};
 ghost use Rattle.std.specs.Option.{SomeIff};
 ghost use Rattle.import_gather.specs.Headers.{is_skeleton, lacking, wanted, wanted_by};
+ghost use Rattle.import_gather.specs.Refusals.{IsNoted};
 
+use crate::grower::Grower;
 use crate::limits::MOST_HEADERS;
 use import_commands::header_count;
 use ogg_command::{Listed, Memory};
-use std::alloc::Global;
 
 /// How many packets of a stream are kept as headers, by the first.
 #[tactic(auto, unfolding(crate::specs::Headers::wanted_by))]
@@ -33,34 +34,36 @@ pub fn wanted(headers: &[Listed<u8>]) -> usize
 /// Appends as many packets to the headers as are lacking, and gives back the others. After `Memory` some of the
 /// packets are lost.
 pub fn keep_headers(
-    alloc: Global,
+    grower: &mut Grower,
     headers: &mut Vec<Listed<u8>>,
     packets: Vec<Listed<u8>>,
 ) -> Result<Vec<Listed<u8>>, Memory>
     ensures kept { IfOk result (λ later. headers.new.items ≡ headers.old.items ++ take (lacking headers.old.items) packets.items) }
     ensures later { IfOk result (λ later. later.items ≡ drop (lacking headers.old.items) packets.items) }
+    ensures noted { IsNoted result grower.old grower.new }
 {
     let room = wanted(headers.as_slice()).saturating_sub(headers.len());
-    share(alloc, headers, packets, room)
+    share(grower, headers, packets, room)
 }
 
 fn share(
-    alloc: Global,
+    grower: &mut Grower,
     headers: &mut Vec<Listed<u8>>,
     packets: Vec<Listed<u8>>,
     room: usize,
 ) -> Result<Vec<Listed<u8>>, Memory>
     ensures kept { IfOk result (λ later. headers.new.items ≡ headers.old.items ++ take room packets.items) }
     ensures later { IfOk result (λ later. later.items ≡ drop room packets.items) }
+    ensures noted { IsNoted result grower.old grower.new }
 {
-    let mut later = Vec::new(alloc);
+    let mut later = grower.empty();
     let mut left = room;
     for packet in packets {
         if left > 0 {
-            headers.push(packet)?;
+            grower.push(headers, packet)?;
             left -= 1;
         } else {
-            later.push(packet)?;
+            grower.push(&mut later, packet)?;
         }
     }
     Ok(later)

@@ -3,12 +3,13 @@ ghost use Rattle.std.specs.Prelude.{◌≡◌, ◌≤◌, ◌<◌, ◌-◌, ◌^
 ghost use Rattle.std.specs.Option.{SomeIff};
 ghost use Rattle.import_gather.specs.Kept.{KeptStream, TakesPage, entered, is_waiting, without_rest};
 ghost use Rattle.import_gather.specs.Giving.{bare};
+ghost use Rattle.import_gather.specs.Refusals.{IsNoted};
 
 use crate::cutting::cut_page;
+use crate::grower::Grower;
 use crate::headers::{keep_headers, left_behind, wanted};
 use ogg_command::{Listed, Memory};
 use ogg_page::Page;
-use std::alloc::Global;
 use std::marker::Model;
 use std::mem;
 
@@ -33,15 +34,18 @@ impl Model for Kept {
 
 impl Kept {
     /// A stream after its first page, which holds one whole packet.
-    pub fn enter(alloc: Global, page: &Page<'_>) -> Result<Kept, Memory>
-        ensures { IfOk result (λ kept. kept ≡ entered page.now) }
+    pub fn enter(grower: &mut Grower, page: &Page<'_>) -> Result<Kept, Memory>
+        ensures noted { IsNoted result grower.old grower.new }
+        ensures kept { IfOk result (λ kept. kept ≡ entered page.now) }
     {
-        let mut headers = Vec::new(alloc);
-        headers.push(Listed::of(Vec::from_slice(alloc, page.body())?))?;
+        let mut packet = grower.empty();
+        grower.append(&mut packet, page.body())?;
+        let mut headers = grower.empty();
+        grower.push(&mut headers, Listed::of(packet))?;
         Ok(Kept {
             serial: page.serial(),
             headers,
-            rest: Vec::new(alloc),
+            rest: grower.empty(),
             ended: page.is_last(),
         })
     }
@@ -73,18 +77,19 @@ impl Kept {
     /// Takes a page of the stream, and gives back the packets that end in it and aren't kept as headers.
     pub fn take_page(
         &mut self,
-        alloc: Global,
+        grower: &mut Grower,
         page: &Page<'_>,
         begun: bool,
     ) -> Result<Vec<Listed<u8>>, Memory>
-        ensures { IfOk result (λ later. TakesPage begun page.now self.old self.new later.items) }
+        ensures noted { IsNoted result grower.old grower.new }
+        ensures takes { IfOk result (λ later. TakesPage begun page.now self.old self.new later.items) }
     {
-        let packets = cut_page(alloc, &mut self.rest, page)?;
+        let packets = cut_page(grower, &mut self.rest, page)?;
         self.ended = self.ended || page.is_last();
         if begun {
             return Ok(packets);
         }
-        let later = keep_headers(alloc, &mut self.headers, packets)?;
+        let later = keep_headers(grower, &mut self.headers, packets)?;
         Ok(later)
     }
 
@@ -103,10 +108,10 @@ impl Kept {
     }
 
     /// Takes the headers out.
-    pub fn take_headers(&mut self, alloc: Global) -> Vec<Listed<u8>>
+    pub fn take_headers(&mut self, grower: &Grower) -> Vec<Listed<u8>>
         ensures value { result.items ≡ self.old.headers }
         ensures after { self.new ≡ bare self.old }
     {
-        mem::replace(&mut self.headers, Vec::new(alloc))
+        mem::replace(&mut self.headers, grower.empty())
     }
 }

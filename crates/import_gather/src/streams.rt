@@ -3,12 +3,13 @@ ghost use Rattle.std.specs.Prelude.{◌≡◌, ◌<◌, ◌^◌, true, nat_eq, n
 ghost use Rattle.std.specs.List.{list_any, position};
 ghost use Rattle.import_gather.specs.Kept.{KeptStream, TakenBy, has_kept, is_ready, is_waiting, kept_bytes, rest_of, without_rest};
 ghost use Rattle.import_gather.specs.Limits.{most_kept};
+ghost use Rattle.import_gather.specs.Refusals.{IsNoted};
 
+use crate::grower::Grower;
 use crate::kept::Kept;
 use crate::limits::MOST_KEPT;
 use ogg_command::{Listed, Memory};
 use ogg_page::Page;
-use std::alloc::Global;
 
 /// How many bytes of an unfinished packet are kept for the stream with this serial.
 pub fn rest_len(streams: &[Kept], serial: u32) -> usize
@@ -41,21 +42,22 @@ fn place_of(streams: &[Kept], serial: u32) -> Option<usize>
 
 /// The page's stream takes the page, and gives back the packets that end in it and aren't kept as headers.
 pub fn take_page(
-    alloc: Global,
+    grower: &mut Grower,
     streams: &mut [Kept],
     page: &Page<'_>,
     begun: bool,
 ) -> Result<Vec<Listed<u8>>, Memory>
-    ensures { IfOk result (λ later. has_kept page.now.serial streams.old ≡ true
+    ensures noted { IsNoted result grower.old grower.new }
+    ensures takes { IfOk result (λ later. has_kept page.now.serial streams.old ≡ true
         → TakenBy begun page.now streams.old streams.new later.items) }
 {
     match place_of(streams, page.serial()) {
         Some(place) => {
             let stream = &mut streams[place];
-            let later = stream.take_page(alloc, page, begun)?;
+            let later = stream.take_page(grower, page, begun)?;
             Ok(later)
         }
-        None => Ok(Vec::new(alloc)),
+        None => Ok(grower.empty()),
     }
 }
 

@@ -23,7 +23,7 @@ use Rattle.import_mend.specs.Mended.{behind_rest, ends_some, front_values, is_cu
 use Rattle.import_mend.specs.Runs.{ArePut, AreRun, BeginsRun, ComeOut, GoOnUntold, HoldWhole, counts, is_left_out, packets_of, run_of}
 use Rattle.import_mend.specs.Steps.{Mends, broken_off}
 use Rattle.import_mend.specs.Telling.{mend_of}
-use Rattle.import_mend.specs.Ways.{number_due, way_of}
+use Rattle.import_mend.specs.Ways.{is_repeated, number_due, way_of}
 use Rattle.import_mend.specs.Whole.{HasMended, IsStart, TakesPage, TakesPages, broken_links, lost_of, pages_of}
 use Rattle.import_mend.specs.declared.mend.Mend.{Mend}
 use Rattle.import_mend.specs.declared.mend.Mend.TheVariants.{Gap as GapOf, Unfinished as UnfinishedOf, TooLong as TooLongOf}
@@ -35,12 +35,12 @@ use Rattle.import_mend.proofs.Kept.{front_fits, joined_behind, mended_first, men
 use Rattle.import_mend.proofs.Kepts.{begun_rest, rest_after, rest_before, rest_elsewhere}
 use Rattle.import_mend.proofs.Origins.{Known, broken_rest, finished_rest, is_known, mended_position}
 use Rattle.import_mend.proofs.Sound.{whole_left}
-use Rattle.import_mend.proofs.Taken.{restarts_first}
+use Rattle.import_mend.proofs.Taken.{restarts_first, taken_later}
 use Rattle.import_mend.proofs.Waiting.{IsBare, StepOut, marked_same, no_step, other_step, own_step, packet_in, steps_on, waiting_dropped}
-use Rattle.import_mend.proofs.WholeRuns.{first_whole, one_more}
+use Rattle.import_mend.proofs.WholeRuns.{first_whole, hold_as, one_more}
 
 -- ---- what is told of a page that is taken
-abbrev told_by : Bool → Bool → Bool → Bool → Mend → Mend → Mend → Option Mend
+abbrev pub told_by : Bool → Bool → Bool → Bool → Mend → Mend → Mend → Option Mend
 told_by gap joined cut long a b c = cond gap (Some a) (cond joined (cond cut (Some b) None) (cond long (Some c) (Some b)))
 
 never_left : (offset lost : ℕ) (stream : StreamState) (long : Bool) (page : Page) → is_left_out (mend_of offset lost stream long page) ≡ false
@@ -67,7 +67,7 @@ none_told offset lost stream long page e =
     at false false c false f = cc
 
 -- over a gap no packet is joined
-gap_apart : (lost : ℕ) (stream : StreamState) (long : Bool) (page : Page) → nat_lt (number_due lost stream) page.sequence ≡ true → is_joined lost stream long page ≡ false
+pub gap_apart : (lost : ℕ) (stream : StreamState) (long : Bool) (page : Page) → nat_lt (number_due lost stream) page.sequence ≡ true → is_joined lost stream long page ≡ false
 gap_apart lost stream long page gap =
     ap (λ b. b && cond (is_continued page) (not stream.finished) stream.finished && not long && not (is_last page && is_continued page && not (ends_some page.lacing)))
     (ne_eqb page.sequence (number_due lost stream) (λ e. omega (arith, e, ltb-true (number_due lost stream) page.sequence gap)))
@@ -88,6 +88,7 @@ some_told offset lost stream long page some closed =
 pub record Later (offset : ℕ) (page : Page) (old new : Mending) (mend : Option Mend) (more : List Command) : Type 0 where
   pub stream : StreamState
   pub known : stream_in old.gathered.chain.streams page.serial ≡ Some stream
+  pub unrepeated : is_repeated (lost_of old page) stream page ≡ false
   pub told : mend ≡ mend_of offset (lost_of old page) stream (is_too_long old.gathered.link page) page
   pub gathers : GathersLeft (is_joined (lost_of old page) stream (is_too_long old.gathered.link page) page) stream.next_sequence page old.gathered new.gathered more
 
@@ -104,7 +105,13 @@ later_page offset page old new mend more later t = at (way_of old.gathered.chain
         → Gives way offset (lost_of old page) page old new mend more → LeftOut old new mend more ⊎ Later offset page old new mend more
     at Take e m g =
         let (stream, known) = known_later old.gathered.chain (lost_of old page) page later e in
-        inr (record { stream = stream; known = known; told = (m.1 later stream known).1; gathers = (g.1 later stream known).0 })
+        inr (record {
+          stream = stream;
+          known = known;
+          unrepeated = (taken_later old.gathered.chain (lost_of old page) page stream later known e).unrepeated;
+          told = (m.1 later stream known).1;
+          gathers = (g.1 later stream known).0;
+        })
     at Restart e m g = absurd (false≢true (sym later ∙ restarts_first old.gathered.chain (lost_of old page) page e))
     at Stranger e m g = inl (record { same = g.0; none = g.1; told = ap is_left_out m.1 })
     at Repeated e m g = inl (record { same = g.0; none = g.1; told = ap is_left_out m.1 })
@@ -133,12 +140,12 @@ rest_other page old new more f serial ne =
     ∙ begun_rest serial begins link ∙ ap (rest_of serial) t.is
     ∙ rest_elsewhere serial t.front t.stream t.changed t.back (λ e. ne (sym e ∙ t.own)) t.takes.serial ∙ ap (rest_of serial) (sym t.was)
 
-record OwnOut (segments : ℕ) (rest : List ℕ) (part page : Page) (old new : KeptLink) (more : List Command) : Type 0 where
-  packets : List (List ℕ)
-  left : List ℕ
-  cuts : CutsInto segments rest part.lacing part.body packets left
-  out : StepOut page.serial (map (entry_of page) packets) old new more
-  after : rest_of page.serial new.streams ≡ left
+pub record OwnOut (segments : ℕ) (rest : List ℕ) (part page : Page) (old new : KeptLink) (more : List Command) : Type 0 where
+  pub packets : List (List ℕ)
+  pub left : List ℕ
+  pub cuts : CutsInto segments rest part.lacing part.body packets left
+  pub out : StepOut page.serial (map (entry_of page) packets) old new more
+  pub after : rest_of page.serial new.streams ≡ left
 
 same_entries : (page part : Page) (packets : List (List ℕ)) → part.serial ≡ page.serial → part.position ≡ page.position → map (entry_of part) packets ≡ map (entry_of page) packets
 same_entries page part [] serial position = refl
@@ -181,7 +188,7 @@ module _ (offset : ℕ) (page : Page) (old new : Mending) (mend : Option Mend) (
   other_rest : (serial : ℕ) → (serial ≡ page.serial → ⊥) → rest_of serial new.gathered.link.streams ≡ rest_of serial g.link.streams
   other_rest serial ne = rest_other m b.link new.gathered.link more follows serial (λ e. ne (e ∙ named)) ∙ broken_rest joined page.serial serial g ne
 
-  own_out : (segments : ℕ) (rest : List ℕ) → rest_of page.serial b.link.streams ≡ rest → length rest ≡ 255 * segments → OwnOut segments rest m page g.link new.gathered.link more
+  pub own_out : (segments : ℕ) (rest : List ℕ) → rest_of page.serial b.link.streams ≡ rest → length rest ≡ 255 * segments → OwnOut segments rest m page g.link new.gathered.link more
   own_out segments rest is size =
       let t = follows.taken in
       let before : t.stream.rest ≡ rest = rest_before m b.link new.gathered.link more follows there.distinct ∙ ap (λ n. rest_of n b.link.streams) named ∙ is in
@@ -226,7 +233,7 @@ module _ (offset : ℕ) (page : Page) (old new : Mending) (mend : Option Mend) (
       }
 
   -- it begins a run
-  fresh_rest : (j : Bool) → joined ≡ j → is_continued page ≡ false → rest_of page.serial b.link.streams ≡ []
+  pub fresh_rest : (j : Bool) → joined ≡ j → is_continued page ≡ false → rest_of page.serial b.link.streams ≡ []
   fresh_rest true e own =
       let parts = four_parts (nat_eq page.sequence (number_due (lost_of old page) l.stream)) (cond (is_continued page) (not l.stream.finished) l.stream.finished) (not (is_too_long g.link page))
       (not (is_last page && is_continued page && not (ends_some page.lacing))) e in
@@ -296,15 +303,16 @@ module _ (offset : ℕ) (page : Page) (old new : Mending) (mend : Option Mend) (
 pub record Went (serial : ℕ) (run : List Page) (entries : List Entry) (later : List LentAt) (mends : List (Option Mend)) (old new : KeptLink) (given : List Command) : Type 0 where
   pub more : List Entry
   pub whole : HoldWhole serial (run ++ run_of serial later mends) (entries ++ more)
+  pub after : whole.unfinished ≡ rest_of serial new.streams
   pub out : StepOut serial more old new given
 
-first_same : {x y : Option Mend} {xs ys : List (Option Mend)} → x ∷ xs ≡ y ∷ ys → x ≡ y
+pub first_same : {x y : Option Mend} {xs ys : List (Option Mend)} → x ∷ xs ≡ y ∷ ys → x ≡ y
 first_same e = cc
 
-others_same : {x y : Option Mend} {xs ys : List (Option Mend)} → x ∷ xs ≡ y ∷ ys → xs ≡ ys
+pub others_same : {x y : Option Mend} {xs ys : List (Option Mend)} → x ∷ xs ≡ y ∷ ys → xs ≡ ys
 others_same e = cc
 
-not_left : (serial : ℕ) (page : Page) (mend : Option Mend) → counts serial page mend ≡ true → (page.serial ≡ serial) × (is_left_out mend ≡ false)
+pub not_left : (serial : ℕ) (page : Page) (mend : Option Mend) → counts serial page mend ≡ true → (page.serial ≡ serial) × (is_left_out mend ≡ false)
 not_left serial page mend e =
     let parts = and_parts (nat_eq page.serial serial) (not (is_left_out mend)) e in (eqb-true page.serial serial parts.0, no (is_left_out mend) parts.1)
   where
@@ -312,7 +320,7 @@ not_left serial page mend e =
     no true f = cc
     no false f = refl
 
-some_run : (run : List Page) (page : Page) → run ++ page ∷ [] ≢ []
+pub some_run : (run : List Page) (page : Page) → run ++ page ∷ [] ≢ []
 some_run [] page e = cc
 some_run (p ∷ run) page e = cc
 
@@ -320,12 +328,15 @@ pub goes_on : (serial : ℕ) (later : List LentAt) (mends : List (Option Mend)) 
     → AllByRecursion IsPage (pages_of later) → GoOnUntold serial later mends → TakesPages later old new mends given → (run : List Page) (entries : List Entry) → run ≢ []
     → (whole : HoldWhole serial run entries) → whole.unfinished ≡ rest_of serial old.gathered.link.streams
     → Went serial run entries later mends old.gathered.link new.gathered.link given
-goes_on serial [] mends old new before given links h are untold t run entries some whole rest = record {
-  more = [];
-  whole = subst (λ l. HoldWhole serial l (entries ++ [])) (sym (append-nil run)) (subst (HoldWhole serial run) (sym (append-nil entries)) whole);
-  out = subst (λ (m : Mending). StepOut serial [] old.gathered.link m.gathered.link given) (sym t.0)
-      (subst (StepOut serial [] old.gathered.link old.gathered.link) (sym t.2) (no_step serial old.gathered.link));
-}
+goes_on serial [] mends old new before given links h are untold t run entries some whole rest =
+    let (same, unfinished) = hold_as serial run (run ++ []) entries (entries ++ []) (sym (append-nil run)) (sym (append-nil entries)) whole in
+    record {
+      more = [];
+      whole = same;
+      after = unfinished ∙ rest ∙ ap (λ (m : Mending). rest_of serial m.gathered.link.streams) (sym t.0);
+      out = subst (λ (m : Mending). StepOut serial [] old.gathered.link m.gathered.link given) (sym t.0)
+          (subst (StepOut serial [] old.gathered.link old.gathered.link) (sym t.2) (no_step serial old.gathered.link));
+    }
 goes_on serial (lent ∷ later) [] old new before given links h are untold t run entries some whole rest = absurd untold
 goes_on serial (lent ∷ later) (mend ∷ mends) old new before given links h (is, are) (first, none, untold) (next, told, own, others, back, one, all, mends_are, given_is) run entries some whole rest =
     let on : Onward = goes_on serial later mends next new (before ++ own) back held.0 held.1 are untold all' in
@@ -358,13 +369,17 @@ goes_on serial (lent ∷ later) (mend ∷ mends) old new before given links h (i
         → Went serial (run ++ run') (entries ++ steps) later mends next.gathered.link new.gathered.link back
         → run' ++ run_of serial later mends ≡ run_of serial (lent ∷ later) (mend ∷ mends)
         → Went serial run entries (lent ∷ later) (mend ∷ mends) old.gathered.link new.gathered.link given
-    finish steps run' out went is' = record {
-      more = steps ++ went.more;
-      whole = subst (λ l. HoldWhole serial l (entries ++ (steps ++ went.more))) (append_assoc run run' (run_of serial later mends) ∙ ap (λ l. run ++ l) is')
-          (subst (HoldWhole serial ((run ++ run') ++ run_of serial later mends)) (append_assoc entries steps went.more) went.whole);
-      out = subst (StepOut serial (steps ++ went.more) old.gathered.link new.gathered.link) (sym given_is)
-          (steps_on serial steps went.more old.gathered.link next.gathered.link new.gathered.link own back out went.out);
-    }
+    finish steps run' out went is' =
+        let (same, unfinished) = hold_as serial ((run ++ run') ++ run_of serial later mends) (run ++ run_of serial (lent ∷ later) (mend ∷ mends))
+        ((entries ++ steps) ++ went.more) (entries ++ (steps ++ went.more))
+        (append_assoc run run' (run_of serial later mends) ∙ ap (λ l. run ++ l) is') (append_assoc entries steps went.more) went.whole in
+        record {
+          more = steps ++ went.more;
+          whole = same;
+          after = unfinished ∙ went.after;
+          out = subst (StepOut serial (steps ++ went.more) old.gathered.link new.gathered.link) (sym given_is)
+              (steps_on serial steps went.more old.gathered.link next.gathered.link new.gathered.link own back out went.out);
+        }
 
     still : Onward → StepOut serial [] old.gathered.link next.gathered.link own → rest_of serial next.gathered.link.streams ≡ rest_of serial old.gathered.link.streams → counts serial page mend ≡ false
         → Went serial run entries (lent ∷ later) (mend ∷ mends) old.gathered.link new.gathered.link given
@@ -409,8 +424,8 @@ goes_on serial (lent ∷ later) (mend ∷ mends) old new before given links h (i
 -- ---- all of a run
 pub whole_come_out : (serial : ℕ) (earlier pages : List LentAt) (start old new : Mending) (told mends : List (Option Mend)) (before given : List Command)
     → AllByRecursion IsPage (pages_of pages) → IsStart start → TakesPages earlier start old told before → TakesPages pages old new mends given → AreRun serial pages mends
-    → (entries : List Entry) × HoldWhole serial (run_of serial pages mends) entries × ArePut serial entries old.gathered.link.begun given
-    × (IsBare serial old.gathered.link → ComeOut serial (packets_of entries) old.gathered.link new.gathered.link given)
+    → (entries : List Entry) × (whole : HoldWhole serial (run_of serial pages mends) entries) × (whole.unfinished ≡ rest_of serial new.gathered.link.streams)
+    × StepOut serial entries old.gathered.link new.gathered.link given
 whole_come_out serial earlier [] start old new told mends before given are begins first t is = absurd is
 whole_come_out serial earlier (lent ∷ later) start old new told [] before given are begins first t is = absurd is
 whole_come_out serial earlier (lent ∷ later) start old new told (mend ∷ mends) before given (is_page, are) begins first (next, mend', own, others, back, one, all, mends_are, given_is) (run, untold) =
@@ -427,10 +442,8 @@ whole_come_out serial earlier (lent ∷ later) start old new told (mend ∷ mend
           goes_on serial later mends next new (before ++ own) back now has are untold all' (lent.1 ∷ []) b.entries (λ e. cc) b.whole b.after in
           let out : StepOut serial (b.entries ++ w.more) old.gathered.link new.gathered.link given =
           subst (StepOut serial (b.entries ++ w.more) old.gathered.link new.gathered.link) (sym given_is)
-          (steps_on serial b.entries w.more old.gathered.link next.gathered.link new.gathered.link own back b.out w.out) in (
-            b.entries ++ w.more,
-            subst (λ l. HoldWhole serial l (b.entries ++ w.more)) (sym (cond-true (counts serial lent.1 mend) (lent.1 ∷ run_of serial later mends) (run_of serial later mends) run.is)) w.whole,
-            out.put,
-            λ bare. (out.come bare).0,
-          ))
+          (steps_on serial b.entries w.more old.gathered.link next.gathered.link new.gathered.link own back b.out w.out) in
+          let (whole, unfinished) = hold_as serial (lent.1 ∷ run_of serial later mends) (run_of serial (lent ∷ later) (mend ∷ mends)) (b.entries ++ w.more) (b.entries ++ w.more)
+          (sym (cond-true (counts serial lent.1 mend) (lent.1 ∷ run_of serial later mends) (run_of serial later mends) run.is)) refl w.whole in
+          (b.entries ++ w.more, whole, unfinished ∙ w.after, out))
     ]

@@ -20,7 +20,7 @@ use Rattle.link_chain.specs.Laws.TakenLinks.{without}
 use Rattle.chain_rules.specs.Recording.{Stream}
 use Rattle.ogg_command.specs.declared.command.Command.{Command}
 use Rattle.import_gather.specs.Gathered.{AreWanted, Gathered, HasGathered, HoldsSoFar, KeepsUp, Waits, before_last, held_back, without_packet}
-use Rattle.import_gather.specs.Kept.{KeptLink, KeptStream, is_ready, is_waiting, kept_bytes, rest_of, size_of_rest, without_rest}
+use Rattle.import_gather.specs.Kept.{KeptStream, is_ready, is_waiting, kept_bytes, rest_of, size_of_rest, without_rest}
 use Rattle.import_mend.specs.Cut.{cut_back, cut_before, cut_links, cut_pages}
 use Rattle.import_mend.proofs.Alike.{Alike, AreAlike, any_alike, ended_alike, itself, link_alike, number_alike, position_alike, serials_alike, with_alike}
 use Rattle.import_mend.proofs.Cuts.{before_alike, before_is_page, cut_closed, cut_fits, cut_holds, less_bodies, less_lacing}
@@ -375,9 +375,6 @@ cut_are_links serial bytes links a = record {
 pub absent_pages : (serial : ℕ) (bytes : List ℕ) (links : List (List Page)) → AreLinks bytes links → has_stream (last_link links) serial ≡ false → pages_with serial (last_link links) ≡ []
 absent_pages serial bytes [] a none = refl
 absent_pages serial bytes (l ∷ links) a none = without (last_link (l ∷ links)) serial (last_is_link (l ∷ links) a.each (λ e. cc)) none
-
-abbrev pub gathered_of : ChainState → KeptLink → Gathered
-gathered_of chain link = record { chain = chain; link = link }
 
 -- ---- what is gathered
 pub drops : (serial : ℕ) (links : List (List Page)) (g : Gathered) (given : List Command) → HasGathered links g given → HasGathered (cut_links serial links) (without_packet serial g) given

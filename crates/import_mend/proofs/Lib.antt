@@ -10,6 +10,7 @@ mod Held
 mod Kept
 mod Kepts
 mod Lacings
+mod LastPages
 mod Lost
 mod Numbers
 mod Open

@@ -137,7 +137,7 @@ room_later lost page stream' g new is r later way known e =
     let number : ℕ = stream'.next_sequence in
     let m : Page = mended joined number page in
     let b : Gathered = broken_off joined page.serial g in
-    let t : TakenLater g.chain stream' = taken_later g.chain lost page stream' later known way in
+    let t : TakenLater g.chain lost page stream' = taken_later g.chain lost page stream' later known way in
     let m_is : IsPage m = mended_is_page joined number page t.number is in
     let after : new ≡ continued b.chain m = e ∙ cond-false (is_first m) (cond (is_open b.chain) (joined_chain b.chain m) (opened b.chain m)) (continued b.chain m) (mended_first joined number page ∙ later) in
     record {

@@ -237,7 +237,7 @@ module _ (seen : List Page) (page : Page) (old new : Mending) (given more : List
   rest_is : follows.taken.stream.rest ≡ rest_of page.serial b.link.streams
   rest_is = rest_before m b.link new.gathered.link more follows there.distinct ∙ ap (λ n. rest_of n b.link.streams) named
 
-  taken : TakenLater g.chain stream
+  taken : TakenLater g.chain lost page stream
   taken = taken_later g.chain lost page stream later known way
 
   goes : joined ≡ true → is_continued page ≡ true → RestFrom seen page.serial page.sequence (rest_of page.serial b.link.streams)

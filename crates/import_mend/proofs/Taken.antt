@@ -36,14 +36,15 @@ number_left page n e =
       | inr high ↦ ltb-true n (2 ^ 32) (and_parts (is_last page) (nat_lt n (2 ^ 32)) (sym (ap (λ b. b || (is_last page && nat_lt n (2 ^ 32))) high) ∙ e)).1
     ]
 
-pub record TakenLater (chain : ChainState) (stream : StreamState) : Type 0 where
+pub record TakenLater (chain : ChainState) (lost : ℕ) (page : Page) (stream : StreamState) : Type 0 where
   pub small : chain.length_of < 2 ^ 62
+  pub unrepeated : is_repeated lost stream page ≡ false
   pub links : nat_eq chain.links 0 ≡ false
   pub unended : stream.ended ≡ false
   pub number : stream.next_sequence < 2 ^ 32
 
 pub taken_later : (chain : ChainState) (lost : ℕ) (page : Page) (stream : StreamState) → is_first page ≡ false → stream_in chain.streams page.serial ≡ Some stream
-    → way_of chain lost page ≡ Take → TakenLater chain stream
+    → way_of chain lost page ≡ Take → TakenLater chain lost page stream
 taken_later chain lost page stream later known way =
     let known_way : Way = way_of_known chain lost page (stream_in chain.streams page.serial) in
     let a = if_taken (nat_le (2 ^ 62) chain.length_of) Full (cond (is_first page) (way_of_first chain page) known_way) full way in
@@ -56,6 +57,7 @@ taken_later chain lost page stream later known way =
     let f = if_taken (not (leaves_number page stream.next_sequence)) Full Take full e.1 in
     record {
       small = leb-false (2 ^ 62) chain.length_of a.0;
+      unrepeated = e.0;
       links = c.0;
       unended = d.0;
       number = number_left page stream.next_sequence (not_not (leaves_number page stream.next_sequence) f.0);

@@ -238,7 +238,7 @@ nothing_kept : (streams : List KeptStream) → serials streams ≡ [] → stream
 nothing_kept [] e = refl
 nothing_kept (k ∷ streams) e = cc
 
-start_bare : (serial : ℕ) (start : Mending) → IsStart start → IsBare serial start.gathered.link
+pub start_bare : (serial : ℕ) (start : Mending) → IsStart start → IsBare serial start.gathered.link
 start_bare serial start begins = λ _. ap (waiting_in serial) (nothing_kept start.gathered.link.streams begins.gathered.so_far.order)
 
 pub always_bare : (serial : ℕ) (pages : List LentAt) (start new : Mending) (mends : List (Option Mend)) (given : List Command) → IsStart start → TakesPages pages start new mends given

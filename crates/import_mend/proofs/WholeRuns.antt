@@ -1,5 +1,5 @@
 -- The packets that are whole in a run of pages, page by page.
-use Rattle.std.proofs.Common.{◌≡◌, ◌≢◌, ℕ, zero, suc, ◌+◌, ◌/◌, ◌%◌, ◌<◌, cond, List, [], ◌∷◌, ◌++◌, length, map, replicate, sum, refl, sym, ◌∙◌, ap, arith, append_assoc, append-nil}
+use Rattle.std.proofs.Common.{◌≡◌, ◌≢◌, ℕ, zero, suc, ◌+◌, ◌/◌, ◌%◌, ◌<◌, cond, List, [], ◌∷◌, ◌++◌, length, map, replicate, sum, refl, sym, ◌∙◌, ap, subst, arith, append_assoc, append-nil}
 use Rattle.std.specs.Prelude.{nat_lt}
 use Rattle.std.specs.List.{AllByRecursion, concat, flat_map}
 use Rattle.std.proofs.lemmas.Bool.{lt-ltb}
@@ -67,6 +67,27 @@ all_app serial (x ∷ xs) ys (own, a) b = (own, all_app serial xs ys a b)
 map_positions : (xs ys : List Entry) → map (λ (e : Entry). e.position) (xs ++ ys) ≡ map (λ (e : Entry). e.position) xs ++ map (λ (e : Entry). e.position) ys
 map_positions [] ys = refl
 map_positions (x ∷ xs) ys = ap (λ l. x.position ∷ l) (map_positions xs ys)
+
+-- ---- the same pages hold the same packets
+pub hold_as : (serial : ℕ) (pages others : List Page) (a b : List Entry) → pages ≡ others → a ≡ b → (w : HoldWhole serial pages a)
+    → (v : HoldWhole serial others b) × (v.unfinished ≡ w.unfinished)
+hold_as serial pages others a b e f w = (
+  record {
+    rest = w.rest;
+    rest_positions = w.rest_positions;
+    segments = w.segments;
+    unfinished = w.unfinished;
+    lacing = ap joined_lacing (sym e) ∙ w.lacing ∙ ap (λ p. values_before p ++ (laced a ++ replicate w.segments 255)) e
+        ∙ ap (λ l. values_before others ++ (laced l ++ replicate w.segments 255)) f;
+    bodies = ap joined_bodies (sym e) ∙ w.bodies ∙ ap (λ l. w.rest ++ (bytes_in l ++ w.unfinished)) f;
+    rest_size = w.rest_size ∙ ap (λ p. sum (values_before p)) e;
+    unfinished_size = w.unfinished_size;
+    positions = ap positions_of (sym e) ∙ w.positions ∙ ap (λ l. w.rest_positions ++ map (λ (x : Entry). x.position) l) f;
+    rest_count = w.rest_count ∙ ap (λ p. packets_ended (values_before p)) e;
+    own = subst (AllByRecursion (λ (x : Entry). x.serial ≡ serial)) f w.own;
+  },
+  refl,
+)
 
 -- ---- the first page of a run
 pub first_whole : (serial : ℕ) (page : Page) (front front_bytes values body : List ℕ) (packets : List (List ℕ)) (left : List ℕ) → page.serial ≡ serial

@@ -1,6 +1,6 @@
 -- Which packets lie whole in pages of a stream that came one after the other, and that they come out. How packets lie in
 -- pages stands in RFC 3533, sections 5 and 6.
-use Rattle.std.specs.Prelude.{◌≡◌, ◌≢◌, ℕ, ◌*◌, Bool, true, false, not, ◌&&◌, nat_eq, if◌then◌else◌, Option, Some, None, List, [], ◌∷◌, ◌++◌, length, map, replicate, sum, take, ⊤}
+use Rattle.std.specs.Prelude.{◌≡◌, ◌≢◌, ℕ, ◌*◌, Bool, true, false, not, ◌&&◌, nat_eq, nat_lt, if◌then◌else◌, Option, Some, None, List, [], ◌∷◌, ◌++◌, length, map, replicate, sum, take, ⊤}
 use Rattle.std.specs.List.{AllByRecursion, filter, flat_map}
 use Rattle.ogg_page.specs.Page.{Page}
 use Rattle.ogg_page.specs.Lacing.{ends_open, lace}
@@ -13,7 +13,7 @@ use Rattle.ogg_command.specs.declared.command.Command.TheVariants.{Begin as Begi
 use Rattle.ogg_command.specs.declared.command.Entry.{Entry}
 use Rattle.ogg_command.specs.declared.command.NewStream.{NewStream}
 use Rattle.import_gather.specs.Kept.{KeptLink, KeptStream}
-use Rattle.import_mend.specs.Mended.{front_values}
+use Rattle.import_mend.specs.Mended.{ends_some, front_values}
 use Rattle.import_mend.specs.declared.mend.Mend.{Mend}
 use Rattle.import_mend.specs.declared.mend.Mend.TheVariants.{Junk, Gap, Restart, Stranger, Repeated, Unfinished, TooLong, Misshapen, Full}
 
@@ -63,6 +63,53 @@ abbrev pub AreRun : ℕ → List LentAt → List (Option Mend) → Type 0
 AreRun serial [] mends = ⊥
 AreRun serial (lent ∷ later) [] = ⊥
 AreRun serial (lent ∷ later) (mend ∷ mends) = BeginsRun serial lent.1 mend × GoOnUntold serial later mends
+
+-- ---- a stream's last page
+-- nothing is told of a page, or only that a packet is unfinished
+abbrev pub tells_end : Option Mend → Bool
+tells_end None = true
+tells_end (Some (Unfinished offset serial)) = true
+tells_end (Some (Junk offset bytes)) = false
+tells_end (Some (Gap offset serial from to)) = false
+tells_end (Some (Restart offset)) = false
+tells_end (Some (Stranger offset serial)) = false
+tells_end (Some (Repeated offset serial)) = false
+tells_end (Some (TooLong offset serial)) = false
+tells_end (Some (Misshapen offset serial)) = false
+tells_end (Some (Full offset serial)) = false
+
+-- it is told that a packet which goes on into the page isn't whole
+abbrev pub tells_loss : Option Mend → Bool
+tells_loss None = false
+tells_loss (Some (Gap offset serial from to)) = true
+tells_loss (Some (TooLong offset serial)) = true
+tells_loss (Some (Unfinished offset serial)) = false
+tells_loss (Some (Junk offset bytes)) = false
+tells_loss (Some (Restart offset)) = false
+tells_loss (Some (Stranger offset serial)) = false
+tells_loss (Some (Repeated offset serial)) = false
+tells_loss (Some (Misshapen offset serial)) = false
+tells_loss (Some (Full offset serial)) = false
+
+-- A page of the stream that isn't left out is its last.
+pub record IsLastOf (serial : ℕ) (page : Page) (mend : Option Mend) : Type 0 where
+  pub is : counts serial page mend ≡ true
+  pub later : is_first page ≡ false
+  pub last : is_last page ≡ true
+
+-- The stream's last page goes on from the pages before it, after which these bytes of a packet are kept: its continued
+-- flag says whether there are some, and if there are, that packet ends in the page. The page may leave another packet
+-- unfinished, which is told.
+pub record GoesOnLast (serial : ℕ) (kept : List ℕ) (page : Page) (mend : Option Mend) : Type 0 where
+  pub is : IsLastOf serial page mend
+  pub told : tells_end mend ≡ true
+  pub flag : is_continued page ≡ nat_lt 0 (length kept)
+  pub ends : is_continued page ≡ true → ends_some page.lacing ≡ true
+
+-- The stream's last page begins with a packet of its own, or with the rest of one that is lost.
+pub record BeginsLast (serial : ℕ) (kept : List ℕ) (page : Page) (mend : Option Mend) : Type 0 where
+  pub is : IsLastOf serial page mend
+  pub lost : is_continued page ≡ true → tells_loss mend ≡ false → kept ≡ []
 
 -- ---- the packets that are whole in them
 -- the lacing values of a packet that began before these pages

@@ -8,13 +8,14 @@ ghost use Rattle.link_chain.specs.Links.{AreLinks};
 ghost use Rattle.ogg_command.specs.declared.command.Command.{Command};
 ghost use Rattle.ogg_command.specs.declared.command.Entry.{Entry};
 ghost use Rattle.import_gather.specs.Giving.{IsPlain};
+ghost use Rattle.import_gather.specs.Kept.{rest_of};
 ghost use Rattle.import_gather.specs.Gathered.{Gathered, HasGathered, without_packet};
 ghost use Rattle.import_mend.specs.Cut.{cut_links};
 ghost use Rattle.import_mend.specs.Found.{AreGoodPages, FindsNext, FindsPages, HoldsNone};
 ghost use Rattle.import_mend.specs.Gives.{GivesEnd, GivesRest, Mending, open_streams};
 ghost use Rattle.import_mend.specs.Origin.{CommandFrom};
 ghost use Rattle.import_mend.specs.Room.{HasRoom};
-ghost use Rattle.import_mend.specs.Runs.{AreRun, ArePut, ComeOut, HoldWhole, is_left_out, packets_in, packets_of, run_of, waiting_in};
+ghost use Rattle.import_mend.specs.Runs.{AreRun, ArePut, BeginsLast, ComeOut, GoesOnLast, HoldWhole, is_left_out, packets_in, packets_of, run_of, waiting_in};
 ghost use Rattle.import_mend.specs.Ways.{way_of};
 ghost use Rattle.import_mend.specs.Whole.{AreWithin, Becomes, GathersPages, HasMended, IsStart, TakesPage, TakesPages, lost_of, pages_of};
 ghost use Rattle.import_mend.specs.declared.mend.Mend.{Mend};
@@ -88,7 +89,8 @@ pub fn packets_come_from_the_input()
 {}
 
 /// Where nothing is told, nothing is lost: each packet that lies whole in a run of pages comes out, in order. It is put
-/// with the position of the page in which it ends, unless it is a header, which waits for its link's `Begin`.
+/// with the position of the page in which it ends, unless it is a header, which waits for its link's `Begin`. Among all
+/// packets of its stream those of a run stand in one piece.
 pub fn whole_packets_come_out()
     ensures run { (serial : ℕ) (earlier run : List LentAt) (start old new : Mending) (told mends : List (Option Mend)) (before given : List Command)
         → AllByRecursion IsPage (pages_of run) → IsStart start → TakesPages earlier start old told before → TakesPages run old new mends given
@@ -97,6 +99,21 @@ pub fn whole_packets_come_out()
         × ComeOut serial (packets_of entries) old.gathered.link new.gathered.link given }
     ensures one { (serial : ℕ) (pages : List Page) (entries others : List Entry) → HoldWhole serial pages entries → HoldWhole serial pages others
         → entries ≡ others }
+    // A stream's last page goes on with a run, and may leave a packet unfinished: all others come out.
+    ensures last { (serial : ℕ) (earlier run : List LentAt) (lent : LentAt) (start old middle new : Mending) (told mends : List (Option Mend))
+        (mend : Option Mend) (before given own : List Command)
+        → AllByRecursion IsPage (pages_of run) → IsPage lent.1 → IsStart start → TakesPages earlier start old told before
+        → TakesPages run old middle mends given → AreRun serial run mends → TakesPage lent.0 lent.1 middle new mend own
+        → GoesOnLast serial (rest_of serial middle.gathered.link.streams) lent.1 mend
+        → (entries : List Entry) × HoldWhole serial (run_of serial run mends ++ lent.1 ∷ []) entries
+        × ArePut serial entries old.gathered.link.begun (given ++ own)
+        × ComeOut serial (packets_of entries) old.gathered.link new.gathered.link (given ++ own) }
+    // It may also be all of its run.
+    ensures alone { (serial : ℕ) (earlier : List LentAt) (lent : LentAt) (start old new : Mending) (told : List (Option Mend)) (mend : Option Mend)
+        (before own : List Command) → IsPage lent.1 → IsStart start → TakesPages earlier start old told before
+        → TakesPage lent.0 lent.1 old new mend own → BeginsLast serial (rest_of serial old.gathered.link.streams) lent.1 mend
+        → (entries : List Entry) × HoldWhole serial (lent.1 ∷ []) entries × ArePut serial entries old.gathered.link.begun own
+        × ComeOut serial (packets_of entries) old.gathered.link new.gathered.link own }
     // The one packet of a stream's first page is its first header.
     ensures first { (offset : ℕ) (page : Page) (earlier : List LentAt) (start old new : Mending) (told : List (Option Mend)) (mend : Option Mend)
         (before given : List Command) → IsStart start → TakesPages earlier start old told before → TakesPage offset page old new mend given
@@ -108,6 +125,14 @@ pub fn whole_packets_come_out()
     ensures end { (serial : ℕ) (pages : List LentAt) (start new : Mending) (mends : List (Option Mend)) (last : Gathered) (given more : List Command)
         → IsStart start → TakesPages pages start new mends given → GivesEnd new.gathered last more
         → waiting_in serial new.gathered.link.streams ≡ packets_in serial more }
+    // Of a whole input: what comes out by some of its pages stands in one piece among all packets of the stream.
+    ensures whole { (serial : ℕ) (packets : List (List ℕ)) (earlier pages later : List LentAt) (start old middle new : Mending)
+        (told mends others : List (Option Mend)) (last : Gathered) (before given after more : List Command)
+        → IsStart start → TakesPages earlier start old told before → TakesPages pages old middle mends given
+        → TakesPages later middle new others after → GivesEnd new.gathered last more
+        → ComeOut serial packets old.gathered.link middle.gathered.link given
+        → (front : List (List ℕ)) × (behind : List (List ℕ))
+        × (packets_in serial (before ++ (given ++ (after ++ more))) ≡ front ++ (packets ++ behind)) }
 {}
 
 /// After any pages each open stream can be ended, as `Mender::end` and `Import::finish` then do.

@@ -5,8 +5,8 @@ use Rattle.ogg_page.specs.Window.{LentAt}
 use Rattle.link_chain.specs.declared.stream_state.StreamState.{StreamState}
 use Rattle.ogg_command.specs.declared.command.Command.{Command}
 use Rattle.ogg_command.specs.declared.command.Command.TheVariants.{Begin, Put, End}
-use Rattle.feed_codec.specs.declared.item.Record.{Record}
-use Rattle.feed_codec.specs.declared.reply.Reply.{Reply}
+use Rattle.feed_records.specs.declared.item.Record.{Record}
+use Rattle.feed_replies.specs.declared.reply.Reply.{Reply}
 use Rattle.import_changes.specs.Changed.{ChangeState, HasChangedBeside, IsPlain}
 use Rattle.feed_run.specs.Answering.{AnswersAll}
 use Rattle.feed_run.specs.Counting.{commands_in}

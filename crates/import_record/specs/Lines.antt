@@ -1,7 +1,7 @@
 -- The lines of a recording, each with its line feed. They are ours.
 use Rattle.std.specs.Prelude.{ℕ, List, ◌++◌, codes}
 use Rattle.std.specs.Fmt.{decimal}
-use Rattle.feed_codec.specs.Reply.{line_end}
+use Rattle.feed_replies.specs.Reply.{line_end}
 use Rattle.ogg_command.specs.Refusal.{code_of, name_of}
 use Rattle.ogg_command.specs.declared.refusal.Refusal.{Refusal}
 use Rattle.import_record.specs.declared.lines.Totals.{Totals}

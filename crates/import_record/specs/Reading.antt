@@ -1,9 +1,9 @@
 -- What a step over an input that is read does. Ours.
 use Rattle.std.specs.Prelude.{◌≡◌, ℕ, Option, Some, None, Ok, List, []}
 use Rattle.ogg_page.specs.Window.{LentAt}
-use Rattle.feed_codec.specs.declared.item.Record.{Record}
-use Rattle.feed_codec.specs.declared.item.Record.TheVariants.{Flush}
-use Rattle.feed_codec.specs.declared.reply.Reply.{Reply}
+use Rattle.feed_records.specs.declared.item.Record.{Record}
+use Rattle.feed_records.specs.declared.item.Record.TheVariants.{Flush}
+use Rattle.feed_replies.specs.declared.reply.Reply.{Reply}
 use Rattle.import_pages.specs.Reader.{HasAdvanced, ReaderState}
 use Rattle.import_mend.specs.Found.{PassesOne}
 use Rattle.import_record.specs.Steps.{IntakeState, Takes}

@@ -3,8 +3,8 @@ use Rattle.std.specs.Prelude.{◌≡◌, ℕ, Option, List, ◌++◌}
 use Rattle.std.specs.List.{AllByRecursion}
 use Rattle.ogg_page.specs.Page.{Page}
 use Rattle.ogg_command.specs.declared.command.Command.{Command}
-use Rattle.feed_codec.specs.declared.item.Record.{Record}
-use Rattle.feed_codec.specs.declared.reply.Reply.{Reply}
+use Rattle.feed_records.specs.declared.item.Record.{Record}
+use Rattle.feed_replies.specs.declared.reply.Reply.{Reply}
 use Rattle.import_changes.specs.Changed.{ChangeState, HasChangedBeside, IsPlain}
 use Rattle.import_changes.specs.declared.options.ChangeOptions.{ChangeOptions}
 use Rattle.import_mend.specs.Gives.{GivesEnd, Mending, mend_at_end, mending}

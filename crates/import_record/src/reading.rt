@@ -14,7 +14,7 @@ ghost use Rattle.import_pages.specs.Reader.{ReadsOnce, started, unlent};
 use crate::Memory;
 use crate::fault::RecordFault;
 use crate::intake::{Intake, Taken};
-use feed_codec::Reply;
+use feed_replies::Reply;
 use feed_run::Runner;
 use import_changes::ChangeOptions;
 use import_mend::Mend;

@@ -9,10 +9,10 @@ use Rattle.ogg_command.specs.declared.command.Command.TheVariants.{Begin as Begi
 use Rattle.ogg_command.specs.declared.command.Put.{Put}
 use Rattle.ogg_command.specs.declared.command.Begin.{Begin}
 use Rattle.ogg_command.specs.declared.refusal.Refusal.TheVariants.{Memory}
-use Rattle.feed_codec.specs.declared.item.Record.{Record}
-use Rattle.feed_codec.specs.declared.item.Record.TheVariants.{Command as CommandOf, Flush}
-use Rattle.feed_codec.specs.declared.reply.Reply.{Reply}
-use Rattle.feed_codec.specs.declared.reply.Reply.TheVariants.{Refused}
+use Rattle.feed_records.specs.declared.item.Record.{Record}
+use Rattle.feed_records.specs.declared.item.Record.TheVariants.{Command as CommandOf, Flush}
+use Rattle.feed_replies.specs.declared.reply.Reply.{Reply}
+use Rattle.feed_replies.specs.declared.reply.Reply.TheVariants.{Refused}
 use Rattle.feed_run.specs.Refusing.{refuses}
 use Rattle.import_renumber.specs.Renumbering.{Answered, AnswersBegin, AnswersLater, AnswersUnder, BeginsUnder, Failed, IsSpare, IsUnder, Renumbering, begun_serials, end_given, put_given}
 

@@ -8,7 +8,7 @@ ghost use Rattle.ogg_command.specs.declared.command.Command.{Command as CommandO
 
 use crate::Memory;
 use crate::copying::{entries_given, given_to, streams_named};
-use feed_codec::Reply;
+use feed_replies::Reply;
 use feed_run::Runner;
 use import_changes::{free_serial, name_all};
 use link_chain::Serials;

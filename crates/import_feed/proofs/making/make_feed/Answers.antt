@@ -1,5 +1,5 @@
 use Rattle.std.proofs.Common.{refl}
-use Rattle.feed_codec.specs.Record.{announcement}
+use Rattle.feed_records.specs.Record.{announcement}
 use Rattle.import_feed.proofs.Ends.{breaks_first, finished_made, finished_stopped, first_stops}
 use Rattle.import_feed.proofs.Turns.{none_prefix}
 use Rattle.import_feed.proofs.making.make_feed.Goals as goal

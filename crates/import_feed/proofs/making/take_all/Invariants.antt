@@ -1,6 +1,6 @@
 use Rattle.std.proofs.Common.{◌≤◌, Option, List, ℕ}
 use Rattle.std.specs.Io.KnownBytes.{Appends}
-use Rattle.feed_codec.specs.Record.{announcement}
+use Rattle.feed_records.specs.Record.{announcement}
 use Rattle.import_feed.specs.Turn.{GoesOn, IsStarted, StillMakes}
 use Rattle.import_feed.proofs.making.take_all.Given as goal
 use Rattle.import_changes.specs.declared.options.ChangeOptions.{ChangeOptions}

@@ -1,5 +1,5 @@
 use Rattle.std.proofs.Common.{[], refl}
-use Rattle.feed_codec.specs.Record.{announcement}
+use Rattle.feed_records.specs.Record.{announcement}
 use Rattle.import_feed.proofs.MendedSteps.{mended_made, mended_stopped, no_announcement, no_feed, starts_mended}
 use Rattle.import_feed.proofs.Turns.{none_prefix}
 use Rattle.import_feed.proofs.mended.make_mended_feed.Goals as goal

@@ -16,9 +16,10 @@ loop-value-preserved c =
     let size : length piece ≡ value = c.split_at.ensures.front_len ∙ c.from.ensures in
     let split : left ≡ piece ++ others =
     sym (ap (λ l. l ++ others) c.split_at.ensures.front ∙ ap (λ l. take c.from.result left ++ l) c.split_at.ensures.back ∙ take-append-drop c.from.result left) in
-    let more : c.extend_from_slice.new.self.items ≡ c.loop-value.rest.items ++ piece = c.in_ok-extend_from_slice.ensures.items in
+    let more : c.append.new.list.items ≡ c.loop-value.rest.items ++ piece = c.in_ok-append.ensures.items in
     let next : take (i + 1) lacing ≡ take i lacing ++ value ∷ [] = take_more lacing i 0 c.loop-value-test.true in
     let whole : sum (drop (i + 1) lacing) ≡ length others = whole_on lacing left piece others i value c.loop-value-test.true refl c.loop-value.invariant.whole size split in
+    let noted : c.append.new.self ≡ c.args.grower.now = c.in_ok-append.ensures.noted ∙ c.loop-value.invariant.noted in
     elim c.if-value-lt-FULL_VALUE.branch [
       | then-value-lt-FULL_VALUE+in_ok-end_packet w ↦
           (let lefts : c.if-value-lt-FULL_VALUE.left.now ≡ others = ap (λ (l : Bor (List ℕ)). l.now) w.left-is in
@@ -32,6 +33,7 @@ loop-value-preserved c =
                 c.if-value-lt-FULL_VALUE.packets.items [] c.if-value-lt-FULL_VALUE.rest.items others c.if-value-lt-FULL_VALUE.left.now next packets rests lefts
                 (cut_end segments rest (take i lacing) c.args.body.now c.loop-value.packets.items c.loop-value.rest.items left piece others value w.if-value-lt-FULL_VALUE.true size split
                 (c.loop-value.invariant.cut segments e));
+            noted = w.grower-is ∙ w.in_ok-end_packet.ensures.noted ∙ noted;
           })
       | else-value-lt-FULL_VALUE w ↦
           (let lefts : c.if-value-lt-FULL_VALUE.left.now ≡ others = ap (λ (l : Bor (List ℕ)). l.now) w.left-is in
@@ -45,11 +47,12 @@ loop-value-preserved c =
                 (c.loop-value.rest.items ++ piece) c.if-value-lt-FULL_VALUE.rest.items others c.if-value-lt-FULL_VALUE.left.now next packets rests lefts
                 (cut_full segments rest (take i lacing) c.args.body.now c.loop-value.packets.items c.loop-value.rest.items left piece others value full size split
                 (c.loop-value.invariant.cut segments e));
+            noted = w.grower-is ∙ noted;
           })
     ]
 
-pub returns : goal.returns
-returns c = λ segments e.
+pub returns-clause-packets : goal.returns-clause-packets
+returns-clause-packets c = λ segments e.
     let lacing : List ℕ = c.args.lacing.now in
     let i : ℕ = c.loop-value.value-index in
     cut_all segments c.args.rest.now.items lacing c.args.body.now c.loop-value.packets.items c.loop-value.rest.items c.loop-value.left.now

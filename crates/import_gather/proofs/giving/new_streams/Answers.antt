@@ -25,12 +25,15 @@ loop-stream-preserved c =
     let stream : KeptStream = get_or now i c.stream-item.result in
     let inside : i < length streams = c.loop-stream-test.true in
     let own : stream ≡ get_or now i stream = get_or_default now i c.stream-item.result stream (omega (arith, c.loop-stream.auto.streams, inside)) in
+    let noted : c.push.new.self ≡ c.args.grower.now = c.in_ok-push.ensures.noted ∙ c.loop-stream.invariant.noted in
     let was : stream ≡ get_or streams i stream = next_is streams now i stream inside c.loop-stream.invariant.bare own in
+    let made : c.new_stream-stream.result ≡ new_stream (get_or streams i stream) =
+    c.new_stream-stream.ensures stream (sym c.serial-serial.ensures) (sym c.take_headers-headers.ensures.value) ∙ ap new_stream was in
+    let pushed : c.push.new.list.items ≡ c.loop-stream.new.items ++ c.new_stream-stream.result ∷ [] = c.in_ok-push.ensures.items in
     record {
-      new = c.in_ok-push.ensures.items ∙ ap (λ l. l ++ c.new_stream.result ∷ []) c.loop-stream.invariant.new
-          ∙ ap (λ n. map new_stream (take i streams) ++ n ∷ [])
-          (c.new_stream.ensures stream (sym c.serial-serial.ensures) (sym c.take_headers-headers.ensures.value) ∙ ap new_stream was)
+      new = pushed ∙ ap (λ l. l ++ c.new_stream-stream.result ∷ []) c.loop-stream.invariant.new ∙ ap (λ n. map new_stream (take i streams) ++ n ∷ []) made
           ∙ sym (map_more new_stream streams i stream inside);
       bare = ap (slice_set now i) c.take_headers-headers.ensures.after
           ∙ map_over_more bare streams now i stream inside c.loop-stream.invariant.bare own;
+      noted = noted;
     }

@@ -45,12 +45,12 @@ taken_at begun streams place changed page later d e t =
       takes = t;
     }
 
-pub returns-in_ok-later-in-Some : goal.returns-in_ok-later-in-Some
-returns-in_ok-later-in-Some c = λ _.
+pub returns-in_ok-later-in-Some-clause-takes : goal.returns-in_ok-later-in-Some-clause-takes
+returns-in_ok-later-in-Some-clause-takes c = λ _.
     taken_at c.args.begun c.args.streams.now c.in-Some.place c.take_page.new.self c.args.page.now c.in_ok-later-in-Some.later.items c.index-streams-place.result
     (ap (λ s. position (has s) c.args.streams.now) (sym c.serial.ensures) ∙ sym c.in-Some.ensures)
-    c.in_ok-later-in-Some.ensures
+    c.in_ok-later-in-Some.ensures.takes
 
-pub returns-in-None : goal.returns-in-None
-returns-in-None c = λ e. absurd (no_place (has c.args.page.now.serial) c.args.streams.now
+pub returns-in-None-clause-takes : goal.returns-in-None-clause-takes
+returns-in-None-clause-takes c = λ e. absurd (no_place (has c.args.page.now.serial) c.args.streams.now
     (ap (λ s. position (has s) c.args.streams.now) (sym c.serial.ensures) ∙ sym c.in-None.ensures) e)

@@ -20,7 +20,7 @@ take-requires-clause-fits c =
     let page : Page = c.args.page.now in
     let joined : is_joined c.args.lost c.args.stream (is_too_long g.link page) page ≡ true =
     ap (λ b. is_joined c.args.lost c.args.stream b page) (sym c.is_too_long.ensures) ∙ sym c.is_joined-joined.ensures ∙ c.if-joined.true in
-    let taken : TakenLater g.chain c.args.stream = taken_later g.chain c.args.lost page c.args.stream c.requires.later c.requires.known c.requires.way in
+    let taken : TakenLater g.chain c.args.lost page c.args.stream = taken_later g.chain c.args.lost page c.args.stream c.requires.later c.requires.known c.requires.way in
     ap (fault_of_page g.chain) (sym (unchanged c.args.lost c.args.stream (is_too_long g.link page) page joined c.if-lost-eq0.true (c.is_left_whole.ensures c.if-is_left_whole.true)))
     ∙ mended_fits c.args.lost c.args.stream page g true (sym joined) c.requires.later taken.links c.requires.known taken.unended
 
@@ -37,7 +37,7 @@ take_mended-requires-clause-fits c =
     let joined : Bool = c.is_joined-joined.result in
     let is : joined ≡ is_joined c.args.lost c.args.stream (is_too_long g.link page) page =
     c.is_joined-joined.ensures ∙ ap (λ b. is_joined c.args.lost c.args.stream b page) c.is_too_long.ensures in
-    let taken : TakenLater g.chain c.args.stream = taken_later g.chain c.args.lost page c.args.stream c.requires.later c.requires.known c.requires.way in
+    let taken : TakenLater g.chain c.args.lost page c.args.stream = taken_later g.chain c.args.lost page c.args.stream c.requires.later c.requires.known c.requires.way in
     let off : c.break_off.new.gatherer ≡ broken_off joined page.serial g = c.break_off.ensures ∙ ap (λ s. broken_off joined s g) c.serial.ensures in
     ap (λ (h : Gathered). fault_of_page h.chain (mended joined c.args.stream.next_sequence page)) off
     ∙ mended_fits c.args.lost c.args.stream page g joined is c.requires.later taken.links c.requires.known taken.unended
@@ -49,7 +49,7 @@ take_mended-requires-clause-short c =
     let joined : Bool = c.is_joined-joined.result in
     let is : joined ≡ is_joined c.args.lost c.args.stream (is_too_long g.link page) page =
     c.is_joined-joined.ensures ∙ ap (λ b. is_joined c.args.lost c.args.stream b page) c.is_too_long.ensures in
-    let taken : TakenLater g.chain c.args.stream = taken_later g.chain c.args.lost page c.args.stream c.requires.later c.requires.known c.requires.way in
+    let taken : TakenLater g.chain c.args.lost page c.args.stream = taken_later g.chain c.args.lost page c.args.stream c.requires.later c.requires.known c.requires.way in
     let off : c.break_off.new.gatherer ≡ broken_off joined page.serial g = c.break_off.ensures ∙ ap (λ s. broken_off joined s g) c.serial.ensures in
     ap (λ (h : Gathered). is_too_long h.link (mended joined c.args.stream.next_sequence page)) off
     ∙ mended_is_short c.args.lost c.args.stream page g joined is c.requires.later c.whole-bytes.ensures.is_page taken.number
@@ -59,7 +59,7 @@ take_mended-requires-clause-small c =
     let g : Gathered = c.args.gatherer.now in
     let page : Page = c.args.page.now in
     let joined : Bool = c.is_joined-joined.result in
-    let taken : TakenLater g.chain c.args.stream = taken_later g.chain c.args.lost page c.args.stream c.requires.later c.requires.known c.requires.way in
+    let taken : TakenLater g.chain c.args.lost page c.args.stream = taken_later g.chain c.args.lost page c.args.stream c.requires.later c.requires.known c.requires.way in
     let off : c.break_off.new.gatherer ≡ broken_off joined page.serial g = c.break_off.ensures ∙ ap (λ s. broken_off joined s g) c.serial.ensures in
     let left : IsPage (mended joined c.args.stream.next_sequence page) = mended_is_page joined c.args.stream.next_sequence page taken.number c.whole-bytes.ensures.is_page in
     omega (

@@ -8,8 +8,8 @@ use Rattle.import_feed.proofs.source.Source.end.Goals as goal
 
 pub returns : goal.returns
 returns c =
-    let inside : Sourced = record { chain = c.self.inside.gatherer.chain; link = c.self.inside.gatherer.link; changes = c.self.inside.changes } in
-    let new : Sourced = record { chain = c.end.new.self.chain; link = c.end.new.self.link; changes = c.apply.new.self } in
+    let inside : Sourced = record { chain = c.self.inside.gatherer.chain; link = c.self.inside.gatherer.link; refused = c.self.inside.gatherer.refused; changes = c.self.inside.changes } in
+    let new : Sourced = record { chain = c.end.new.self.chain; link = c.end.new.self.link; refused = c.end.new.self.refused; changes = c.apply.new.self } in
     let more : List Command = begin_if (waits inside.link) inside.link in
     record {
       ok = subst (λ (s : Sourced). GathersRest s new c.in-Ok-apply.now.items) c.self.view_is

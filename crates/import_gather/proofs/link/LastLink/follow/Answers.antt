@@ -28,7 +28,7 @@ returns-clause-ok c =
       passed.1,
       follows_at c.args.page.now c.as_mut_slice.result.now c.take_page.new.streams c.self.inside.begun c.self.inside.ends.items c.args.self.now _ c.pass_on.new.self c.in_ok-later.later.items passed.0
           (ap (λ l. link_of l c.self.inside.begun c.self.inside.ends.items) c.as_mut_slice.ensures.value ∙ c.self.view_is)
-          c.in_ok-later.ensures
+          c.in_ok-later.ensures.takes
           (ap (λ l. link_of l c.self.inside.begun c.self.inside.ends.items) (given_back c.take_page.new.streams c.self.inside.streams.items (vec_len c.self.inside.streams) as_long))
           passed.2,
     )
