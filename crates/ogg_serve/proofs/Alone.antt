@@ -1,10 +1,10 @@
 -- Records are answered by a machine without its sessions.
 use Rattle.std.proofs.Common.{◌≡◌, ◌+◌, ℕ, Bool, true, false, Option, Some, None, Result, Ok, Err, List, [], ◌∷◌, sym, ◌∙◌, ap, subst}
 use Rattle.disk_model.specs.Image.{DiskState}
-use Rattle.feed_codec.specs.declared.item.Record.{Record}
-use Rattle.feed_codec.specs.declared.item.Record.TheVariants.{Command as CommandOf, Flush}
-use Rattle.feed_codec.specs.declared.reply.Kept.{Kept}
-use Rattle.feed_codec.specs.declared.reply.Reply.{Reply}
+use Rattle.feed_records.specs.declared.item.Record.{Record}
+use Rattle.feed_records.specs.declared.item.Record.TheVariants.{Command as CommandOf, Flush}
+use Rattle.feed_replies.specs.declared.reply.Kept.{Kept}
+use Rattle.feed_replies.specs.declared.reply.Reply.{Reply}
 use Rattle.feed_run.specs.Answering.{AnswersAll}
 use Rattle.gate_file.specs.declared.fault.OpenFault.{OpenFault}
 use Rattle.ogg_command.specs.declared.command.Command.{Command}

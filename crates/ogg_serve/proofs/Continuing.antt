@@ -4,12 +4,12 @@ use Rattle.std.specs.Prelude.{IfErr, IfSome, is_some, ⊤}
 use Rattle.disk_model.specs.Image.{DiskState}
 use Rattle.link_chain.specs.Recording.{Recording}
 use Rattle.chain_rules.specs.Recording.{add}
-use Rattle.feed_codec.specs.declared.fault.RunFault.{RunFault}
-use Rattle.feed_codec.specs.declared.fault.RunFault.TheVariants.{Feed, Write, TooMany}
-use Rattle.feed_codec.specs.declared.item.Record.{Record}
-use Rattle.feed_codec.specs.declared.item.Record.TheVariants.{Command as CommandOf, Flush}
-use Rattle.feed_codec.specs.declared.reply.Kept.{Kept}
-use Rattle.feed_codec.specs.declared.reply.Reply.{Reply}
+use Rattle.feed_replies.specs.declared.fault.RunFault.{RunFault}
+use Rattle.feed_replies.specs.declared.fault.RunFault.TheVariants.{Feed, Write, TooMany}
+use Rattle.feed_records.specs.declared.item.Record.{Record}
+use Rattle.feed_records.specs.declared.item.Record.TheVariants.{Command as CommandOf, Flush}
+use Rattle.feed_replies.specs.declared.reply.Kept.{Kept}
+use Rattle.feed_replies.specs.declared.reply.Reply.{Reply}
 use Rattle.feed_run.specs.Run.{RunState, Steps, StopsAt, StopsBy, Streams}
 use Rattle.gate_file.specs.declared.fault.OpenFault.{OpenFault}
 use Rattle.ogg_command.specs.declared.command.Command.{Command}
@@ -30,7 +30,7 @@ use Rattle.serve_hub.specs.Running.{Answers, CommandAnswered, FlushAnswered, IsI
 use Rattle.serve_hub.specs.Showing.{Shows, ShowsPlace}
 use Rattle.serve_machine.specs.Hub.{HubState, flush_step as machine_flush, is_failed}
 use Rattle.ogg_serve.specs.Feeding.{FollowsIf, HasAnswered, HasStepped, Reopened, says_failed}
-use Rattle.ogg_serve.specs.Standing.{ContinuesHistory, GoesOnTo, RecorderStands, StandsOn}
+use Rattle.ogg_serve.specs.FileHistory.{ContinuesHistory, GoesOnTo, RecorderStands, StandsOn}
 use Rattle.ogg_serve.specs.declared.feeding.Step.{Step as FeedStep}
 use Rattle.ogg_serve.specs.declared.feeding.Step.TheVariants.{Done, End, Lost as LostOf}
 

@@ -2,12 +2,12 @@
 use Rattle.std.proofs.Common.{◌≡◌, ◌≤◌, ℕ, Bool, true, false, Option, Some, None, Result, Ok, Err, List, [], refl, sym, ◌∙◌, ap, subst, arith, inl, inr, ⊎_elim}
 use Rattle.std.specs.Prelude.{IfSome, IsSome, ⊤}
 use Rattle.disk_model.specs.Image.{DiskState}
-use Rattle.feed_codec.specs.declared.fault.RunFault.{RunFault}
-use Rattle.feed_codec.specs.declared.fault.RunFault.TheVariants.{Feed, Write, TooMany}
-use Rattle.feed_codec.specs.declared.item.Record.{Record as RecordOf}
-use Rattle.feed_codec.specs.declared.item.Record.TheVariants.{Command as CommandOf, Flush as FlushOf}
-use Rattle.feed_codec.specs.declared.reply.Reply.{Reply}
-use Rattle.feed_codec.specs.declared.version.Version.{Version}
+use Rattle.feed_replies.specs.declared.fault.RunFault.{RunFault}
+use Rattle.feed_replies.specs.declared.fault.RunFault.TheVariants.{Feed, Write, TooMany}
+use Rattle.feed_records.specs.declared.item.Record.{Record as RecordOf}
+use Rattle.feed_records.specs.declared.item.Record.TheVariants.{Command as CommandOf, Flush as FlushOf}
+use Rattle.feed_replies.specs.declared.reply.Reply.{Reply}
+use Rattle.feed_records.specs.declared.version.Version.{Version}
 use Rattle.feed_run.specs.Run.{Outcome, Streams, RunState, Steps, StopsBy, StopsAt}
 use Rattle.gate_file.specs.declared.fault.OpenFault.{OpenFault}
 use Rattle.ogg_recorder.specs.Recorder.{RecorderState}

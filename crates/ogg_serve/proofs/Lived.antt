@@ -1,11 +1,11 @@
 -- How far a feed has come by its steps, with calls of sessions between them.
 use Rattle.std.proofs.Common.{◌≡◌, ◌+◌, ℕ, zero, suc, Option, Some, None, Result, Ok, Err, List, [], ◌∷◌, ◌++◌, inl, inr, refl, sym, ◌∙◌, ap, subst, arith, length-append}
 use Rattle.disk_model.specs.Image.{DiskState}
-use Rattle.feed_codec.specs.declared.fault.RunFault.{RunFault}
-use Rattle.feed_codec.specs.declared.fault.RunFault.TheVariants.{Feed, Write, TooMany}
-use Rattle.feed_codec.specs.declared.item.Record.TheVariants.{Flush}
-use Rattle.feed_codec.specs.declared.reply.Reply.{Reply}
-use Rattle.feed_codec.specs.declared.version.Version.{Version}
+use Rattle.feed_replies.specs.declared.fault.RunFault.{RunFault}
+use Rattle.feed_replies.specs.declared.fault.RunFault.TheVariants.{Feed, Write, TooMany}
+use Rattle.feed_records.specs.declared.item.Record.TheVariants.{Flush}
+use Rattle.feed_replies.specs.declared.reply.Reply.{Reply}
+use Rattle.feed_records.specs.declared.version.Version.{Version}
 use Rattle.feed_run.specs.Run.{Asks, ClosesOne, EndsOne, HasRun, Leaves, Outcome, RunState, RunsOne, RunsTo, StopsAt, StopsOne, Streams, streams}
 use Rattle.serve_hub.specs.Running.{Progress, Answers, waiting_in}
 use Rattle.serve_machine.specs.Hub.{HubState}

@@ -4,12 +4,12 @@ use Rattle.std.proofs.lemmas.Grind.{flat_map-append}
 use Rattle.std.proofs.KnownBytes.{Appends-nil, Appends-trans, Consumes-nil, Consumes-trans}
 use Rattle.std.specs.List.{flat_map, AllByRecursion}
 use Rattle.std.specs.Io.KnownBytes.{Appends, Consumes}
-use Rattle.feed_codec.specs.declared.item.Record.{Record}
-use Rattle.feed_codec.specs.declared.reply.Reply.{Reply}
-use Rattle.feed_codec.specs.declared.version.Version.{Version}
+use Rattle.feed_records.specs.declared.item.Record.{Record}
+use Rattle.feed_replies.specs.declared.reply.Reply.{Reply}
+use Rattle.feed_records.specs.declared.version.Version.{Version}
 use Rattle.feed_codec.specs.Feed.{GivesRecord}
-use Rattle.feed_codec.specs.Record.{HasRecord, opening, record_of}
-use Rattle.feed_codec.specs.Reply.{reply_line}
+use Rattle.feed_records.specs.Record.{HasRecord, opening, record_of}
+use Rattle.feed_replies.specs.Reply.{reply_line}
 use Rattle.feed_run.specs.Laws.InTurn.{one_more}
 use Rattle.feed_run.specs.Run.{HasRead, HasRun, Streams}
 

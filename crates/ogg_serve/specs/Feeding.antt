@@ -1,9 +1,9 @@
 -- What a step of a feed does while its file is served. Ours.
 use Rattle.std.specs.Prelude.{◌≡◌, ℕ, ⊤, Bool, true, false, Option, Some, None, Result, Ok, Err, List}
 use Rattle.disk_model.specs.Image.{DiskState}
-use Rattle.feed_codec.specs.declared.fault.RunFault.{RunFault}
-use Rattle.feed_codec.specs.declared.reply.Reply.{Reply}
-use Rattle.feed_codec.specs.declared.reply.Reply.TheVariants.{Refused}
+use Rattle.feed_replies.specs.declared.fault.RunFault.{RunFault}
+use Rattle.feed_replies.specs.declared.reply.Reply.{Reply}
+use Rattle.feed_replies.specs.declared.reply.Reply.TheVariants.{Refused}
 use Rattle.feed_run.specs.Run.{Streams, RunState, Outcome, Steps, EndsOne, StopsBy}
 use Rattle.gate_file.specs.declared.fault.OpenFault.{OpenFault}
 use Rattle.ogg_command.specs.declared.refusal.Refusal.TheVariants.{Disk}

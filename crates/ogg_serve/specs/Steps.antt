@@ -2,7 +2,7 @@
 use Rattle.std.specs.Prelude.{◌≡◌, ◌⊎◌, ◌+◌, ◌*◌, ◌<◌, ◌≤◌, ℕ, zero, suc, Bool, Option, Some, None, Result, Ok, Err, List, length, take}
 use Rattle.std.specs.Io.KnownBytes.{Appends, Consumes}
 use Rattle.disk_model.specs.Image.{DiskState}
-use Rattle.feed_codec.specs.declared.fault.RunFault.{RunFault}
+use Rattle.feed_replies.specs.declared.fault.RunFault.{RunFault}
 use Rattle.feed_run.specs.Run.{Outcome, streams}
 use Rattle.serve_hub.specs.Parts.{HubParts}
 use Rattle.serve_responses.specs.Response.{IsResponse}

@@ -5,12 +5,12 @@ ghost use Rattle.serve_hub.specs.Running.{Progress, IsIn};
 ghost use Rattle.serve_hub.specs.Showing.{Shows};
 ghost use Rattle.serve_machine.specs.Hub.{HubState};
 ghost use Rattle.ogg_serve.specs.Feeding.{Follows, HasStepped, feed_state, lasting, says_failed, step_at};
-ghost use Rattle.ogg_serve.specs.Standing.{ContinuesHistory};
+ghost use Rattle.ogg_serve.specs.FileHistory.{ContinuesHistory};
 ghost use Rattle.ogg_serve.specs.Steps.{TakesStep};
 
 use chain_rules::Refusal;
 use disk_model::Disk;
-use feed_codec::{Reply, RunFault};
+use feed_replies::{Reply, RunFault};
 use feed_run::FeedRun;
 use history::disks_stand_in_their_world;
 use ogg_recorder::Recorded;

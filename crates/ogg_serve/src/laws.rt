@@ -2,8 +2,8 @@
 ghost use Rattle.std.specs.Prelude.{◌+◌, ◌++◌, ℕ, List};
 ghost use Rattle.link_chain.specs.Recording.{Recording};
 ghost use Rattle.chain_rules.specs.Recording.{add};
-ghost use Rattle.feed_codec.specs.declared.item.Record.{Record};
-ghost use Rattle.feed_codec.specs.declared.reply.Reply.{Reply};
+ghost use Rattle.feed_records.specs.declared.item.Record.{Record};
+ghost use Rattle.feed_replies.specs.declared.reply.Reply.{Reply};
 ghost use Rattle.feed_run.specs.Answering.{AnswersAll};
 ghost use Rattle.ogg_command.specs.declared.command.Command.{Command as CommandOf};
 ghost use Rattle.history.specs.World.{World, Step as StepOf, run};
@@ -14,7 +14,7 @@ ghost use Rattle.serve_machine.specs.Hub.{HubState};
 ghost use Rattle.serve_machine.specs.Own.{KeepsFile};
 ghost use Rattle.ogg_serve.specs.Feeding.{FeedState};
 ghost use Rattle.ogg_serve.specs.Life.{HasLived, HaveCounts, IsNewFeed, LiveAnswers};
-ghost use Rattle.ogg_serve.specs.Standing.{ContinuesHistory, StandsOn};
+ghost use Rattle.ogg_serve.specs.FileHistory.{ContinuesHistory, StandsOn};
 ghost use Rattle.ogg_serve.specs.Steps.{TakesSteps};
 
 use disk_model::Disk;

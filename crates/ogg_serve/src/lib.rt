@@ -7,8 +7,8 @@
 //! Start at `specs/Serving.antt`, which says what a connection gets, and go on to `specs/Feeding.antt`, which says
 //! what a step of the feed does. `specs/Steps.antt` says which steps are taken while a connection is served, and
 //! `specs/Keeping.antt` what both leave of the hub. `specs/Life.antt` says what all steps of a feed have run;
-//! `feeds_are_run_beside_sessions` joins them. `specs/Standing.antt` says where the hub stands in the history of its
-//! file, and how calls lead that history on.
+//! `feeds_are_run_beside_sessions` joins them. `specs/FileHistory.antt` says where the hub stands in the history of
+//! its file, and how calls lead that history on.
 #![tactic(auto)]
 
 mod feeding;

@@ -7,7 +7,7 @@ ghost use Rattle.serve_hub.specs.Images.{failures_in};
 ghost use Rattle.serve_hub.specs.Showing.{Shows};
 ghost use Rattle.ogg_serve.specs.Keeping.{KeepsAll, KeepsOthers};
 ghost use Rattle.ogg_serve.specs.Serving.{HasTriedAll};
-ghost use Rattle.ogg_serve.specs.Standing.{ContinuesHistory};
+ghost use Rattle.ogg_serve.specs.FileHistory.{ContinuesHistory};
 ghost use Rattle.ogg_serve.specs.Steps.{GetsIn, TakesStep, TakesSteps};
 
 use crate::feeding::LiveFeed;

@@ -1,33 +1,18 @@
--- What a listener joins and hears, over a hub.
-use Rattle.std.proofs.Common.{◌≡◌, ℕ, ◌<◌, Some, Option, Result, Err, List, length, refl, sym, ◌∙◌, ap, subst}
+-- What a listener hears, over a hub.
+use Rattle.std.proofs.Common.{◌≡◌, ℕ, ◌<◌, Some, Option, Result, List, length, sym, subst}
 use Rattle.std.specs.Prelude.{IfOk, min}
 use Rattle.disk_model.specs.Image.{DiskState}
 use Rattle.ogg_recorder.specs.Recorder.{RecorderState}
 use Rattle.serve_live.specs.Hearing.{IsHearing}
 use Rattle.serve_live.specs.Listening.{ListenerState}
 use Rattle.serve_live.specs.Live.{Moment}
-use Rattle.serve_live.specs.declared.fault.JoinFault.{JoinFault}
-use Rattle.serve_live.specs.declared.fault.JoinFault.TheVariants.{Source as JoinSource, Memory as JoinMemory}
 use Rattle.serve_machine.specs.declared.fault.HubFault.{HubFault}
-use Rattle.serve_machine.specs.declared.fault.HubFault.TheVariants.{Source, Memory}
 use Rattle.serve_machine.specs.Hub.{HubState}
 use Rattle.serve_hub.specs.declared.opening.Lost.{Lost}
 use Rattle.serve_hub.specs.Images.{Reads}
-use Rattle.serve_hub.specs.Listening.{HearsMore, fault_of_join}
+use Rattle.serve_hub.specs.Listening.{HearsMore}
 use Rattle.serve_hub.specs.Showing.{ShowsFile, ShowsPlace}
 use Rattle.serve_hub.proofs.FileRead.{still_shows}
-
-fault_is : (fault : JoinFault) → ◌≡◌ {A = Result ListenerState HubFault} (Err (fault_of_join fault)) (Err Source) → ◌≡◌ {A = Result ListenerState JoinFault} (Err fault) (Err JoinSource)
-fault_is JoinSource e = refl
-fault_is JoinMemory e = absurd (let f : ◌≡◌ {A = Result ListenerState HubFault} (Err Memory) (Err Source) = e in cc)
-
--- a fault of the source was one
-pub join_is_source : (fault : JoinFault) (told : HubFault) → told ≡ fault_of_join fault → ◌≡◌ {A = Result ListenerState HubFault} (Err told) (Err Source) → ◌≡◌ {A = Result ListenerState JoinFault} (Err fault) (Err JoinSource)
-join_is_source fault told is e = fault_is fault (ap (λ (f : HubFault). Err f) (sym is) ∙ e)
-
--- two calls that give different things, and the same fault
-pub same_fault : {T U : Type 0} (a b : HubFault) → ◌≡◌ {A = Result T HubFault} (Err a) (Err b) → ◌≡◌ {A = Result U HubFault} (Err a) (Err b)
-same_fault a b e = ap (λ (f : HubFault). Err f) (let f : a ≡ b = cc in f)
 
 -- what is said of a recorder's bytes, of those of a machine that are the same
 pub hears_of : (moment : Moment) (given : List ℕ) (before after : ListenerState) (size : ℕ) (buffer : List ℕ) (result : Result ℕ HubFault) (bytes other : List ℕ) → other ≡ bytes

@@ -17,7 +17,7 @@ use Rattle.link_chain.specs.Taking.{AreTaken, links_with}
 use Rattle.chain_rules.specs.Decision.{decision}
 use Rattle.chain_rules.specs.Encoding.{command_bytes}
 use Rattle.chain_rules.specs.Recording.{add}
-use Rattle.feed_codec.specs.declared.reply.Kept.{Kept}
+use Rattle.feed_replies.specs.declared.reply.Kept.{Kept}
 use Rattle.ogg_command.specs.Command.{IsCommand}
 use Rattle.ogg_command.specs.declared.command.Command.{Command}
 use Rattle.ogg_command.specs.declared.refusal.Refusal.{Refusal}

@@ -7,13 +7,14 @@ use Rattle.link_index.specs.Adding.{IndexState, IsIndexOf}
 use Rattle.ogg_recorder.specs.Recorder.{RecorderState, IsRecorder, committed, staged}
 use Rattle.serve_machine.specs.Hub.{HubState, IsNewFor, Event, Phase, Reading, Session, close_step, connect_step, hub_step, is_full, with_session, without_in, without_session, phase_in}
 use Rattle.serve_machine.specs.declared.fault.HubFault.TheVariants.{NoSession}
+use Rattle.serve_sessions.specs.Indexing.{IsOfFront}
+use Rattle.serve_sessions.specs.Laws.Found.{as_many, found, not_found}
+use Rattle.serve_sessions.specs.Sessions.{AreSessions, place_in}
+use Rattle.serve_sessions.specs.declared.session.Session.{Session as SessionParts}
 use Rattle.serve_hub.specs.declared.opening.Lost.{Lost}
-use Rattle.serve_hub.specs.declared.session.Session.{Session as SessionParts}
-use Rattle.serve_hub.specs.Indexing.{IsOfFront}
-use Rattle.serve_hub.specs.Parts.{hub_parts, place_in, next_of}
-use Rattle.serve_hub.specs.Showing.{AreSessions, FindsLinks, ShowsPlace, Shows}
+use Rattle.serve_hub.specs.Parts.{hub_parts, next_of}
+use Rattle.serve_hub.specs.Showing.{FindsLinks, ShowsPlace, Shows}
 use Rattle.serve_hub.proofs.Linked.{new_linked}
-use Rattle.serve_hub.proofs.Listed.{as_many, found, not_found}
 use Rattle.serve_hub.proofs.Stepping.{shows_good}
 
 -- the session with this number is there

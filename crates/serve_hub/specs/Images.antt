@@ -10,7 +10,7 @@ use Rattle.gate_file.specs.declared.fault.OpenFault.TheVariants.{Disk as DiskOf,
 use Rattle.link_chain.specs.Recording.{Recording}
 use Rattle.chain_rules.specs.Encoding.{command_bytes}
 use Rattle.chain_rules.specs.Recording.{add}
-use Rattle.feed_codec.specs.declared.reply.Kept.{Kept}
+use Rattle.feed_replies.specs.declared.reply.Kept.{Kept}
 use Rattle.history.specs.Showing.{IsAsBefore}
 use Rattle.history.specs.World.{World, Opening, Opened, Looked, Faulted, happens}
 use Rattle.history.specs.History.{IsStep, StandsIn}

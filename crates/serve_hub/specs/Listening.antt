@@ -5,12 +5,8 @@ use Rattle.gate_file.specs.Commit.{CommitsTo}
 use Rattle.serve_live.specs.Hearing.{IsHearing}
 use Rattle.serve_live.specs.Listening.{ListenerState}
 use Rattle.serve_live.specs.Live.{IsLive, Moment}
-use Rattle.serve_live.specs.declared.fault.JoinFault.{JoinFault}
-use Rattle.serve_live.specs.declared.fault.JoinFault.TheVariants.{Source as JoinSource, Memory as JoinMemory}
 use Rattle.serve_machine.specs.Hub.{HubState}
 use Rattle.serve_machine.specs.Sound.{IsRecorded}
-use Rattle.serve_machine.specs.declared.fault.HubFault.{HubFault}
-use Rattle.serve_machine.specs.declared.fault.HubFault.TheVariants.{Source, Memory}
 use Rattle.serve_hub.specs.Parts.{HubParts, hub_parts}
 use Rattle.serve_hub.specs.Showing.{Shows}
 
@@ -23,11 +19,6 @@ waiting_at committed = record { place = length committed; begin = []; passed = [
 pub record HearsMore (moment : Moment) (committed given rest : List ℕ) (size count : ℕ) (buffer : List ℕ) (after : ListenerState) : Type 0 where
   pub count_is : count ≡ min (length rest) size
   pub hearing : IsHearing moment committed after (given ++ take count buffer)
-
--- how a hub reports that a listener can't join
-abbrev pub fault_of_join : JoinFault → HubFault
-fault_of_join JoinSource = Source
-fault_of_join JoinMemory = Memory
 
 -- the file was read, and the index may have been brought up: nothing else is another
 abbrev pub OnlyReading : {D : Type 0} → HubParts D → HubParts D → Type 0

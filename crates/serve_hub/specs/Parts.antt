@@ -1,28 +1,14 @@
 -- What a hub keeps, as its contracts see it. Ours.
-use Rattle.std.specs.Prelude.{◌≡◌, ◌⊎◌, ℕ, ◌+◌, ◌^◌, ◌<◌, ◌≤◌, ⊤, Bool, true, nat_eq, if◌then◌else◌, Option, None, Some, IsSome, List, [], ◌∷◌, length}
-use Rattle.std.specs.List.{AllByRecursion}
-use Rattle.std.specs.Option.{option_map}
+use Rattle.std.specs.Prelude.{◌≡◌, ◌⊎◌, ℕ, ◌^◌, ◌≤◌, Bool, true, Option, None, Some, IsSome, List, [], length}
 use Rattle.link_chain.specs.declared.stream_state.StreamState.{StreamState}
 use Rattle.link_index.specs.Adding.{IndexState}
 use Rattle.ogg_recorder.specs.Recorder.{RecorderState}
+use Rattle.serve_machine.specs.Hub.{Phase}
 use Rattle.serve_machine.specs.declared.fault.HubFault.{HubFault}
 use Rattle.serve_machine.specs.declared.fault.HubFault.TheVariants.{NoSession, NoFile}
+use Rattle.serve_sessions.specs.Sessions.{AreInOrder}
+use Rattle.serve_sessions.specs.declared.session.Session.{Session}
 use Rattle.serve_hub.specs.declared.opening.Lost.{Lost}
-use Rattle.serve_hub.specs.declared.session.Session.{Session}
-
--- the place of the first session with this number
-abbrev pub place_in : ℕ → List Session → Option ℕ
-place_in id [] = None
-place_in id (session ∷ sessions) = if nat_eq session.id id then Some 0 else option_map (λ (place : ℕ). place + 1) (place_in id sessions)
-
--- each session has a higher number than those before it
-abbrev pub IdsRise : List Session → Type 0
-IdsRise [] = ⊤
-IdsRise (session ∷ sessions) = AllByRecursion (λ (later : Session). session.id < later.id) sessions × IdsRise sessions
-
--- and all have a lower one than the next session will have
-abbrev pub AreInOrder : ℕ → List Session → Type 0
-AreInOrder next sessions = IdsRise sessions × AllByRecursion (λ (session : Session). session.id < next) sessions
 
 -- the next number, or the one after the last
 abbrev pub next_of : Option ℕ → ℕ
@@ -64,6 +50,11 @@ OnlyFile old new = new ≡ hub_parts new.file old.lost old.index old.sessions ol
 abbrev pub fault_of_place : Option ℕ → HubFault
 fault_of_place None = NoSession
 fault_of_place (Some place) = NoFile
+
+-- and by its phase
+abbrev pub fault_without_file : Option Phase → HubFault
+fault_without_file None = NoSession
+fault_without_file (Some phase) = NoFile
 
 -- ---- what a file is
 -- how many bytes are committed and wait; without a file the last end that is known

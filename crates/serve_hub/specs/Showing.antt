@@ -1,37 +1,18 @@
 -- Which machine a hub is seen as. Ours.
 use Rattle.std.specs.Prelude.{◌≡◌, ℕ, ◌+◌, true, false, if◌then◌else◌, is_some, Option, None, Some, List, [], ◌++◌, length, take}
-use Rattle.std.specs.List.{AllZip}
 use Rattle.disk_model.specs.Image.{DiskState}
 use Rattle.ogg_page.specs.Page.{Page}
 use Rattle.gate_file.specs.Commit.{CommitsTo}
 use Rattle.gate_file.specs.Gate.{EachImage}
 use Rattle.link_chain.specs.Links.{AreLinks}
 use Rattle.ogg_recorder.specs.Recorder.{RecorderState, committed, staged}
-use Rattle.serve_sending.specs.Sending.{IsLeft}
-use Rattle.serve_machine.specs.Hub.{HubState, MayBeFound, Phase, Reading, Sending, Session}
+use Rattle.serve_machine.specs.Hub.{HubState, MayBeFound}
+use Rattle.serve_sessions.specs.Indexing.{IsOfFront}
+use Rattle.serve_sessions.specs.Sessions.{AreSessions}
 use Rattle.serve_hub.specs.declared.opening.Lost.{Lost}
-use Rattle.serve_hub.specs.declared.session.Session.{Session as SessionParts}
-use Rattle.serve_hub.specs.declared.session.Stage.{Stage}
-use Rattle.serve_hub.specs.declared.session.Stage.TheVariants.{Head, Response}
-use Rattle.serve_hub.specs.Indexing.{IsOfFront}
 use Rattle.serve_hub.specs.Parts.{HubParts, next_of}
 
--- ---- sessions
--- over these committed bytes, a session that keeps this is in this phase
-abbrev pub IsPhase : List ℕ → Stage → Phase → Type 0
-IsPhase committed (Head received) (Reading bytes) = received.items ≡ bytes
-IsPhase committed (Head received) (Sending rest) = ⊥
-IsPhase committed (Response sending) (Reading bytes) = ⊥
-IsPhase committed (Response sending) (Sending rest) = IsLeft committed sending rest
-
-abbrev pub IsSession : List ℕ → SessionParts → Session → Type 0
-IsSession committed parts session = (parts.id ≡ session.id) × IsPhase committed parts.stage session.phase
-
-abbrev pub AreSessions : List ℕ → List SessionParts → List Session → Type 0
-AreSessions committed parts sessions = AllZip (IsSession committed) parts sessions
-
 -- ---- the file
-
 -- an image has the committed bytes of the machine, with or without the group in doubt
 abbrev pub Commits : HubState → List ℕ → Type 0
 Commits machine image = (found : List ℕ) × MayBeFound machine found × CommitsTo found image

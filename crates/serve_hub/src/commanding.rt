@@ -8,7 +8,7 @@ ghost use Rattle.serve_hub.specs.Showing.{FindsLinks, ShowsFile, ShowsPlace, Kee
 
 use chain_rules::{Command, Refusal, command_adds_its_packets, refusals_are_of_the_table};
 use disk_model::Disk;
-use feed_codec::Kept;
+use feed_replies::Kept;
 use ogg_command::command_is_in_range;
 use ogg_recorder::{Outcome, Recorder};
 

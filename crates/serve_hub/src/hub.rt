@@ -3,22 +3,23 @@ ghost use Rattle.std.specs.Prelude.{◌≡◌, ◌≢◌, ◌↔◌, ◌⊎◌, 
 ghost use Rattle.ogg_recorder.specs.Recorder.{RecorderState, committed};
 ghost use Rattle.serve_machine.specs.Hub.{HubState, IsNew, IsNewFor, Connect, Receive, Pull, Close, Record, Flush, Group, Reopen, most_sessions};
 ghost use Rattle.serve_machine.specs.Calls.{Steps, found_by, given_in};
-ghost use Rattle.serve_hub.specs.Parts.{HasNoPlace, OnlyFile, OnlySessions, next_of, place_in};
-ghost use Rattle.serve_hub.specs.Serving.{LacksRoomIn};
+ghost use Rattle.serve_sessions.specs.Serving.{LacksRoomIn};
+ghost use Rattle.serve_sessions.specs.Sessions.{place_in};
+ghost use Rattle.serve_hub.specs.Parts.{HasNoPlace, OnlyFile, OnlySessions, next_of};
 ghost use Rattle.serve_hub.specs.Images.{IfFile, Records, Flushes, Reads, Fails, Reopens, disk_in};
 
 use crate::commanding::{command_file, flush_file, group_file, held_in};
 use crate::opening::{Lost, end_in, open_again, take_disk};
 use crate::reading::{pull_from, receive_from};
-use crate::session::{Session, add_session, drop_session, place_of, sessions_stay};
 use chain_rules::{Command, Refusal};
 use disk_model::Disk;
-use feed_codec::Kept;
+use feed_replies::Kept;
 use gate_file::OpenFault;
 use link_index::Index;
 use ogg_page::PageBuffer;
 use ogg_recorder::{Outcome, Recorder};
 use serve_machine::{HubFault, Progress, Pulled, SeenAsHub};
+use serve_sessions::{Session, add_session, drop_session, place_of, sessions_stay};
 use std::alloc::{AllocError as Memory, Global};
 use std::marker::Model;
 
@@ -235,7 +236,8 @@ impl<D: Disk> Hub<D> {
 }
 
 impl<D: Disk + Drop> Hub<D> {
-    ghost use Rattle.serve_hub.specs.Parts.{lost_file, place_in};
+    ghost use Rattle.serve_sessions.specs.Sessions.{place_in};
+    ghost use Rattle.serve_hub.specs.Parts.{lost_file};
     ghost use Rattle.serve_hub.specs.Showing.{Shows};
 
     /// Takes further bytes of the session's request. The call that completes its head, or shows that none can come,

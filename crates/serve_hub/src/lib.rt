@@ -3,30 +3,25 @@
 //! A `Hub` owns a recorder and the sessions of the clients that fetch its file. Each of its calls is one step of the
 //! machine that crate `serve_machine` describes. So the laws of that machine hold of whatever calls come, in any order.
 //!
-//! A session keeps the head of its request until it is complete, and then its response: a text, and a place in the
-//! committed bytes. The call that completes a head brings an index of the file up to the end of the committed bytes,
-//! so a request costs only the bytes that are new.
+//! What a session keeps, and what its calls do over any source of pages, is in crate `serve_sessions`. Here the source
+//! is the recorder, whose committed bytes grow: the call that completes a head brings an index of the file up to their
+//! end, so a request costs only the bytes that are new.
 //!
 //! A listener hears the file while it is recorded: it joins the open link, or waits for the next one, and hears what is
 //! committed. It is the caller's, and a hub keeps nothing of it, so its calls are no steps of the machine.
 //!
 //! Start at `specs/Showing.antt`, which says which machine a hub is seen as, and go on to `src/hub.rt`, which has the
-//! step of each call. `specs/Serving.antt` says what a call changes in its session, and `specs/Images.antt` what each
-//! image of the disk shows while a call goes on. `src/listening.rt` has the calls of listeners, and `src/laws.rt` their
-//! laws.
+//! step of each call. `specs/Images.antt` says what each image of the disk shows while a call goes on.
+//! `src/listening.rt` has the calls of listeners, and `src/laws.rt` their laws.
 #![tactic(auto)]
 
 mod commanding;
 mod hub;
-mod indexing;
 mod laws;
 mod listening;
 mod opening;
-mod pulling;
 mod reading;
-mod receiving;
 mod running;
-mod session;
 mod telling;
 
 pub use gate_file::OpenFault;

@@ -2,95 +2,32 @@
 //!
 //! A listener is no session: it is the caller's, and a hub keeps nothing of it. So its calls are no steps of the
 //! machine.
-ghost use Rattle.std.specs.Prelude.{◌≡◌, ◌≢◌, ◌↔◌, ◌⊎◌, ◌≤◌, ◌<◌, ◌^◌, ℕ, List, [], None, Option, Err, IfOk, IfErr, IsSome, OnErr, length, min};
+ghost use Rattle.std.specs.Prelude.{◌≡◌, ◌≢◌, ◌↔◌, ◌⊎◌, ◌≤◌, ◌<◌, ℕ, List, [], None, Option, Err, IfOk, IfErr, IsSome, OnErr, length, min};
 ghost use Rattle.ogg_page.specs.Page.{Page};
-ghost use Rattle.ogg_page.specs.Window.{KeepsSource};
 ghost use Rattle.link_chain.specs.Links.{AreLinks};
-ghost use Rattle.link_index.specs.Adding.{IsIndexOf};
 ghost use Rattle.ogg_recorder.specs.Recorder.{committed};
-ghost use Rattle.serve_sending.specs.Sending.{HasFailed};
 ghost use Rattle.serve_live.specs.Hearing.{IsHearing};
 ghost use Rattle.serve_live.specs.Live.{Moment};
 ghost use Rattle.serve_live.specs.Places.{IsPlaceIn};
 ghost use Rattle.serve_machine.specs.Hub.{HubState};
+ghost use Rattle.serve_sessions.specs.Indexing.{IsOfFront};
 ghost use Rattle.serve_hub.specs.declared.opening.Lost.{Lost};
 ghost use Rattle.serve_hub.specs.Images.{IfFile, Reads, Fails};
-ghost use Rattle.serve_hub.specs.Indexing.{IsOfFront};
-ghost use Rattle.serve_hub.specs.Listening.{HearsMore, KeepsMachine, OnlyReading, fault_of_join, waiting_at};
+ghost use Rattle.serve_hub.specs.Listening.{HearsMore, KeepsMachine, OnlyReading, waiting_at};
 ghost use Rattle.serve_hub.specs.Parts.{OnlyFile};
 ghost use Rattle.serve_hub.specs.Showing.{Shows, ShowsPlace};
 
 use crate::hub::Hub;
-use crate::indexing::bring_up;
 use crate::opening::end_in;
 use crate::reading::{close_window, open_window};
 use disk_model::Disk;
-use link_chain::bytes_are_one_chain;
 use link_index::Index;
-use ogg_page::{PageBuffer, PageSource, Window};
+use ogg_page::PageBuffer;
 use ogg_recorder::Recorder;
-use serve_live::{JoinFault, JoinPlace, Listener, listeners_hear_what_they_should};
+use serve_live::{JoinPlace, Listener, listeners_hear_what_they_should};
 use serve_machine::HubFault;
+use serve_sessions::join_in;
 use std::alloc::Global;
-
-/// How a hub reports that a listener can't join.
-fn fault_of_join(fault: JoinFault) -> HubFault
-    ensures { result ≡ fault_of_join fault }
-{
-    match fault {
-        JoinFault::Source => HubFault::Source,
-        JoinFault::Memory => HubFault::Memory,
-    }
-}
-
-/// A listener that joins the last link of the source, of which the index has all pages.
-fn join_source<S: PageSource>(
-    source: &mut S,
-    index: &Index,
-    alloc: Global,
-    place: JoinPlace,
-) -> Result<Listener, HubFault>
-    ensures joins { (links : List (List Page)) (moment : Moment) → S.is_honest source.old → AreLinks (S.bytes source.old) links
-        → IsIndexOf links index.now → IsPlaceIn links moment place
-        → IfOk result (λ listener. IsHearing moment (S.bytes source.old) listener []) }
-    ensures cause { (links : List (List Page)) (moment : Moment) → S.is_honest source.old → AreLinks (S.bytes source.old) links
-        → IsIndexOf links index.now → IsPlaceIn links moment place → result ≡ Err HubFault.Source
-        → HasFailed (S.failures source.old) (S.failures source.new) }
-    ensures faults { IfErr result (λ fault. (fault ≡ HubFault.Source) ⊎ (fault ≡ HubFault.Memory)) }
-    ensures later { S.failures source.old ≤ S.failures source.new }
-    ensures source { KeepsSource S.bytes S.is_honest S.size S.only_reads source.old source.new }
-{
-    let end = source.end();
-    match Listener::join(alloc, source, place, end, index.last_streams()) {
-        Ok(listener) => Ok(listener),
-        Err(fault) => Err(fault_of_join(fault)),
-    }
-}
-
-/// The same, once the index is brought up to the end of the source.
-fn join_in<S: PageSource>(
-    window: &mut Window<S>,
-    index: &mut Index,
-    alloc: Global,
-    place: JoinPlace,
-) -> Result<Listener, HubFault>
-    ensures joins { (links : List (List Page)) (moment : Moment) → S.is_honest window.old.source
-        → IsOfFront (S.bytes window.old.source) index.old → AreLinks (S.bytes window.old.source) links → IsPlaceIn links moment place
-        → IfOk result (λ listener. IsHearing moment (S.bytes window.old.source) listener []) }
-    ensures cause { (links : List (List Page)) (moment : Moment) → S.is_honest window.old.source → S.size window.old.source < 2 ^ 63
-        → IsOfFront (S.bytes window.old.source) index.old → AreLinks (S.bytes window.old.source) links → IsPlaceIn links moment place
-        → result ≡ Err HubFault.Source → HasFailed (S.failures window.old.source) (S.failures window.new.source) }
-    ensures front { S.is_honest window.old.source → IsOfFront (S.bytes window.old.source) index.old → IsOfFront (S.bytes window.old.source) index.new }
-    ensures faults { IfErr result (λ fault. (fault ≡ HubFault.Source) ⊎ (fault ≡ HubFault.Memory)) }
-    ensures later { S.failures window.old.source ≤ S.failures window.new.source }
-    ensures source { KeepsSource S.bytes S.is_honest S.size S.only_reads window.old.source window.new.source }
-{
-    bytes_are_one_chain();
-    match bring_up(window, index) {
-        Ok(()) => join_source(window.source_mut(), index, alloc, place),
-        Err(fault) => Err(fault),
-    }
-}
 
 /// A listener that joins the file's last link, if there is a file.
 fn join_from<D: Disk + Drop>(

@@ -6,21 +6,20 @@ ghost use Rattle.link_chain.specs.Links.{AreLinks};
 ghost use Rattle.ogg_recorder.specs.Recorder.{committed};
 ghost use Rattle.serve_machine.specs.Calls.{given_in};
 ghost use Rattle.serve_machine.specs.Hub.{HubState, Session as SessionOf, phase_of, pull_step, receive_step};
+ghost use Rattle.serve_sessions.specs.Indexing.{IsOfFront};
+ghost use Rattle.serve_sessions.specs.Serving.{LacksRoomIn};
+ghost use Rattle.serve_sessions.specs.Sessions.{AreInOrder, AreSessions, IdsRise, place_in};
 ghost use Rattle.serve_hub.specs.declared.opening.Lost.{Lost};
 ghost use Rattle.serve_hub.specs.Images.{IfFile, Reads, Fails};
-ghost use Rattle.serve_hub.specs.Indexing.{IsOfFront};
-ghost use Rattle.serve_hub.specs.Parts.{AreInOrder, IdsRise, fault_of_place, place_in};
-ghost use Rattle.serve_hub.specs.Serving.{LacksRoomIn, fault_without_file};
-ghost use Rattle.serve_hub.specs.Showing.{AreSessions, ShowsPlace};
+ghost use Rattle.serve_hub.specs.Parts.{fault_of_place, fault_without_file};
+ghost use Rattle.serve_hub.specs.Showing.{ShowsPlace};
 
-use crate::pulling::pull_in;
-use crate::receiving::receive_in;
-use crate::session::{Session, place_of};
 use disk_model::Disk;
 use link_index::Index;
 use ogg_page::{PageBuffer, Window};
 use ogg_recorder::Recorder;
 use serve_machine::{HubFault, Progress, Pulled};
+use serve_sessions::{Session, place_of, pull_in, receive_in};
 use std::alloc::Global;
 
 /// A window over the file, if there is one.

@@ -3,7 +3,7 @@
 use crate::hub::Hub;
 use chain_rules::Command;
 use disk_model::Disk;
-use feed_codec::Reply;
+use feed_replies::Reply;
 use feed_run::Runner;
 use ogg_page::WriteFault;
 use ogg_recorder::{reply_to, reply_to_flush};

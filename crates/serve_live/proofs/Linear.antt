@@ -6,12 +6,12 @@ use Rattle.std.specs.List.{AllByRecursion, flat_map}
 use Rattle.std.proofs.lemmas.List.{length-replicate}
 use Rattle.std.proofs.Math.Nat.{mod-eq_of_lt}
 use Rattle.byteorder.specs.Endian.{little_bytes}
-use Rattle.ogg_page.specs.Checksum.{bits_of, number_of, message_bits, add, remainder, checksum_of}
+use Rattle.page_checksum.specs.Checksum.{bits_of, number_of, message_bits, add, remainder, checksum_of}
 use Rattle.ogg_page.specs.Page.{Page, IsPage, IsByte, page_bytes, page_size, fixed_part, bytes_with}
 use Rattle.ogg_page.specs.PageLaws.{all_bytes}
-use Rattle.ogg_page.specs.Laws.Division.{zeros, length-add, add_parts, add-zeros, remainder-add, remainder-more, remainder-zeros}
-use Rattle.ogg_page.specs.Laws.BitNumbers.{number_lt, number-add, length-bits_of, number-bits_of, same_number}
-use Rattle.ogg_page.specs.Laws.ByteStep.{left_of, length-left_of}
+use Rattle.page_checksum.specs.Laws.Division.{zeros, length-add, add_parts, add-zeros, remainder-add, remainder-more, remainder-zeros}
+use Rattle.page_checksum.specs.Laws.BitNumbers.{number_lt, number-add, length-bits_of, number-bits_of, same_number}
+use Rattle.page_checksum.specs.Laws.ByteStep.{left_of, length-left_of}
 use Rattle.ogg_page.specs.Laws.PageBytes.{all_both}
 use Rattle.link_chain.specs.Laws.LastLink.{all_split}
 use Rattle.ogg_page.specs.Head.{checksum_in}

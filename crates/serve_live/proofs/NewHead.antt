@@ -2,11 +2,11 @@
 use Rattle.std.proofs.Common.{◌≡◌, ℕ, zero, suc, ◌+◌, ◌≤◌, ◌<◌, ◌^◌, List, [], ◌∷◌, ◌++◌, length, take, drop, refl, sym, ◌∙◌, ap, subst, arith, append_assoc, length-append, length-take}
 use Rattle.std.proofs.lemmas.List.{take-append-le}
 use Rattle.std.proofs.Math.Seq.{take-append_seam, take-append-add, take-add, drop-append-add}
-use Rattle.ogg_page.specs.Checksum.{checksum_of, number_of, message_bits}
+use Rattle.page_checksum.specs.Checksum.{checksum_of, number_of, message_bits}
 use Rattle.ogg_page.specs.Page.{Page, page_bytes}
 use Rattle.ogg_page.specs.PageLaws.{length-page_bytes}
-use Rattle.ogg_page.specs.Laws.BitNumbers.{number_lt}
-use Rattle.ogg_page.specs.Laws.ByteStep.{left_of, length-left_of}
+use Rattle.page_checksum.specs.Laws.BitNumbers.{number_lt}
+use Rattle.page_checksum.specs.Laws.ByteStep.{left_of, length-left_of}
 use Rattle.ogg_page.specs.Laws.Prefixes.{same_fronts}
 use Rattle.ogg_page.specs.Head.{Stands, head_size}
 use Rattle.serve_live.proofs.Linear.{checksum-left}

@@ -1,7 +1,7 @@
 -- The bytes of a page with another number, and what the number adds to the checksum (RFC 3533, section 6). Ours.
 use Rattle.std.specs.Prelude.{ℕ, ◌-◌, List, [], ◌∷◌, ◌++◌, length, replicate, bit_xor, codes}
 use Rattle.byteorder.specs.Endian.{little_bytes}
-use Rattle.ogg_page.specs.Checksum.{checksum_of}
+use Rattle.page_checksum.specs.Checksum.{checksum_of}
 use Rattle.ogg_page.specs.Page.{Page}
 
 -- the same page with another number

@@ -1,6 +1,6 @@
 //! The checksum of a page that gets another number.
 ghost use Rattle.std.specs.Prelude.{◌≡◌, ◌≤◌, ◌++◌, ℕ, List, replicate};
-ghost use Rattle.ogg_page.specs.Checksum.{checksum_of};
+ghost use Rattle.page_checksum.specs.Checksum.{checksum_of};
 ghost use Rattle.serve_live.specs.Renumbering.{checksum_change};
 
 use ogg_page::checksum_on;

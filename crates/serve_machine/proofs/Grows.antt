@@ -4,7 +4,7 @@ use Rattle.std.specs.List.{AllByRecursion}
 use Rattle.ogg_command.specs.declared.command.Command.{Command}
 use Rattle.ogg_command.specs.declared.refusal.Refusal.{Refusal}
 use Rattle.ogg_command.specs.declared.refusal.Refusal.TheVariants.{Failed as FailedOf, Memory as NoRoom, Disk}
-use Rattle.feed_codec.specs.declared.reply.Kept.{Kept}
+use Rattle.feed_replies.specs.declared.reply.Kept.{Kept}
 use Rattle.ogg_recorder.specs.declared.commanding.Outcome.{Outcome}
 use Rattle.ogg_recorder.specs.declared.commanding.Outcome.TheVariants.{Held as WasHeld, Kept as WasKept}
 use Rattle.serve_machine.specs.Hub.{HubState, Event, Connect, Receive, Pull, Close, Record, Flush, Group, Reopen, hub_step, phase_of, connect_step, command_step, flush_step, reopen_step, MayBeFound, holding, committing, doubting}

@@ -14,7 +14,7 @@ use Rattle.link_chain.specs.Recording.{Recording, Holds}
 use Rattle.ogg_command.specs.declared.command.Command.{Command}
 use Rattle.ogg_command.specs.declared.refusal.Refusal.{Refusal}
 use Rattle.ogg_command.specs.declared.refusal.Refusal.TheVariants.{Failed as FailedOf, Memory as NoRoom, Disk}
-use Rattle.feed_codec.specs.declared.reply.Kept.{Kept}
+use Rattle.feed_replies.specs.declared.reply.Kept.{Kept}
 use Rattle.serve_machine.specs.declared.fault.HubFault.{HubFault}
 use Rattle.serve_machine.specs.declared.fault.HubFault.TheVariants.{NoSession, SessionsFull, Source, Memory, NoFile}
 use Rattle.ogg_recorder.specs.declared.commanding.Outcome.{Outcome}

@@ -4,7 +4,7 @@ ghost use Rattle.std.specs.List.{AllByRecursion, range_with_len};
 ghost use Rattle.ogg_command.specs.declared.command.Command.{Command};
 ghost use Rattle.ogg_command.specs.declared.refusal.Refusal.{Refusal};
 ghost use Rattle.ogg_command.specs.declared.refusal.Refusal.TheVariants.{Memory as NoRoom, Disk};
-ghost use Rattle.feed_codec.specs.declared.reply.Kept.{Kept};
+ghost use Rattle.feed_replies.specs.declared.reply.Kept.{Kept};
 ghost use Rattle.ogg_recorder.specs.declared.commanding.Outcome.{Outcome};
 ghost use Rattle.serve_responses.specs.Response.{Asked, Asks, AsksOrWaits, IsResponse};
 ghost use Rattle.serve_machine.specs.declared.fault.HubFault.{HubFault as HubFaultOf};

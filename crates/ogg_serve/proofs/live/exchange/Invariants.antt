@@ -3,7 +3,7 @@ use Rattle.serve_hub.specs.Images.{failures_in}
 use Rattle.serve_machine.specs.Hub.{HubState, Reading, phase_of}
 use Rattle.serve_hub.specs.Showing.{Shows}
 use Rattle.ogg_serve.specs.Keeping.{KeepsOthers}
-use Rattle.ogg_serve.specs.Standing.{ContinuesHistory}
+use Rattle.ogg_serve.specs.FileHistory.{ContinuesHistory}
 use Rattle.ogg_serve.specs.Steps.{TakesSteps}
 use Rattle.ogg_serve.proofs.Sent.{IsSendingIn}
 use Rattle.ogg_serve.proofs.live.exchange.Given as goal

@@ -2,7 +2,7 @@ use Rattle.std.proofs.Common.{ℕ, ◌<◌, ◌^◌, [], List, IfOk, rules, sym,
 use Rattle.link_chain.specs.Links.{AreLinks}
 use Rattle.serve_live.specs.Hearing.{IsHearing}
 use Rattle.serve_hub.specs.Images.{Fails}
-use Rattle.serve_hub.specs.Indexing.{IsOfFront}
+use Rattle.serve_sessions.specs.Indexing.{IsOfFront}
 use Rattle.serve_hub.proofs.FileRead.{if_both, was_read}
 use Rattle.serve_hub.proofs.Heard.{place_file}
 use Rattle.serve_hub.proofs.listening.join_from.Goals as goal

@@ -1,7 +1,7 @@
 use Rattle.std.proofs.Common.{◌≡◌, Some, None, sym, ◌∙◌, ap}
-use Rattle.serve_hub.specs.Parts.{place_in}
-use Rattle.serve_hub.specs.Serving.{fault_without_file}
-use Rattle.serve_hub.proofs.Listed.{found, not_found}
+use Rattle.serve_sessions.specs.Laws.Found.{found, not_found}
+use Rattle.serve_sessions.specs.Sessions.{place_in}
+use Rattle.serve_hub.specs.Parts.{fault_without_file}
 use Rattle.serve_hub.proofs.reading.fault_without_file.Goals as goal
 
 pub returns-in-Some-clause-fault : goal.returns-in-Some-clause-fault

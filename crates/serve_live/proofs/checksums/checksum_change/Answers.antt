@@ -1,8 +1,8 @@
 use Rattle.std.proofs.Common.{◌≡◌, ℕ, List, [], ◌∷◌, get_or, sym, refl, ◌∙◌, ap}
 use Rattle.std.specs.Prelude.{bit_xor}
 use Rattle.byteorder.specs.Endian.{little_bytes}
-use Rattle.ogg_page.specs.Checksum as X
-use Rattle.ogg_page.specs.Checksum.{checksum_of}
+use Rattle.page_checksum.specs.Checksum as X
+use Rattle.page_checksum.specs.Checksum.{checksum_of}
 use Rattle.serve_live.specs.Renumbering.{difference}
 use Rattle.serve_live.proofs.checksums.checksum_change.Goals as goal
 

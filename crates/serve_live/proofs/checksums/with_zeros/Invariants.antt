@@ -1,5 +1,5 @@
 use Rattle.std.proofs.Common.{◌≡◌, ℕ, ◌≤◌, ◌-◌, List, ◌++◌, replicate}
-use Rattle.ogg_page.specs.Checksum.{checksum_of}
+use Rattle.page_checksum.specs.Checksum.{checksum_of}
 use Rattle.serve_live.proofs.checksums.with_zeros.Given as goal
 
 -- the zeros so far are added

@@ -1,6 +1,6 @@
 use Rattle.std.proofs.Common.{◌≡◌, Option, Result, refl, sym, subst}
 use Rattle.std.specs.Prelude.{IfSome, ⊤}
-use Rattle.feed_codec.specs.declared.fault.RunFault.{RunFault}
+use Rattle.feed_replies.specs.declared.fault.RunFault.{RunFault}
 use Rattle.link_chain.specs.Laws.Walked.{no_fault_there}
 use Rattle.serve_hub.specs.Showing.{Shows}
 use Rattle.serve_machine.specs.Hub.{HubState}

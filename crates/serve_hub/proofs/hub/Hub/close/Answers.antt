@@ -1,5 +1,5 @@
 use Rattle.std.proofs.Common.{◌≡◌, Some, None, sym, ◌∙◌, ap, arith}
-use Rattle.serve_hub.specs.Parts.{place_in}
+use Rattle.serve_sessions.specs.Sessions.{place_in}
 use Rattle.serve_hub.proofs.Sessions.{closes, closes_none}
 use Rattle.serve_hub.proofs.hub.Hub.close.Goals as goal
 

@@ -1,0 +1,6 @@
+pub mod Fronts
+pub mod Joined
+pub mod Listed
+pub mod Ordered
+pub mod Stages
+pub mod Steps

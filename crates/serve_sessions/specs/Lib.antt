@@ -1,0 +1,5 @@
+pub mod Indexing
+pub mod Sessions
+pub mod Serving
+pub mod Joining
+pub mod Laws
