@@ -8,6 +8,7 @@ pub mod Giving
 pub mod Asking
 pub mod Places
 pub mod Stepping
+pub mod Taking
 pub mod Lines
 pub mod Telling
 pub mod Turning

@@ -1,6 +1,6 @@
 -- The line that tells how a station does, with its line feed. Ours.
 use Rattle.std.specs.Prelude.{Bool, true, false, List, ℕ, ◌++◌, codes}
-use Rattle.feed_codec.specs.Reply.{line_end}
+use Rattle.feed_replies.specs.Reply.{line_end}
 use Rattle.import_record.specs.Lines.{counted}
 use Rattle.station.specs.declared.lines.Shown.{Shown}
 

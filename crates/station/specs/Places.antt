@@ -1,7 +1,7 @@
 -- Where listeners may join, as the answers of a hub tell it. Ours.
 use Rattle.std.specs.Prelude.{ℕ, Bool, true, false, nat_lt, if◌then◌else◌, Option, None, Some, []}
-use Rattle.feed_codec.specs.declared.reply.Reply.{Reply}
-use Rattle.feed_codec.specs.declared.reply.Reply.TheVariants.{Held, Kept, Refused}
+use Rattle.feed_replies.specs.declared.reply.Reply.{Reply}
+use Rattle.feed_replies.specs.declared.reply.Reply.TheVariants.{Held, Kept, Refused}
 use Rattle.ogg_command.specs.declared.refusal.Refusal.TheVariants.{Disk}
 use Rattle.serve_live.specs.Boundaries.{BoundariesState, begun_at, gone_on}
 use Rattle.station.specs.declared.places.Answered.{Answered}

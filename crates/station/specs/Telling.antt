@@ -1,7 +1,9 @@
 -- How a station fares, as it is told. Ours.
-use Rattle.std.specs.Prelude.{ℕ, ◌/◌}
+use Rattle.std.specs.Prelude.{ℕ, ◌/◌, Bool, false, count_by, Option, None, Some}
+use Rattle.slab.specs.Slab.{Slab}
 use Rattle.serve_texts.specs.declared.numbers.Mends.{Mends}
 use Rattle.station.specs.Counting.{counted}
+use Rattle.serve_clients.specs.Client.{ClientState, is_hearing}
 use Rattle.serve_clients.specs.declared.client.Stage.{Stage}
 use Rattle.serve_clients.specs.declared.client.Stage.TheVariants.{Asking, Offering, Waiting, Feeding, Reading, Sending, Hearing, Ending, Closing, Cut}
 use Rattle.station.specs.declared.counting.MendCounts.{MendCounts}
@@ -34,3 +36,13 @@ mends_of c =
 
 abbrev pub in_seconds : ℕ → ℕ
 in_seconds milliseconds = milliseconds / 1000
+
+-- ---- who listens
+-- this connection, if there is one, hears what is recorded
+abbrev pub hears : Option ClientState → Bool
+hears None = false
+hears (Some client) = is_hearing client.stage
+
+-- how many of these connections do
+abbrev pub listeners_in : Slab ClientState → ℕ
+listeners_in slots = count_by hears slots.slots

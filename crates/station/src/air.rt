@@ -1,6 +1,12 @@
 //! The source that is on the air: its bytes, as they come, and what is recorded of them.
-ghost use Rattle.std.specs.Prelude.{◌≡◌, ◌≢◌, ◌+◌, ◌-◌, ◌≤◌, Err, OnOk, drop, false, length, true, vec_len};
-ghost use Rattle.station.specs.Faring.{HasDecoded};
+ghost use Rattle.std.specs.Prelude.{◌≡◌, ◌≢◌, ◌⊎◌, ◌+◌, ◌-◌, ◌≤◌, ◌<◌, ◌++◌, ◌||◌, ℕ, [], Err, IfErr, IfOk, None, Ok, OnErr, OnOk, Option, drop, false, is_some, length, slice_range, true, vec_capacity, vec_len};
+ghost use Rattle.station.specs.Faring.{HasDecoded, look, stopped};
+ghost use Rattle.station.specs.Taking.{HasEndedBy, IsOver, PassesOn, TakesEnd, TakesStep, input_of, loses};
+ghost use Rattle.import_mend.specs.declared.mend.Mend.{Mend as MendOf};
+ghost use Rattle.import_record.specs.Pushing.{IsStepped};
+ghost use Rattle.import_record.specs.Steps.{StopsBy};
+ghost use Rattle.import_record.specs.declared.intake.Taken.{Taken as TakenOf};
+ghost use Rattle.import_record.specs.declared.reading.Step.{Step as StepOf};
 ghost use Rattle.ogg_page.specs.Reading.{page_at};
 ghost use Rattle.ogg_page.specs.declared.fault.PageFault.TheVariants.{Short};
 
@@ -120,7 +126,9 @@ impl OnAir {
 
     /// Further bytes have come. After `Memory` none of them are kept.
     pub fn push(&mut self, bytes: &[u8]) -> Result<(), Memory>
-        ensures ok { OnOk result (vec_len self.new.pending - self.new.at ≡ vec_len self.old.pending - self.old.at + length bytes.now) }
+        ensures ok { OnOk result (drop self.new.at self.new.pending.items ≡ drop self.old.at self.old.pending.items ++ bytes.now) }
+        ensures err { OnErr result (drop self.new.at self.new.pending.items ≡ drop self.old.at self.old.pending.items) }
+        ensures full { OnErr result (vec_capacity self.old.pending < vec_len self.old.pending - self.old.at + length bytes.now) }
         ensures stays { (self.new.feeder ≡ self.old.feeder) × (self.new.short ≡ self.old.short) × (self.new.lost ≡ self.old.lost) × (self.new.complete ≡ self.old.complete) }
     {
         drop_front(&mut self.pending, self.at);
@@ -153,6 +161,40 @@ impl OnAir {
     /// Takes the next page, or the next bytes of the body, or the end.
     pub fn step<T: Runner>(&mut self, runner: &mut T) -> Result<Took, RecordFault>
         requires uncounted { (one : T) → T.counted one ≡ 0 }
+
+        // What a step takes of the stream is what import_record takes of it.
+        ensures steps { (before : T.State) (step : StepOf) → T.is_in before runner.old → result ≡ Ok (Took.Stepped step)
+            → (after : T.State) × T.is_in after runner.new
+            × TakesStep T.answers (IsOver self.old.ended self.old.starved self.old.decoded) step self.old.import self.new.import before after }
+        ensures ends { (before : T.State) (offset : ℕ) (junk : Option MendOf) (taken : TakenOf) → T.is_in before runner.old
+            → result ≡ Ok (Took.Ended offset junk taken) → (after : T.State) × T.is_in after runner.new
+            × TakesEnd T.answers (IsOver self.old.ended self.old.starved self.old.decoded) offset junk taken self.old.import self.new.import before after }
+        ensures bytes { result ≡ Ok Took.Bytes → (runner.new ≡ runner.old) × (((self.old.decoded ≡ 0) × (self.new.import ≡ self.old.import)
+            × HasDecoded (drop self.old.at self.old.pending.items)
+            (look self.old.body self.old.at self.old.decoded self.old.starved self.old.ended self.old.complete)
+            (look self.new.body self.new.at self.new.decoded self.new.starved self.new.ended self.new.complete)
+            × ((self.new.pending ≡ self.old.pending) ⊎ ((self.new.pending.items ≡ []) × (self.new.starved ≡ true) × (self.new.ended ≡ true))))
+            ⊎ ((count : ℕ) × PassesOn (slice_range self.old.pending.items self.old.at (self.old.at + self.old.decoded)) count self.old.import self.new.import
+            × (look self.new.body self.new.at self.new.decoded self.new.starved self.new.ended self.new.complete
+            ≡ look self.old.body (self.old.at + count) (self.old.decoded - count) self.old.starved self.old.ended self.old.complete)
+            × (self.new.pending ≡ self.old.pending))) }
+        ensures stays { result ≡ Ok Took.Bytes
+            → (self.new.feeder ≡ self.old.feeder) × (self.new.short ≡ self.old.short) × (self.new.lost ≡ self.old.lost) }
+        ensures nothing { result ≡ Ok Took.Nothing → (runner.new ≡ runner.old) × (self.new ≡ self.old) }
+        ensures stops { (before : T.State) → T.is_in before runner.old → IfErr result (λ fault. (after : T.State) × T.is_in after runner.new
+            × StopsBy T.answers fault before after None None) }
+
+        // What is known of the source, and what is known by its end.
+        ensures kept { (step : StepOf) → result ≡ Ok (Took.Stepped step)
+            → (look self.new.body self.new.at self.new.decoded self.new.starved self.new.ended self.new.complete
+            ≡ look self.old.body self.old.at self.old.decoded self.old.starved self.old.ended self.old.complete)
+            × (self.new.pending ≡ self.old.pending) × (self.new.short ≡ self.old.short) × (self.new.feeder ≡ self.old.feeder)
+            × (self.new.lost ≡ (loses step || self.old.lost)) }
+        ensures lost { (offset : ℕ) (junk : Option MendOf) (taken : TakenOf) → result ≡ Ok (Took.Ended offset junk taken)
+            → self.new.lost ≡ (is_some taken.answered.refused || self.old.lost) }
+        ensures same { (offset : ℕ) (junk : Option MendOf) (taken : TakenOf) → result ≡ Ok (Took.Ended offset junk taken)
+            → (self.new.feeder ≡ self.old.feeder) × (self.new.body ≡ self.old.body) × (self.new.complete ≡ self.old.complete) }
+        ensures err { OnErr result ((self.new.feeder ≡ self.old.feeder) × (self.new.body ≡ self.old.body)) }
     {
         if !self.import.waits() {
             return self.take_page(runner);
@@ -188,8 +230,12 @@ impl OnAir {
     /// Finds the next bytes of the stream among those that have come.
     fn decode(&mut self)
         requires { self.old.decoded ≡ 0 }
-        ensures noted { HasDecoded self.old.body (drop self.old.at self.old.pending.items) self.old.ended self.old.complete self.new.ended self.new.complete }
-        ensures stays { (self.new.lost ≡ self.old.lost) × (self.new.short ≡ self.old.short) × (self.new.feeder ≡ self.old.feeder) }
+        ensures noted { HasDecoded (drop self.old.at self.old.pending.items)
+            (look self.old.body self.old.at self.old.decoded self.old.starved self.old.ended self.old.complete)
+            (look self.new.body self.new.at self.new.decoded self.new.starved self.new.ended self.new.complete) }
+        ensures kept { (self.new.pending ≡ self.old.pending) ⊎ ((self.new.pending.items ≡ []) × (self.new.starved ≡ true) × (self.new.ended ≡ true)) }
+        ensures stays { (self.new.lost ≡ self.old.lost) × (self.new.short ≡ self.old.short) × (self.new.feeder ≡ self.old.feeder)
+            × (self.new.import ≡ self.old.import) }
     {
         let bytes = &self.pending[self.at..];
         let Some(body) = &mut self.body else {
@@ -217,8 +263,11 @@ impl OnAir {
     /// What follows is no part of the stream.
     fn stop(&mut self)
         requires { self.old.decoded ≡ 0 }
-        ensures { (self.new.complete ≡ self.old.complete) × (self.new.lost ≡ self.old.lost) × (self.new.decoded ≡ self.old.decoded)
-            × (self.new.ended ≡ true) × (self.new.short ≡ self.old.short) × (self.new.feeder ≡ self.old.feeder) }
+        ensures stopped { look self.new.body self.new.at self.new.decoded self.new.starved self.new.ended self.new.complete
+            ≡ stopped (look self.old.body self.old.at self.old.decoded self.old.starved self.old.ended self.old.complete) }
+        ensures none { self.new.pending.items ≡ [] }
+        ensures stays { (self.new.lost ≡ self.old.lost) × (self.new.short ≡ self.old.short) × (self.new.feeder ≡ self.old.feeder)
+            × (self.new.import ≡ self.old.import) }
     {
         self.pending.clear();
         self.at = 0;
@@ -228,7 +277,16 @@ impl OnAir {
 
     /// Passes decoded bytes on to the pages.
     fn pass_on(&mut self) -> Result<Took, RecordFault>
-        requires { page_at self.old.import.pages.unread ≡ Err Short }
+        requires waits { page_at self.old.import.pages.unread ≡ Err Short }
+        requires some { 0 < self.old.decoded }
+        ensures passes { IfOk result (λ took. (took ≡ Took.Bytes) × ((count : ℕ)
+            × PassesOn (slice_range self.old.pending.items self.old.at (self.old.at + self.old.decoded)) count self.old.import self.new.import
+            × (look self.new.body self.new.at self.new.decoded self.new.starved self.new.ended self.new.complete
+            ≡ look self.old.body (self.old.at + count) (self.old.decoded - count) self.old.starved self.old.ended self.old.complete)
+            × (self.new.pending ≡ self.old.pending))) }
+        ensures fault { OnErr result (result ≡ Err RecordFault.Read) }
+        ensures stays { (self.new.feeder ≡ self.old.feeder) × (self.new.body ≡ self.old.body) × (self.new.short ≡ self.old.short)
+            × (self.new.lost ≡ self.old.lost) }
     {
         let mut bytes = &self.pending[self.at..self.at + self.decoded];
         match self.import.read_once(&mut bytes) {
@@ -244,6 +302,22 @@ impl OnAir {
     /// Takes the next page that is whole, or passes over what isn't one, or ends the stream.
     fn take_page<T: Runner>(&mut self, runner: &mut T) -> Result<Took, RecordFault>
         requires uncounted { (one : T) → T.counted one ≡ 0 }
+        ensures steps { (before : T.State) (step : StepOf) → T.is_in before runner.old → result ≡ Ok (Took.Stepped step)
+            → (after : T.State) × T.is_in after runner.new
+            × IsStepped T.answers [] step self.new.import.pages.lent (input_of self.old.import) (input_of self.new.import) before after }
+        ensures ends { (before : T.State) (offset : ℕ) (junk : Option MendOf) (taken : TakenOf) → T.is_in before runner.old
+            → result ≡ Ok (Took.Ended offset junk taken) → (after : T.State) × T.is_in after runner.new
+            × HasEndedBy T.answers offset junk taken self.old.import self.new.import before after }
+        ensures stops { (before : T.State) → T.is_in before runner.old → IfErr result (λ fault. (after : T.State) × T.is_in after runner.new
+            × StopsBy T.answers fault before after None None) }
+        ensures other { (result ≢ Ok Took.Bytes) × (result ≢ Ok Took.Nothing) }
+        ensures lost { (offset : ℕ) (junk : Option MendOf) (taken : TakenOf) → result ≡ Ok (Took.Ended offset junk taken)
+            → self.new.lost ≡ (is_some taken.answered.refused || self.old.lost) }
+        ensures noted { (step : StepOf) → result ≡ Ok (Took.Stepped step) → self.new.lost ≡ (loses step || self.old.lost) }
+        ensures stays { (self.new.feeder ≡ self.old.feeder) × (self.new.body ≡ self.old.body) × (self.new.complete ≡ self.old.complete) }
+        ensures kept { (look self.new.body self.new.at self.new.decoded self.new.starved self.new.ended self.new.complete
+            ≡ look self.old.body self.old.at self.old.decoded self.old.starved self.old.ended self.old.complete)
+            × (self.new.pending ≡ self.old.pending) × (self.new.short ≡ self.old.short) }
     {
         match self.import.step(runner, &mut io::empty(), &mut io::sink()) {
             Ok(Step::Ended { junk }) => {
@@ -270,9 +344,10 @@ impl OnAir {
 /// Drops this many bytes at the front.
 fn drop_front(bytes: &mut Vec<u8>, count: usize)
     requires { count ≤ vec_len bytes.old }
-    ensures { vec_len bytes.new ≡ vec_len bytes.old - count }
+    ensures items { bytes.new.items ≡ drop count bytes.old.items }
+    ensures capacity { vec_capacity bytes.old ≤ vec_capacity bytes.new }
 {
-    let left = bytes.len() - count;
-    bytes.as_mut_slice().copy_within(count.., 0);
-    bytes.truncate(left);
+    let length = bytes.len();
+    bytes.copy_within(count..length, 0);
+    bytes.truncate(length - count);
 }

@@ -1,5 +1,6 @@
 //! What a connection asks for.
 ghost use Rattle.std.specs.Prelude.{◌≡◌, ◌⊎◌, ◌++◌, Result};
+ghost use Rattle.serve_hub.specs.Images.{IfFile, Reads};
 ghost use Rattle.serve_hub.specs.Showing.{Shows};
 ghost use Rattle.serve_machine.specs.Calls.{Steps};
 ghost use Rattle.serve_machine.specs.Hub.{Receive};
@@ -34,6 +35,7 @@ pub(crate) fn ask(client: &mut Client, bytes: &[u8]) -> Asks
 pub(crate) fn connect<D: Disk + Drop>(hub: &mut Hub<D>, client: &mut Client)
     ensures connects { IsConnected (Shows D.is_honest D.state) hub.old hub.new client.old client.new
         ⊎ ((hub.new ≡ hub.old) × (client.new ≡ cut client.old)) }
+    ensures disk { (hub.new.file ≡ hub.old.file) ⊎ IfFile (Reads D.is_honest D.state D.moment D.images_since D.failures) hub.old.file hub.new.file }
 {
     match hub.connect() {
         Ok(id) => {
@@ -46,8 +48,9 @@ pub(crate) fn connect<D: Disk + Drop>(hub: &mut Hub<D>, client: &mut Client)
 
 /// Further bytes of a session's request.
 pub(crate) fn read<D: Disk + Drop>(hub: &mut Hub<D>, id: u64, client: &mut Client, bytes: &[u8])
-    ensures { (progress : Result ProgressOf HubFaultOf) × Steps (Shows D.is_honest D.state) hub.old hub.new (λ machine. Receive id bytes.now progress)
+    ensures read { (progress : Result ProgressOf HubFaultOf) × Steps (Shows D.is_honest D.state) hub.old hub.new (λ machine. Receive id bytes.now progress)
         × (client.new ≡ with_stage (stage_after progress) client.old) }
+    ensures disk { (hub.new.file ≡ hub.old.file) ⊎ IfFile (Reads D.is_honest D.state D.moment D.images_since D.failures) hub.old.file hub.new.file }
 {
     let progress = hub.receive(id, bytes);
     client.go_to(stage_after(progress));
@@ -66,7 +69,9 @@ fn stage_after(progress: Result<Progress, HubFault>) -> Stage
 
 /// A listener: it joins what is recorded, or waits until a link begins. If only the head of the answer is asked for, it
 /// gets that. Without memory it is cut, and after a fault of the file.
-pub(crate) fn listen<D: Disk + Drop>(live: &mut LiveHub<D>, client: &mut Client, head: bool) {
+pub(crate) fn listen<D: Disk + Drop>(live: &mut LiveHub<D>, client: &mut Client, head: bool)
+    ensures disk { (live.new.hub.file ≡ live.old.hub.file) ⊎ IfFile (Reads D.is_honest D.state D.moment D.images_since D.failures) live.old.hub.file live.new.hub.file }
+{
     client.head.clear();
     if head {
         client.tell_last(LIVE);
@@ -85,7 +90,9 @@ pub(crate) fn listen<D: Disk + Drop>(live: &mut LiveHub<D>, client: &mut Client,
 }
 
 /// A listener that joins where it may.
-fn join<D: Disk + Drop>(live: &mut LiveHub<D>) -> Result<Listener, HubFault> {
+fn join<D: Disk + Drop>(live: &mut LiveHub<D>) -> Result<Listener, HubFault>
+    ensures disk { (live.new.hub.file ≡ live.old.hub.file) ⊎ IfFile (Reads D.is_honest D.state D.moment D.images_since D.failures) live.old.hub.file live.new.hub.file }
+{
     match live.place() {
         Some(place) => live.hub.join(place),
         None => Ok(live.hub.wait()),

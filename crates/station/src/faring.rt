@@ -31,7 +31,7 @@ impl OnAir {
 
     /// Further bytes have come. Without memory for them the source is given up, once what came before is taken.
     pub fn take(&mut self, bytes: &[u8])
-        ensures { HoldsMore (length bytes.now) self.old self.new ⊎ IsShort self.new }
+        ensures { HoldsMore bytes.now self.old self.new ⊎ IsShort (length bytes.now) self.old self.new }
     {
         if self.push(bytes).is_err() {
             self.break_off();

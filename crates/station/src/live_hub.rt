@@ -1,11 +1,11 @@
 //! A hub, and where listeners may join what it records.
 ghost use Rattle.std.specs.Prelude.{◌≡◌, ℕ};
 ghost use Rattle.chain_rules.specs.Decision.{is_begin};
-ghost use Rattle.feed_codec.specs.declared.reply.Reply.TheVariants.{Held as HeldOf};
+ghost use Rattle.feed_replies.specs.declared.reply.Reply.TheVariants.{Held as HeldOf};
 
 use crate::places::{Answered, Places};
 use disk_model::Disk;
-use feed_codec::Reply;
+use feed_replies::Reply;
 use feed_run::Runner;
 use link_chain::is_open;
 use ogg_command::Command;

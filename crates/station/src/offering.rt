@@ -1,9 +1,10 @@
 //! A source is offered: it is refused, or goes on the air.
-ghost use Rattle.std.specs.Prelude.{◌≡◌, ◌++◌, Some, OnOk};
+ghost use Rattle.std.specs.Prelude.{◌≡◌, ◌≢◌, ◌++◌, ℕ, Some, OnOk, true};
 ghost use Rattle.slab.specs.Slab.{get};
 ghost use Rattle.httparse.specs.Grammar.{RequestHead};
 ghost use Rattle.serve_clients.specs.Client.{ClientState};
 ghost use Rattle.serve_clients.specs.Clients.{OthersStay};
+ghost use Rattle.serve_clients.specs.declared.client.Stage.TheVariants.{Waiting as WaitingOf};
 ghost use Rattle.serve_sources.specs.Asking.{HasHead};
 ghost use Rattle.serve_sources.specs.declared.password.Password.{Password as PasswordOf};
 ghost use Rattle.station.specs.Counting.{counted};
@@ -76,7 +77,11 @@ impl<D: Disk + Drop> Station<D> {
     }
 
     /// The air is free: the first source that waits for it takes it.
-    pub(crate) fn offer_again(&mut self, now: u64) {
+    pub(crate) fn offer_again(&mut self, now: u64)
+        ensures others { (key : ℕ) (client : ClientState) → get self.old.clients.slots key ≡ Some client → client.stage ≢ WaitingOf
+            → get self.new.clients.slots key ≡ Some client }
+        ensures live { self.new.live ≡ self.old.live }
+    {
         for key in 0..self.clients.slots.capacity() {
             if self.waits(key) {
                 self.offer(key, &[], now);
@@ -86,7 +91,9 @@ impl<D: Disk + Drop> Station<D> {
     }
 
     /// Whether this connection is a source that waits for the air.
-    fn waits(&self, key: usize) -> bool {
+    fn waits(&self, key: usize) -> bool
+        ensures { result ≡ true → (client : ClientState) × (get self.now.clients.slots key ≡ Some client) × (client.stage ≡ WaitingOf) }
+    {
         match self.clients.slots.get(key) {
             Some(client) => client.stage == Stage::Waiting,
             None => false,

@@ -3,7 +3,7 @@ ghost use Rattle.std.specs.Prelude.{◌≡◌, None, Some, IfOk};
 ghost use Rattle.serve_live.specs.Boundaries.{no_link, place_to_join};
 ghost use Rattle.station.specs.Places.{answered_by, committed_to, doubted, noted, reopened_to};
 
-use feed_codec::Reply;
+use feed_replies::Reply;
 use ogg_command::Refusal;
 use serve_live::{Boundaries, JoinPlace};
 use std::alloc::{AllocError as Memory, Global};

@@ -213,6 +213,9 @@ impl<D: Disk + Drop> Station<D> {
             → (progress : Result ProgressOf HubFaultOf)
             × Steps (Shows D.is_honest D.state) self.old.live.hub self.new.live.hub (λ machine. Receive id bytes.now progress)
             × (get self.new.clients.slots key ≡ Some (with_stage (stage_after progress) (with_line (moved_on client.line) client))) }
+        // The file is only read, if at all.
+        ensures disk { (self.new.live.hub.file ≡ self.old.live.hub.file)
+            ⊎ IfFile (Reads D.is_honest D.state D.moment D.images_since D.failures) self.old.live.hub.file self.new.live.hub.file }
         ensures others { OthersStay key self.old.clients self.new.clients }
     {
         let Some(client) = self.clients.slots.get_mut(key) else {
@@ -251,6 +254,8 @@ impl<D: Disk + Drop> Station<D> {
 
     /// The station answers this connection itself.
     fn answer(&mut self, key: usize, resource: OwnResource, head: bool, now: u64)
+        ensures disk { (self.new.live.hub.file ≡ self.old.live.hub.file)
+            ⊎ IfFile (Reads D.is_honest D.state D.moment D.images_since D.failures) self.old.live.hub.file self.new.live.hub.file }
         ensures others { OthersStay key self.old.clients self.new.clients }
     {
         let Some(client) = self.clients.slots.get_mut(key) else {
@@ -395,7 +400,7 @@ impl<D: Disk + Drop> Station<D> {
     /// Further bytes of a source. Without memory for them it is given up, once what came before is taken.
     fn feed(&mut self, feeder: Feeder, bytes: &[u8])
         ensures noted { (air : OnAirOf) → self.old.air ≡ Some air → air.feeder ≡ feeder
-            → (after : OnAirOf) × (self.new.air ≡ Some after) × (HoldsMore (length bytes.now) air after ⊎ IsShort after) }
+            → (after : OnAirOf) × (self.new.air ≡ Some after) × (HoldsMore bytes.now air after ⊎ IsShort (length bytes.now) air after) }
         ensures clients { self.new.clients ≡ self.old.clients }
         ensures live { self.new.live ≡ self.old.live }
         ensures options { self.new.options ≡ self.old.options }

@@ -8,6 +8,7 @@ ghost use Rattle.serve_clients.specs.Clients.{AreLookedAt, AreWoken, HasTurn, Ot
 ghost use Rattle.serve_clients.specs.Line.{taken_off};
 ghost use Rattle.serve_clients.specs.declared.client.After.TheVariants.{Closes};
 ghost use Rattle.station.specs.Patience.{until_due as until_commit};
+ghost use Rattle.station.specs.Telling.{listeners_in};
 ghost use Rattle.station.specs.Turning.{GoesOn, IsRead, has_finished};
 ghost use Rattle.station.specs.Waking.{gathers, is_due, is_over, until_due, until_next, woken_at};
 
@@ -180,7 +181,9 @@ impl<D: Disk + Drop> Station<D> {
     }
 
     /// How many connections hear what is recorded.
-    fn listeners(&self) -> u64 {
+    fn listeners(&self) -> u64
+        ensures { result ≡ listeners_in self.now.clients.slots }
+    {
         let mut count = 0;
         for key in 0..self.clients.slots.capacity() {
             if self.clients.hears(key) {
@@ -195,6 +198,7 @@ impl<D: Disk + Drop> Station<D> {
         ensures recorded { (machine : HubState) → Shows D.is_honest D.state self.now.live.hub machine → result.bytes ≡ length machine.committed }
         ensures source { (result.on_air ≡ is_some self.now.air) × (result.packets ≡ self.now.counts.packets) }
         ensures commits { result.commits ≡ self.now.commits_a_second }
+        ensures listeners { result.listeners ≡ listeners_in self.now.clients.slots }
     {
         Shown {
             on_air: self.air.is_some(),

@@ -9,4 +9,4 @@ same_air one other e = cc
 pub returns-then-eq-clause-noted : goal.returns-then-eq-clause-noted
 returns-then-eq-clause-noted g c air is feeder =
     let same : c.in-Some.air ≡ air = same_air c.in-Some.air air (sym c.in-Some.is ∙ is) in
-    (c.take.new.self, refl, subst (λ (one : OnAir). HoldsMore (length c.args.bytes.now) one c.take.new.self ⊎ IsShort c.take.new.self) same c.take.ensures)
+    (c.take.new.self, refl, subst (λ (one : OnAir). HoldsMore c.args.bytes.now one c.take.new.self ⊎ IsShort (length c.args.bytes.now) one c.take.new.self) same c.take.ensures)

@@ -1,0 +1,23 @@
+use Rattle.std.proofs.Common.{◌≡◌, Bool, ◌||◌, Some, sym, ◌∙◌, ap, subst}
+use Rattle.slab.specs.Slab.{get}
+use Rattle.serve_hub.specs.Parts.{failed_in}
+use Rattle.station.specs.Parting.{HasParted, parting_answer}
+use Rattle.station.specs.declared.air.OnAir.{OnAir}
+use Rattle.station.proofs.Leaving.{parted_is_apart, same_air}
+use Rattle.station.proofs.station.Station.leave_the_air.Goals as goal
+
+pub returns : goal.returns
+returns g c = record {
+  parts = λ air key client is feeder found feeding.
+      let same : c.in-Some.air ≡ air = same_air c.in-Some.air air (c.in-Some.ensures.value ∙ is) in
+      let still : get c.end_open.new.self.clients.slots key ≡ Some client = ap (λ s. get s.clients.slots key) c.end_open.ensures ∙ found in
+      let (after, left, parted) = c.answer_feeder.ensures.parts key client (ap (λ (one : OnAir). one.feeder) same ∙ feeder) still feeding in
+      let told = c.is_lost-lost.result in
+      let lost : told ≡ (c.args.given_up || failed_in c.offer_again.new.self.live.hub.file) =
+      c.is_lost-lost.ensures ∙ ap (λ live. c.args.given_up || failed_in live.hub.file) (sym (c.offer_again.ensures.live ∙ c.answer_feeder.ensures.live)) in (
+        after,
+        c.offer_again.ensures.others key after left (parted_is_apart (parting_answer told c.in-Some.air) client after parted),
+        subst (λ (b : Bool). HasParted (parting_answer b air) client after) lost
+            (subst (λ (one : OnAir). HasParted (parting_answer told one) client after) same parted),
+      );
+}

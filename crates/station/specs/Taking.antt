@@ -1,0 +1,50 @@
+-- What is taken of the stream of a source, as import_record takes it. Ours.
+use Rattle.std.specs.Prelude.{◌≡◌, ◌⊎◌, ◌<◌, ℕ, Bool, true, false, Option, None, is_some, List, [], take}
+use Rattle.feed_records.specs.declared.item.Record.{Record}
+use Rattle.feed_replies.specs.declared.reply.Reply.{Reply}
+use Rattle.import_mend.specs.declared.mend.Mend.{Mend}
+use Rattle.import_record.specs.Pushing.{Comes, InputState, IsStepped, NeedsNone}
+use Rattle.import_record.specs.Steps.{Ends, state_of}
+use Rattle.import_record.specs.declared.intake.Taken.{Taken}
+use Rattle.import_record.specs.declared.reading.ImportRun.{ImportRun}
+use Rattle.import_record.specs.declared.reading.Step.{Step}
+use Rattle.import_record.specs.declared.reading.Step.TheVariants.{Ended, Page}
+
+-- the stream as import_record sees it
+abbrev pub input_of : ImportRun → InputState
+input_of run = record { pages = run.pages; intake = state_of run.intake }
+
+-- The first so many of these bytes, at least one, came to the stream.
+pub record PassesOn (bytes : List ℕ) (count : ℕ) (old new : ImportRun) : Type 0 where
+  pub some : 0 < count
+  pub comes : Comes (take count bytes) (input_of old) (input_of new)
+  pub junk : new.junk ≡ old.junk
+
+-- All that came of a source is taken, and no more comes: whether it has ended, whether what is left of it says nothing
+-- before more bytes come, and how many bytes are known to be of the stream.
+abbrev pub IsOver : Bool → Bool → ℕ → Type 0
+IsOver ended starved decoded = (ended ≡ true) × (starved ≡ true) × (decoded ≡ 0)
+
+-- packets that were refused are lost
+abbrev pub loses : Step → Bool
+loses (Page offset junk taken) = is_some taken.answered.refused
+loses step = false
+
+module _ {S : Type 0} (answers : S → Record → Reply → List ℕ → S → Type 0) where
+  -- A step was taken of what had come to the stream. It needed no more bytes, or no more come.
+  pub record TakesStep (Over : Type 0) (step : Step) (old new : ImportRun) (before after : S) : Type 0 where
+    pub needs : NeedsNone step old.pages ⊎ Over
+    pub stepped : IsStepped answers [] step new.pages.lent (input_of old) (input_of new) before after
+
+  -- A step found the end of the stream, at this offset, and what was open of it was ended.
+  pub record HasEndedBy (offset : ℕ) (junk : Option Mend) (taken : Taken) (old new : ImportRun) (before after : S) : Type 0 where
+    pub between : ImportRun
+    pub reached : S
+    pub finds : IsStepped answers [] (Ended junk) between.pages.lent (input_of old) (input_of between) before reached
+    pub offset_is : offset ≡ between.pages.offset
+    pub ends : Ends answers offset (state_of between.intake) (state_of new.intake) taken reached after None None
+
+  -- That is so, and it needed no more bytes, or no more come.
+  pub record TakesEnd (Over : Type 0) (offset : ℕ) (junk : Option Mend) (taken : Taken) (old new : ImportRun) (before after : S) : Type 0 where
+    pub needs : NeedsNone (Ended junk) old.pages ⊎ Over
+    pub ended : HasEndedBy offset junk taken old new before after
