@@ -1,11 +1,11 @@
 //! A file that is recorded and served, for any number of connections.
 
+use crate::hearing::{HeardDisk, open_heard};
 use crate::logging::Log;
-use crate::recorders::{HeardDisk, open_heard, seal_file};
 use crate::running::Running;
 use crate::sockets::Sockets;
-use crate::telling::Told;
 use fault_lines::Fault;
+use file_actions::{Told, seal_file};
 use import_feed::Skeletons;
 use ogg_serve::Hub;
 use station::{Options as StationOptions, Password, Station};
@@ -108,10 +108,13 @@ fn look_through(hub: &mut Hub<HeardDisk>) {
     }
 }
 
-/// The password that stands in a file.
+/// The password that stands in a file. A longer file isn't cut, but refused.
 fn read_password(rt: &HostRuntime, file: &str) -> Result<Password, Fault> {
-    let mut bytes = [0; MOST_PASSWORD];
+    let mut bytes = [0; MOST_PASSWORD + 1];
     let mut file = File::open(rt, file).map_err(|_| Fault::File)?;
     let count = file.read(&mut bytes).map_err(|_| Fault::File)?;
+    if count > MOST_PASSWORD {
+        return Err(Fault::File);
+    }
     Password::new(rt.alloc(), &bytes[..count]).map_err(|_| Fault::File)
 }

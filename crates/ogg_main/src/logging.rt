@@ -1,6 +1,6 @@
 //! The log of a station: a line for each connection at its end, and two for each source.
 
-use crate::telling::Told;
+use file_actions::Told;
 use station::{Counts, Done, FULL, Visit};
 use std::alloc::AllocError;
 use std::net::SocketAddr;

@@ -4,23 +4,17 @@
 //! command line asks for nothing that can be done; then a text on standard error says what it could ask for.
 #![tactic(auto)]
 
-mod archiving;
 mod broadcasting;
-mod files;
-mod finishing;
-mod indexing;
+mod hearing;
 mod logging;
-mod mends;
-mod recorders;
 mod running;
-mod salvaging;
 mod server;
 mod sockets;
-mod streams;
 mod telling;
 
 use command_line::{Action, Error, Skeletons, action_of, not_text};
 use fault_lines::{Fault, write_fault};
+use file_actions::{ArchiveOptions, RecordEnds};
 use import_feed::{ChangeOptions, Skeletons as SkeletonsOf};
 use std::alloc::AllocError;
 use std::fs::File;
@@ -79,13 +73,13 @@ fn run(rt: &HostRuntime, action: Action<'_>) -> Result<(), Fault> {
             strict,
             seal,
         } => {
-            let options = archiving::Options {
+            let options = ArchiveOptions {
                 skeletons: made(skeletons),
                 most,
                 strict,
                 seal,
             };
-            archiving::archive(rt, file, options)
+            file_actions::archive(rt, file, options)
         }
         Action::Station {
             file,
@@ -111,9 +105,9 @@ fn run(rt: &HostRuntime, action: Action<'_>) -> Result<(), Fault> {
             mend,
             renumber,
             skeletons,
-        } => streams::feed(rt, mend, changes(renumber, skeletons)),
-        Action::Mux { strict } => streams::mux(rt, strict),
-        Action::Check { strict } => streams::check(rt, strict),
+        } => file_actions::feed(rt, mend, changes(renumber, skeletons)),
+        Action::Mux { strict } => file_actions::mux(rt, strict),
+        Action::Check { strict } => file_actions::check(rt, strict),
         Action::Record {
             file,
             end_open,
@@ -122,17 +116,17 @@ fn run(rt: &HostRuntime, action: Action<'_>) -> Result<(), Fault> {
             most,
             strict,
         } => {
-            let ends = streams::Ends {
+            let ends = RecordEnds {
                 end_open,
                 renumber,
                 seal,
             };
-            streams::record(rt, file, ends, most, strict)
+            file_actions::record(rt, file, ends, most, strict)
         }
-        Action::Links { file } => files::links(rt, file),
-        Action::Split { file, link, serial } => files::split(rt, file, link, serial),
-        Action::Finish { file, link } => finishing::finish(rt, file, link),
-        Action::Salvage { file } => salvaging::salvage(rt, file),
+        Action::Links { file } => file_actions::links(rt, file),
+        Action::Split { file, link, serial } => file_actions::split(rt, file, link, serial),
+        Action::Finish { file, link } => file_actions::finish(rt, file, link),
+        Action::Salvage { file } => file_actions::salvage(rt, file),
         Action::Serve {
             file,
             address,

@@ -1,10 +1,11 @@
 //! A station that runs: round after round bytes go between its sockets and the machine, which decides everything.
 
+use crate::hearing::HeardDisk;
 use crate::logging::Log;
-use crate::recorders::HeardDisk;
 use crate::sockets::{Connection, Sockets, trouble};
-use crate::telling::Told;
+use crate::telling::tell_done;
 use fault_lines::Fault;
+use file_actions::Told;
 use import_record::RecordFault;
 use station::{After, Done, FULL, Feeder, Station, Trouble, station_line};
 use std::io::{self, Read, Write};
@@ -183,7 +184,7 @@ impl Running<'_> {
                 return Ok(false);
             }
             self.log.done(&done, self.station.counts());
-            self.told.done(&done, self.station.hub())?;
+            tell_done(&mut self.told, &done, self.station.hub())?;
         }
         Ok(true)
     }

@@ -1,10 +1,10 @@
 //! The commands that serve a file over HTTP.
 ghost use Rattle.std.specs.Prelude.{◌≡◌, IfOk, IfSome, IsSome};
 
-use crate::recorders::{open_recorder, seal_file};
 use disk_model::{FileDisk, FileMode};
 use fault_lines::Fault;
-use feed_codec::{FeedFault, RunFault};
+use feed_replies::{FeedFault, RunFault};
+use file_actions::{open_recorder, seal_file};
 use ogg_serve::{Hub, LiveFeed, Step, live_one, serve_one};
 use std::fs::File;
 use std::io::{self, BufReader, Read, Write};

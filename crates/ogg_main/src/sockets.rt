@@ -1,6 +1,6 @@
 //! The sockets of a station, and standard input: the system tells when they have something.
 
-use crate::recorders::HeardDisk;
+use crate::hearing::HeardDisk;
 use mio::net::{TcpListener, TcpStream};
 use mio::unix::SourceFd;
 use mio::{Events, Interest, Poll, Token};

@@ -1,6 +1,6 @@
 //! Feeds recorded onto disks in memory, and what an opening finds after them.
 use disk_model::{Disk, FuseDisk, MemDisk};
-use feed_codec::{FeedFault, RunFault};
+use feed_replies::{FeedFault, RunFault};
 use ogg_command::Memory;
 use ogg_recorder::{Recorder, record_feed};
 use std::alloc::Global;

@@ -3,7 +3,7 @@
 //! next recording has the result that the feed has with memory.
 use chain_rules::{Command, Refusal};
 use disk_model::MemDisk;
-use feed_codec::{FeedFault, Kept, RunFault};
+use feed_replies::{FeedFault, Kept, RunFault};
 use gate_file::OpenFault;
 use ogg_command::{Begin, Listed, Memory, NewStream};
 use ogg_recorder::{Outcome, Recorder, record_feed};

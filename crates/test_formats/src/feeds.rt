@@ -1,7 +1,7 @@
 //! Feeds and lines written out by hand, cut and broken everywhere.
 ghost use Rattle.std.specs.Prelude.{◌≡◌, Some};
-ghost use Rattle.feed_codec.specs.Record.{FitsRecord};
-ghost use Rattle.feed_codec.specs.declared.version.Version.{Version as VersionOf};
+ghost use Rattle.feed_records.specs.Record.{FitsRecord};
+ghost use Rattle.feed_records.specs.declared.version.Version.{Version as VersionOf};
 
 use crate::files::joined;
 use fakes::{FakeReader, FakeWriter};

@@ -5,7 +5,7 @@ use crate::fakes::{FakeReader, FakeWriter};
 use crate::tools::{GET_ALL, OF_THREE, OF_TWO, TWO, ask, gives, hub_after_two, hub_over};
 use chain_rules::{Command, Refusal};
 use disk_model::{Disk, FuseDisk, MemDisk};
-use feed_codec::{Kept, Reply};
+use feed_replies::{Kept, Reply};
 use ogg_serve::{Hub, HubFault, LiveFeed, OpenFault, Outcome, Served, Step, live_one, serve_one};
 use std::alloc::Global;
 use std::test::Fail;

@@ -474,7 +474,7 @@ fn add_command(
     let mut whole = Vec::new(alloc);
     whole.extend_from_slice(made.as_slice())?;
     shape.lay(command, &mut whole)?;
-    let mut pages = shape.pages(alloc, command)?;
+    let mut pages = shape.pages(command)?;
     for left in (0..pages.left()).rev() {
         if !pages.next(buffer) || pages.left() != left {
             return Err("a page isn't made, or isn't counted".into());

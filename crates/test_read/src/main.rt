@@ -6,7 +6,7 @@
 //! goes on at the end. With a serial it lists the packets of that stream, `MD5 LENGTH`, and then `end`, or
 //! `fault CODE NAME`. With `window FILE` it counts the pages of a file through a window, without reading it as a
 //! whole: the output is the same. With `folding TURNS` or `tables TURNS` it goes over the bytes so often, computing their
-//! checksum as `ogg_page` does for many bytes or for few, and prints `checksum VALUE`.
+//! checksum as `page_checksum` does for many bytes or for few, and prints `checksum VALUE`.
 //!
 //! The status is 0 if there was no fault, and 1 after one. The status is 2 if standard input or the file can't be
 //! read, standard output can't be written, or the word is none of these.

@@ -2,7 +2,7 @@
 use ogg_page::{checksum, checksum_on};
 use std::io::{self, Write};
 
-/// In pieces of so few bytes `ogg_page` reads its tables; more bytes at once are folded.
+/// In pieces of so few bytes `page_checksum` reads its tables; more bytes at once are folded.
 const PIECE: usize = 512;
 
 /// The checksum of some bytes and then these, from that of the bytes before, by the tables alone.

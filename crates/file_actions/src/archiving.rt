@@ -7,14 +7,15 @@ use fault_lines::Fault;
 use import_feed::{ChangeOptions, Skeletons};
 use import_record::{ImportRun, RecordFault, Step, Taken, run_all};
 use ogg_recorder::{Recorder, end_open_streams};
-use std::io;
+use std::os::unix::fs::MetadataExt;
+use std::{fs, io};
 
 /// How many bytes of the stream are read at once.
 const ROOM: usize = 1 << 20;
 
 /// How a stream is recorded.
 #[derive(Clone, Copy)]
-pub struct Options {
+pub struct ArchiveOptions {
     /// What becomes of Skeletons.
     pub skeletons: Skeletons,
     /// How many commands may share a commit while more of the stream is at hand.
@@ -26,8 +27,16 @@ pub struct Options {
 }
 
 /// Records the Ogg stream on standard input into the file, which is made if there is none. What an earlier run left
-/// open is ended first.
-pub fn archive(rt: &HostRuntime, file: &str, options: Options) -> Result<(), Fault> {
+/// open is ended first. What is mended or refused is told on standard error, and at the end what was recorded.
+///
+/// It is `Archive` if standard input is the file itself, which isn't opened then, or if the stream isn't recorded to
+/// its end. It is `Locked`, `File`, `Memory` or `Open` if the file can't be opened, first or after a fault of the disk,
+/// and `Failed` if the disk fails again before anything more is kept. It is `Refused` or `Mended` after a refusal, or
+/// in a strict run a mend, and `Seal` if the file isn't cut. What was told as recorded stays in the file.
+pub fn archive(rt: &HostRuntime, file: &str, options: ArchiveOptions) -> Result<(), Fault> {
+    if is_input(rt, file) {
+        return Err(Fault::Archive(RecordFault::Read));
+    }
     let mut recorder = open_recorder(rt, file, FileMode::Create)?;
     // `clap` has checked that `most` lies in this range, and nothing waits yet.
     recorder.group(options.most.clamp(1, 1024));
@@ -45,6 +54,14 @@ pub fn archive(rt: &HostRuntime, file: &str, options: Options) -> Result<(), Fau
     } else {
         Ok(())
     }
+}
+
+/// Whether standard input is this file. A run that read what it writes would never end.
+fn is_input(rt: &HostRuntime, file: &str) -> bool {
+    let (Ok(input), Ok(output)) = (fs::metadata(rt, "/dev/stdin"), fs::metadata(rt, file)) else {
+        return false;
+    };
+    input.dev() == output.dev() && input.ino() == output.ino()
 }
 
 /// Ends the streams that are open in the file, and keeps that.
@@ -86,7 +103,7 @@ fn record_all(
     mut recorder: Recorder<FileDisk>,
     import: &mut ImportRun,
     told: &mut Told<'_>,
-    options: Options,
+    options: ArchiveOptions,
 ) -> Result<Recorder<FileDisk>, Fault> {
     for _ in 0..u64::MAX {
         let ran = record_stream(rt, &mut recorder, import, told);

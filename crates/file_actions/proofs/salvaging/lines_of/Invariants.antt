@@ -1,5 +1,5 @@
 use Rattle.std.proofs.Common.{◌≤◌, length}
-use Rattle.ogg_main.proofs.salvaging.lines_of.Given as goal
+use Rattle.file_actions.proofs.salvaging.lines_of.Given as goal
 
 abbrev pub invariant-loop-page : goal.invariant-loop-page
 invariant-loop-page l = l.sure ≤ l.searched

@@ -16,7 +16,10 @@ const PIECE: usize = 1 << 20;
 /// 65,307 bytes (RFC 3533, section 6).
 const BEYOND: usize = 65_306;
 
-/// Writes a line for each good page of the file to standard output.
+/// Writes a line for each good page of the file to standard output, in their order. The file is only read.
+///
+/// It is `File` if the file can't be opened or read, `Memory` if memory is refused, `Write` if standard output takes no
+/// more: the lines of the pages that were found before are written then.
 pub fn salvage(rt: &HostRuntime, file: &str) -> Result<(), Fault> {
     let mut disk = open(rt, file)?;
     let Ok(size) = disk.len() else {

@@ -5,8 +5,8 @@ use crate::mends::MendLines;
 use crate::recorders::{open_recorder, seal_file};
 use disk_model::{FileDisk, FileMode};
 use fault_lines::Fault;
-use feed_codec::{FeedFault, RunFault, Tally};
 use feed_mux::{check_feed_for, mux_for};
+use feed_replies::{FeedFault, RunFault, Tally};
 use feed_run::{Batched, Buffered, FirstRefusal, Together, run_feed_for};
 use import_feed::{ChangeOptions, make_feed, make_mended_feed};
 use import_renumber::Renumbered;
@@ -26,6 +26,9 @@ type ReplyLines<W> = FirstRefusal<Batched<W>>;
 
 /// Writes the pages of the feed on standard input to standard output, and the replies to standard error. If `strict`
 /// says so, the feed ends after the first refusal.
+///
+/// It is `Feed` or `TooMany` if the feed isn't run to its end, `Write` if a stream takes no more, `Memory` if memory is
+/// refused, and in a strict run `Refused`. The pages and the replies of the records before are written then.
 pub fn mux(rt: &HostRuntime, strict: bool) -> Result<(), Fault> {
     let mut feed = input(rt)?;
     let mut pages = output(rt, TOGETHER)?;
@@ -36,7 +39,7 @@ pub fn mux(rt: &HostRuntime, strict: bool) -> Result<(), Fault> {
 }
 
 /// Checks the feed on standard input: writes to standard output the replies that `mux` would write, and makes no page.
-/// If `strict` says so, the feed ends after the first refusal.
+/// If `strict` says so, the feed ends after the first refusal. Its faults are those of `mux`.
 pub fn check(rt: &HostRuntime, strict: bool) -> Result<(), Fault> {
     let mut feed = input(rt)?;
     let mut replies = reply_lines(rt, rt.stdout(), Together::Ahead, strict)?;
@@ -47,7 +50,7 @@ pub fn check(rt: &HostRuntime, strict: bool) -> Result<(), Fault> {
 
 /// What is done to a file before and after a feed is recorded into it.
 #[derive(Clone, Copy)]
-pub struct Ends {
+pub struct RecordEnds {
     /// The streams that an earlier run left open are ended first.
     pub end_open: bool,
     /// The same, and streams get serials that the file doesn't have.
@@ -58,10 +61,14 @@ pub struct Ends {
 
 /// Records the feed on standard input into the file, which is made if there is none, and writes the replies to
 /// standard output. `most` commands share a commit. If `strict` says so, the feed ends after the first refusal.
+///
+/// It is `Locked`, `File`, `Memory` or `Open` if the file can't be opened: nothing of the feed is read then. It is
+/// `Feed`, `TooMany`, `Write`, `Memory` or `Refused` as for `mux`, `Failed` if the disk has failed, and `Seal` if the
+/// file isn't cut. What was told as kept stays in the file.
 pub fn record(
     rt: &HostRuntime,
     file: &str,
-    ends: Ends,
+    ends: RecordEnds,
     most: u32,
     strict: bool,
 ) -> Result<(), Fault> {
@@ -166,6 +173,8 @@ fn outcome<W: Write + Drop>(replies: &ReplyLines<W>) -> Result<(), Fault> {
 
 /// Writes the feed of the Ogg bitstream on standard input to standard output, changed as the options ask. If `mend`
 /// says so, any input is mended, and what was mended is told on standard error.
+///
+/// It is `Make` if no feed was made of the whole input: the records of what came before are written then.
 pub fn feed(rt: &HostRuntime, mend: bool, options: ChangeOptions) -> Result<(), Fault> {
     // The standard streams keep no bytes back: what is written is out, and what can be read at once is read.
     let (mut input, mut out) = (rt.stdin(), rt.stdout());

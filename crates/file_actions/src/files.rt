@@ -12,7 +12,11 @@ use std::io::{BufWriter, Stdout, Write};
 /// How many bytes of a copy are written at once.
 const TOGETHER: usize = 32768;
 
-/// Writes the listing of the file to standard output.
+/// Writes the listing of the file to standard output. The file is only read.
+///
+/// It is `File` if the file can't be opened, `Open` if its committed bytes can't be found, `Index` if there is no index
+/// of them, and `Memory` if memory is refused: nothing is written then. It is `Write` if standard output takes no more:
+/// it has got a part of the listing then.
 pub fn links(rt: &HostRuntime, file: &str) -> Result<(), Fault> {
     let indexed = find_index(rt.alloc(), open(rt, file)?)?;
     let mut listing = Vec::new(rt.alloc());
@@ -27,13 +31,13 @@ pub fn links(rt: &HostRuntime, file: &str) -> Result<(), Fault> {
 
 /// A window over the committed bytes of a file, and their index.
 #[derive(Drop)]
-pub struct Reading {
-    pub window: Window<Found<FileDisk>>,
-    pub index: Index,
+pub(crate) struct Reading {
+    pub(crate) window: Window<Found<FileDisk>>,
+    pub(crate) index: Index,
 }
 
 /// Opens a file whose pages are written. It is only read.
-pub fn read(rt: &HostRuntime, file: &str) -> Result<Reading, Fault> {
+pub(crate) fn read(rt: &HostRuntime, file: &str) -> Result<Reading, Fault> {
     let Indexed {
         found,
         index,
@@ -46,7 +50,7 @@ pub fn read(rt: &HostRuntime, file: &str) -> Result<Reading, Fault> {
 }
 
 /// Standard output, to which this many bytes are written at once.
-pub fn output(rt: &HostRuntime, together: usize) -> Result<BufWriter<Stdout>, Fault> {
+pub(crate) fn output(rt: &HostRuntime, together: usize) -> Result<BufWriter<Stdout>, Fault> {
     match BufWriter::with_capacity(rt.alloc(), together, rt.stdout()) {
         Ok(out) => Ok(out),
         Err(_) => Err(Fault::Memory),
@@ -55,7 +59,10 @@ pub fn output(rt: &HostRuntime, together: usize) -> Result<BufWriter<Stdout>, Fa
 
 /// What became of pages that were written, after what they left in the buffer. What was written before a fault goes
 /// out too.
-pub fn flushed<W: Write>(written: Result<(), SplitFault>, out: &mut W) -> Result<(), SplitFault> {
+pub(crate) fn flushed<W: Write>(
+    written: Result<(), SplitFault>,
+    out: &mut W,
+) -> Result<(), SplitFault> {
     let flushed = out.flush();
     match (written, flushed) {
         (Err(fault), _) => Err(fault),
@@ -64,7 +71,10 @@ pub fn flushed<W: Write>(written: Result<(), SplitFault>, out: &mut W) -> Result
     }
 }
 
-/// Writes the pages of a link to standard output, or those of one of its streams.
+/// Writes the pages of a link to standard output, or those of one of its streams. The file is only read.
+///
+/// It is `File`, `Open`, `Index` or `Memory` as for `links`: nothing is written then. It is `Split` if there is no such
+/// link or stream, the file can't be read, or standard output takes no more: what was copied before is written then.
 pub fn split(rt: &HostRuntime, file: &str, link: u32, serial: Option<u32>) -> Result<(), Fault> {
     let mut reading = read(rt, file)?;
     let mut out = output(rt, TOGETHER)?;
@@ -94,7 +104,7 @@ fn copy<W: Write>(
 }
 
 /// Opens a file to be read.
-pub fn open(rt: &HostRuntime, file: &str) -> Result<FileDisk, Fault> {
+pub(crate) fn open(rt: &HostRuntime, file: &str) -> Result<FileDisk, Fault> {
     match FileDisk::open(rt, file, FileMode::ReadOnly) {
         Ok(disk) => Ok(disk),
         Err(_) => Err(Fault::File),

@@ -1,5 +1,5 @@
 use Rattle.std.specs.Prelude.{◌-◌, ⊤}
-use Rattle.ogg_main.proofs.salvaging.salvage.Given as goal
+use Rattle.file_actions.proofs.salvaging.salvage.Given as goal
 
 abbrev pub invariant-loop-at : goal.invariant-loop-at
 invariant-loop-at l = ⊤

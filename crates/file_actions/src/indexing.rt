@@ -42,15 +42,15 @@ impl PageVisitor for Indexer {
 
 /// A file that was found, its index, and the room for a page that was used.
 #[derive(Drop)]
-pub struct Indexed<D: Disk> {
-    pub found: Found<D>,
-    pub index: Index,
-    pub buffer: PageBuffer,
+pub(crate) struct Indexed<D: Disk> {
+    pub(crate) found: Found<D>,
+    pub(crate) index: Index,
+    pub(crate) buffer: PageBuffer,
 }
 
 /// Finds the committed bytes of a file and indexes them, in one pass that writes nothing. A fault of finding comes
 /// before one of indexing.
-pub fn find_index<D: Disk + Drop>(alloc: Global, disk: D) -> Result<Indexed<D>, Fault> {
+pub(crate) fn find_index<D: Disk + Drop>(alloc: Global, disk: D) -> Result<Indexed<D>, Fault> {
     let Ok(buffer) = PageBuffer::new(alloc) else {
         return Err(Fault::Memory);
     };

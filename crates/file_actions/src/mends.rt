@@ -11,14 +11,14 @@ const MOST_STRANGERS: usize = 1024;
 
 /// Writes a line for each mend. A stream that the link hasn't is told by its first page alone.
 #[derive(Drop)]
-pub struct MendLines<W> {
+pub(crate) struct MendLines<W> {
     out: W,
     // the serials of the strangers that were told since the link began
     strangers: Vec<u32>,
 }
 
 impl<W: Write> MendLines<W> {
-    pub fn new(alloc: Global, out: W) -> MendLines<W> {
+    pub(crate) fn new(alloc: Global, out: W) -> MendLines<W> {
         MendLines {
             out,
             strangers: Vec::new(alloc),

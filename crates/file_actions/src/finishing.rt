@@ -13,6 +13,9 @@ use std::io::Write;
 const TOGETHER: usize = 65536;
 
 /// Writes the link of the file to standard output, finished, or all of its links. The file is only read.
+///
+/// It is `File`, `Open`, `Index` or `Memory` as for `links`: nothing is written then. It is `Finish` if there is no
+/// such link, the file can't be read, or standard output takes no more: what was made before is written then.
 pub fn finish(rt: &HostRuntime, file: &str, link: Option<u32>) -> Result<(), Fault> {
     let mut reading = read(rt, file)?;
     let Ok(mut marked) = PageBuffer::new(rt.alloc()) else {
