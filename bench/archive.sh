@@ -6,17 +6,12 @@
 #     apt-get install libogg-dev && bench/archive.sh [BYTES]      none: 1000000000
 #
 # The files are made below TMPDIR, or /tmp: choose a folder on the disk that is to be measured.
-set -u
-here=$(cd "$(dirname "$0")" && pwd)
-. "$here/rows.bash"
-program=${PROGRAM:-$here/../crates/ogg_main/out/ogg_main}
-work=$(mktemp -d "${TMPDIR:-/tmp}/archive-bench.XXXXXX")
-trap 'rm -rf "$work"' EXIT
+. "$(dirname "$0")/common.bash"
 bytes=${1:-1000000000}
 # The name `program` is set anew by some wrappers of python3.
 export recorder=$program work
 
-[ -x "$program" ] || { echo "no program at $program: ./kudzuturret builds it" >&2; exit 1; }
+built "$program"
 cc -O2 -o "$work/pages_made" "$here/pages_made.c" -logg || exit 1
 
 # took FILE COMMAND ..: adds the CPU seconds and the seconds by the clock that the command took.

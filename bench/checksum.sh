@@ -1,19 +1,15 @@
 #!/usr/bin/env bash
-# Measures what the checksum of a page costs: by folding and by the tables alone (`test_read folding` and `test_read tables`,
-# which call ogg_page), by libogg, and beside a plain read of the same memory. All but that must find the same checksum. Each
-# goes over a page of 512 bytes, of 4 kB and of 65 kB until it has seen 2 GB; of 512 bytes folding is the tables too. The GB
-# in a second of a processor are from the best of three runs that take turns. Not part of the tests.
+# Measures what the checksum of a page costs: by folding and by the tables alone (`test_read folding` and `test_read
+# tables`, which call page_checksum), by libogg, and beside a plain read of the same memory. All but that must find the
+# same checksum. Each goes over a page of 512 bytes, of 4 kB and of 65 kB until it has seen 2 GB; of 512 bytes folding
+# is the tables too. The GB in a second of a processor are from the best of three runs that take turns. Not part of the
+# tests.
 #
 #     apt-get install libogg-dev && bench/checksum.sh [BYTES]      none: 2000000000
-set -u
-here=$(cd "$(dirname "$0")" && pwd)
-. "$here/rows.bash"
-reader=${READ_OGG:-$here/../crates/test_read/out/test_read}
-work=$(mktemp -d "${TMPDIR:-/tmp}/checksum-bench.XXXXXX")
-trap 'rm -rf "$work"' EXIT
+. "$(dirname "$0")/common.bash"
 bytes=${1:-2000000000}
 
-[ -x "$reader" ] || { echo "no program at $reader: ./check builds it" >&2; exit 1; }
+built "$reader"
 cc -O2 -o "$work/measured" "$here/measured.c" || exit 1
 cc -O2 -o "$work/pages_made" "$here/pages_made.c" -logg || exit 1
 cc -O2 -o "$work/checksums" "$here/checksums.c" -logg || exit 1

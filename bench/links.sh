@@ -5,15 +5,10 @@
 # ones is given. Not part of the tests.
 #
 #     bench/links.sh [STREAMS]      streams of each link; none: 1
-set -u
-here=$(cd "$(dirname "$0")" && pwd)
-. "$here/rows.bash"
-program=${PROGRAM:-$here/../crates/ogg_main/out/ogg_main}
-work=$(mktemp -d "${TMPDIR:-/tmp}/links-bench.XXXXXX")
-trap 'rm -rf "$work"' EXIT
+. "$(dirname "$0")/common.bash"
 streams=${1:-1}
 
-[ -x "$program" ] || { echo "no program at $program: ./kudzuturret builds it" >&2; exit 1; }
+built "$program"
 
 # feed LINKS STREAMS ORDER: links with an empty header for each stream, and the ends of all of them.
 feed() {

@@ -7,16 +7,11 @@
 //     cc -O2 -D_GNU_SOURCE -o many_clients many_clients.c && ./many_clients PID PORT TARGET SIZE LENGTH COUNT SECONDS SLOW
 //
 // SIZE is the length of the resource; if LENGTH is 0 all of it is asked for, without a range.
+#include "server.h"
 #include <arpa/inet.h>
-#include <errno.h>
 #include <netinet/in.h>
-#include <stdio.h>
-#include <stdlib.h>
-#include <string.h>
 #include <sys/epoll.h>
 #include <sys/socket.h>
-#include <time.h>
-#include <unistd.h>
 
 struct one {
     int socket;
@@ -29,46 +24,12 @@ struct one {
 };
 
 static char piece[1 << 18];
-static const char *pid, *target;
+static const char *target;
 static int port, epoll;
 static long long size, length, content, answered;
 static double *took;
 static size_t took_room;
 static unsigned long long seed = 1;
-
-static void fail(const char *why) {
-    fprintf(stderr, "many_clients: %s\n", why);
-    exit(1);
-}
-
-static double now(void) {
-    struct timespec it;
-    clock_gettime(CLOCK_MONOTONIC, &it);
-    return it.tv_sec + it.tv_nsec / 1e9;
-}
-
-static void cpu(double *user, double *system) {
-    char name[64], text[1024];
-    snprintf(name, sizeof name, "/proc/%s/stat", pid);
-    FILE *from = fopen(name, "r");
-    unsigned long in_user, in_system;
-    if (!from || !fgets(text, sizeof text, from)) fail("the server has ended");
-    fclose(from);
-    char *at = strrchr(text, ')');
-    if (!at || sscanf(at + 2, "%*c %*d %*d %*d %*d %*d %*u %*u %*u %*u %*u %lu %lu", &in_user, &in_system) != 2) fail("no times");
-    *user = (double)in_user / sysconf(_SC_CLK_TCK);
-    *system = (double)in_system / sysconf(_SC_CLK_TCK);
-}
-
-static double memory(void) {
-    char name[64], text[256];
-    double most = 0;
-    snprintf(name, sizeof name, "/proc/%s/status", pid);
-    FILE *from = fopen(name, "r");
-    while (from && fgets(text, sizeof text, from)) sscanf(text, "VmHWM: %lf", &most);
-    if (from) fclose(from);
-    return most / 1024;
-}
 
 static void begin(struct one *it) {
     struct sockaddr_in to = {.sin_family = AF_INET, .sin_port = htons(port), .sin_addr.s_addr = htonl(INADDR_LOOPBACK)};
@@ -79,7 +40,7 @@ static void begin(struct one *it) {
     it->asked = it->whole = 0;
     it->head_length = 0;
     it->got = 0;
-    it->begun = now();
+    it->begun = clock_seconds();
     if (connect(it->socket, (struct sockaddr *)&to, sizeof to) && errno != EINPROGRESS) fail("no connection");
     struct epoll_event event = {.events = EPOLLOUT, .data.ptr = it};
     if (epoll_ctl(epoll, EPOLL_CTL_ADD, it->socket, &event)) fail("epoll");
@@ -123,7 +84,7 @@ static void end(struct one *it) {
         took = realloc(took, took_room * sizeof *took);
         if (!took) fail("memory");
     }
-    took[answered++] = now() - it->begun;
+    took[answered++] = clock_seconds() - it->begun;
     close(it->socket);
     begin(it);
 }
@@ -145,14 +106,14 @@ int main(int count, char **words) {
     epoll = epoll_create1(0);
     struct one *all = calloc(fast + slow, sizeof *all);
     double user, system, user_after, system_after;
-    cpu(&user, &system);
-    double start = now(), tick = start;
+    cpu_seconds(&user, &system);
+    double start = clock_seconds(), tick = start;
     for (int it = 0; it < fast + slow; it++) {
         all[it].slow = it >= fast;
         begin(&all[it]);
     }
     static struct epoll_event events[1024];
-    while (now() - start < seconds) {
+    while (clock_seconds() - start < seconds) {
         int ready = epoll_wait(epoll, events, 1024, 50);
         for (int at = 0; at < ready; at++) {
             struct one *it = events[at].data.ptr;
@@ -171,17 +132,17 @@ int main(int count, char **words) {
                 fail("a connection broke");
             }
         }
-        if (now() - tick >= 1) {
+        if (clock_seconds() - tick >= 1) {
             tick += 1;
             for (int it = fast; it < fast + slow; it++)
                 if (all[it].asked && recv(all[it].socket, piece, 1024, 0) < 0 && errno != EAGAIN) fail("a slow connection broke");
         }
     }
-    double clock = now() - start;
-    cpu(&user_after, &system_after);
+    double clock = clock_seconds() - start;
+    cpu_seconds(&user_after, &system_after);
     if (!answered) took = calloc(1, sizeof *took);
     qsort(took, answered, sizeof *took, order);
-    printf("%lld %.1f %.3f %.3f %.3f %.1f %.1f %.1f\n", answered, content / 1e6, clock, user_after - user, system_after - system, memory(),
+    printf("%lld %.1f %.3f %.3f %.3f %.1f %.1f %.1f\n", answered, content / 1e6, clock, user_after - user, system_after - system, most_memory() / 1024.0,
            1000 * took[answered / 2], 1000 * took[answered ? answered - 1 : 0]);
     return 0;
 }

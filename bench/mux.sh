@@ -4,14 +4,9 @@
 # of the tests.
 #
 #     apt-get install libogg-dev && bench/mux.sh [SHAPE ..]      tiny, audio, streams, frames, large; none: all
-set -u
-here=$(cd "$(dirname "$0")" && pwd)
-. "$here/rows.bash"
-program=${PROGRAM:-$here/../crates/ogg_main/out/ogg_main}
-work=$(mktemp -d "${TMPDIR:-/tmp}/mux-bench.XXXXXX")
-trap 'rm -rf "$work"' EXIT
+. "$(dirname "$0")/common.bash"
 
-[ -x "$program" ] || { echo "no program at $program: ./kudzuturret builds it" >&2; exit 1; }
+built "$program"
 cc -O2 -o "$work/mux_libogg" "$here/mux_libogg.c" -logg || exit 1
 
 # cpu FILE COMMAND ..: runs the command on the feed, its pages to FILE, its replies to FILE.replies, and prints its CPU

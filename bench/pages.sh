@@ -4,17 +4,9 @@
 # part of the tests.
 #
 #     apt-get install libogg-dev && bench/pages.sh [SHAPE ..]      tiny, audio, streams, frames, large; none: all
-set -u
-here=$(cd "$(dirname "$0")" && pwd)
-. "$here/rows.bash"
-mux=${PROGRAM:-$here/../crates/ogg_main/out/ogg_main}
-reader=${READ_OGG:-$here/../crates/test_read/out/test_read}
-work=$(mktemp -d "${TMPDIR:-/tmp}/pages-bench.XXXXXX")
-trap 'rm -rf "$work"' EXIT
+. "$(dirname "$0")/common.bash"
 
-for program in "$mux" "$reader"; do
-    [ -x "$program" ] || { echo "no program at $program: ./check builds it" >&2; exit 1; }
-done
+built "$program" "$reader"
 cc -O2 -o "$work/pages_libogg" "$here/pages_libogg.c" -logg || exit 1
 
 # cpu FILE COMMAND ..: runs the command on the pages, with its output in FILE, and prints its CPU seconds.
@@ -29,7 +21,7 @@ printf '%-8s %12s %12s %10s %7s\n' shape 'pages, MB' 'test_read, s' 'libogg, s' 
 status=0
 for shape in "${@:-tiny audio streams frames large}"; do
     for shape in $shape; do
-        python3 "$here/feeds.py" "$shape" | "$mux" mux >"$work/pages" 2>"$work/replies" || exit 1
+        python3 "$here/feeds.py" "$shape" | "$program" mux >"$work/pages" 2>"$work/replies" || exit 1
         ours='' theirs=''
         for _ in 1 2 3; do
             ours+="$(cpu "$work/ours" "$reader") "

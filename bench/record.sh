@@ -9,14 +9,10 @@
 # than the programs do. The seconds are by the clock, since what a commit costs is the disk's. Not part of the tests.
 #
 #     apt-get install libogg-dev libsqlite3-dev && bench/record.sh [FOLDER]    the files lie in FOLDER, else in a temporary one
-set -u
-here=$(cd "$(dirname "$0")" && pwd)
-. "$here/rows.bash"
-program=${PROGRAM:-$here/../crates/ogg_main/out/ogg_main}
-work=$(mktemp -d "${1:-${TMPDIR:-/tmp}}/record-bench.XXXXXX")
-trap 'rm -rf "$work"' EXIT
+[ $# -eq 0 ] || TMPDIR=$1
+. "$(dirname "$0")/common.bash"
 
-[ -x "$program" ] || { echo "no program at $program: ./kudzuturret builds it" >&2; exit 1; }
+built "$program"
 cc -O2 -o "$work/commits" "$here/record_commits.c" -lsqlite3 || exit 1
 cc -O2 -o "$work/libogg" "$here/mux_libogg.c" -logg || exit 1
 

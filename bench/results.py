@@ -1,7 +1,7 @@
 #!/usr/bin/env python3
 """Prints bench/RESULTS.md: results.py ROWS FAILED LOAD SECONDS
 
-ROWS has lines of NAME, UNIT, OURS, COMPETITOR, THEIRS and COMMAND, with tabs between them (rows.bash); FAILED has a line
+ROWS has lines of NAME, UNIT, OURS, COMPETITOR, THEIRS and COMMAND, with tabs between them (common.bash); FAILED has a line
 for each script that failed. LOAD is what the load was before, and SECONDS how long all of it took.
 """
 import datetime

@@ -12,25 +12,16 @@
 # part of the tests.
 #
 #     apt-get install libogg-dev nginx-light && bench/serve.sh [BYTES]      none: 1000000000
-set -u
-here=$(cd "$(dirname "$0")" && pwd)
-. "$here/rows.bash"
-program=${PROGRAM:-$here/../crates/ogg_main/out/ogg_main}
-work=$(mktemp -d "${TMPDIR:-/tmp}/serve-bench.XXXXXX")
-server=
-# Each server that runs was started by this script; they run one after the other.
-stop() { [ -z "$server" ] || { kill "$server"; wait "$server"; } 2>/dev/null; server=; }
-trap 'stop; rm -rf "$work"' EXIT
+. "$(dirname "$0")/common.bash"
 bytes=${1:-1000000000}
 
-[ -x "$program" ] || { echo "no program at $program: ./kudzuturret builds it" >&2; exit 1; }
+built "$program"
 nginx=$(PATH=$PATH:/usr/sbin command -v nginx) || { echo "no nginx: apt-get install nginx-light" >&2; exit 1; }
 cc -O2 -o "$work/pages_made" "$here/pages_made.c" -logg || exit 1
 for name in serve_pieces serve_client; do
     cc -O2 -D_GNU_SOURCE -o "$work/$name" "$here/$name.c" || exit 1
 done
 
-free_port() { python3 -c 'import socket; s = socket.socket(); s.bind(("127.0.0.1", 0)); print(s.getsockname()[1])'; }
 
 # start WHICH FILE: a server of the file, whose process is then in `server`.
 start() {
@@ -55,7 +46,7 @@ CONF
         "$nginx" -e stderr -p "$work/nginx" -c "$work/nginx/conf" &
         ;;
     esac
-    server=$!
+    server=$! begun=("$!")
 }
 
 # run WHICH FILE TARGET SIZE LENGTH REQUESTS: a server is started, asked and ended; its line goes to runs.WHICH.

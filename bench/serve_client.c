@@ -6,52 +6,12 @@
 //     cc -O2 -D_GNU_SOURCE -o serve_client serve_client.c && ./serve_client PID PORT TARGET SIZE LENGTH REQUESTS
 //
 // SIZE is the length of the resource; if LENGTH is 0 all of it is asked for, without a range.
+#include "server.h"
 #include <arpa/inet.h>
-#include <errno.h>
 #include <netinet/in.h>
-#include <stdio.h>
-#include <stdlib.h>
-#include <string.h>
 #include <sys/socket.h>
-#include <time.h>
-#include <unistd.h>
 
 static char piece[1 << 18];
-static const char *pid;
-
-static void fail(const char *why) {
-    fprintf(stderr, "serve_client: %s\n", why);
-    exit(1);
-}
-
-static double clock_seconds(void) {
-    struct timespec now;
-    clock_gettime(CLOCK_MONOTONIC, &now);
-    return now.tv_sec + now.tv_nsec / 1e9;
-}
-
-// The server's CPU seconds: of its threads, without its children.
-static void cpu_seconds(double *user, double *system) {
-    char name[64], text[1024];
-    snprintf(name, sizeof name, "/proc/%s/stat", pid);
-    FILE *from = fopen(name, "r");
-    if (!from || !fgets(text, sizeof text, from)) fail("the server has ended");
-    fclose(from);
-    unsigned long in_user, in_system;
-    if (sscanf(strrchr(text, ')') + 2, "%*c %*d %*d %*d %*d %*d %*u %*u %*u %*u %*u %lu %lu", &in_user, &in_system) != 2) fail("no times");
-    *user = (double)in_user / sysconf(_SC_CLK_TCK);
-    *system = (double)in_system / sysconf(_SC_CLK_TCK);
-}
-
-static long most_memory(void) {
-    char name[64], text[256];
-    long most = 0;
-    snprintf(name, sizeof name, "/proc/%s/status", pid);
-    FILE *from = fopen(name, "r");
-    while (from && fgets(text, sizeof text, from)) sscanf(text, "VmHWM: %ld", &most);
-    if (from) fclose(from);
-    return most;
-}
 
 // One request: for a range, or for the whole if `length` is 0. While no server listens it is tried again, for
 // `patience` seconds.

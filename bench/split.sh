@@ -5,15 +5,10 @@
 # that take turns, and the most memory that each had is printed. Not part of the tests.
 #
 #     apt-get install libogg-dev && bench/split.sh [BYTES]      none: 1000000000
-set -u
-here=$(cd "$(dirname "$0")" && pwd)
-. "$here/rows.bash"
-program=${PROGRAM:-$here/../crates/ogg_main/out/ogg_main}
-work=$(mktemp -d "${TMPDIR:-/tmp}/split-bench.XXXXXX")
-trap 'rm -rf "$work"' EXIT
+. "$(dirname "$0")/common.bash"
 bytes=${1:-1000000000}
 
-[ -x "$program" ] || { echo "no program at $program: ./kudzuturret builds it" >&2; exit 1; }
+built "$program"
 cc -O2 -o "$work/measured" "$here/measured.c" || exit 1
 for name in pages_made split_libogg; do
     cc -O2 -o "$work/$name" "$here/$name.c" -logg || exit 1

@@ -3,23 +3,16 @@
 # pause, and the CPU and the memory of the server. Both get the same stream of ffmpeg, in real time. Not part of the tests.
 #
 #     apt-get install ffmpeg icecast2 && bench/station.sh [SECONDS]      none: 10 for each count of listeners
-set -u
-here=$(cd "$(dirname "$0")" && pwd)
-. "$here/rows.bash"
-program=${PROGRAM:-$here/../crates/ogg_main/out/ogg_main}
-work=$(mktemp -d "${TMPDIR:-/tmp}/station-bench.XXXXXX")
+. "$(dirname "$0")/common.bash"
 chmod 777 "$work"
-begun=()
-trap 'kill "${begun[@]}" 2>/dev/null; wait 2>/dev/null; rm -rf "$work"' EXIT
 seconds=${1:-10}
 ulimit -n 8192 || { echo "too few files may be open: ulimit -n" >&2; exit 1; }
 
-[ -x "$program" ] || { echo "no program at $program: ./kudzuturret builds it" >&2; exit 1; }
+built "$program"
 ffmpeg -nostdin -loglevel error -f lavfi -i "anoisesrc=d=60:c=pink" -c:a libvorbis -b:a 128k "$work/in.ogg" || exit 1
 printf 'secret\n' >"$work/password"
-port() { python3 -c 'import socket; s = socket.socket(); s.bind(("127.0.0.1", 0)); print(s.getsockname()[1])'; }
-ours=$(port)
-theirs=$(port)
+ours=$(free_port)
+theirs=$(free_port)
 cat >"$work/icecast.xml" <<END
 <icecast><limits><clients>4000</clients><sources>2</sources><burst-size>65535</burst-size></limits>
 <authentication><source-password>secret</source-password><admin-user>a</admin-user><admin-password>a</admin-password></authentication>
@@ -63,13 +56,11 @@ for count in 64 512 1000; do
 done
 
 # A source of 50 pages a second beside 32 listeners, with the disk's syncs as they are and with 5 ms more for each.
-kill "${begun[@]}"
-wait "${begun[@]}" 2>/dev/null
-begun=()
+stop
 cc -O2 -shared -fPIC -D_GNU_SOURCE -o "$work/slow_sync.so" "$here/slow_sync.c" -ldl || exit 1
 quick=
 for shim in "" "$work/slow_sync.so"; do
-    to=$(port)
+    to=$(free_port)
     LD_PRELOAD=$shim "$program" station "$work/pages.${shim:+slow}" "127.0.0.1:$to" --password-file "$work/password" </dev/null 2>"$work/err" &
     station=$!
     sleep 1
@@ -82,7 +73,5 @@ for shim in "" "$work/slow_sync.so"; do
     pause=$(number 's in the middle; [0-9.]* ms' "$line")
     [ -z "$quick" ] || row '32 listeners of 50 pages a second, each sync 5 ms longer: the longest pause' s "$pause" 'ours, the disk as it is' "$quick"
     quick=${quick:-$pause}
-    kill "${begun[@]}"
-    wait "${begun[@]}" 2>/dev/null
-    begun=()
+    stop
 done

@@ -8,32 +8,24 @@
 # that the server had. Not part of the tests.
 #
 #     apt-get install libogg-dev nginx-light && bench/station_files.sh [SECONDS] [BYTES]      none: 5 and 200000000
-set -u
-here=$(cd "$(dirname "$0")" && pwd)
-. "$here/rows.bash"
-program=${PROGRAM:-$here/../crates/ogg_main/out/ogg_main}
-work=$(mktemp -d "${TMPDIR:-/tmp}/station-files.XXXXXX")
-server=
-stop() { [ -z "$server" ] || { kill "$server"; wait "$server"; } 2>/dev/null; server=; }
-trap 'stop; rm -rf "$work"' EXIT
+. "$(dirname "$0")/common.bash"
 seconds=${1:-5}
 bytes=${2:-200000000}
 ulimit -n 8192 || { echo "too few files may be open: ulimit -n" >&2; exit 1; }
 
-[ -x "$program" ] || { echo "no program at $program: ./kudzuturret builds it" >&2; exit 1; }
+built "$program"
 nginx=$(PATH=$PATH:/usr/sbin command -v nginx) || { echo "no nginx: apt-get install nginx-light" >&2; exit 1; }
 cc -O2 -o "$work/pages_made" "$here/pages_made.c" -logg || exit 1
 cc -O2 -D_GNU_SOURCE -o "$work/many_clients" "$here/many_clients.c" || exit 1
 server_on=() clients_on=()
 [ "$(nproc)" -lt 2 ] || server_on=(taskset -c 0) clients_on=(taskset -c 1)
-free_port() { python3 -c 'import socket; s = socket.socket(); s.bind(("127.0.0.1", 0)); print(s.getsockname()[1])'; }
 
 # start WHICH: a server of the file, whose process is then in `server`.
 start() {
     port=$(free_port)
     if [ "$1" = station ]; then
         "${server_on[@]}" "$program" station "$work/served" "127.0.0.1:$port" --listeners 4096 </dev/null 2>"$work/err" &
-        server=$!
+        server=$! begun=("$!")
     else
         mkdir -p "$work/nginx/www"
         ln -f "$work/all" "$work/nginx/www/all"
@@ -48,7 +40,7 @@ http {
 }
 CONF
         "${server_on[@]}" "$nginx" -e stderr -p "$work/nginx" -c "$work/nginx/conf" &
-        server=$!
+        server=$! begun=("$!")
     fi
     for _ in $(seq 100); do
         (exec 3<>"/dev/tcp/127.0.0.1/$port") 2>"$work/tried" && break

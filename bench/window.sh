@@ -4,15 +4,10 @@
 # three runs that take turns, and the most memory that each had. Not part of the tests.
 #
 #     apt-get install libogg-dev && bench/window.sh [BYTES]      none: 1000000000
-set -u
-here=$(cd "$(dirname "$0")" && pwd)
-. "$here/rows.bash"
-reader=${READ_OGG:-$here/../crates/test_read/out/test_read}
-work=$(mktemp -d "${TMPDIR:-/tmp}/window-bench.XXXXXX")
-trap 'rm -rf "$work"' EXIT
+. "$(dirname "$0")/common.bash"
 bytes=${1:-1000000000}
 
-[ -x "$reader" ] || { echo "no program at $reader: ./check builds it" >&2; exit 1; }
+built "$reader"
 cc -O2 -o "$work/measured" "$here/measured.c" || exit 1
 for program in pages_libogg pages_made; do
     cc -O2 -o "$work/$program" "$here/$program.c" -logg || exit 1
