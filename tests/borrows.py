@@ -8,15 +8,11 @@ order, which must be taken. The crates below must be built, as './check' and './
 is 'N passed, M failed'; the status is 0 if nothing failed.
 """
 import dataclasses
-import subprocess
 import sys
 import tempfile
 from pathlib import Path
 
 from wrong_bodies import Checker, Crate
-
-# A check takes some seconds; one that takes this many hangs.
-LONGEST = 900
 
 
 @dataclasses.dataclass
@@ -97,16 +93,7 @@ def checked(checker, uses, text):
         source = Path(room, "src", "lib.rt")
         source.parent.mkdir()
         source.write_text(text, encoding="utf-8")
-        ran = subprocess.run(
-            checker.command(Crate("scratch", uses)),
-            cwd=room,
-            stdin=subprocess.DEVNULL,
-            stdout=subprocess.PIPE,
-            stderr=subprocess.STDOUT,
-            errors="replace",
-            timeout=LONGEST,
-        )
-        return ran.stdout
+        return checker.ran(checker.command(Crate("scratch", uses)), room)[0]
 
 
 def main():

@@ -28,8 +28,13 @@ A wrong body is refused if the check doesn't prove its function, and names a goa
 failure if that function is proved, if only its proof file names what isn't there any more, if the check has no verdict
 on it, or if a function is refused in which nothing was changed.
 
-The crates below must be built, as './check' and './kudzuturret' leave them. As many crates are tried side by side as
-there are processors. The last line is 'N passed, M failed'; the status is 0 if nothing failed.
+Each crate has a control besides: a right body of another shape, made by giving a variable another name in a function
+whose proof file cites it. That it is proved, or that nothing can be told of it, is right; that it is refused is a
+failure, since so might be any right body.
+
+The crates below must be built, as './check' and './kudzuturret' leave them, and not be older than their files. As many
+crates are tried side by side as there are processors. What a check says is read as the kit in KIT says it; the first
+line tells of another kit. The last line is 'N passed, M failed'; the status is 0 if nothing failed.
 """
 import itertools
 import os
@@ -38,7 +43,7 @@ import shutil
 import subprocess
 import sys
 import tempfile
-from concurrent.futures import ThreadPoolExecutor
+from concurrent.futures import ThreadPoolExecutor, as_completed
 from pathlib import Path
 
 TOP = Path(__file__).resolve().parent.parent
@@ -47,6 +52,9 @@ LONGEST = 3600
 # What a check may take of the memory, in bytes.
 MEMORY = 3_000_000_000
 
+
+# The kit whose checks this script reads.
+KIT = "rattle-kit-13f"
 
 # A body of text_line that means what the one before meant. If this one counted as refused, any other might.
 RIGHT = """refused: line::Line::as_slice
@@ -72,6 +80,7 @@ TRAIT = re.compile(r"(?:pub(?:\(\w+\))? )?trait ")
 IMPL = re.compile(r"impl(?:<.*?>)? (?:(\w+)(?:<(\w+)>)?(?:<.*?>)? for )?(\w+)")
 # What is said of a proof file that names something that the edit took away.
 MISSING = re.compile(r"has no field|has no `|is not in scope|was not admitted")
+NEAREST = re.compile(rf"{MISSING.pattern}|\(nearest: ")
 
 
 def functions_of(sources):
@@ -116,6 +125,7 @@ class Edit:
         self.mistake = ""
         self.refused = []
         self.changes = []
+        self.is_right = False
         file = old = None
         for line in text.splitlines():
             word, _, rest = line.partition(":")
@@ -137,6 +147,13 @@ class Edit:
                 raise BadEdit(f"what does this line say: {line[:80]}")
         if not self.refused or not self.changes:
             raise BadEdit("it names no function that must be refused, or changes nothing")
+
+    @staticmethod
+    def control(function):
+        """A right body of this function, which has another shape."""
+        edit = Edit("control", f"refused: {function}\nfile: src\nold: none\nnew: none\n")
+        edit.is_right = True
+        return edit
 
     def plant(self, texts, folder):
         """The texts, which are by file, with the changed lines, or why that can't be."""
@@ -214,11 +231,41 @@ class Copy:
 class Crate:
     """A crate, and the libraries that its line in crates.txt names."""
 
+    PARTS = ("src", "specs", "proofs")
+
     def __init__(self, name, uses):
         self.name = name
         self.uses = uses
         self.folder = TOP / "crates" / name
         self.rlib = self.folder / "out" / "rlib" / f"{name}.rlib"
+
+    def is_stale(self):
+        """Whether a file of the crate is newer than what was built of it."""
+        built = self.rlib.stat().st_mtime
+        return any(it.stat().st_mtime > built for part in self.PARTS for it in (self.folder / part).rglob("*.*"))
+
+    def control(self):
+        """A copy with a right body of another shape, or none if no function of the crate can be changed so."""
+        copy = Copy(self.folder)
+        sources = copy.sources()
+        ends = {file: len(text.splitlines()) + 1 for file, text in sources.items()}
+        for file, functions in functions_of(sources).items():
+            for (begin, name), (end, _) in itertools.pairwise([*functions, (ends[file], "")]):
+                answers = self.folder / "proofs" / name.replace("::", "/") / "Answers.antt"
+                if not answers.is_file():
+                    continue
+                cited = answers.read_text(encoding="utf-8")
+                lines = sources[file].splitlines(keepends=True)
+                text = "".join(lines[begin - 1 : end - 1])
+                for variable in re.findall(r"(?m)^ +let (?:mut |\(|Some\()*(\w+)", text):
+                    # A field or a call of this name would get another name too.
+                    other = rf"[.{{]\s*{variable}\b|\b{variable}:|\b{variable} {{|\b{variable}\(|{variable},? }}"
+                    if re.search(rf"[-.]{variable}\b", cited) and not re.search(other, text):
+                        renamed = re.sub(rf"\b{variable}\b", f"{variable}_named", text)
+                        copy.texts[file] = "".join([*lines[: begin - 1], renamed, *lines[end - 1 :]])
+                        copy.edits.append(Edit.control(name))
+                        return copy
+        return None
 
     def copies(self, alone):
         """The copies that try the crate's wrong bodies, and a line for each that can't be planted."""
@@ -277,6 +324,20 @@ class Checker:
         words += ["--logic-built", f"{self.kit}/logic_built"]
         return [*words, "--links", f"{crate.name}=", "--jobs", "1"]
 
+    @staticmethod
+    def ran(words, at):
+        """What these words say, run in this folder, and their status."""
+        ran = subprocess.run(
+            words,
+            cwd=at,
+            stdin=subprocess.DEVNULL,
+            stdout=subprocess.PIPE,
+            stderr=subprocess.STDOUT,
+            errors="replace",
+            timeout=LONGEST,
+        )
+        return ran.stdout, ran.returncode
+
     def check(self, crate, copy, room):
         """What the check of a copy says, and its status. What it proves is kept in the room for the next copy."""
         with tempfile.TemporaryDirectory(prefix="copy-", dir=room) as at:
@@ -284,16 +345,7 @@ class Checker:
             words = [*self.command(crate), "--incremental", f"{room}/kept", "--allow-holes"]
             for it in copy.functions():
                 words += ["--only", it]
-            ran = subprocess.run(
-                words,
-                cwd=at,
-                stdin=subprocess.DEVNULL,
-                stdout=subprocess.PIPE,
-                stderr=subprocess.STDOUT,
-                errors="replace",
-                timeout=LONGEST,
-            )
-            return ran.stdout, ran.returncode
+            return self.ran(words, at)
 
     def tried(self, crate, copies):
         """The lines to print of the crate's copies, each with whether it tells of a wrong body that was refused."""
@@ -327,13 +379,20 @@ def verdicts(crate, copy, output, status):
         yield False, f"{crate.name}: no verdict (status {status}) with {names}:\n{begin}"
         return
     errors = {it: proof_errors(it, output) for it in said}
-    # An error that names what isn't there any more tells nothing of the contract.
-    shown = copy.unproved(output) | {it for it in said if not all(MISSING.search(error) for error in errors[it])}
+    # An error that names what isn't there any more tells nothing of the contract. Nor does any goal for sure, if an
+    # invariant has such an error: they all rest on it.
+    shown = copy.unproved(output) | {it for it in said if not all(MISSING.search(error) for _, error in errors[it])}
+    sure = copy.unproved(output) | {it for it in said if not all(NEAREST.search(error) for _, error in errors[it])}
+    sure -= {it for it in said if any(file == "Invariants" and NEAREST.search(error) for file, error in errors[it])}
     for edit in copy.edits:
         for function in edit.refused:
             verdict = said.get(function, "not among the crate's functions")
-            if is_refused(verdict) and function in shown:
-                yield True, f"{crate.name}/{edit.name}: refused"
+            if edit.is_right:
+                is_told = is_refused(verdict) and function in sure
+                yield not is_told, f"{crate.name}: a right body of {function} is {'refused' if is_told else 'not refused'}"
+            elif is_refused(verdict) and function in shown:
+                form = "" if function in sure else ", with its proof's names gone: make it again, so that a clause shows"
+                yield True, f"{crate.name}/{edit.name}: refused{form}"
             elif is_refused(verdict) and errors[function]:
                 yield False, f"{crate.name}/{edit.name}: only the proof file of {function} misses what was taken away"
             else:
@@ -349,9 +408,9 @@ def is_refused(verdict):
 
 
 def proof_errors(function, output):
-    """What the check has against the files of a function's proof."""
+    """What the check has against the files of a function's proof, each with the name of the file."""
     folder = re.escape(f"proofs/{function.replace('::', '/')}/")
-    return re.findall(rf"^\S*{folder}\w+\.antt:\d+:\d+: error: (.*)$", output, re.M)
+    return re.findall(rf"^\S*{folder}(\w+)\.antt:\d+:\d+: error: (.*)$", output, re.M)
 
 
 def side_by_side():
@@ -368,23 +427,29 @@ def main():
     if unknown:
         sys.exit(f"crates.txt has no crate {' '.join(unknown)}")
 
+    kit = (checker.kit / "KIT-ID").read_text(encoding="utf-8").strip()
+    if kit.split()[0] != KIT:
+        print(f"this is {kit}; what its checks say is read as {KIT} says it", flush=True)
     trials, lines = [], []
     for crate in checker.crates.values():
         copies, bad = crate.copies(alone) if not asked or crate.name in asked else ([], [])
         lines += [(False, it) for it in bad]
-        lacking = [it.name for it in checker.below(crate) if not it.rlib.is_dir()]
-        if copies and lacking:
-            lines.append((False, f"{crate.name}: {lacking[0]} isn't built: ./check and ./kudzuturret build it"))
+        below = checker.below(crate) if copies else []
+        lacking = [it.name for it in below if not it.rlib.is_dir()]
+        stale = [it.name for it in below if it.rlib.is_dir() and it.is_stale()]
+        if lacking or stale:
+            why = f"{lacking[0]} isn't built" if lacking else f"what was built of {stale[0]} is older than its files"
+            lines.append((False, f"{crate.name}: {why}: ./check and ./kudzuturret build it"))
         elif copies:
-            trials.append((crate, copies))
+            trials.append((crate, [*copies, *filter(None, [crate.control()])]))
     # Those with most to try first, so that no processor waits for the last.
     trials.sort(key=lambda it: -sum(len(copy.edits) for copy in it[1]))
 
     passed = failed = 0
     with ThreadPoolExecutor(side_by_side()) as pool:
-        right = [] if asked else [pool.submit(right_body, checker)]
-        found = pool.map(lambda it: checker.tried(*it), trials)
-        for told in itertools.chain([lines], (it.result() for it in right), found):
+        found = [] if asked else [pool.submit(right_body, checker)]
+        found += [pool.submit(checker.tried, *it) for it in trials]
+        for told in itertools.chain([lines], (it.result() for it in as_completed(found))):
             for is_well, line in told:
                 print(line, flush=True)
                 passed, failed = passed + is_well, failed + (not is_well)

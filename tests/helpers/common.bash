@@ -22,6 +22,16 @@ came() {
     check "$1: standard error" is_text "$work/err" "$4"
 }
 
+# writes COMMAND NAME WANT WORD ..: checks that what the command writes with these words is this file.
+writes() {
+    local command=$1 name=$2 want=$3
+    shift 3
+    run "$command" "$@"
+    check "$name: status $status" [ "$status" -eq 0 ]
+    check "$name: pages" cmp "$work/out" "$want"
+    check "$name: standard error" [ ! -s "$work/err" ]
+}
+
 feed() { python3 "$top/examples/feed.py"; }
 pages() { python3 "$here/pages.py" "$@"; }
 records() { python3 "$here/records.py" "$1"; }

@@ -21,6 +21,15 @@ came "two links" 0 'committed 244\nlink 0 0 122 1\nstream 1 122 4 ended\nlink 1 
 archive "$ogg" </dev/null
 came "no stream" 0 '' 'archived 0 0 244 0\n'
 
+# A run that read what it writes would never end.
+cp "$ogg" "$work/before"
+ln -s "$ogg" "$work/linked"
+archive "$ogg" <"$ogg"
+came "the file itself" 1 '' 'fault archive 1 Read\n'
+archive "$work/linked" <"$ogg"
+came "the file itself, by a link" 1 '' 'fault archive 1 Read\n'
+check "the file itself: nothing is changed" cmp "$ogg" "$work/before"
+
 # A stream that stops in the middle is ended, at once or by the next run.
 head -c 64 "$work/whole" >"$work/cut"
 archive "$work/cut.ogg" <"$work/cut"

@@ -3,14 +3,7 @@
 . "$(dirname "$0")/../helpers/common.bash"
 
 # becomes NAME WANT WORD ..: checks that what finish writes is this file.
-becomes() {
-    local name=$1 want=$2
-    shift 2
-    run finish "$@"
-    check "$name: status $status" [ "$status" -eq 0 ]
-    check "$name: pages" cmp "$work/out" "$want"
-    check "$name: standard error" [ ! -s "$work/err" ]
-}
+becomes() { writes finish "$@"; }
 
 # becomes_pages NAME: takes the pages of a file from standard input, a blank line, and the pages that the file becomes.
 becomes_pages() {

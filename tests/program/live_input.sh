@@ -2,18 +2,23 @@
 # If a feed comes slowly, each command's pages and its reply are written before more of the feed is there.
 . "$(dirname "$0")/../helpers/common.bash"
 
+# line NAME LINE: checks that within a bounded time the line comes.
+line() {
+    local line=''
+    read -r -t 10 line <&4
+    check "$1: '$line'" [ "$line" = "$2" ]
+}
+
+# replies NAME LINE SIZE: checks that the line comes, and that by then the pages have this size.
+replies() {
+    line "$1" "$2"
+    check "$1: size of the pages" [ "$(wc -c <"$work/out")" -eq "$3" ]
+}
+
 mkfifo "$work/in" "$work/replies"
 timeout 20 "$program" mux <"$work/in" >"$work/out" 2>"$work/replies" &
 running=$!
 exec 3>"$work/in" 4<"$work/replies"
-
-# replies NAME LINE SIZE: checks that within a bounded time the line comes, and that by then the pages have this size.
-replies() {
-    local line=''
-    read -r -t 10 line <&4
-    check "$1: '$line'" [ "$line" = "$2" ]
-    check "$1: size of the pages" [ "$(wc -c <"$work/out")" -eq "$3" ]
-}
 
 head -c 30 "$top/examples/hello.feed" >&3
 sleep 0.3
@@ -37,13 +42,6 @@ mkfifo "$work/grouped" "$work/lines"
 timeout 20 "$program" record "$work/file.ogg" --group 3 <"$work/grouped" >"$work/lines" 2>"$work/err" &
 running=$!
 exec 3>"$work/grouped" 4<"$work/lines"
-
-# line NAME LINE: checks that within a bounded time the line comes.
-line() {
-    local line=''
-    read -r -t 10 line <&4
-    check "$1: '$line'" [ "$line" = "$2" ]
-}
 
 head -c 66 "$top/examples/hello.feed" >&3
 line "a command, and half of the next one" "held 1"
