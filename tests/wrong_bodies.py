@@ -239,6 +239,10 @@ class Crate:
         self.folder = TOP / "crates" / name
         self.rlib = self.folder / "out" / "rlib" / f"{name}.rlib"
 
+    def root(self):
+        """The file that names the crate's modules, which says whether it is a program."""
+        return "src/main.rt" if (self.folder / "src" / "main.rt").is_file() else "src/lib.rt"
+
     def is_stale(self):
         """Whether a file of the crate is newer than what was built of it."""
         built = self.rlib.stat().st_mtime
@@ -313,7 +317,7 @@ class Checker:
 
     def command(self, crate):
         """The words that check the crate in the folder where they are run."""
-        words = [f"{self.kit}/bin/rattle", "check", "--crate-name", crate.name, "src/lib.rt"]
+        words = [f"{self.kit}/bin/rattle", "check", "--crate-name", crate.name, crate.root()]
         for name in ["std", *crate.uses]:
             ours = self.crates.get(name)
             words += ["--extern", f"{name}={ours.rlib if ours else f'{self.kit}/rlibs/{name}.rlib'}"]
