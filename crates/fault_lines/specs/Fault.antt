@@ -17,6 +17,7 @@ use Rattle.import_feed.specs.MakingFault as M
 use Rattle.import_feed.specs.declared.fault.MakingFault.{MakingFault}
 use Rattle.import_feed.specs.declared.fault.MakingFault.TheVariants.{Page as MakePage, Chain as MakeChain, PacketTooLong, Unfinished as MakeUnfinished, TooLong, Read as MakeRead, Limit, Write as MakeWrite, Memory as MakeMemory}
 use Rattle.import_record.specs.RecordFault as R
+use Rattle.ogg_finish.specs.FinishFault as Fin
 use Rattle.ogg_split.specs.SplitFault as S
 use Rattle.serve_machine.specs.HubFault as H
 use Rattle.fault_lines.specs.declared.fault.Fault.{Fault}
@@ -70,7 +71,7 @@ fault_line Write = codes "fault write" ++ line_end
 fault_line TooMany = codes "fault run 3 TooMany" ++ line_end
 fault_line (Index fault) = codes "fault index " ++ coded (I.code_of fault) (I.name_of fault) (index_rest fault)
 fault_line (Split fault) = codes "fault split " ++ coded (S.code_of fault) (S.name_of fault) line_end
-fault_line (Finish fault) = codes "fault finish " ++ coded (S.code_of fault) (S.name_of fault) line_end
+fault_line (Finish fault) = codes "fault finish " ++ coded (Fin.code_of fault) (Fin.name_of fault) line_end
 fault_line (Make fault) = codes "fault make " ++ coded (M.code_of fault) (M.name_of fault) (make_rest fault)
 fault_line (Archive fault) = codes "fault archive " ++ coded (R.code_of fault) (R.name_of fault) line_end
 fault_line Mended = codes "fault mended" ++ line_end

@@ -10,6 +10,7 @@ use gate_file::OpenFault;
 use import_feed::MakingFault;
 use import_record::RecordFault;
 use link_index::IndexFault;
+use ogg_finish::FinishFault;
 use ogg_page::{WriteFault, write_whole};
 use ogg_split::SplitFault;
 use serve_machine::HubFault;
@@ -49,7 +50,7 @@ pub enum Fault {
     Split(SplitFault),
     /// A link wasn't written finished as a whole.
     #[error("{0}")]
-    Finish(SplitFault),
+    Finish(FinishFault),
     /// No feed was made of the whole input.
     #[error("{0}")]
     Make(MakingFault),

@@ -57,16 +57,17 @@ pub(crate) fn output(rt: &HostRuntime, together: usize) -> Result<BufWriter<Stdo
     }
 }
 
-/// What became of pages that were written, after what they left in the buffer. What was written before a fault goes
-/// out too.
+/// What became of pages that were written, after what they left in the buffer, which goes out after a fault too. It is
+/// `unwritten` if only that can't be written.
 pub(crate) fn flushed<W: Write>(
-    written: Result<(), SplitFault>,
+    written: Result<(), Fault>,
     out: &mut W,
-) -> Result<(), SplitFault> {
+    unwritten: Fault,
+) -> Result<(), Fault> {
     let flushed = out.flush();
     match (written, flushed) {
         (Err(fault), _) => Err(fault),
-        (Ok(()), Err(_)) => Err(SplitFault::Write),
+        (Ok(()), Err(_)) => Err(unwritten),
         (Ok(()), Ok(())) => Ok(()),
     }
 }
@@ -79,10 +80,7 @@ pub fn split(rt: &HostRuntime, file: &str, link: u32, serial: Option<u32>) -> Re
     let mut reading = read(rt, file)?;
     let mut out = output(rt, TOGETHER)?;
     let copied = copy(&mut reading, link, serial, &mut out);
-    match flushed(copied, &mut out) {
-        Ok(()) => Ok(()),
-        Err(fault) => Err(Fault::Split(fault)),
-    }
+    flushed(copied, &mut out, Fault::Split(SplitFault::Write))
 }
 
 /// Copies the pages of the link, or those of one of its streams.
@@ -91,16 +89,13 @@ fn copy<W: Write>(
     link: u32,
     serial: Option<u32>,
     out: &mut W,
-) -> Result<(), SplitFault> {
+) -> Result<(), Fault> {
     let Reading { window, index } = reading;
     let copied = match serial {
         Some(serial) => copy_stream_from(window, index, link, serial, out),
         None => copy_link_from(window, index, link, out),
     };
-    match copied {
-        Ok(_) => Ok(()),
-        Err(fault) => Err(fault),
-    }
+    copied.map(|_| ()).map_err(Fault::Split)
 }
 
 /// Opens a file to be read.

@@ -1,12 +1,9 @@
 //! The command that writes a file anew, so that players stop at the right sample.
 
 use crate::files::{Reading, flushed, output, read};
-use disk_model::FileDisk;
 use fault_lines::Fault;
-use gate_file::Found;
-use link_index::Index;
-use ogg_finish::{SplitFault, finish_file, finish_link};
-use ogg_page::{PageBuffer, Window};
+use ogg_finish::{FinishFault, finish_file, finish_link};
+use ogg_page::PageBuffer;
 use std::io::Write;
 
 /// How many bytes are written at once.
@@ -23,10 +20,7 @@ pub fn finish(rt: &HostRuntime, file: &str, link: Option<u32>) -> Result<(), Fau
     };
     let mut out = output(rt, TOGETHER)?;
     let finished = write_finished(&mut reading, link, &mut marked, &mut out);
-    match flushed(finished, &mut out) {
-        Ok(()) => Ok(()),
-        Err(fault) => Err(Fault::Finish(fault)),
-    }
+    flushed(finished, &mut out, Fault::Finish(FinishFault::Write))
 }
 
 /// Writes the link, finished, or all links.
@@ -35,24 +29,11 @@ fn write_finished<W: Write>(
     link: Option<u32>,
     marked: &mut PageBuffer,
     out: &mut W,
-) -> Result<(), SplitFault> {
+) -> Result<(), Fault> {
     let Reading { window, index } = reading;
-    match link {
-        Some(link) => write_link(window, index, link, marked, out),
+    let finished = match link {
+        Some(link) => finish_link(window, index, link, marked, out).map(|_| ()),
         None => finish_file(window, index, marked, out),
-    }
-}
-
-/// Writes the link, finished.
-fn write_link<W: Write>(
-    window: &mut Window<Found<FileDisk>>,
-    index: &Index,
-    link: u32,
-    marked: &mut PageBuffer,
-    out: &mut W,
-) -> Result<(), SplitFault> {
-    match finish_link(window, index, link, marked, out) {
-        Ok(_) => Ok(()),
-        Err(fault) => Err(fault),
-    }
+    };
+    finished.map_err(Fault::Finish)
 }

@@ -1,5 +1,6 @@
 -- What is left of a source after two calls in turn.
 use Rattle.std.proofs.Common.{◌≡◌, ◌≢◌, ℕ, List, Result, Err, ◌∙◌}
+use Rattle.ogg_finish.specs.declared.fault.FinishFault.{FinishFault}
 use Rattle.ogg_split.specs.declared.fault.SplitFault.{SplitFault}
 use Rattle.ogg_split.specs.declared.fault.SplitFault.TheVariants.{NoLink, NoStream, Source, Write}
 use Rattle.ogg_page.specs.Window.{KeepsSource}
@@ -14,7 +15,7 @@ keeps_on bytes honest size only on old mid now a b = record {
   only = on old mid now a.only b.only;
 }
 
--- each fault is one of these four
+-- each fault of a copy is one of these four
 pub none_of : {T : Type 0} (result : Result T SplitFault) (fault : SplitFault) → result ≡ Err fault → result ≢ Err NoLink → result ≢ Err NoStream → result ≢ Err Source
     → result ≢ Err Write → ⊥
 none_of result NoLink is a b c d = a is
@@ -23,5 +24,5 @@ none_of result Source is a b c d = c is
 none_of result Write is a b c d = d is
 
 -- a result has one fault
-pub one_fault : {T : Type 0} (result : Result T SplitFault) (fault other : SplitFault) → result ≡ Err fault → result ≡ Err other → fault ≡ other
+pub one_fault : {T : Type 0} (result : Result T FinishFault) (fault other : FinishFault) → result ≡ Err fault → result ≡ Err other → fault ≡ other
 one_fault result fault other a b = cc

@@ -1,12 +1,12 @@
 -- Finished links are links, and hold the same.
-use Rattle.std.proofs.Common.{◌≡◌, ◌≢◌, ℕ, suc, ◌≤◌, Bool, true, false, cond, List, [], ◌∷◌, ◌++◌, length, refl, sym, ◌∙◌, ap, subst, append_assoc, eq-eqb, inl, inr, Option, None, Some}
-use Rattle.std.specs.Prelude.{nat_eq, nat_lt, ◌&&◌}
-use Rattle.std.specs.List.{AllByRecursion, AllZip, IsDistinct, flat_map, list_any, list_all}
+use Rattle.std.proofs.Common.{◌≡◌, ◌≢◌, ℕ, suc, ◌≤◌, Bool, true, false, cond, List, [], ◌∷◌, ◌++◌, length, refl, sym, ◌∙◌, ap, subst, eq-eqb, inl, inr, Option, None, Some}
+use Rattle.std.specs.Prelude.{nat_eq, nat_lt}
+use Rattle.std.specs.List.{AllByRecursion, AllZip, IsDistinct, flat_map, list_any}
 use Rattle.std.proofs.lemmas.List.Concat.{flat_map-append}
 use Rattle.std.proofs.lemmas.List.Elements.{filter-append}
-use Rattle.std.proofs.lemmas.Bool.{ne_eqb, cases_eq, cond-true, cond-false, cond_both, and_from}
+use Rattle.std.proofs.lemmas.Bool.{ne_eqb, cases_eq, cond-true, cond-false, cond_both}
 use Rattle.ogg_page.specs.Page.{Page, IsPage, bytes_of_pages}
-use Rattle.ogg_page.specs.LogicalStream.{FitsBehind, FlagsFit, is_first}
+use Rattle.ogg_page.specs.LogicalStream.{FlagsFit, is_first}
 use Rattle.ogg_page.specs.StreamLaws.{behind_both, behind_front}
 use Rattle.link_chain.specs.ChainState.{last_position}
 use Rattle.link_chain.specs.Links.{IsLink, AreLinks, AllButLast, pages_with, serials_of, has_stream, has_ended, all_ended}

@@ -1,3 +1,4 @@
 pub mod Finishing
 pub mod Ended
 pub mod Ends
+pub mod FinishFault

@@ -6,18 +6,19 @@ ghost use Rattle.ogg_page.specs.Output.{WritesPrefix};
 ghost use Rattle.ogg_page.specs.Page.{Page as PageValue, bytes_of_pages};
 ghost use Rattle.ogg_page.specs.Window.{KeepsSource};
 ghost use Rattle.ogg_split.specs.Asked.{AreIndexed};
-ghost use Rattle.ogg_split.specs.Copying.{IsCopy, IsThere};
+ghost use Rattle.ogg_split.specs.Copying.{IsCopy};
 ghost use Rattle.ogg_finish.specs.Ends.{ends_after, finished_by, without_pages};
 ghost use Rattle.ogg_finish.specs.Finishing.{finished_link, finished_links};
 ghost use Rattle.link_chain.specs.Limits.{most_streams};
 
+use crate::fault::FinishFault;
 use crate::passes::{find_ends, write_finished};
 use crate::stream_end::StreamEnd;
 use arrayvec::ArrayVec;
 use link_chain::MOST_STREAMS;
 use link_index::{Index, StreamInfo};
 use ogg_page::{PageBuffer, PageSource, Window};
-use ogg_split::{SplitFault, seek_link};
+use ogg_split::seek_link;
 use std::io::Write;
 
 /// Writes the link with this number, counted from 0, finished, and returns how many bytes it has then. The source's
@@ -33,17 +34,16 @@ pub fn finish_link<S: PageSource, W: Write>(
     link: u32,
     buffer: &mut PageBuffer,
     out: &mut W,
-) -> Result<u64, SplitFault>
+) -> Result<u64, FinishFault>
     ensures written { (links : List (List PageValue)) (pages : List PageValue) → S.is_honest window.old.source
         → AreIndexed links index.now (S.bytes window.old.source) → slice_get links link ≡ Some pages
         → IsCopy (W.contents out.old) (W.contents out.new) (bytes_of_pages (finished_link pages)) result }
 
     // Which fault, and when.
-    ensures no_link { (result ≡ Err SplitFault.NoLink) ↔ (length index.now.entries ≤ link) }
-    ensures no_stream { result ≢ Err SplitFault.NoStream }
-    ensures nothing { result ≡ Err SplitFault.NoLink → Appends (W.contents out.old) (W.contents out.new) [] }
+    ensures no_link { (result ≡ Err FinishFault.NoLink) ↔ (length index.now.entries ≤ link) }
+    ensures nothing { result ≡ Err FinishFault.NoLink → Appends (W.contents out.old) (W.contents out.new) [] }
     ensures cause { (links : List (List PageValue)) → S.is_honest window.old.source
-        → AreIndexed links index.now (S.bytes window.old.source) → result ≡ Err SplitFault.Source
+        → AreIndexed links index.now (S.bytes window.old.source) → result ≡ Err FinishFault.Source
         → (S.failures window.old.source < S.failures window.new.source) ⊎ (S.failures window.new.source ≡ 2 ^ 64 - 1) }
 
     // What the call leaves of the source.
@@ -55,7 +55,7 @@ pub fn finish_link<S: PageSource, W: Write>(
             Ok(ends) => write_link(window, index, link, ends.as_slice(), buffer, out),
             Err(fault) => Err(fault),
         },
-        None => Err(SplitFault::NoLink),
+        None => Err(FinishFault::NoLink),
     }
 }
 
@@ -68,7 +68,7 @@ pub fn finish_file<S: PageSource, W: Write>(
     index: &Index,
     buffer: &mut PageBuffer,
     out: &mut W,
-) -> Result<(), SplitFault>
+) -> Result<(), FinishFault>
     ensures written { (links : List (List PageValue)) → S.is_honest window.old.source
         → AreIndexed links index.now (S.bytes window.old.source)
         → OnOk result (Appends (W.contents out.old) (W.contents out.new) (flat_map bytes_of_pages (finished_links links))) }
@@ -77,9 +77,9 @@ pub fn finish_file<S: PageSource, W: Write>(
         → OnErr result (WritesPrefix (W.contents out.old) (W.contents out.new) (flat_map bytes_of_pages (finished_links links))) }
 
     // Which fault, and when.
-    ensures there { IsThere result }
+    ensures there { result ≢ Err FinishFault.NoLink }
     ensures cause { (links : List (List PageValue)) → S.is_honest window.old.source
-        → AreIndexed links index.now (S.bytes window.old.source) → result ≡ Err SplitFault.Source
+        → AreIndexed links index.now (S.bytes window.old.source) → result ≡ Err FinishFault.Source
         → (S.failures window.old.source < S.failures window.new.source) ⊎ (S.failures window.new.source ≡ 2 ^ 64 - 1) }
 
     // What the call leaves of the source.
@@ -101,7 +101,7 @@ fn find_link_ends<S: PageSource>(
     index: &Index,
     link: u32,
     streams: &[StreamInfo],
-) -> Result<ArrayVec<StreamEnd, MOST_STREAMS>, SplitFault>
+) -> Result<ArrayVec<StreamEnd, MOST_STREAMS>, FinishFault>
     requires here { link < length index.now.entries }
     ensures found { (links : List (List PageValue)) (pages : List PageValue) → S.is_honest window.old.source
         → AreIndexed links index.now (S.bytes window.old.source) → slice_get links link ≡ Some pages
@@ -109,13 +109,13 @@ fn find_link_ends<S: PageSource>(
     ensures cause { (links : List (List PageValue)) → S.is_honest window.old.source
         → AreIndexed links index.now (S.bytes window.old.source) → length streams.now ≤ most_streams → OnErr result
         ((S.failures window.old.source < S.failures window.new.source) ⊎ (S.failures window.new.source ≡ 2 ^ 64 - 1)) }
-    ensures err { IfErr result (λ fault. fault ≡ SplitFault.Source) }
+    ensures err { IfErr result (λ fault. fault ≡ FinishFault.Source) }
     ensures later { S.failures window.old.source ≤ S.failures window.new.source }
     ensures source { KeepsSource S.bytes S.is_honest S.size S.only_reads window.old.source window.new.source }
 {
     // A link has no more streams.
     if streams.len() > MOST_STREAMS {
-        return Err(SplitFault::Source);
+        return Err(FinishFault::Source);
     }
     let mut ends = ends_of(streams);
     match seek_link(window, index, link) {
@@ -123,7 +123,7 @@ fn find_link_ends<S: PageSource>(
             Ok(()) => Ok(ends),
             Err(fault) => Err(fault),
         },
-        Err(_) => Err(SplitFault::Source),
+        Err(_) => Err(FinishFault::Source),
     }
 }
 
@@ -135,21 +135,21 @@ fn write_link<S: PageSource, W: Write>(
     ends: &[StreamEnd],
     buffer: &mut PageBuffer,
     out: &mut W,
-) -> Result<u64, SplitFault>
+) -> Result<u64, FinishFault>
     requires here { link < length index.now.entries }
     ensures written { (links : List (List PageValue)) (pages : List PageValue) → S.is_honest window.old.source
         → AreIndexed links index.now (S.bytes window.old.source) → slice_get links link ≡ Some pages
         → IsCopy (W.contents out.old) (W.contents out.new) (bytes_of_pages (finished_by ends.now pages)) result }
-    ensures there { IsThere result }
+    ensures there { result ≢ Err FinishFault.NoLink }
     ensures cause { (links : List (List PageValue)) → S.is_honest window.old.source
-        → AreIndexed links index.now (S.bytes window.old.source) → result ≡ Err SplitFault.Source
+        → AreIndexed links index.now (S.bytes window.old.source) → result ≡ Err FinishFault.Source
         → (S.failures window.old.source < S.failures window.new.source) ⊎ (S.failures window.new.source ≡ 2 ^ 64 - 1) }
     ensures later { S.failures window.old.source ≤ S.failures window.new.source }
     ensures source { KeepsSource S.bytes S.is_honest S.size S.only_reads window.old.source window.new.source }
 {
     match seek_link(window, index, link) {
         Ok(()) => write_finished(window, ends, buffer, out),
-        Err(_) => Err(SplitFault::Source),
+        Err(_) => Err(FinishFault::Source),
     }
 }
 

@@ -12,12 +12,13 @@
 //! Start at `specs/Finishing.antt`, which says what a finished link is.
 #![tactic(auto)]
 
+mod fault;
 mod finishing;
 mod laws;
 mod passes;
 mod stream_end;
 mod writing;
 
+pub use fault::FinishFault;
 pub use finishing::{finish_file, finish_link};
 pub use laws::{finished_links_hold_the_same, link_goes_on_after_its_first_page};
-pub use ogg_split::SplitFault;

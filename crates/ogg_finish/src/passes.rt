@@ -3,20 +3,20 @@ ghost use Rattle.std.specs.Prelude.{◌≡◌, ◌≢◌, ◌⊎◌, ◌≤◌, 
 ghost use Rattle.std.specs.List.{AllByRecursion};
 ghost use Rattle.ogg_page.specs.Page.{Page as PageValue, IsPage, bytes_of_pages};
 ghost use Rattle.ogg_page.specs.Window.{KeepsSource, left_of};
-ghost use Rattle.ogg_split.specs.Copying.{IsCopy, IsThere};
+ghost use Rattle.ogg_split.specs.Copying.{IsCopy};
 ghost use Rattle.ogg_finish.specs.Ends.{ends_after, finished_by};
 
+use crate::fault::FinishFault;
 use crate::stream_end::{StreamEnd, mark_for, note_page};
 use crate::writing::write_page;
 use ogg_page::{PageBuffer, PageSource, Window};
-use ogg_split::SplitFault;
 use std::io::Write;
 
 /// Reads all of the window's pages, and notes the ends of streams.
 pub fn find_ends<S: PageSource>(
     window: &mut Window<S>,
     ends: &mut [StreamEnd],
-) -> Result<(), SplitFault>
+) -> Result<(), FinishFault>
     requires fresh { window.old.fault ≡ None }
     requires order { window.old.at ≤ window.old.to }
     ensures found { (pages : List PageValue) → S.is_honest window.old.source → AllByRecursion IsPage pages
@@ -24,7 +24,7 @@ pub fn find_ends<S: PageSource>(
     ensures cause { (pages : List PageValue) → S.is_honest window.old.source → AllByRecursion IsPage pages
         → (left_of S.bytes window.old).bytes ≡ bytes_of_pages pages → OnErr result
         ((S.failures window.old.source < S.failures window.new.source) ⊎ (S.failures window.new.source ≡ 2 ^ 64 - 1)) }
-    ensures err { IfErr result (λ fault. fault ≡ SplitFault.Source) }
+    ensures err { IfErr result (λ fault. fault ≡ FinishFault.Source) }
     ensures later { S.failures window.old.source ≤ S.failures window.new.source }
     ensures source { KeepsSource S.bytes S.is_honest S.size S.only_reads window.old.source window.new.source }
 {
@@ -34,7 +34,7 @@ pub fn find_ends<S: PageSource>(
                 Some((_, page)) => note_page(ends, &page),
                 None => return Ok(()),
             },
-            Err(_) => return Err(SplitFault::Source),
+            Err(_) => return Err(FinishFault::Source),
         }
     }
 }
@@ -45,7 +45,7 @@ pub fn write_finished<S: PageSource, W: Write>(
     ends: &[StreamEnd],
     buffer: &mut PageBuffer,
     out: &mut W,
-) -> Result<u64, SplitFault>
+) -> Result<u64, FinishFault>
     requires fresh { window.old.fault ≡ None }
     requires order { window.old.at ≤ window.old.to }
     requires short { window.old.to < 2 ^ 64 }
@@ -53,9 +53,9 @@ pub fn write_finished<S: PageSource, W: Write>(
         → (left_of S.bytes window.old).bytes ≡ bytes_of_pages pages
         → IsCopy (W.contents out.old) (W.contents out.new) (bytes_of_pages (finished_by ends.now pages)) result }
     ensures cause { (pages : List PageValue) → S.is_honest window.old.source → AllByRecursion IsPage pages
-        → (left_of S.bytes window.old).bytes ≡ bytes_of_pages pages → result ≡ Err SplitFault.Source
+        → (left_of S.bytes window.old).bytes ≡ bytes_of_pages pages → result ≡ Err FinishFault.Source
         → (S.failures window.old.source < S.failures window.new.source) ⊎ (S.failures window.new.source ≡ 2 ^ 64 - 1) }
-    ensures there { IsThere result }
+    ensures there { result ≢ Err FinishFault.NoLink }
     ensures later { S.failures window.old.source ≤ S.failures window.new.source }
     ensures source { KeepsSource S.bytes S.is_honest S.size S.only_reads window.old.source window.new.source }
 {
@@ -74,7 +74,7 @@ pub fn write_finished<S: PageSource, W: Write>(
                 },
                 None => return Ok(count),
             },
-            Err(_) => return Err(SplitFault::Source),
+            Err(_) => return Err(FinishFault::Source),
         }
     }
 }

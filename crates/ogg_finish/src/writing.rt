@@ -5,9 +5,9 @@ ghost use Rattle.ogg_page.specs.LogicalStream.{is_last};
 ghost use Rattle.ogg_split.specs.Copying.{IsCopy};
 ghost use Rattle.ogg_finish.specs.Finishing.{finished_page, marked_last};
 
+use crate::fault::FinishFault;
 use crate::stream_end::Mark;
 use ogg_page::{LAST, Page, PageBuffer, PageHead, write_whole};
-use ogg_split::SplitFault;
 use std::io::Write;
 
 /// Writes the page as it is in the finished link, with `mark` as the place for the mark of its stream, and returns how
@@ -17,9 +17,9 @@ pub fn write_page<W: Write>(
     mark: Option<Mark>,
     buffer: &mut PageBuffer,
     out: &mut W,
-) -> Result<u64, SplitFault>
+) -> Result<u64, FinishFault>
     ensures copied { IsCopy (W.contents out.old) (W.contents out.new) (bytes_of_pages (finished_page mark page.now)) result }
-    ensures err { OnErr result (result ≡ Err SplitFault.Write) }
+    ensures err { OnErr result (result ≡ Err FinishFault.Write) }
 {
     if page.is_first() {
         return write_bytes(page.whole(), out);
@@ -41,9 +41,9 @@ fn write_marked<W: Write>(
     page: &Page<'_>,
     buffer: &mut PageBuffer,
     out: &mut W,
-) -> Result<u64, SplitFault>
+) -> Result<u64, FinishFault>
     ensures copied { IsCopy (W.contents out.old) (W.contents out.new) (page_bytes (marked_last page.now)) result }
-    ensures err { OnErr result (result ≡ Err SplitFault.Write) }
+    ensures err { OnErr result (result ≡ Err FinishFault.Write) }
 {
     if page.is_last() {
         return write_bytes(page.whole(), out);
@@ -70,12 +70,12 @@ fn mark_last(page: &Page<'_>, buffer: &mut PageBuffer)
 }
 
 /// Writes all of the bytes.
-fn write_bytes<W: Write>(bytes: &[u8], out: &mut W) -> Result<u64, SplitFault>
+fn write_bytes<W: Write>(bytes: &[u8], out: &mut W) -> Result<u64, FinishFault>
     ensures copied { IsCopy (W.contents out.old) (W.contents out.new) bytes.now result }
-    ensures err { OnErr result (result ≡ Err SplitFault.Write) }
+    ensures err { OnErr result (result ≡ Err FinishFault.Write) }
 {
     match write_whole(out, bytes) {
         Ok(()) => Ok(bytes.len() as u64),
-        Err(_) => Err(SplitFault::Write),
+        Err(_) => Err(FinishFault::Write),
     }
 }

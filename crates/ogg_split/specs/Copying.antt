@@ -6,8 +6,8 @@ use Rattle.ogg_page.specs.Page.{Page, page_bytes}
 use Rattle.ogg_split.specs.declared.fault.SplitFault.{SplitFault}
 use Rattle.ogg_split.specs.declared.fault.SplitFault.TheVariants.{NoLink, NoStream}
 
--- All of the text was written, and the count is its length; or a prefix of the text was written.
-abbrev pub IsCopy : Option (List ℕ) → Option (List ℕ) → List ℕ → Result ℕ SplitFault → Type 0
+-- All of the text was written, and the count is its length; or, whatever the fault, a prefix of the text was written.
+abbrev pub IsCopy : {E : Type 0} → Option (List ℕ) → Option (List ℕ) → List ℕ → Result ℕ E → Type 0
 IsCopy old new text (Ok count) = (count ≡ length text) × Appends old new text
 IsCopy old new text (Err fault) = WritesPrefix old new text
 

@@ -1,7 +1,7 @@
 use Rattle.std.proofs.Common.{◌<◌, ◌≤◌, refl, sym, ap, subst, arith, length, List, Err}
 use Rattle.link_index.specs.Index.{LinkEntry}
 use Rattle.ogg_split.specs.Asked.{AreIndexed}
-use Rattle.ogg_split.specs.declared.fault.SplitFault.TheVariants.{Source}
+use Rattle.ogg_finish.specs.declared.fault.FinishFault.TheVariants.{Source}
 use Rattle.ogg_finish.proofs.InTurn.{one_more_link, cut_in_link, all_written}
 use Rattle.ogg_finish.proofs.Kept.{keeps_on, one_fault}
 use Rattle.ogg_finish.proofs.Passed.{later_cause}

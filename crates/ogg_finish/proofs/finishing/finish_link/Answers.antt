@@ -7,6 +7,7 @@ use Rattle.link_index.specs.Index.{LinkEntry, stream_info}
 use Rattle.link_index.specs.declared.info.StreamInfo.{StreamInfo}
 use Rattle.ogg_split.specs.Asked.{AreIndexed}
 use Rattle.ogg_split.specs.Copying.{IsCopy}
+use Rattle.ogg_finish.specs.declared.fault.FinishFault.{FinishFault}
 use Rattle.ogg_finish.specs.declared.stream_end.StreamEnd.{StreamEnd}
 use Rattle.ogg_finish.specs.Ends.{ends_after, finished_by, without_pages}
 use Rattle.ogg_finish.proofs.Passed.{later_cause}
@@ -25,7 +26,7 @@ returns-in-Ok-clause-written g c links pages sure are e =
     let ends_are : c.as_slice.result.now ≡ map (end_in pages) (serials_of pages) =
     c.as_slice.ensures.value ∙ c.in-Ok.ensures.found links pages sure are e
     ∙ ap (λ (l : List StreamInfo). ends_after pages (map without_pages l)) streams_are ∙ ends_of_link pages in
-    subst (λ (l : List Page). IsCopy (g.W.Write.contents c.args.out.now) (g.W.Write.contents c.write_link.new.out) (bytes_of_pages l) c.write_link.result)
+    subst (λ (l : List Page). IsCopy {E = FinishFault} (g.W.Write.contents c.args.out.now) (g.W.Write.contents c.write_link.new.out) (bytes_of_pages l) c.write_link.result)
     (ap (λ (x : List StreamEnd). finished_by x pages) ends_are ∙ by_ends pages (link_in links c.args.link pages are.are_links.each e)) wrote
 
 pub returns-in-Ok-clause-cause : goal.returns-in-Ok-clause-cause

@@ -4,6 +4,7 @@ use Rattle.ogg_page.specs.Window.{answer, HasMoved}
 use Rattle.ogg_split.specs.Copying.{IsCopy}
 use Rattle.ogg_finish.specs.declared.stream_end.Mark.{Mark}
 use Rattle.ogg_finish.specs.Ends.{mark_for}
+use Rattle.ogg_finish.specs.declared.fault.FinishFault.{FinishFault}
 use Rattle.ogg_finish.specs.Finishing.{finished_page}
 use Rattle.ogg_finish.proofs.Passed.{begun, passed, part_fits, cut_within, finished, write_cause, later_cause}
 use Rattle.ogg_finish.proofs.passes.write_finished.Goals as goal
@@ -40,7 +41,7 @@ pages-preserved g c =
     let moved = subst (λ r. HasMoved s.bytes s.is_honest s.size s.failures s.only_reads c.pages.window r c.advance.new.self) got c.advance.ensures in
     let passes = moved.passes (c.in-Some.field-0-0, c.in-Some.page) refl in
     let mark_is : c.mark_for.result ≡ mark_for c.args.ends.now c.in-Some.page.serial = c.mark_for.ensures ∙ ap (mark_for c.args.ends.now) c.serial.ensures in
-    let wrote = subst (λ (m : Option Mark). IsCopy (g.W.Write.contents c.pages.out) (g.W.Write.contents c.write_page.new.out) (bytes_of_pages (finished_page m c.in-Some.page)) (Ok c.in-Ok-write_page.size))
+    let wrote = subst (λ (m : Option Mark). IsCopy {E = FinishFault} (g.W.Write.contents c.pages.out) (g.W.Write.contents c.write_page.new.out) (bytes_of_pages (finished_page m c.in-Some.page)) (Ok c.in-Ok-write_page.size))
     mark_is c.in-Ok-write_page.ensures.copied in
     record {
       fresh = moved.fault;
@@ -65,7 +66,7 @@ returns-in-Err-write_page-clause-copied g c pages sure are is =
     let got : answer c.advance.result c.advance.new.self.lent ≡ Ok (Some (c.in-Some.field-0-0, c.in-Some.page)) = (λ i. answer (c.in-Ok.is i) ((sym c.lent.ensures ∙ c.in-Some.is) i)) in
     let moved = subst (λ r. HasMoved s.bytes s.is_honest s.size s.failures s.only_reads c.pages.window r c.advance.new.self) got c.advance.ensures in
     let mark_is : c.mark_for.result ≡ mark_for c.args.ends.now c.in-Some.page.serial = c.mark_for.ensures ∙ ap (mark_for c.args.ends.now) c.serial.ensures in
-    let wrote = subst (λ (m : Option Mark). IsCopy (g.W.Write.contents c.pages.out) (g.W.Write.contents c.write_page.new.out) (bytes_of_pages (finished_page m c.in-Some.page)) (Err c.in-Err-write_page.fault))
+    let wrote = subst (λ (m : Option Mark). IsCopy {E = FinishFault} (g.W.Write.contents c.pages.out) (g.W.Write.contents c.write_page.new.out) (bytes_of_pages (finished_page m c.in-Some.page)) (Err c.in-Err-write_page.fault))
     mark_is c.in-Err-write_page.ensures.copied in
     let next = moved.lent (inv.source.honest_same.0 sure) inv.fresh in
     cut_within c.args.ends.now pages _ _ _ _ _ c.pages.count c.in-Some.page (inv.copied pages sure are is) next.1 next.2 wrote
