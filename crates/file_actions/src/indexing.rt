@@ -3,7 +3,7 @@ ghost use Rattle.std.specs.Prelude.{⊤};
 
 use disk_model::Disk;
 use fault_lines::Fault;
-use gate_file::{Found, GateFile, PageVisitor};
+use gate_file::{Found, GateFile, OpenFault, PageVisitor};
 use link_chain::ChainFault;
 use link_index::{Index, IndexFault};
 use ogg_page::{Page, PageBuffer};
@@ -60,7 +60,7 @@ pub(crate) fn find_index<D: Disk + Drop>(alloc: Global, disk: D) -> Result<Index
     };
     let (found, buffer) = match GateFile::find_with(disk, buffer, &mut indexer) {
         Ok(found) => found,
-        Err((fault, _)) => return Err(Fault::Open(fault)),
+        Err((fault, _)) => return Err(Fault::Open(OpenFault::from(fault))),
     };
     match indexer.fault {
         None => Ok(Indexed {

@@ -13,8 +13,8 @@ use Rattle.gate_file.specs.Commit.{capture, IsTail, CommitsTo}
 use Rattle.gate_file.specs.CommitLaws.{commits}
 use Rattle.gate_file.specs.Found.{HasEnd, IsDamagedAt}
 use Rattle.gate_file.specs.Gate.{EndsAt}
-use Rattle.gate_file.specs.declared.fault.OpenFault.{OpenFault}
-use Rattle.gate_file.specs.declared.fault.OpenFault.TheVariants.{Disk, Page as Damaged, Memory, Chain, Unfinished}
+use Rattle.gate_file.specs.declared.fault.FindFault.{FindFault}
+use Rattle.gate_file.specs.declared.fault.FindFault.TheVariants.{Disk, Page as Damaged}
 use Rattle.gate_file.specs.Visiting.{EndsAfter, all_of}
 
 pub false_true : (b : Bool) → b ≡ false → b ≡ true → ⊥
@@ -109,10 +109,7 @@ tail_there pages disk at size fault is after settled long to from never =
       is_open = λ there. gate.1 there.1;
     }
 
--- what a fault of opening says of the bytes
-abbrev pub Told : List ℕ → OpenFault → Type 0
+-- what a fault of finding says of the bytes
+abbrev pub Told : List ℕ → FindFault → Type 0
 Told contents Disk = ⊤
 Told contents (Damaged offset fault) = IsDamagedAt contents offset fault
-Told contents Memory = ⊤
-Told contents (Chain offset fault) = ⊤
-Told contents (Unfinished serial) = ⊤

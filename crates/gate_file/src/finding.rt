@@ -13,7 +13,7 @@ ghost use Rattle.gate_file.specs.Found.{HasEnd, HasSeen, IsDamagedAt, found_byte
 use crate::source::DiskSource;
 use crate::steps::{CAPTURE, settle};
 use crate::visiting::{Nobody, walk};
-use crate::{Found, GateFile, Memory, OpenFault, PageVisitor};
+use crate::{FindFault, Found, GateFile, Memory, OpenFault, PageVisitor};
 use disk_model::{Disk, DiskFault};
 use ogg_page::{PageBuffer, Window, WindowFault};
 use std::alloc::Global;
@@ -48,27 +48,26 @@ impl<D: Disk> GateFile<D> {
         };
         match GateFile::find_with(disk, buffer, &mut Nobody) {
             Ok((found, _)) => Ok(found),
-            Err(fault) => Err(fault),
+            Err((fault, disk)) => Err((OpenFault::from(fault), disk)),
         }
     }
 
     /// Finds the end of the committed bytes, as `find` does, and shows each page to the visitor as it passes, in the
-    /// same pass. The buffer is given back. Before it returns the fault `Page` every page has passed. It never
-    /// returns `Memory`.
+    /// same pass. The buffer is given back. Before it returns the fault `Page` every page has passed.
     pub fn find_with<V: PageVisitor>(
         disk: D,
         buffer: PageBuffer,
         visitor: &mut V,
-    ) -> Result<(Found<D>, PageBuffer), (OpenFault, D)>
+    ) -> Result<(Found<D>, PageBuffer), (FindFault, D)>
         ensures same { IfOk result (λ found. D.is_honest disk
             → (D.state found.0.disk).contents ≡ (D.state disk).contents) }
         ensures seen { IfOk result (λ found. D.is_honest disk
             → HasSeen V.sees visitor.old visitor.new (found_bytes D.state found.0)) }
-        ensures damaged { IfErr result (λ e. (offset : ℕ) (fault : PageFaultOf) → e.0 ≡ OpenFault.Page offset fault
+        ensures damaged { IfErr result (λ e. (offset : ℕ) (fault : PageFaultOf) → e.0 ≡ FindFault.Page offset fault
             → D.is_honest disk → IsDamagedAt (D.state disk).contents offset fault × IsSettled (D.state e.1)
             × ((D.state e.1).contents ≡ (D.state disk).contents)) }
-        ensures faults { IfErr result (λ e. (e.0 ≡ OpenFault.Disk)
-            ⊎ ((offset : ℕ) × (fault : PageFaultOf) × (e.0 ≡ OpenFault.Page offset fault))) }
+        ensures faults { IfErr result (λ e. (e.0 ≡ FindFault.Disk)
+            ⊎ ((offset : ℕ) × (fault : PageFaultOf) × (e.0 ≡ FindFault.Page offset fault))) }
         ensures any_moment { IfOk result (λ found. D.is_honest disk
             → LeavesOnly D.moment D.images_since disk found.0.disk (IsImage (D.state disk))) }
         ensures any_moment_err { IfErr result (λ e. D.is_honest disk
@@ -77,12 +76,12 @@ impl<D: Disk> GateFile<D> {
         ensures honest_err { IfErr result (λ e. D.is_honest disk ↔ D.is_honest e.1) }
         ensures later { IfOk result (λ found. D.failures disk ≤ D.failures found.0.disk) }
         ensures cause { IfErr result (λ e. (D.failures disk ≤ D.failures e.1)
-            × (e.0 ≡ OpenFault.Disk → (D.failures disk < D.failures e.1) ⊎ (D.failures e.1 ≡ 2 ^ 64 - 1))) }
+            × (e.0 ≡ FindFault.Disk → (D.failures disk < D.failures e.1) ⊎ (D.failures e.1 ≡ 2 ^ 64 - 1))) }
     {
         let mut disk = disk;
         let size = match measure(&mut disk) {
             Ok(size) => size,
-            Err(DiskFault) => return Err((OpenFault::Disk, disk)),
+            Err(DiskFault) => return Err((FindFault::Disk, disk)),
         };
         let mut window = Window::new(DiskSource::of(disk, size), buffer, 0, size);
         let walked = walk(&mut window, visitor);
@@ -115,7 +114,7 @@ fn end_of<D: Disk>(
     disk: &mut D,
     size: u64,
     walked: Result<(), WindowFault>,
-) -> Result<(u64, bool), OpenFault>
+) -> Result<(u64, bool), FindFault>
     requires size { D.is_honest disk.old → length (D.state disk.old).contents ≡ size }
     requires settled { D.is_honest disk.old → IsSettled (D.state disk.old) }
     requires passed { D.is_honest disk.old → (pages : List PageValue) × EndsAfter pages (all_of (D.state disk.old).contents) walked }
@@ -124,19 +123,19 @@ fn end_of<D: Disk>(
         → EndsAfter pages (all_of (D.state disk.old).contents) walked
         → take end (D.state disk.new).contents ≡ bytes_of_pages pages) }
     ensures inside { IfOk result (λ (end, closed). end ≤ size) }
-    ensures damaged { IfErr result (λ e. (offset : ℕ) (fault : PageFaultOf) → e ≡ OpenFault.Page offset fault
+    ensures damaged { IfErr result (λ e. (offset : ℕ) (fault : PageFaultOf) → e ≡ FindFault.Page offset fault
         → D.is_honest disk.old → IsDamagedAt (D.state disk.old).contents offset fault) }
-    ensures faults { IfErr result (λ e. (e ≡ OpenFault.Disk)
-        ⊎ ((offset : ℕ) × (fault : PageFaultOf) × (e ≡ OpenFault.Page offset fault))) }
+    ensures faults { IfErr result (λ e. (e ≡ FindFault.Disk)
+        ⊎ ((offset : ℕ) × (fault : PageFaultOf) × (e ≡ FindFault.Page offset fault))) }
     ensures reads { OnlyReads D.is_honest D.state D.moment D.images_since disk.old disk.new }
     ensures later { D.failures disk.old ≤ D.failures disk.new }
-    ensures cause { IfErr result (λ e. e ≡ OpenFault.Disk → (walked ≡ Err SourceVariant)
+    ensures cause { IfErr result (λ e. e ≡ FindFault.Disk → (walked ≡ Err SourceVariant)
         ⊎ ((D.failures disk.old < D.failures disk.new) ⊎ (D.failures disk.new ≡ 2 ^ 64 - 1))) }
 {
     match walked {
         Ok(()) => Ok((size, false)),
         Err(wrong) => match wrong {
-            WindowFault::Source => Err(OpenFault::Disk),
+            WindowFault::Source => Err(FindFault::Disk),
             WindowFault::Page(place, fault) => {
                 // Of a disk that isn't honest nothing is known, so its place may lie anywhere.
                 let at = place.min(size);
@@ -145,12 +144,12 @@ fn end_of<D: Disk>(
                     Ok(true) => {
                         // A stop may leave exactly one byte after the committed ones, whatever it is.
                         if size - at > 1 {
-                            Err(OpenFault::Page(at, fault))
+                            Err(FindFault::Page(at, fault))
                         } else {
                             Ok((at, false))
                         }
                     }
-                    Err(DiskFault) => Err(OpenFault::Disk),
+                    Err(DiskFault) => Err(FindFault::Disk),
                 }
             }
         },

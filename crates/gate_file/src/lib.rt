@@ -18,7 +18,7 @@ mod staging;
 mod steps;
 mod visiting;
 
-pub use fault::OpenFault;
+pub use fault::{FindFault, OpenFault};
 pub use file::GateFile;
 pub use found::Found;
 pub use laws::{

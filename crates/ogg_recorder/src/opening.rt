@@ -63,7 +63,7 @@ pub(crate) fn find_chain<D: Disk>(alloc: Global, disk: D) -> Result<FoundChain<D
     let mut taker = PageTaker::new(alloc);
     let (found, buffer) = match GateFile::find_with(disk, buffer, &mut taker) {
         Ok(found) => found,
-        Err(fault) => return Err(fault),
+        Err((fault, disk)) => return Err((OpenFault::from(fault), disk)),
     };
     let _end = found.end();
     match taker.into_shape() {

@@ -1,6 +1,7 @@
 use Rattle.std.proofs.Common.{⊎_elim, ℕ, Some, List, take, sym, ◌∙◌, ap, subst}
 use Rattle.gate_file.specs.Found.{found_bytes}
 use Rattle.gate_file.specs.Gate.{EndsAt}
+use Rattle.gate_file.specs.OpenFault.{fault_of_finding, told_page}
 use Rattle.link_chain.specs.Taking.{unfinished_stream}
 use Rattle.ogg_recorder.specs.Taking.{IsBrokenAt, IsUnfinished}
 use Rattle.ogg_recorder.proofs.Passed.{have_passed, front_short, told_chain, told_not_unfinished, told_not_chain, same_serial}
@@ -8,7 +9,14 @@ use Rattle.ogg_recorder.proofs.opening.find_chain.Goals as goal
 
 pub returns-in-Err-find_with-clause-untouched : goal.returns-in-Err-find_with-clause-untouched
 returns-in-Err-find_with-clause-untouched g c = λ not_disk honest.
-    ⊎_elim (λ disk. absurd (not_disk disk)) (λ (offset, fault, is). (c.in-Err-find_with.ensures.damaged offset fault is honest).2) c.in-Err-find_with.ensures.faults
+    ⊎_elim
+    (λ disk. absurd (not_disk (c.from.ensures ∙ ap fault_of_finding disk)))
+    (λ (offset, fault, is). (c.in-Err-find_with.ensures.damaged offset fault is honest).2)
+    c.in-Err-find_with.ensures.faults
+
+pub returns-in-Err-find_with-clause-damaged : goal.returns-in-Err-find_with-clause-damaged
+returns-in-Err-find_with-clause-damaged g c = λ offset fault told honest.
+    (c.in-Err-find_with.ensures.damaged offset fault (told_page c.in-Err-find_with.fault offset fault (sym c.from.ensures ∙ told)) honest).0
 
 pub returns-in-Ok-into_shape-clause-chain : goal.returns-in-Ok-into_shape-clause-chain
 returns-in-Ok-into_shape-clause-chain g c = λ honest.
