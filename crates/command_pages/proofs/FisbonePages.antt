@@ -1,5 +1,5 @@
 -- The pages of a Skeleton: how many bytes they have, one after the other.
-use Rattle.std.proofs.Common.{◌≡◌, ℕ, zero, suc, ◌+◌, ◌/◌, ◌<◌, ◌≤◌, List, [], ◌∷◌, ◌++◌, length, take, get_or, sym, ◌∙◌, ap, arith, append_assoc, length-take}
+use Rattle.std.proofs.Common.{◌≡◌, ℕ, ◌+◌, ◌/◌, ◌<◌, List, [], ◌∷◌, ◌++◌, length, take, get_or, sym, ◌∙◌, ap, arith, append_assoc, length-take}
 use Rattle.std.proofs.lemmas.List.{take_more, append-nil}
 use Rattle.std.proofs.lemmas.List.Sums.{sum_by-cons, sum_by-append}
 use Rattle.ogg_page.specs.Page.{Page, page_size}
@@ -10,14 +10,11 @@ use Rattle.ogg_command.specs.declared.command.NewStream.{NewStream}
 use Rattle.command_pages.specs.Encoding.{header, fisbone_packet, fisbone_pages}
 use Rattle.link_chain.specs.Size.{size_of_pages}
 
-abbrev pub alone : List ℕ → List Page
-alone packet = pages_of_run 0 0 (header packet ∷ [])
-
 -- a packet's lacing values, and its bytes
-pub values_alone : (packet : List ℕ) → length (run_lacing (header packet ∷ [])) ≡ length packet / 255 + 1
+values_alone : (packet : List ℕ) → length (run_lacing (header packet ∷ [])) ≡ length packet / 255 + 1
 values_alone packet = length-run_lacing (header packet ∷ []) ∙ omega (arith, sum_by-cons values_in (header packet) [])
 
-pub bytes_alone : (packet : List ℕ) → length (run_bytes (header packet ∷ [])) ≡ length packet
+bytes_alone : (packet : List ℕ) → length (run_bytes (header packet ∷ [])) ≡ length packet
 bytes_alone packet = length-run_bytes (header packet ∷ []) ∙ omega (arith, sum_by-cons bytes_in (header packet) [])
 
 pub size_alone : (serial first : ℕ) (packet : List ℕ) → size_of_pages (pages_of_run serial first (header packet ∷ [])) ≡ size_for (length packet / 255 + 1) (length packet)
@@ -53,17 +50,3 @@ pub size_more : (serial first : ℕ) (streams : List NewStream) (i : ℕ) (d : N
 size_more serial first streams i d lt =
     ap size_of_pages (pages_more serial first streams i d lt)
     ∙ sum_by-append page_size (fisbone_pages serial first (take i streams)) (pages_of_run serial (first + i) (header (fisbone_packet (get_or streams i d)) ∷ []))
-
--- the size of the pages so far is within the size of all
-pub size_behind : (serial first : ℕ) (streams : List NewStream) (i : ℕ) → size_of_pages (fisbone_pages serial first (take i streams)) ≤ size_of_pages (fisbone_pages serial first streams)
-size_behind serial first [] zero = omega arith
-size_behind serial first [] (suc i) = omega arith
-size_behind serial first (s ∷ streams) zero = omega arith
-size_behind serial first (s ∷ streams) (suc i) =
-    let own : List Page = pages_of_run serial first (header (fisbone_packet s) ∷ []) in
-    omega (
-      arith,
-      size_behind serial (first + 1) streams i,
-      sum_by-append page_size own (fisbone_pages serial (first + 1) (take i streams)),
-      sum_by-append page_size own (fisbone_pages serial (first + 1) streams),
-    )

@@ -3,7 +3,6 @@ pub mod RunPages
 pub mod BeginPages
 pub mod FisbonePages
 pub mod DescribedPages
-pub mod SizesWithin
 pub mod LaidHeaders
 pub mod LaidRuns
 pub mod MadePages

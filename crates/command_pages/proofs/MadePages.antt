@@ -1,11 +1,11 @@
 -- The pages of a run that are made one at a time.
-use Rattle.std.proofs.Common.{◌≡◌, ℕ, ◌+◌, ◌≤◌, true, false, Bool, Some, Option, List, [], ◌∷◌, ◌++◌, length, refl, ◌∙◌, ap, arith, map, length-append}
+use Rattle.std.proofs.Common.{◌≡◌, ℕ, ◌+◌, ◌≤◌, true, false, Bool, Some, List, [], ◌∷◌, ◌++◌, length, refl, ◌∙◌, ap, arith, map, length-append}
 use Rattle.std.proofs.lemmas.List.{length-map}
 use Rattle.std.specs.List.{list_any, flat_map}
 use Rattle.std.proofs.lemmas.Bool.{or_parts}
 use Rattle.ogg_page.specs.Page.{Page}
 use Rattle.packetiser.specs.Run.{Timed, pages_of_run, pages_for, run_lacing, flagged}
-use Rattle.packetiser.specs.RunPages.{NextPage}
+use Rattle.packetiser.specs.PageSpace.{NextMade}
 use Rattle.packetiser.specs.Laws.Pieces.{run_pages}
 use Rattle.ogg_command.specs.declared.command.Entry.{Entry}
 use Rattle.ogg_command.specs.declared.command.NewStream.{NewStream}
@@ -33,10 +33,11 @@ pub alone_counted : (serial first flags : ℕ) (packet : List ℕ) → length pa
 alone_counted serial first flags packet short = flagged_count serial first flags (header packet ∷ []) ∙ one_each packet short
 
 -- of one page none is left after it is made
-pub only_page : (pages : List Page) (made : Bool) (left : List Page) (finished : Option Page) → length pages ≡ 1 → NextPage pages made left finished → NextPage pages true [] finished
-only_page pages true [] finished one (page, first, done) = (page, first, done)
-only_page pages true (next ∷ left) finished one (page, first, done) = absurd (omega (arith, one, ap length first))
-only_page pages false left finished one (none, _) = absurd (omega (arith, one, ap length none))
+pub only_page : {S : Type 0} (has_made : S → Page → S → Type 0) (before : S) (pages : List Page) (made : Bool) (left : List Page) (now : S) → length pages ≡ 1 →
+    NextMade has_made before pages made left now → NextMade has_made before pages true [] now
+only_page has_made before pages true [] now one (page, first, done) = (page, first, done)
+only_page has_made before pages true (next ∷ left) now one (page, first, done) = absurd (omega (arith, one, ap length first))
+only_page has_made before pages false left now one (none, _, _) = absurd (omega (arith, one, ap length none))
 
 -- ---- a put's runs
 -- the pages that are made for a run are the run's pages

@@ -2,7 +2,7 @@
 ghost use Rattle.std.specs.Prelude.{◌≡◌, ◌≤◌, ◌<◌, ◌+◌, ◌^◌, [], ◌∷◌, true, false, Some, Option, length, sum_by};
 ghost use Rattle.std.specs.List.{list_any, flat_map};
 ghost use Rattle.packetiser.specs.Run.{pages_of_run, flagged};
-ghost use Rattle.packetiser.specs.RunPages.{NextPage};
+ghost use Rattle.packetiser.specs.PageSpace.{NextFits, NextMade};
 ghost use Rattle.command_pages.specs.CommandPages.{BeginGoesOn, pages_to_begin};
 ghost use Rattle.command_pages.specs.Encoding.{header, first_pages, fisbone_packet, header_pages, pages_of_begin};
 ghost use Rattle.command_pages.specs.Fits.{BeginFits, header_bytes, has_many_headers, has_long_message};
@@ -12,8 +12,8 @@ ghost use Rattle.ogg_page.specs.Sizes.{longest_whole};
 use crate::sizes::split_headers;
 use crate::skeleton::{fisbone_of, fishead_of};
 use ogg_command::{Listed, NewStream, SkeletonHead};
-use ogg_page::{FIRST, LAST, PageBuffer};
-use packetiser::{Item, RunPages, pages_of_run};
+use ogg_page::{FIRST, LAST};
+use packetiser::{Item, PageSpace, RunPages, pages_of_run};
 
 /// The pages of a new link that are still to come: those of a run that has begun, a Skeleton's first page, the first
 /// pages of these streams, the pages of these fisbones, those of these streams' other headers, and a Skeleton's last
@@ -104,22 +104,23 @@ fn count_stream(stream: &NewStream) -> u64
 }
 
 impl BeginPages<'_> {
-    /// Makes the next page in the buffer, if one is still to come. It takes no memory.
-    pub fn next(&mut self, buffer: &mut PageBuffer) -> bool
+    /// Makes the next page in the space, if one is still to come. It takes no memory.
+    pub fn next<S: PageSpace>(&mut self, space: &mut S) -> bool
         requires on { BeginGoesOn self.old }
-        ensures page { NextPage (pages_to_begin self.old) result (pages_to_begin self.new) buffer.new.finished }
+        requires room { NextFits S.fits space.old (pages_to_begin self.old) }
+        ensures page { NextMade S.has_made space.old (pages_to_begin self.old) result (pages_to_begin self.new) space.new }
         ensures on { BeginGoesOn self.new }
     {
-        while !self.run.next(buffer) {
+        while !self.run.next(space) {
             if let Some(head) = self.fishead.take() {
-                make_packet(head.serial, 0, FIRST, &fishead_of(&head).packet(), buffer);
+                make_packet(head.serial, 0, FIRST, &fishead_of(&head).packet(), space);
                 return true;
             }
             if let Some((stream, rest)) = self.firsts.split_first() {
                 self.run = first_run(stream);
                 self.firsts = rest;
             } else if let Some((stream, rest)) = self.fisbones.split_first() {
-                make_fisbone(self.serial, self.sequence, stream, buffer);
+                make_fisbone(self.serial, self.sequence, stream, space);
                 self.sequence += 1;
                 self.fisbones = rest;
                 return true;
@@ -127,7 +128,7 @@ impl BeginPages<'_> {
                 self.run = other_run(stream);
                 self.others = rest;
             } else if self.has_end {
-                make_packet(self.serial, self.sequence, LAST, &[], buffer);
+                make_packet(self.serial, self.sequence, LAST, &[], space);
                 self.has_end = false;
                 return true;
             } else {
@@ -158,26 +159,28 @@ fn other_run(stream: &NewStream) -> RunPages<'_, Listed<u8>>
     RunPages::of(stream.serial, 1, 0, others)
 }
 
-/// Makes the page of a fisbone in the buffer.
-fn make_fisbone(serial: u32, sequence: u32, stream: &NewStream, buffer: &mut PageBuffer)
+/// Makes the page of a fisbone in the space.
+fn make_fisbone<S: PageSpace>(serial: u32, sequence: u32, stream: &NewStream, space: &mut S)
     requires few { length stream.now.headers ≤ most_headers }
     requires message { has_long_message stream.now ≡ false }
-    ensures { NextPage (pages_of_run serial sequence (header (fisbone_packet stream.now) ∷ [])) true [] buffer.new.finished }
+    requires room { NextFits S.fits space.old (pages_of_run serial sequence (header (fisbone_packet stream.now) ∷ [])) }
+    ensures { NextMade S.has_made space.old (pages_of_run serial sequence (header (fisbone_packet stream.now) ∷ [])) true [] space.new }
 {
     let fisbone = fisbone_of(stream).packet_with(stream.fields.as_slice());
-    make_packet(serial, sequence, 0, fisbone.as_slice(), buffer);
+    make_packet(serial, sequence, 0, fisbone.as_slice(), space);
 }
 
-/// Makes the page of a packet at position 0 in the buffer.
-fn make_packet(serial: u32, sequence: u32, flags: u8, packet: &[u8], buffer: &mut PageBuffer)
+/// Makes the page of a packet at position 0 in the space.
+fn make_packet<S: PageSpace>(serial: u32, sequence: u32, flags: u8, packet: &[u8], space: &mut S)
     requires short { length packet.now ≤ longest_whole }
     requires flags { flags < 255 }
-    ensures { NextPage (flagged flags (pages_of_run serial sequence (header packet.now ∷ []))) true [] buffer.new.finished }
+    requires room { NextFits S.fits space.old (flagged flags (pages_of_run serial sequence (header packet.now ∷ []))) }
+    ensures { NextMade S.has_made space.old (flagged flags (pages_of_run serial sequence (header packet.now ∷ []))) true [] space.new }
 {
     let run = [Item {
         packet,
         position: 0,
     }];
     let mut page = RunPages::of(serial, sequence, flags, &run);
-    page.next(buffer);
+    page.next(space);
 }

@@ -1,27 +1,25 @@
 //! The pages of a command as bytes.
-ghost use Rattle.std.specs.Prelude.{◌≡◌, ◌≤◌, ◌<◌, ◌+◌, ◌*◌, ◌++◌, ◌^◌, ℕ, List, [], ◌∷◌, false, Some, IfSome, OnOk, OnErr, length, map, sum_by, take, drop, vec_len, vec_capacity};
-ghost use Rattle.std.specs.List.{list_any, flat_map};
+ghost use Rattle.std.specs.Prelude.{◌≡◌, ◌≤◌, ◌<◌, ◌+◌, ◌++◌, ◌^◌, List, ℕ, [], ◌∷◌, OnOk, OnErr, length, vec_len, vec_capacity};
 ghost use Rattle.ogg_page.specs.Page.{bytes_of_pages, page_of};
-ghost use Rattle.packetiser.specs.Run.{pages_of_run, pages_for, run_lacing, run_bytes, size_for, flagged, lengths};
 ghost use Rattle.link_chain.specs.ChainState.{ChainState};
-ghost use Rattle.command_pages.specs.Fits.{header_bytes, has_many_headers, BeginFits, PutFits, CommandFits};
-ghost use Rattle.command_pages.specs.Limits.{longest_batch, most_headers, most_streams};
-ghost use Rattle.command_pages.specs.Encoding.{first_pages, header_pages, pages_of_begin, end_page, runs_of, pages_of_runs, command_bytes};
+ghost use Rattle.command_pages.specs.CommandPages.{BeginGoesOn, pages_to_begin};
+ghost use Rattle.command_pages.specs.Fits.{BeginFits, PutFits, CommandFits};
+ghost use Rattle.command_pages.specs.Limits.{most_streams};
+ghost use Rattle.command_pages.specs.Encoding.{pages_of_begin, end_page, runs_of, pages_of_runs, command_bytes};
 ghost use Rattle.link_chain.specs.Places.{HaveOwnSerials};
 ghost use Rattle.link_chain.specs.Progress.{next_in};
-ghost use Rattle.link_chain.specs.Size.{has_no_number, size_of_pages};
-ghost use Rattle.ogg_command.specs.declared.command.Entry.{Entry as EntryOf};
+ghost use Rattle.link_chain.specs.Size.{size_of_pages};
 ghost use Rattle.ogg_page.specs.Sizes.{fixed_size};
 
 use crate::Memory;
+use crate::beginning::{BeginPages, begin_pages};
 use crate::limits::FEW_STREAMS;
 use crate::runs::{bring_stream, next_at, run_length, run_position, run_serial};
-use crate::sizes::{size_of_begin, split_headers};
-use crate::skeleton::{lay_fisbones, lay_fishead, lay_skeleton_end};
+use crate::sizes::size_of_begin;
 use link_chain::{Chain, MOST_STREAMS, StreamState, next_sequence, place_of, stream_in};
 use ogg_command::{Command, Entry, NewStream, SkeletonHead};
-use ogg_page::{FIRST, LAST, PageHead, write_page};
-use packetiser::{TimedPacket, lay_run};
+use ogg_page::{LAST, PageHead, write_page};
+use packetiser::lay_run;
 
 /// Appends the pages of a command. After `Memory` the vector is unchanged.
 pub fn lay_command(chain: &Chain, command: &Command, out: &mut Vec<u8>) -> Result<(), Memory>
@@ -151,120 +149,16 @@ fn lay_begin(
 {
     let size = size_of_begin(skeleton, streams);
     out.reserve(size as usize)?;
-    lay_parts(skeleton, streams, out);
+    append(begin_pages(skeleton, streams), out);
     Ok(())
 }
 
-/// Appends the pages of a new link, for which there is room.
-fn lay_parts(skeleton: Option<SkeletonHead>, streams: &[NewStream], out: &mut Vec<u8>)
-    requires fits { BeginFits skeleton streams.now }
-    requires room { vec_len out.old + size_of_pages (pages_of_begin skeleton streams.now) ≤ vec_capacity out.old }
-    ensures items { out.new.items ≡ out.old.items ++ bytes_of_pages (pages_of_begin skeleton streams.now) }
+/// Appends the pages of a new link that are still to come, for which there is room.
+fn append(mut pages: BeginPages<'_>, out: &mut Vec<u8>)
+    requires on { BeginGoesOn pages }
+    requires room { vec_len out.old + size_of_pages (pages_to_begin pages) ≤ vec_capacity out.old }
+    ensures items { out.new.items ≡ out.old.items ++ bytes_of_pages (pages_to_begin pages.entry) }
     ensures capacity { vec_capacity out.old ≤ vec_capacity out.new }
 {
-    match skeleton {
-        None => lay_streams(streams, out),
-        Some(head) => lay_described(&head, streams, out),
-    }
-}
-
-/// Appends the pages of a new link without a Skeleton, for which there is room.
-fn lay_streams(streams: &[NewStream], out: &mut Vec<u8>)
-    requires short { sum_by header_bytes streams.now ≤ longest_batch }
-    requires few { list_any has_many_headers streams.now ≡ false }
-    requires room { vec_len out.old + size_of_pages (flat_map first_pages streams.now ++ flat_map header_pages streams.now) ≤ vec_capacity out.old }
-    ensures items { out.new.items ≡ out.old.items ++ bytes_of_pages (flat_map first_pages streams.now ++ flat_map header_pages streams.now) }
-    ensures capacity { vec_capacity out.old ≤ vec_capacity out.new }
-{
-    lay_firsts(streams, out);
-    lay_others(streams, out);
-}
-
-/// Appends the pages of a new link with a Skeleton, for which there is room.
-fn lay_described(head: &SkeletonHead, streams: &[NewStream], out: &mut Vec<u8>)
-    requires fits { BeginFits (Some head.now) streams.now }
-    requires room { vec_len out.old + size_of_pages (pages_of_begin (Some head.now) streams.now) ≤ vec_capacity out.old }
-    ensures items { out.new.items ≡ out.old.items ++ bytes_of_pages (pages_of_begin (Some head.now) streams.now) }
-    ensures capacity { vec_capacity out.old ≤ vec_capacity out.new }
-{
-    lay_fishead(head, out);
-    lay_firsts(streams, out);
-    lay_fisbones(head.serial, streams, out);
-    lay_others(streams, out);
-    lay_skeleton_end(head.serial, streams.len(), out);
-}
-
-/// Appends the first pages of new streams, for which there is room.
-fn lay_firsts(streams: &[NewStream], out: &mut Vec<u8>)
-    requires short { sum_by header_bytes streams.now ≤ longest_batch }
-    requires few { list_any has_many_headers streams.now ≡ false }
-    requires room { vec_len out.old + size_of_pages (flat_map first_pages streams.now) ≤ vec_capacity out.old }
-    ensures items { out.new.items ≡ out.old.items ++ bytes_of_pages (flat_map first_pages streams.now) }
-    ensures len { vec_len out.new ≡ vec_len out.old + size_of_pages (flat_map first_pages streams.now) }
-    ensures capacity { vec_capacity out.old ≤ vec_capacity out.new }
-{
-    for stream in streams {
-        lay_first(stream, out);
-    }
-}
-
-/// Appends the first page of a new stream, for which there is room.
-fn lay_first(stream: &NewStream, out: &mut Vec<u8>)
-    requires short { header_bytes stream.now ≤ longest_batch }
-    requires few { length stream.now.headers ≤ most_headers }
-    requires room { vec_len out.old + size_of_pages (first_pages stream.now) ≤ vec_capacity out.old }
-    ensures items { out.new.items ≡ out.old.items ++ bytes_of_pages (first_pages stream.now) }
-    ensures len { vec_len out.new ≡ vec_len out.old + size_of_pages (first_pages stream.now) }
-    ensures capacity { vec_capacity out.old ≤ vec_capacity out.new }
-{
-    let (first, _) = split_headers(stream.headers.as_slice());
-    append_run(stream.serial, 0, FIRST, first, out);
-}
-
-/// Appends the pages of the other headers of new streams, for which there is room.
-fn lay_others(streams: &[NewStream], out: &mut Vec<u8>)
-    requires short { sum_by header_bytes streams.now ≤ longest_batch }
-    requires few { list_any has_many_headers streams.now ≡ false }
-    requires room { vec_len out.old + size_of_pages (flat_map header_pages streams.now) ≤ vec_capacity out.old }
-    ensures items { out.new.items ≡ out.old.items ++ bytes_of_pages (flat_map header_pages streams.now) }
-    ensures len { vec_len out.new ≡ vec_len out.old + size_of_pages (flat_map header_pages streams.now) }
-    ensures capacity { vec_capacity out.old ≤ vec_capacity out.new }
-{
-    for stream in streams {
-        lay_other(stream, out);
-    }
-}
-
-/// Appends the pages of a new stream's other headers, for which there is room.
-fn lay_other(stream: &NewStream, out: &mut Vec<u8>)
-    requires short { header_bytes stream.now ≤ longest_batch }
-    requires few { length stream.now.headers ≤ most_headers }
-    requires room { vec_len out.old + size_of_pages (header_pages stream.now) ≤ vec_capacity out.old }
-    ensures items { out.new.items ≡ out.old.items ++ bytes_of_pages (header_pages stream.now) }
-    ensures len { vec_len out.new ≡ vec_len out.old + size_of_pages (header_pages stream.now) }
-    ensures capacity { vec_capacity out.old ≤ vec_capacity out.new }
-{
-    let (_, others) = split_headers(stream.headers.as_slice());
-    append_run(stream.serial, 1, 0, others, out);
-}
-
-/// Appends the pages of a run for which there is room, and returns their number.
-pub fn append_run<T: TimedPacket>(
-    serial: u32,
-    first_sequence: u32,
-    flags: u8,
-    run: &[T],
-    out: &mut Vec<u8>,
-) -> u32
-    requires lengths { lengths (map T.timed run.now) + length run.now ≤ 2 ^ 62 }
-    requires numbers { first_sequence + pages_for (length (run_lacing (map T.timed run.now))) ≤ 2 ^ 32 }
-    requires count { pages_for (length (run_lacing (map T.timed run.now))) < 2 ^ 32 }
-    requires flags { flags < 255 }
-    requires room { vec_len out.old + size_for (length (run_lacing (map T.timed run.now))) (length (run_bytes (map T.timed run.now))) ≤ vec_capacity out.old }
-    ensures pages { result ≡ pages_for (length (run_lacing (map T.timed run.now))) }
-    ensures items { out.new.items ≡ out.old.items ++ bytes_of_pages (flagged flags (pages_of_run serial first_sequence (map T.timed run.now))) }
-    ensures len { vec_len out.new ≡ vec_len out.old + size_for (length (run_lacing (map T.timed run.now))) (length (run_bytes (map T.timed run.now))) }
-    ensures capacity { vec_capacity out.old ≤ vec_capacity out.new }
-{
-    lay_run(serial, first_sequence, flags, run, out).unwrap()
+    while pages.next(out) {}
 }

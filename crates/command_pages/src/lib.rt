@@ -2,7 +2,8 @@
 //!
 //! A command begins a link of logical streams, puts packets, or ends a stream. Each adds pages, which depend on the
 //! command and on the state of the last link's streams. `lay_command` appends the pages' bytes. `CommandPages` makes
-//! the pages one at a time, in the caller's buffer. The sizes can be found before any page is made.
+//! the pages one at a time, in the caller's buffer. The order of a new link's pages stands once, in `BeginPages`, which
+//! makes them in either place. The sizes can be found before any page is made.
 //!
 //! Start at `specs/Encoding.antt`, which says what the pages of a command are, and at `specs/Fits.antt`,
 //! which says what is asked of a command.

@@ -1,8 +1,7 @@
 //! The pages of a link's Skeleton.
-ghost use Rattle.std.specs.Prelude.{◌≡◌, ◌≤◌, ◌<◌, ◌+◌, ◌*◌, ◌++◌, ◌^◌, ℕ, List, [], ◌∷◌, false, length, vec_len, vec_capacity};
+ghost use Rattle.std.specs.Prelude.{◌≡◌, ◌≤◌, ◌+◌, ◌*◌, ℕ, List, [], ◌∷◌, false, length};
 ghost use Rattle.std.specs.List.{list_any};
-ghost use Rattle.ogg_page.specs.Page.{bytes_of_pages};
-ghost use Rattle.packetiser.specs.Run.{pages_of_run, flagged};
+ghost use Rattle.packetiser.specs.Run.{pages_of_run};
 ghost use Rattle.skeleton3.specs.Fisbone.{fisbone_of as lent_fisbone};
 ghost use Rattle.command_pages.specs.Limits.{longest_skeleton, most_headers, most_streams, longest_fishead_page, longest_fisbone_page};
 ghost use Rattle.command_pages.specs.Fits.{has_many_headers, has_long_message};
@@ -10,10 +9,8 @@ ghost use Rattle.command_pages.specs.Encoding.{header, fishead_of, fisbone_of, f
 ghost use Rattle.link_chain.specs.Size.{size_of_pages};
 ghost use Rattle.ogg_page.specs.Sizes.{empty_packet_page, longest_whole};
 
-use crate::laying::append_run;
 use ogg_command::{NewStream, SkeletonHead};
-use ogg_page::{FIRST, LAST};
-use packetiser::{Item, size_of, values_of};
+use packetiser::{size_of, values_of};
 use skeleton3::{Fisbone, Fishead};
 
 /// What a link's Skeleton says of the whole link.
@@ -108,75 +105,4 @@ pub fn size_of_skeleton(head: &SkeletonHead, streams: &[NewStream]) -> u64
     ensures time { length head.now.utc ≡ 20 }
 {
     size_of_fishead(head) + size_of_fisbones(streams) + size_of_skeleton_end()
-}
-
-/// Appends the page of a packet at position 0, for which there is room.
-fn lay_packet(serial: u32, sequence: u32, flags: u8, packet: &[u8], out: &mut Vec<u8>)
-    requires short { length packet.now ≤ longest_whole }
-    requires flags { flags < 255 }
-    requires room { vec_len out.old + size_of_pages (pages_of_run serial sequence (header packet.now ∷ [])) ≤ vec_capacity out.old }
-    ensures items { out.new.items ≡ out.old.items ++ bytes_of_pages (flagged flags (pages_of_run serial sequence (header packet.now ∷ []))) }
-    ensures len { vec_len out.new ≡ vec_len out.old + size_of_pages (pages_of_run serial sequence (header packet.now ∷ [])) }
-    ensures capacity { vec_capacity out.old ≤ vec_capacity out.new }
-{
-    append_run(
-        serial,
-        sequence,
-        flags,
-        &[Item {
-            packet,
-            position: 0,
-        }],
-        out,
-    );
-}
-
-/// Appends the first page of a Skeleton, for which there is room.
-pub fn lay_fishead(head: &SkeletonHead, out: &mut Vec<u8>)
-    requires room { vec_len out.old + size_of_pages (fishead_pages head.now) ≤ vec_capacity out.old }
-    ensures items { out.new.items ≡ out.old.items ++ bytes_of_pages (fishead_pages head.now) }
-    ensures len { vec_len out.new ≡ vec_len out.old + size_of_pages (fishead_pages head.now) }
-    ensures capacity { vec_capacity out.old ≤ vec_capacity out.new }
-{
-    lay_packet(head.serial, 0, FIRST, &fishead_of(head).packet(), out);
-}
-
-/// Appends the page of a stream's fisbone, for which there is room.
-fn lay_fisbone(serial: u32, sequence: u32, stream: &NewStream, out: &mut Vec<u8>)
-    requires few { length stream.now.headers ≤ most_headers }
-    requires message { has_long_message stream.now ≡ false }
-    requires room { vec_len out.old + size_of_pages (pages_of_run serial sequence (header (fisbone_packet stream.now) ∷ [])) ≤ vec_capacity out.old }
-    ensures items { out.new.items ≡ out.old.items ++ bytes_of_pages (pages_of_run serial sequence (header (fisbone_packet stream.now) ∷ [])) }
-    ensures len { vec_len out.new ≡ vec_len out.old + size_of_pages (pages_of_run serial sequence (header (fisbone_packet stream.now) ∷ [])) }
-    ensures capacity { vec_capacity out.old ≤ vec_capacity out.new }
-{
-    let fisbone = fisbone_of(stream).packet_with(stream.fields.as_slice());
-    lay_packet(serial, sequence, 0, fisbone.as_slice(), out);
-}
-
-/// Appends the pages of the fisbones of new streams, for which there is room.
-pub fn lay_fisbones(serial: u32, streams: &[NewStream], out: &mut Vec<u8>)
-    requires links { length streams.now ≤ most_streams }
-    requires few { list_any has_many_headers streams.now ≡ false }
-    requires message { list_any has_long_message streams.now ≡ false }
-    requires room { vec_len out.old + size_of_pages (fisbone_pages serial 1 streams.now) ≤ vec_capacity out.old }
-    ensures items { out.new.items ≡ out.old.items ++ bytes_of_pages (fisbone_pages serial 1 streams.now) }
-    ensures len { vec_len out.new ≡ vec_len out.old + size_of_pages (fisbone_pages serial 1 streams.now) }
-    ensures capacity { vec_capacity out.old ≤ vec_capacity out.new }
-{
-    let mut sequence = 1;
-    for stream in streams {
-        lay_fisbone(serial, sequence, stream, out);
-        sequence += 1;
-    }
-}
-
-/// Appends the last page of a Skeleton of this many other streams, for which there is room.
-pub fn lay_skeleton_end(serial: u32, streams: usize, out: &mut Vec<u8>)
-    requires links { streams ≤ most_streams }
-    requires room { vec_len out.old + size_of_pages (skeleton_end serial (streams + 1)) ≤ vec_capacity out.old }
-    ensures items { out.new.items ≡ out.old.items ++ bytes_of_pages (skeleton_end serial (streams + 1)) }
-    ensures capacity { vec_capacity out.old ≤ vec_capacity out.new }
-{
-    lay_packet(serial, streams as u32 + 1, LAST, &[], out);
 }

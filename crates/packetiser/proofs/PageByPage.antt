@@ -3,7 +3,8 @@ use Rattle.std.proofs.Common.{◌≡◌, ℕ, zero, suc, ◌+◌, ◌-◌, ◌<�
 use Rattle.std.proofs.lemmas.List.{length-map}
 use Rattle.ogg_page.specs.Page.{Page}
 use Rattle.packetiser.specs.Run.{Timed, counted, run_lacing, page_of_run, pages_of_run, pages_for, flagged}
-use Rattle.packetiser.specs.Place.{added}
+use Rattle.packetiser.specs.Place.{next_page, added, IsAt}
+use Rattle.packetiser.proofs.Placing.{page_with}
 
 pub drop_map : {A B : Type 0} (f : A → B) (n : ℕ) (xs : List A) → map f (drop n xs) ≡ drop n (map f xs)
 drop_map f zero xs = refl
@@ -67,7 +68,7 @@ flagged_at flags (suc k) [] page e = absurd (omega (arith, ap length e))
 flagged_at flags (suc k) (p ∷ pages) page e = e ∙ ap (λ q. q ∷ drop (suc k) pages) (sym (no_more_flags page))
 
 -- the page at a place, and those after it
-pub page_at_place : (serial first flags k : ℕ) (run : List Timed) → k < pages_for (length (run_lacing run)) →
+page_at_place : (serial first flags k : ℕ) (run : List Timed) → k < pages_for (length (run_lacing run)) →
     drop k (flagged flags (pages_of_run serial first run))
     ≡ more_flags (added flags k) (page_of_run serial first run k) ∷ drop (k + 1) (flagged flags (pages_of_run serial first run))
 unfolding pages_of_run
@@ -78,3 +79,16 @@ page_at_place serial first flags k run lt =
     ∙ ap (λ m. page_of_run serial first run m ∷ drop (suc k) pages) (let e : 0 + k ≡ k = omega arith in e)
     )
     ∙ ap (λ m. more_flags (added flags k) (page_of_run serial first run k) ∷ drop m (flagged flags pages)) (let e : suc k ≡ k + 1 = omega arith in e)
+
+-- the same page, by what is left of the run there
+pub next_at_place : (serial first flags k done : ℕ) (run left : List Timed) → IsAt run k done left → k < pages_for (length (run_lacing run)) →
+    (sequence flags' : ℕ) (left' : List Timed) → sequence ≡ first + k → flags' ≡ added flags k → left' ≡ left →
+    drop k (flagged flags (pages_of_run serial first run)) ≡ next_page serial sequence flags' done left' ∷ drop (k + 1) (flagged flags (pages_of_run serial first run))
+next_at_place serial first flags k done run left at lt sequence flags' left' s f l =
+    let later : List Page = drop (k + 1) (flagged flags (pages_of_run serial first run)) in
+    page_at_place serial first flags k run lt
+    ∙ ap (λ (p : Page). p ∷ later) (sym (
+    ap (λ n. next_page serial n flags' done left') s
+    ∙ ap (λ n. next_page serial (first + k) n done left') f
+    ∙ ap (λ xs. next_page serial (first + k) (added flags k) done xs) l
+    ∙ page_with serial first (added flags k) run k done left at))

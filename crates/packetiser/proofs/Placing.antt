@@ -1,15 +1,15 @@
 -- The places where the pages of a run begin.
-use Rattle.std.proofs.Common.{◌≡◌, ℕ, zero, suc, ◌+◌, ◌-◌, ◌*◌, ◌<◌, ◌≤◌, cond, List, [], ◌∷◌, ◌++◌, length, map, take, drop, sum, sum_by, refl, sym, ◌∙◌, ap, arith, length-append, length-drop, length-take}
+use Rattle.std.proofs.Common.{◌≡◌, ℕ, zero, suc, ◌+◌, ◌-◌, ◌*◌, ◌<◌, cond, List, [], ◌∷◌, ◌++◌, length, take, drop, sum, refl, sym, ◌∙◌, ap, arith, length-append, length-drop, length-take}
 use Rattle.std.specs.Prelude.{nat_lt, nat_eq}
 use Rattle.std.proofs.lemmas.Bool.{ne_eqb, cond-false}
 use Rattle.std.proofs.lemmas.List.{drop-drop, length-take-le}
-use Rattle.std.proofs.lemmas.List.Sums.{sum_by-append, sum_by-cons}
-use Rattle.ogg_page.specs.Page.{Page, page_size}
+use Rattle.std.proofs.lemmas.List.Sums.{sum_by-append}
+use Rattle.ogg_page.specs.Page.{Page}
 use Rattle.ogg_page.specs.Lacing.{lacing_of, ends_open}
-use Rattle.packetiser.specs.Run.{Timed, counted, run_lacing, run_bytes, values_at, values_before, packets_ended, position_of, no_position, page_position, page_of_run, pages_of_run, pages_for, size_for, flagged}
-use Rattle.packetiser.specs.Place.{values_left, bytes_left, next_values, next_page, added, IsWithin, IsBehind, IsAt}
+use Rattle.packetiser.specs.Run.{Timed, run_lacing, run_bytes, values_at, values_before, packets_ended, position_of, no_position, page_position, page_of_run, pages_for}
+use Rattle.packetiser.specs.Place.{values_left, bytes_left, next_values, next_page, IsWithin, IsBehind, IsAt}
 use Rattle.ogg_page.specs.StreamLaws.{ends_open-at}
-use Rattle.packetiser.specs.Laws.Pieces.{sum_app, sum-run, sum-lacing_of, before_more, run_bytes_all}
+use Rattle.packetiser.specs.Laws.Pieces.{sum_app, sum-run, sum-lacing_of, before_more}
 use Rattle.packetiser.specs.Laws.Ranges.{front_sum}
 use Rattle.packetiser.proofs.Filling.{none_done}
 
@@ -79,7 +79,7 @@ position_there run rest before (suc own) e =
     cond-false (nat_eq (suc own) 0) no_position (position_of (before + suc own) run) (ne_eqb (suc own) 0 (λ z. cc))
     ∙ position_later before own run ∙ ap (position_of (suc own)) (sym e)
 
-pub page_there : (serial first : ℕ) (run : List Timed) (k done : ℕ) (rest : List Timed) → IsAt run k done rest →
+page_there : (serial first : ℕ) (run : List Timed) (k done : ℕ) (rest : List Timed) → IsAt run k done rest →
     next_page serial (first + k) 0 done rest ≡ page_of_run serial first run k
 unfolding page_of_run page_position
 page_there serial first run k done rest at =
@@ -108,57 +108,3 @@ page_with serial first flags run k done rest at =
     let own : ℕ = cond (nat_lt 0 done) 1 0 in
     ap (λ n. record (next_page serial (first + k) 0 done rest) { flags = n }) (let e : own + flags ≡ own + 0 + flags = omega arith in e)
     ∙ ap (λ (p : Page). record p { flags = p.flags + flags }) (page_there serial first run k done rest at)
-
--- ---- the pages so far
-abbrev pub pages_to : ℕ → ℕ → List Timed → ℕ → List Page
-pages_to serial first run k = map (page_of_run serial first run) (counted 0 k)
-
-pub counted-more : (first n : ℕ) → counted first (suc n) ≡ counted first n ++ (first + n) ∷ []
-counted-more first zero = ap (λ k. k ∷ []) (omega arith)
-counted-more first (suc n) = ap (λ l. first ∷ l) (counted-more (first + 1) n ∙ ap (λ k. counted (first + 1) n ++ k ∷ []) (omega arith))
-
-map-push : {X Y : Type 0} (f : X → Y) (xs : List X) (x : X) → map f (xs ++ x ∷ []) ≡ map f xs ++ f x ∷ []
-map-push f [] x = refl
-map-push f (y ∷ xs) x = ap (λ l. f y ∷ l) (map-push f xs x)
-
-pub pages_more : (serial first : ℕ) (run : List Timed) (k : ℕ) → pages_to serial first run (k + 1) ≡ pages_to serial first run k ++ page_of_run serial first run k ∷ []
-pages_more serial first run k =
-    ap (λ n. map (page_of_run serial first run) (counted 0 n)) (let e : k + 1 ≡ suc k = omega arith in e)
-    ∙ ap (map (page_of_run serial first run)) (counted-more 0 k ∙ ap (λ n. counted 0 k ++ n ∷ []) (omega arith))
-    ∙ map-push (page_of_run serial first run) (counted 0 k) k
-
-no_flags : (page : Page) → record page { flags = page.flags + 0 } ≡ page
-no_flags page = ap (λ n. record page { flags = n }) (omega arith)
-
-pub flagged_more : (serial first flags : ℕ) (run : List Timed) (k : ℕ) →
-    flagged flags (pages_to serial first run (k + 1))
-    ≡ flagged flags (pages_to serial first run k) ++ record (page_of_run serial first run k) { flags = (page_of_run serial first run k).flags + added flags k } ∷ []
-flagged_more serial first flags run zero = ap (flagged flags) (pages_more serial first run 0)
-flagged_more serial first flags run (suc k) =
-    ap (flagged flags) (pages_more serial first run (suc k))
-    ∙ ap (λ (p : Page). flagged flags (pages_to serial first run (suc k)) ++ p ∷ []) (sym (no_flags (page_of_run serial first run (suc k))))
-
--- ---- room
-pub room_of : (serial first : ℕ) (run : List Timed) (k : ℕ) → k < pages_for (length (run_lacing run)) →
-    sum_by page_size (pages_to serial first run (k + 1)) ≤ size_for (length (run_lacing run)) (length (run_bytes run))
-unfolding pages_of_run
-room_of serial first run k lt =
-    omega (arith, upto (k + 1) (pages_for (length (run_lacing run))) 0 (omega (arith, lt)), run_bytes_all serial first run)
-  where
-    upto : (n m j : ℕ) → n ≤ m → sum_by page_size (map (page_of_run serial first run) (counted j n)) ≤ sum_by page_size (map (page_of_run serial first run) (counted j m))
-    upto zero m j h = omega arith
-    upto (suc n) zero j h = absurd (omega arith)
-    upto (suc n) (suc m) j h =
-        omega (
-          arith,
-          sum_by-cons page_size (page_of_run serial first run j) (map (page_of_run serial first run) (counted (j + 1) n)),
-          sum_by-cons page_size (page_of_run serial first run j) (map (page_of_run serial first run) (counted (j + 1) m)),
-          upto n m (j + 1) (omega arith),
-        )
-
-pub size_more : (serial first : ℕ) (run : List Timed) (k : ℕ) →
-    sum_by page_size (pages_to serial first run (k + 1)) ≡ sum_by page_size (pages_to serial first run k) + page_size (page_of_run serial first run k)
-size_more serial first run k =
-    ap (sum_by page_size) (pages_more serial first run k)
-    ∙ sum_by-append page_size (pages_to serial first run k) (page_of_run serial first run k ∷ [])
-    ∙ ap (λ n. sum_by page_size (pages_to serial first run k) + n) (sum_by-cons page_size (page_of_run serial first run k) [] ∙ omega arith)

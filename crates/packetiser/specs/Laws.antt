@@ -3,3 +3,4 @@ pub mod Pieces
 pub mod Behind
 pub mod Ranges
 pub mod Sizes
+pub mod Appending

@@ -1,4 +1,5 @@
 pub mod Run
 pub mod Place
 pub mod RunPages
+pub mod PageSpace
 pub mod Laws

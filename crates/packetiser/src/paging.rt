@@ -1,18 +1,19 @@
 //! The pages of a run, one at a time.
-ghost use Rattle.std.specs.Prelude.{◌≡◌, ◌≤◌, ◌<◌, ◌+◌, ◌++◌, ◌^◌, [], Some, length, map, sum, take, drop};
-ghost use Rattle.ogg_page.specs.PageInWork.{PageInWork};
+ghost use Rattle.std.specs.Prelude.{◌≡◌, ◌≤◌, ◌<◌, ◌+◌, ◌++◌, ◌^◌, ℕ, List, [], length, map, take, drop};
+ghost use Rattle.ogg_page.specs.Page.{page_size};
+ghost use Rattle.ogg_page.specs.declared.head.PageHead.{PageHead as HeadOf};
 ghost use Rattle.packetiser.specs.Run.{pages_for, run_lacing, pages_of_run, flagged, lengths};
-ghost use Rattle.packetiser.specs.Place.{bytes_left, next_page, IsWithin, IsBehind};
-ghost use Rattle.packetiser.specs.RunPages.{NextPage};
+ghost use Rattle.packetiser.specs.Place.{bytes_left, next_page, added, IsWithin, IsBehind};
+ghost use Rattle.packetiser.specs.PageSpace.{NextFits, NextMade};
 
-use crate::encoding::added_flags;
 use crate::item::TimedPacket;
 use crate::place::fill;
 use crate::size::{pages_of, values_and_bytes};
-use ogg_page::{MOST_VALUES, PageBuffer, PageHead};
+use crate::space::PageSpace;
+use ogg_page::{FIXED_SIZE, MOST_VALUES, PageHead};
 use std::marker::Model;
 
-/// The pages of a run that are still to come. They are made one at a time, in the caller's buffer.
+/// The pages of a run that are still to come. They are made one at a time, in the caller's space.
 #[derive(Drop)]
 pub struct RunPages<'a, T: TimedPacket> {
     run: &'a [T],
@@ -47,12 +48,28 @@ impl<'a, T: TimedPacket> RunPages<'a, T> {
         ensures { result ≡ flagged flags (pages_of_run serial first_sequence (map T.timed run.entry.now)) }
     {
         let (values, _) = values_and_bytes(run);
+        RunPages::counted(serial, first_sequence, flags, run, pages_of(values))
+    }
+
+    /// The pages of a run, of which there are `count`.
+    pub(crate) fn counted(
+        serial: u32,
+        first_sequence: u32,
+        flags: u8,
+        run: &'a [T],
+        count: u64,
+    ) -> RunPages<'a, T>
+        requires count { count ≡ pages_for (length (run_lacing (map T.timed run.now))) }
+        requires numbers { first_sequence + count ≤ 2 ^ 32 }
+        requires flags { flags < 255 }
+        ensures { result ≡ flagged flags (pages_of_run serial first_sequence (map T.timed run.entry.now)) }
+    {
         RunPages {
             run,
             serial,
             first_sequence,
             flags,
-            count: pages_of(values),
+            count,
             next: 0,
             ended: 0,
             done: 0,
@@ -74,9 +91,10 @@ impl<'a, T: TimedPacket> RunPages<'a, T> {
         self.count - self.next
     }
 
-    /// Makes the next page in the buffer, if one is still to come. It takes no memory.
-    pub fn next(&mut self, buffer: &mut PageBuffer) -> bool
-        ensures { NextPage self.old result self.new buffer.new.finished }
+    /// Makes the next page in the space, if one is still to come. It takes no memory.
+    pub fn next<S: PageSpace>(&mut self, space: &mut S) -> bool
+        requires { NextFits S.fits space.old self.old }
+        ensures { NextMade S.has_made space.old self.old result self.new space.new }
     {
         if self.next == self.count {
             return false;
@@ -84,7 +102,7 @@ impl<'a, T: TimedPacket> RunPages<'a, T> {
         let flags = added_flags(self.flags, self.next);
         let sequence = (u64::from(self.first_sequence) + self.next) as u32;
         let (_, rest) = self.run.split_at(self.ended);
-        let (ended, done) = make_page(self.serial, sequence, flags, rest, self.done, buffer);
+        let (ended, done) = make_page(self.serial, sequence, flags, rest, self.done, space);
         self.ended += ended;
         self.done = done;
         self.next += 1;
@@ -92,19 +110,29 @@ impl<'a, T: TimedPacket> RunPages<'a, T> {
     }
 }
 
+/// The flags that are added to page `k`: only the first page has any.
+fn added_flags(flags: u8, k: u64) -> u8
+    requires { flags < 255 }
+    ensures value { result ≡ added flags k }
+    ensures few { result < 255 }
+{
+    if k == 0 { flags } else { 0 }
+}
+
 /// Makes the next page of a run of which these packets are left. It returns how many of them end in the page, and how
 /// many bytes of the packet after these lie in the page and those before it.
-fn make_page<T: TimedPacket>(
+fn make_page<T: TimedPacket, S: PageSpace>(
     serial: u32,
     sequence: u32,
     flags: u8,
     from: &[T],
     begun: usize,
-    buffer: &mut PageBuffer,
+    space: &mut S,
 ) -> (usize, usize)
     requires within { IsWithin begun (map T.timed from.now) }
     requires flags { flags < 255 }
-    ensures page { buffer.new.finished ≡ Some (next_page serial sequence flags begun (map T.timed from.now)) }
+    requires room { S.fits space.old (page_size (next_page serial sequence flags begun (map T.timed from.now))) }
+    ensures page { S.has_made space.old (next_page serial sequence flags begun (map T.timed from.now)) space.new }
     ensures few { result.0 ≤ length from.now }
     ensures behind { IsBehind begun (map T.timed from.now) result.1 (drop result.0 (map T.timed from.now)) }
 {
@@ -117,19 +145,19 @@ fn make_page<T: TimedPacket>(
         serial,
         sequence,
     };
-    buffer.start(lacing);
-    put_bytes(from, begun, page.size, buffer);
-    buffer.finish(&head);
+    space.begin_page(&head, lacing);
+    put_bytes(from, begun, page.size, space);
+    space.end_page(&head, FIXED_SIZE + page.count + page.size);
     (from.len() - page.rest.len(), page.done)
 }
 
 /// Puts the first `size` bytes of what is left of a run, of whose first packet `begun` bytes are done.
-fn put_bytes<T: TimedPacket>(from: &[T], begun: usize, size: usize, buffer: &mut PageBuffer)
+fn put_bytes<T: TimedPacket, S: PageSpace>(from: &[T], begun: usize, size: usize, space: &mut S)
     requires within { IsWithin begun (map T.timed from.now) }
     requires enough { size ≤ length (bytes_left begun (map T.timed from.now)) }
-    requires room { length buffer.old.body + size ≤ sum buffer.old.lacing }
-    ensures lacing { buffer.new.lacing ≡ buffer.old.lacing }
-    ensures body { buffer.new.body ≡ buffer.old.body ++ take size (bytes_left begun (map T.timed from.now)) }
+    requires room { S.free space.old size }
+    ensures { (before : S) (head : HeadOf) (lacing body : List ℕ) → S.in_work before head lacing body space.old
+        → S.in_work before head lacing (body ++ take size (bytes_left begun (map T.timed from.now))) space.new }
 {
     let mut rest = from;
     let mut done = begun;
@@ -140,7 +168,7 @@ fn put_bytes<T: TimedPacket>(from: &[T], begun: usize, size: usize, buffer: &mut
         };
         let packet = item.packet().split_at(done).1;
         let piece = packet.split_at(packet.len().min(left)).0;
-        buffer.put(piece);
+        space.put(piece);
         left -= piece.len();
         rest = others;
         done = 0;

@@ -37,6 +37,7 @@ pub fn fill<'a, T: TimedPacket>(
     ensures values { take result.count lacing.new ≡ next_values begun (map T.timed from.now) }
     ensures count { result.count ≤ most_values }
     ensures size { result.size ≡ sum (take result.count lacing.new) }
+    ensures small { result.size ≤ full_value * result.count }
     ensures values_behind { values_left result.done (map T.timed result.rest.now) ≡ drop most_values (values_left begun (map T.timed from.now)) }
     ensures bytes_behind { bytes_left result.done (map T.timed result.rest.now)
         ≡ drop (sum (take result.count lacing.new)) (bytes_left begun (map T.timed from.now)) }

@@ -1,10 +1,10 @@
-use Rattle.std.proofs.Common.{◌≡◌, ℕ, ◌+◌, ◌<◌, Some, List, [], ◌∷◌, length, map, drop, sym, ◌∙◌, ap, subst, arith, length-drop}
+use Rattle.std.proofs.Common.{◌≡◌, ℕ, ◌+◌, ◌<◌, List, [], length, map, drop, refl, sym, ◌∙◌, ap, subst, arith, length-drop}
 use Rattle.std.proofs.lemmas.List.{length-map, drop-drop}
 use Rattle.ogg_page.specs.Page.{Page}
 use Rattle.packetiser.specs.Run.{Timed, pages_of_run, pages_for, run_lacing, flagged}
-use Rattle.packetiser.specs.Place.{next_page, added, IsBehind}
-use Rattle.packetiser.proofs.Placing.{at_next, page_with}
-use Rattle.packetiser.proofs.PageByPage.{count_of_pages, drop_map, drop_past, page_at_place}
+use Rattle.packetiser.specs.Place.{next_page, IsBehind}
+use Rattle.packetiser.proofs.Placing.{at_next}
+use Rattle.packetiser.proofs.PageByPage.{count_of_pages, drop_map, drop_past, next_at_place}
 use Rattle.packetiser.proofs.paging.RunPages.next.Goals as goal
 
 pub returns-then-self : goal.returns-then-self
@@ -14,7 +14,7 @@ returns-then-self g c =
     let pages : List Page = flagged in_it.flags (pages_of_run in_it.serial in_it.first_sequence run) in
     let all : length pages ≡ in_it.count = count_of_pages in_it.serial in_it.first_sequence in_it.flags run ∙ sym c.self.invariant.count_is in
     let none : c.args.self.now ≡ [] = sym c.self.view_is ∙ drop_past in_it.next pages (omega (arith, all, c.if-self.true)) in
-    (none, none)
+    (none, none, refl)
 
 pub invariant_of-self : goal.invariant_of-self
 invariant_of-self g c =
@@ -40,25 +40,28 @@ invariant_of-self g c =
       before = omega (arith, is.before, c.if-self.false);
     }
 
+-- the page that is made is the first of those that are left
+pub make_page-ended-requires-clause-room : goal.make_page-ended-requires-clause-room
+make_page-ended-requires-clause-room g c =
+    let in_it = c.self.inside in
+    let timed = g.T.TimedPacket.timed in
+    let run : List Timed = map timed in_it.run.now in
+    let is = c.self.invariant in
+    let lt : in_it.next < pages_for (length (run_lacing run)) = omega (arith, is.count_is, is.before, c.if-self.false) in
+    c.requires _ _ (sym c.self.view_is ∙ next_at_place in_it.serial in_it.first_sequence in_it.flags in_it.next in_it.done run (drop in_it.ended run) is.place lt
+    (c.from.result + in_it.next) c.added_flags-flags.result (map timed c.split_at.result.1.now) (ap (λ n. n + in_it.next) c.from.ensures) c.added_flags-flags.ensures.value
+    (ap (map timed) c.split_at.ensures.back ∙ drop_map timed in_it.ended in_it.run.now))
+
 pub returns : goal.returns
 returns g c =
     let in_it = c.self.inside in
     let timed = g.T.TimedPacket.timed in
     let run : List Timed = map timed in_it.run.now in
-    let k : ℕ = in_it.next in
-    let left : List Timed = drop in_it.ended run in
     let is = c.self.invariant in
-    let lt : k < pages_for (length (run_lacing run)) = omega (arith, is.count_is, is.before, c.if-self.false) in
-    let rest : map timed c.split_at.result.1.now ≡ left =
-    ap (map timed) c.split_at.ensures.back ∙ drop_map timed in_it.ended in_it.run.now in
-    let page : Page = next_page in_it.serial (in_it.first_sequence + k) (added in_it.flags k) in_it.done left in (
-      page,
-      sym c.self.view_is
-          ∙ page_at_place in_it.serial in_it.first_sequence in_it.flags k run lt
-          ∙ ap (λ (p : Page). p ∷ drop (k + 1) (flagged in_it.flags (pages_of_run in_it.serial in_it.first_sequence run)))
-          (sym (page_with in_it.serial in_it.first_sequence (added in_it.flags k) run k in_it.done left is.place)),
-      c.make_page-ended.ensures.page
-          ∙ ap (λ n. Some (next_page in_it.serial (n + k) c.added_flags-flags.result in_it.done (map timed c.split_at.result.1.now))) c.from.ensures
-          ∙ ap (λ f. Some (next_page in_it.serial (in_it.first_sequence + k) f in_it.done (map timed c.split_at.result.1.now))) c.added_flags-flags.ensures.value
-          ∙ ap (λ l. Some (next_page in_it.serial (in_it.first_sequence + k) (added in_it.flags k) in_it.done l)) rest,
+    let lt : in_it.next < pages_for (length (run_lacing run)) = omega (arith, is.count_is, is.before, c.if-self.false) in (
+      next_page in_it.serial (c.from.result + in_it.next) c.added_flags-flags.result in_it.done (map timed c.split_at.result.1.now),
+      sym c.self.view_is ∙ next_at_place in_it.serial in_it.first_sequence in_it.flags in_it.next in_it.done run (drop in_it.ended run) is.place lt
+          (c.from.result + in_it.next) c.added_flags-flags.result (map timed c.split_at.result.1.now) (ap (λ n. n + in_it.next) c.from.ensures) c.added_flags-flags.ensures.value
+          (ap (map timed) c.split_at.ensures.back ∙ drop_map timed in_it.ended in_it.run.now),
+      c.make_page-ended.ensures.page,
     )
