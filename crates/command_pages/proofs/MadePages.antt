@@ -18,8 +18,7 @@ use Rattle.command_pages.specs.Fits.{has_long_message}
 use Rattle.command_pages.specs.Laws.Short.{one_each, short_fishead, short_fisbone}
 use Rattle.command_pages.specs.Laws.Runs.{few_values}
 use Rattle.command_pages.proofs.RunPages.{entry_bytes, entry_lengths}
-use Rattle.command_pages.proofs.LaidHeaders.{unflagged}
-use Rattle.command_pages.proofs.LaidRuns.{IsNextRun, page_count}
+use Rattle.command_pages.specs.FrontRun.{IsFrontRun, page_count}
 
 length-flagged : (flags : ℕ) (pages : List Page) → length (flagged flags pages) ≡ length pages
 length-flagged flags [] = refl
@@ -40,14 +39,6 @@ only_page has_made before pages true (next ∷ left) now one (page, first, done)
 only_page has_made before pages false left now one (none, _, _) = absurd (omega (arith, one, ap length none))
 
 -- ---- a put's runs
--- the pages that are made for a run are the run's pages
-pub run_made : (streams : List StreamState) (run : List Entry) (serial next : ℕ) → serial ≡ run_serial run → next ≡ next_in streams (run_serial run) →
-    flagged 0 (pages_of_run serial next (map timed run)) ≡ pages_behind streams run
-run_made streams run serial next s n =
-    unflagged (pages_of_run serial next (map timed run))
-    ∙ ap (λ k. pages_of_run k next (map timed run)) s
-    ∙ ap (λ k. pages_of_run (run_serial run) k (map timed run)) n
-
 -- how many pages runs have
 pub count_of_runs : List (List Entry) → ℕ
 count_of_runs [] = 0
@@ -65,7 +56,7 @@ runs_counted streams (run ∷ runs) =
     )
 
 -- one run more
-pub counted_on : (rest run others : List Entry) → IsNextRun rest run others → count_of_runs (runs_of rest) ≡ page_count run + count_of_runs (runs_of others)
+pub counted_on : (rest run others : List Entry) → IsFrontRun rest run others → count_of_runs (runs_of rest) ≡ page_count run + count_of_runs (runs_of others)
 unfolding count_of_runs
 counted_on rest run others is = ap count_of_runs is.first
 

@@ -14,9 +14,9 @@ ghost use Rattle.ogg_page.specs.Sizes.{fixed_size};
 use crate::Memory;
 use crate::beginning::{BeginPages, begin_pages};
 use crate::limits::FEW_STREAMS;
-use crate::runs::{bring_stream, next_at, run_length, run_position, run_serial};
+use crate::runs::{front_run, pass_run};
 use crate::sizes::size_of_begin;
-use link_chain::{Chain, MOST_STREAMS, StreamState, next_sequence, place_of, stream_in};
+use link_chain::{Chain, MOST_STREAMS, StreamState, next_sequence, stream_in};
 use ogg_command::{Command, Entry, NewStream, SkeletonHead};
 use ogg_page::{LAST, PageHead, write_page};
 use packetiser::lay_run;
@@ -121,16 +121,14 @@ fn lay_runs(streams: &mut [StreamState], entries: &[Entry], out: &mut Vec<u8>) -
     let mut rest = entries;
     let mut place = 0;
     while !rest.is_empty() {
-        let (run, others) = rest.split_at(run_length(rest));
-        let serial = run_serial(run);
-        place = place_of(streams, place, serial);
-        let next = next_at(streams, place);
-        let pages = match lay_run(serial, next as u32, 0, run, out) {
+        let front = front_run(streams, place, rest);
+        let pages = match lay_run(front.serial, front.next as u32, 0, front.run, out) {
             Ok(pages) => pages,
             Err(memory) => return Err(memory),
         };
-        bring_stream(streams, place, next + u64::from(pages), run_position(run));
-        rest = others;
+        pass_run(streams, &front, front.next + u64::from(pages));
+        rest = front.rest;
+        place = front.place;
     }
     Ok(())
 }

@@ -8,8 +8,8 @@ ghost use Rattle.command_pages.specs.Encoding.{runs_of, pages_of_runs};
 ghost use Rattle.command_pages.specs.Fits.{PutFits};
 ghost use Rattle.command_pages.specs.Limits.{most_streams};
 
-use crate::runs::{bring_stream, next_at, run_length, run_position, run_serial};
-use link_chain::{MOST_STREAMS, StreamState, place_of};
+use crate::runs::{front_run, pass_run, split_run};
+use link_chain::{MOST_STREAMS, StreamState};
 use ogg_command::Entry;
 use ogg_page::PageBuffer;
 use packetiser::{RunPages, pages_of_run};
@@ -54,7 +54,7 @@ pub fn count_put(entries: &[Entry]) -> u64
     let mut rest = entries;
     let mut count = 0;
     while !rest.is_empty() {
-        let (run, others) = rest.split_at(run_length(rest));
+        let (run, others) = split_run(rest);
         count += pages_of_run(run);
         rest = others;
     }
@@ -117,15 +117,12 @@ fn begin_run<'a>(streams: &mut [StreamState], place: usize, entries: &'a [Entry]
     ensures on { RunsGoOn streams.new result.rest.now }
     ensures fewer { length result.rest.now < length entries.entry.now }
 {
-    let (run, rest) = entries.split_at(run_length(entries));
-    let serial = run_serial(run);
-    let place = place_of(streams, place, serial);
-    let next = next_at(streams, place);
-    let pages = RunPages::of(serial, next as u32, 0, run);
-    bring_stream(streams, place, next + pages.left(), run_position(run));
+    let front = front_run(streams, place, entries);
+    let pages = RunPages::of(front.serial, front.next as u32, 0, front.run);
+    pass_run(streams, &front, front.next + pages.left());
     Begun {
         run: pages,
-        rest,
-        place,
+        rest: front.rest,
+        place: front.place,
     }
 }

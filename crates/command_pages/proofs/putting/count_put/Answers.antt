@@ -1,34 +1,25 @@
-use Rattle.std.proofs.Common.{◌≡◌, ◌+◌, true, nat_eq, List, length, sym, ◌∙◌, arith}
+use Rattle.std.proofs.Common.{◌≡◌, true, nat_eq, List, length, sym, ◌∙◌, arith}
 use Rattle.std.proofs.lemmas.Bool.{eqb-true}
 use Rattle.ogg_command.specs.declared.command.Entry.{Entry}
 use Rattle.command_pages.specs.Encoding.{runs_of}
-use Rattle.command_pages.proofs.RunPages.{entry_bytes}
-use Rattle.command_pages.proofs.LaidRuns.{IsNextRun, next_run, entries_apart, page_count}
+use Rattle.command_pages.proofs.LaidRuns.{entries_apart}
 use Rattle.command_pages.proofs.MadePages.{runs_counted, counted_on, none_counted, few_counted}
 use Rattle.command_pages.proofs.putting.count_put.Goals as goal
 
 pub overflow_add-count : goal.overflow_add-count
 overflow_add-count c =
-    let rest : List Entry = c.loop-rest.rest.now in
-    let run : List Entry = c.split_at.result.0.now in
-    let others : List Entry = c.split_at.result.1.now in
-    let is : IsNextRun rest run others =
-    next_run rest run others c.run_length.result c.run_length.ensures.run c.run_length.ensures.some c.split_at.ensures.front_len c.split_at.ensures.front c.split_at.ensures.back in
-    let apart : (entry_bytes rest ≡ entry_bytes run + entry_bytes others) × (length rest ≡ length run + length others) = entries_apart rest run others is in
-    omega (arith, c.pages_of_run-count.ensures, few_counted run, apart.0, apart.1, c.loop-rest.invariant.few, c.requires.fits.1.few, c.requires.fits.1.short)
+    let apart = entries_apart c.loop-rest.rest.now c.split_run.result.0.now c.split_run.result.1.now c.split_run.ensures in
+    omega (arith, c.pages_of_run-count.ensures, few_counted c.split_run.result.0.now, apart.0, apart.1, c.loop-rest.invariant.few, c.requires.fits.1.few, c.requires.fits.1.short)
 
 pub loop-rest-preserved : goal.loop-rest-preserved
 loop-rest-preserved c =
     let rest : List Entry = c.loop-rest.rest.now in
-    let run : List Entry = c.split_at.result.0.now in
-    let others : List Entry = c.split_at.result.1.now in
-    let is : IsNextRun rest run others =
-    next_run rest run others c.run_length.result c.run_length.ensures.run c.run_length.ensures.some c.split_at.ensures.front_len c.split_at.ensures.front c.split_at.ensures.back in
-    let apart : (entry_bytes rest ≡ entry_bytes run + entry_bytes others) × (length rest ≡ length run + length others) = entries_apart rest run others is in
-    let count : c.pages_of_run-count.result ≡ page_count run = c.pages_of_run-count.ensures in
+    let run : List Entry = c.split_run.result.0.now in
+    let others : List Entry = c.split_run.result.1.now in
+    let apart = entries_apart rest run others c.split_run.ensures in
     record {
-      counted = omega (arith, count, counted_on rest run others is, c.loop-rest.invariant.counted);
-      few = omega (arith, count, few_counted run, apart.0, apart.1, c.loop-rest.invariant.few);
+      counted = omega (arith, c.pages_of_run-count.ensures, counted_on rest run others c.split_run.ensures, c.loop-rest.invariant.counted);
+      few = omega (arith, c.pages_of_run-count.ensures, few_counted run, apart.0, apart.1, c.loop-rest.invariant.few);
     }
 
 pub returns : goal.returns
