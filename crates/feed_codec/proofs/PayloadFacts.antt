@@ -25,62 +25,59 @@ use Rattle.ogg_page.specs.Laws.NumberBytes.{IsU16, IsU32, IsU64, same_u16, same_
 use Rattle.feed_records.specs.Laws.{stream_parts}
 use Rattle.feed_codec.proofs.Spellings.{PrefixFree, front, fronts, same_packet, same_media, same_many, same_tail, same_skeleton, entry_packet, stream_headers, stream_behind_headers, command_streams, command_entries}
 
+-- bytes that begin with the spelling of some x
+abbrev Stands : {X : Type 0} → (X → Type 0) → (X → List ℕ) → List ℕ → Type 0
+Stands {X} Is spell bytes = (rest : List ℕ) × Begins Is spell bytes rest
+
+-- if a part of each spelling doesn't stand where it would, no spelling does
+none_from : {X Y : Type 0} (Is : X → Type 0) (spell : X → List ℕ) (Of : Y → Type 0) (part : Y → List ℕ) (bytes rest : List ℕ) →
+    (Stands Is spell bytes → Stands Of part rest) → BeginsNone Of part rest → BeginsNone Is spell bytes
+none_from Is spell Of part bytes rest stand none x more h e =
+    let (behind, (y, is, f)) = stand (more, (x, h, e)) in
+    none y behind is f
+
 -- ---- packets and media types
+-- bytes that follow their number, which is spelled by `number`
+module _ (limit : ℕ) (number : ℕ → List ℕ) (free : PrefixFree (λ n. n < limit) number) (Is : List ℕ → Type 0)
+    (fits : (part : List ℕ) → Is part → length part < limit) (is_one : (part : List ℕ) → AllByRecursion IsByte part → length part < limit → Is part) where
+  part_cut : (bytes rest : List ℕ) (n : ℕ) → n < limit → bytes ≡ number n ++ rest → length rest < n → BeginsNone Is (λ part. number (length part) ++ part) bytes
+  part_cut bytes rest n small is l part more h e =
+      let sizes = front (λ k. k < limit) number free n (length part) rest part more small (fits part h) (sym is ∙ e) in
+      omega (arith, l, sizes.0, ap length sizes.1, length-append part more)
+
+  part_found : (bytes rest part more : List ℕ) (n : ℕ) → n < limit → AllByRecursion IsByte bytes → bytes ≡ number n ++ rest
+      → rest ≡ part ++ more → length part ≡ n → Is part × (bytes ≡ (number (length part) ++ part) ++ more)
+  part_found bytes rest part more n small all is cut l =
+      let behind : AllByRecursion IsByte rest = all_back IsByte (number n) rest (subst (AllByRecursion IsByte) is all) in (
+        is_one part (all_front IsByte part more (subst (AllByRecursion IsByte) cut behind)) (omega (arith, l, small)),
+        is ∙ ap (λ l. number n ++ l) cut ∙ sym (append_assoc (number n) part more) ∙ ap (λ k. (number k ++ part) ++ more) (sym l),
+      )
+
+  -- the same of a cut that may fail
+  part_split : (r : Option (Bor (List ℕ) × Bor (List ℕ))) (bytes rest : List ℕ) (n : ℕ) → n < limit → AllByRecursion IsByte bytes → bytes ≡ number n ++ rest
+      → MatchOption r (length rest < n) (λ p. IsSplitAt rest n p.0.now p.1.now)
+      → MatchOption r (BeginsNone Is (λ part. number (length part) ++ part) bytes) (λ p. Is p.0.now × (bytes ≡ (number (length p.0.now) ++ p.0.now) ++ p.1.now))
+  part_split None bytes rest n small all is cut = part_cut bytes rest n small is cut
+  part_split (Some p) bytes rest n small all is cut =
+      part_found bytes rest p.0.now p.1.now n small all is (split_joins rest p.0.now p.1.now n cut) cut.3
 
 pub packet_short : (bytes : List ℕ) → length bytes < 4 → BeginsNone IsPacket packet_bytes bytes
 packet_short bytes l p rest h e =
     omega (arith, l, ap length e, length-append (packet_bytes p) rest, length-append (u32_bytes (length p)) p, length-u32_bytes (length p))
 
-packet_cut : (bytes rest : List ℕ) (n : ℕ) → n < 2 ^ 32 → bytes ≡ u32_bytes n ++ rest → length rest < n → BeginsNone IsPacket packet_bytes bytes
-packet_cut bytes rest n small is l p more h e =
-    let sizes = front IsU32 u32_bytes same_u32 n (length p) rest p more small h.fits (sym is ∙ e) in
-    omega (arith, l, sizes.0, ap length sizes.1, length-append p more)
-
-packet_found : (bytes rest packet more : List ℕ) (n : ℕ) → n < 2 ^ 32 → AllByRecursion IsByte bytes → bytes ≡ u32_bytes n ++ rest
-    → rest ≡ packet ++ more → length packet ≡ n → IsPacket packet × (bytes ≡ packet_bytes packet ++ more)
-packet_found bytes rest packet more n small all is cut l =
-    let behind : AllByRecursion IsByte rest = all_back IsByte (u32_bytes n) rest (subst (AllByRecursion IsByte) is all) in (
-      record {
-        bytes = all_front IsByte packet more (subst (AllByRecursion IsByte) cut behind);
-        fits = omega (arith, l, small);
-      },
-      is ∙ ap (λ l. u32_bytes n ++ l) cut ∙ sym (append_assoc (u32_bytes n) packet more) ∙ ap (λ k. (u32_bytes k ++ packet) ++ more) (sym l),
-    )
-
--- the same of a cut that may fail
 pub packet_split : (r : Option (Bor (List ℕ) × Bor (List ℕ))) (bytes rest : List ℕ) (n : ℕ) → n < 2 ^ 32 → AllByRecursion IsByte bytes → bytes ≡ u32_bytes n ++ rest
     → MatchOption r (length rest < n) (λ p. IsSplitAt rest n p.0.now p.1.now)
     → MatchOption r (BeginsNone IsPacket packet_bytes bytes) (λ p. IsPacket p.0.now × (bytes ≡ packet_bytes p.0.now ++ p.1.now))
-packet_split None bytes rest n small all is cut = packet_cut bytes rest n small is cut
-packet_split (Some p) bytes rest n small all is cut =
-    packet_found bytes rest p.0.now p.1.now n small all is (split_joins rest p.0.now p.1.now n cut) cut.3
+packet_split = part_split (2 ^ 32) u32_bytes same_u32 IsPacket (λ p h. h.fits) (λ p all small. record { bytes = all; fits = small })
 
 pub media_short : (bytes : List ℕ) → length bytes < 2 → BeginsNone IsMedia media_bytes bytes
 media_short bytes l p rest h e =
     omega (arith, l, ap length e, length-append (media_bytes p) rest, length-append (u16_bytes (length p)) p, length-u16_bytes (length p))
 
-media_cut : (bytes rest : List ℕ) (n : ℕ) → n < 2 ^ 16 → bytes ≡ u16_bytes n ++ rest → length rest < n → BeginsNone IsMedia media_bytes bytes
-media_cut bytes rest n small is l p more h e =
-    let sizes = front IsU16 u16_bytes same_u16 n (length p) rest p more small h.fits (sym is ∙ e) in
-    omega (arith, l, sizes.0, ap length sizes.1, length-append p more)
-
-media_found : (bytes rest media more : List ℕ) (n : ℕ) → n < 2 ^ 16 → AllByRecursion IsByte bytes → bytes ≡ u16_bytes n ++ rest
-    → rest ≡ media ++ more → length media ≡ n → IsMedia media × (bytes ≡ media_bytes media ++ more)
-media_found bytes rest media more n small all is cut l =
-    let behind : AllByRecursion IsByte rest = all_back IsByte (u16_bytes n) rest (subst (AllByRecursion IsByte) is all) in (
-      record {
-        bytes = all_front IsByte media more (subst (AllByRecursion IsByte) cut behind);
-        fits = omega (arith, l, small);
-      },
-      is ∙ ap (λ l. u16_bytes n ++ l) cut ∙ sym (append_assoc (u16_bytes n) media more) ∙ ap (λ k. (u16_bytes k ++ media) ++ more) (sym l),
-    )
-
 pub media_split : (r : Option (Bor (List ℕ) × Bor (List ℕ))) (bytes rest : List ℕ) (n : ℕ) → n < 2 ^ 16 → AllByRecursion IsByte bytes → bytes ≡ u16_bytes n ++ rest
     → MatchOption r (length rest < n) (λ p. IsSplitAt rest n p.0.now p.1.now)
     → MatchOption r (BeginsNone IsMedia media_bytes bytes) (λ p. IsMedia p.0.now × (bytes ≡ media_bytes p.0.now ++ p.1.now))
-media_split None bytes rest n small all is cut = media_cut bytes rest n small is cut
-media_split (Some p) bytes rest n small all is cut =
-    media_found bytes rest p.0.now p.1.now n small all is (split_joins rest p.0.now p.1.now n cut) cut.3
+media_split = part_split (2 ^ 16) u16_bytes same_u16 IsMedia (λ p h. h.fits) (λ p all small. record { bytes = all; fits = small })
 
 -- ---- entries
 
@@ -156,11 +153,17 @@ many_more Is spell bytes rest behind done some one =
     (some.0 ++ one.0 ∷ [], more.0, more.1)
 
 -- if more are left, one stands in front
+pub left_first : {X : Type 0} (Is : X → Type 0) (spell : X → List ℕ) (rest more : List ℕ) (done count : ℕ) → done < count
+    → Begins (AreMany Is (count - done)) (flat_map spell) rest more → (behind : List ℕ) × Begins Is spell rest behind
+left_first Is spell rest more done count l ([], many, e) = absurd (omega (arith, l, many.0))
+left_first Is spell rest more done count l (x ∷ xs, many, e) =
+    (flat_map spell xs ++ more, (x, many.1.0, e ∙ append_assoc (spell x) (flat_map spell xs) more))
+
 pub left_stands : {X : Type 0} (Is : X → Type 0) (spell : X → List ℕ) (rest more : List ℕ) (done count : ℕ) → done < count
     → Begins (AreMany Is (count - done)) (flat_map spell) rest more → ¬ BeginsNone Is spell rest
-left_stands Is spell rest more done count l ([], many, e) none = omega (arith, l, many.0)
-left_stands Is spell rest more done count l (x ∷ xs, many, e) none =
-    none x (flat_map spell xs ++ more) many.1.0 (e ∙ append_assoc (spell x) (flat_map spell xs) more)
+left_stands Is spell rest more done count l some none =
+    let (behind, (x, is, e)) = left_first Is spell rest more done count l some in
+    none x behind is e
 
 -- and the others follow it
 pub left_behind : {X : Type 0} (Is : X → Type 0) (spell : X → List ℕ) → PrefixFree Is spell → (rest behind more : List ℕ) (done count : ℕ) (x : X) → done < count
@@ -277,22 +280,32 @@ value_cut bytes rest name hn is none field more h e =
     let behind = front IsMedia media_bytes same_media name field.0 rest (media_bytes field.1) more hn h.name (sym is ∙ e) in
     none field.1 more h.value behind.1
 
-pub fields_short : (bytes : List ℕ) → length bytes < 2 → BeginsNone (AreFields Two) (fields_bytes Two) bytes
-fields_short bytes l fields rest h e =
-    omega (
-      arith,
-      l,
-      ap length e,
-      length-append (u16_bytes (length fields) ++ flat_map field_bytes fields) rest,
-      length-append (u16_bytes (length fields)) (flat_map field_bytes fields),
-      length-u16_bytes (length fields),
-    )
+-- their number, and then each of them
+module _ {X : Type 0} (Is : X → Type 0) (spell : X → List ℕ) (bytes more : List ℕ) (xs : List X) (e : bytes ≡ (u16_bytes (length xs) ++ flat_map spell xs) ++ more) where
+  each_long : 2 ≤ length bytes
+  each_long =
+      omega (
+        arith,
+        ap length e,
+        length-append (u16_bytes (length xs) ++ flat_map spell xs) more,
+        length-append (u16_bytes (length xs)) (flat_map spell xs),
+        length-u16_bytes (length xs),
+      )
 
-fields_cut : (bytes rest : List ℕ) (n : ℕ) → n < 2 ^ 16 → bytes ≡ u16_bytes n ++ rest → BeginsNone (AreMany IsFieldOfFeed n) (flat_map field_bytes) rest
-    → BeginsNone (AreFields Two) (fields_bytes Two) bytes
-fields_cut bytes rest n small is none fields more h e =
-    let count = front IsU16 u16_bytes same_u16 n (length fields) rest (flat_map field_bytes fields) more small h.0 (sym is ∙ e) in
-    none fields more (sym count.0, h.1) count.1
+  each_stand : (rest : List ℕ) (n : ℕ) → n < 2 ^ 16 → bytes ≡ u16_bytes n ++ rest → length xs < 2 ^ 16 → AllByRecursion Is xs → Begins (AreMany Is n) (flat_map spell) rest more
+  each_stand rest n small is few all =
+      let count = front IsU16 u16_bytes same_u16 n (length xs) rest (flat_map spell xs) more small few (sym is ∙ e) in
+      (xs, (sym count.0, all), count.1)
+
+pub fields_long : (bytes : List ℕ) → Stands (AreFields Two) (fields_bytes Two) bytes → 2 ≤ length bytes
+fields_long bytes (more, (fields, h, e)) = each_long IsFieldOfFeed field_bytes bytes more fields e
+
+pub fields_short : (bytes : List ℕ) → length bytes < 2 → BeginsNone (AreFields Two) (fields_bytes Two) bytes
+fields_short bytes l fields more h e = let long = fields_long bytes (more, (fields, h, e)) in omega (arith, l, long)
+
+pub fields_stand : (bytes rest : List ℕ) (n : ℕ) → n < 2 ^ 16 → bytes ≡ u16_bytes n ++ rest → Stands (AreFields Two) (fields_bytes Two) bytes
+    → Stands (AreMany IsFieldOfFeed n) (flat_map field_bytes) rest
+fields_stand bytes rest n small is (more, (fields, h, e)) = (more, each_stand IsFieldOfFeed field_bytes bytes more fields e rest n small is h.0 h.1)
 
 fields_found : (bytes rest more : List ℕ) (n : ℕ) (fields : List NamedValue) → n < 2 ^ 16 → bytes ≡ u16_bytes n ++ rest → AreMany IsFieldOfFeed n fields → rest ≡ flat_map field_bytes fields ++ more
     → AreFields Two fields × (bytes ≡ fields_bytes Two fields ++ more)
@@ -305,38 +318,23 @@ fields_found bytes rest more n fields small is many e = (
 pub fields_split : (r : Option (Bor (List ℕ))) (bytes rest : List ℕ) (n : ℕ) → n < 2 ^ 16 → bytes ≡ u16_bytes n ++ rest
     → MatchOption r (BeginsNone (AreMany IsFieldOfFeed n) (flat_map field_bytes) rest) (λ p. Begins (AreMany IsFieldOfFeed n) (flat_map field_bytes) rest p.now)
     → MatchOption r (BeginsNone (AreFields Two) (fields_bytes Two) bytes) (λ p. Begins (AreFields Two) (fields_bytes Two) bytes p.now)
-fields_split None bytes rest n small is none = fields_cut bytes rest n small is none
+fields_split None bytes rest n small is none =
+    none_from (AreFields Two) (fields_bytes Two) (AreMany IsFieldOfFeed n) (flat_map field_bytes) bytes rest (fields_stand bytes rest n small is) none
 fields_split (Some p) bytes rest n small is (fields, many, e) =
     let found = fields_found bytes rest p.now n fields small is many e in
     (fields, found.0, found.1)
 
--- the number in front of message fields, and what follows it
-pub fields_long : (bytes : List ℕ) → ((rest : List ℕ) × Begins (AreFields Two) (fields_bytes Two) bytes rest) → 2 ≤ length bytes
-fields_long bytes (rest, (fields, h, e)) =
-    omega (
-      arith,
-      ap length e,
-      length-append (u16_bytes (length fields) ++ flat_map field_bytes fields) rest,
-      length-append (u16_bytes (length fields)) (flat_map field_bytes fields),
-      length-u16_bytes (length fields),
-    )
-
-pub fields_stand : (bytes rest : List ℕ) (n : ℕ) → n < 2 ^ 16 → bytes ≡ u16_bytes n ++ rest → ((more : List ℕ) × Begins (AreFields Two) (fields_bytes Two) bytes more)
-    → (more : List ℕ) × Begins (AreMany IsFieldOfFeed n) (flat_map field_bytes) rest more
-fields_stand bytes rest n small is (more, (fields, h, e)) =
-    let count = front IsU16 u16_bytes same_u16 n (length fields) rest (flat_map field_bytes fields) more small h.0 (sym is ∙ e) in
-    (more, (fields, (sym count.0, h.1), count.1))
-
 -- ---- all that follows a stream's headers
 
-behind_cut : (v : Version) (bytes : List ℕ) → BeginsNone IsTail tail_bytes bytes → BeginsNone (IsBehind v) (behind_bytes v) bytes
-behind_cut v bytes none behind more h e = none behind.0 (fields_bytes v behind.1 ++ more) h.tail (e ∙ append_assoc (tail_bytes behind.0) (fields_bytes v behind.1) more)
+pub behind_tail_stands : (v : Version) (bytes : List ℕ) → Stands (IsBehind v) (behind_bytes v) bytes → ¬ BeginsNone IsTail tail_bytes bytes
+behind_tail_stands v bytes (rest, (behind, h, e)) none =
+    none behind.0 (fields_bytes v behind.1 ++ rest) h.tail (e ∙ append_assoc (tail_bytes behind.0) (fields_bytes v behind.1) rest)
 
-behind_fields_cut : (v : Version) (bytes rest : List ℕ) (tail : Tail) → IsTail tail → bytes ≡ tail_bytes tail ++ rest → BeginsNone (AreFields v) (fields_bytes v) rest
-    → BeginsNone (IsBehind v) (behind_bytes v) bytes
-behind_fields_cut v bytes rest tail ht is none behind more h e =
+pub behind_fields_stand : (v : Version) (bytes rest : List ℕ) (tail : Tail) → IsTail tail → bytes ≡ tail_bytes tail ++ rest → Stands (IsBehind v) (behind_bytes v) bytes
+    → Stands (AreFields v) (fields_bytes v) rest
+behind_fields_stand v bytes rest tail ht is (more, (behind, h, e)) =
     let fields = front IsTail tail_bytes same_tail tail behind.0 rest (fields_bytes v behind.1) more ht h.tail (sym is ∙ e) in
-    none behind.1 more h.fields fields.1
+    (more, (behind.1, h.fields, fields.1))
 
 pub behind_found : (v : Version) (bytes rest more : List ℕ) (tail : Tail) (fields : List NamedValue) → IsTail tail → bytes ≡ tail_bytes tail ++ rest → AreFields v fields → rest ≡ fields_bytes v fields ++ more
     → IsBehind v (tail, fields) × (bytes ≡ behind_bytes v (tail, fields) ++ more)
@@ -348,28 +346,20 @@ behind_found v bytes rest more tail fields ht is hf then = (
 pub behind_split : (v : Version) (r : Option (Bor (List ℕ))) (bytes rest : List ℕ) (tail : Tail) → IsTail tail → bytes ≡ tail_bytes tail ++ rest
     → MatchOption r (BeginsNone (AreFields v) (fields_bytes v) rest) (λ p. Begins (AreFields v) (fields_bytes v) rest p.now)
     → MatchOption r (BeginsNone (IsBehind v) (behind_bytes v) bytes) (λ p. Begins (IsBehind v) (behind_bytes v) bytes p.now)
-behind_split v None bytes rest tail ht is none = behind_fields_cut v bytes rest tail ht is none
+behind_split v None bytes rest tail ht is none =
+    none_from (IsBehind v) (behind_bytes v) (AreFields v) (fields_bytes v) bytes rest (behind_fields_stand v bytes rest tail ht is) none
 behind_split v (Some p) bytes rest tail ht is (fields, hf, e) =
     let found = behind_found v bytes rest p.now tail fields ht is hf e in
     ((tail, fields), found.0, found.1)
 
-pub behind_tail_stands : (v : Version) (bytes : List ℕ) → ((rest : List ℕ) × Begins (IsBehind v) (behind_bytes v) bytes rest) → ¬ BeginsNone IsTail tail_bytes bytes
-behind_tail_stands v bytes (rest, (behind, h, e)) none = behind_cut v bytes none behind rest h e
-
-pub behind_fields_stand : (v : Version) (bytes rest : List ℕ) (tail : Tail) → IsTail tail → bytes ≡ tail_bytes tail ++ rest → ((more : List ℕ) × Begins (IsBehind v) (behind_bytes v) bytes more)
-    → (more : List ℕ) × Begins (AreFields v) (fields_bytes v) rest more
-behind_fields_stand v bytes rest tail ht is (more, (behind, h, e)) =
-    let fields = front IsTail tail_bytes same_tail tail behind.0 rest (fields_bytes v behind.1) more ht h.tail (sym is ∙ e) in
-    (more, (behind.1, h.fields, fields.1))
-
 -- ---- streams
 
-pub stream_short : (v : Version) (bytes : List ℕ) → length bytes < 6 → BeginsNone (IsStreamOfFeed v) (stream_bytes v) bytes
-stream_short v bytes l s rest h e =
+-- the serial and the number of headers in front of a stream, and what follows them
+pub stream_long : (v : Version) (bytes : List ℕ) → Stands (IsStreamOfFeed v) (stream_bytes v) bytes → 6 ≤ length bytes
+stream_long v bytes (rest, (s, h, e)) =
     let behind : List ℕ = flat_map packet_bytes s.headers ++ behind_bytes v (behind_of_stream s) in
     omega (
       arith,
-      l,
       ap length (e ∙ ap (λ l. l ++ rest) (stream_parts v s)),
       length-append (u32_bytes s.serial ++ (u16_bytes (length s.headers) ++ behind)) rest,
       length-append (u32_bytes s.serial) (u16_bytes (length s.headers) ++ behind),
@@ -377,6 +367,9 @@ stream_short v bytes l s rest h e =
       length-u32_bytes s.serial,
       length-u16_bytes (length s.headers),
     )
+
+pub stream_short : (v : Version) (bytes : List ℕ) → length bytes < 6 → BeginsNone (IsStreamOfFeed v) (stream_bytes v) bytes
+stream_short v bytes l s rest h e = let long = stream_long v bytes (rest, (s, h, e)) in omega (arith, l, long)
 
 -- what follows the serial and the number of headers of a stream
 stream_behind : (v : Version) (bytes b1 b2 more : List ℕ) (serial count : ℕ) (s : NewStream) → serial < 2 ^ 32 → count < 2 ^ 16 → bytes ≡ u32_bytes serial ++ b1 → b1 ≡ u16_bytes count ++ b2
@@ -386,20 +379,25 @@ stream_behind v bytes b1 b2 more serial count s hs hc e1 e2 h e =
     let first = front IsU32 u32_bytes same_u32 serial s.serial b1 (u16_bytes (length s.headers) ++ behind) more hs h.numbers.serial (sym e1 ∙ e ∙ ap (λ l. l ++ more) (stream_parts v s)) in
     front IsU16 u16_bytes same_u16 count (length s.headers) b2 behind more hc h.fits.headers (sym e2 ∙ first.1)
 
+pub stream_headers_stand : (v : Version) (bytes b1 b2 : List ℕ) (serial count : ℕ) → serial < 2 ^ 32 → count < 2 ^ 16 → bytes ≡ u32_bytes serial ++ b1 → b1 ≡ u16_bytes count ++ b2
+    → Stands (IsStreamOfFeed v) (stream_bytes v) bytes → Stands (AreMany IsPacket count) (flat_map packet_bytes) b2
+stream_headers_stand v bytes b1 b2 serial count hs hc e1 e2 (more, (s, h, e)) =
+    let behind = stream_behind v bytes b1 b2 more serial count s hs hc e1 e2 h e in
+    (behind_bytes v (behind_of_stream s) ++ more, (s.headers, (sym behind.0, stream_headers v s h), behind.1 ∙ append_assoc (flat_map packet_bytes s.headers) (behind_bytes v (behind_of_stream s)) more))
+
+pub stream_behind_stands : (v : Version) (bytes b1 b2 b3 : List ℕ) (serial count : ℕ) (headers : List (List ℕ)) → serial < 2 ^ 32 → count < 2 ^ 16 → bytes ≡ u32_bytes serial ++ b1 → b1 ≡ u16_bytes count ++ b2
+    → AreMany IsPacket count headers → b2 ≡ flat_map packet_bytes headers ++ b3
+    → Stands (IsStreamOfFeed v) (stream_bytes v) bytes → Stands (IsBehind v) (behind_bytes v) b3
+stream_behind_stands v bytes b1 b2 b3 serial count headers hs hc e1 e2 many e3 (more, (s, h, e)) =
+    let behind = stream_behind v bytes b1 b2 more serial count s hs hc e1 e2 h e in
+    let same = front (AreMany IsPacket count) (flat_map packet_bytes) (same_many IsPacket packet_bytes same_packet count) headers s.headers b3 (behind_bytes v (behind_of_stream s)) more
+    many (sym behind.0, stream_headers v s h) (sym e3 ∙ behind.1) in
+    (more, (behind_of_stream s, stream_behind_headers v s h, same.1))
+
 pub stream_cut : (v : Version) (bytes b1 b2 : List ℕ) (serial count : ℕ) → serial < 2 ^ 32 → count < 2 ^ 16 → bytes ≡ u32_bytes serial ++ b1 → b1 ≡ u16_bytes count ++ b2
     → BeginsNone (AreMany IsPacket count) (flat_map packet_bytes) b2 → BeginsNone (IsStreamOfFeed v) (stream_bytes v) bytes
-stream_cut v bytes b1 b2 serial count hs hc e1 e2 none s more h e =
-    let behind = stream_behind v bytes b1 b2 more serial count s hs hc e1 e2 h e in
-    none s.headers (behind_bytes v (behind_of_stream s) ++ more) (sym behind.0, stream_headers v s h)
-    (behind.1 ∙ append_assoc (flat_map packet_bytes s.headers) (behind_bytes v (behind_of_stream s)) more)
-
-stream_tail_cut : (v : Version) (bytes b1 b2 b3 : List ℕ) (serial count : ℕ) → serial < 2 ^ 32 → count < 2 ^ 16 → bytes ≡ u32_bytes serial ++ b1 → b1 ≡ u16_bytes count ++ b2
-    → Begins (AreMany IsPacket count) (flat_map packet_bytes) b2 b3 → BeginsNone (IsBehind v) (behind_bytes v) b3 → BeginsNone (IsStreamOfFeed v) (stream_bytes v) bytes
-stream_tail_cut v bytes b1 b2 b3 serial count hs hc e1 e2 some none s more h e =
-    let behind = stream_behind v bytes b1 b2 more serial count s hs hc e1 e2 h e in
-    let headers = front (AreMany IsPacket count) (flat_map packet_bytes) (same_many IsPacket packet_bytes same_packet count) some.0 s.headers b3 (behind_bytes v (behind_of_stream s)) more
-    some.1 (sym behind.0, stream_headers v s h) (sym some.2 ∙ behind.1) in
-    none (behind_of_stream s) more (stream_behind_headers v s h) headers.1
+stream_cut v bytes b1 b2 serial count hs hc e1 e2 =
+    none_from (IsStreamOfFeed v) (stream_bytes v) (AreMany IsPacket count) (flat_map packet_bytes) bytes b2 (stream_headers_stand v bytes b1 b2 serial count hs hc e1 e2)
 
 -- the stream with this serial, these headers, and this after them
 abbrev stream_with : ℕ → List (List ℕ) → Behind → NewStream
@@ -449,7 +447,8 @@ pub stream_split : (v : Version) (r : Option (Bor (List ℕ))) (bytes b1 b2 b3 :
     → Begins (AreMany IsPacket count) (flat_map packet_bytes) b2 b3
     → MatchOption r (BeginsNone (IsBehind v) (behind_bytes v) b3) (λ p. Begins (IsBehind v) (behind_bytes v) b3 p.now)
     → MatchOption r (BeginsNone (IsStreamOfFeed v) (stream_bytes v) bytes) (λ p. Begins (IsStreamOfFeed v) (stream_bytes v) bytes p.now)
-stream_split v None bytes b1 b2 b3 serial count hs hc e1 e2 some none = stream_tail_cut v bytes b1 b2 b3 serial count hs hc e1 e2 some none
+stream_split v None bytes b1 b2 b3 serial count hs hc e1 e2 (headers, many, e3) none =
+    none_from (IsStreamOfFeed v) (stream_bytes v) (IsBehind v) (behind_bytes v) bytes b3 (stream_behind_stands v bytes b1 b2 b3 serial count headers hs hc e1 e2 many e3) none
 stream_split v (Some p) bytes b1 b2 b3 serial count hs hc e1 e2 (headers, many, e3) (behind, hb, e4) =
     let found = stream_found v bytes b1 b2 b3 p.now serial count headers behind hs hc e1 e2 many e3 hb e4 in
     (stream_with serial headers behind, found.0, found.1)
@@ -479,21 +478,28 @@ put_behind v payload (Announcement, h, kind, e) = absurd (omega (arith, kind))
 abbrev pub Counted : {X : Type 0} → (X → Type 0) → (X → List ℕ) → List ℕ → Type 0
 Counted {X} Is spell bytes = (xs : List X) × AllByRecursion Is xs × (length xs < 2 ^ 16) × (bytes ≡ u16_bytes (length xs) ++ flat_map spell xs)
 
+pub counted_long : {X : Type 0} (Is : X → Type 0) (spell : X → List ℕ) (bytes : List ℕ) → Counted Is spell bytes → 2 ≤ length bytes
+counted_long Is spell bytes (xs, all, fits, e) = each_long Is spell bytes [] xs (e ∙ sym (append-nil (u16_bytes (length xs) ++ flat_map spell xs)))
+
 pub counted_short : {X : Type 0} (Is : X → Type 0) (spell : X → List ℕ) (bytes : List ℕ) → length bytes < 2 → ¬ Counted Is spell bytes
-counted_short Is spell bytes l (xs, all, fits, e) =
-    omega (arith, l, ap length e, length-append (u16_bytes (length xs)) (flat_map spell xs), length-u16_bytes (length xs))
+counted_short Is spell bytes l counted = let long = counted_long Is spell bytes counted in omega (arith, l, long)
+
+pub counted_stand : {X : Type 0} (Is : X → Type 0) (spell : X → List ℕ) (bytes rest : List ℕ) (n : ℕ) → n < 2 ^ 16 → bytes ≡ u16_bytes n ++ rest → Counted Is spell bytes
+    → Begins (AreMany Is n) (flat_map spell) rest []
+counted_stand Is spell bytes rest n small is (xs, all, fits, e) =
+    each_stand Is spell bytes [] xs (e ∙ sym (append-nil (u16_bytes (length xs) ++ flat_map spell xs))) rest n small is fits all
 
 pub counted_cut : {X : Type 0} (Is : X → Type 0) (spell : X → List ℕ) (bytes rest : List ℕ) (n : ℕ) → n < 2 ^ 16 → bytes ≡ u16_bytes n ++ rest
     → BeginsNone (AreMany Is n) (flat_map spell) rest → ¬ Counted Is spell bytes
-counted_cut Is spell bytes rest n small is none (xs, all, fits, e) =
-    let both = same_u16 n (length xs) rest (flat_map spell xs) small fits (sym is ∙ e) in
-    none xs [] (sym both.0, all) (both.1 ∙ sym (append-nil (flat_map spell xs)))
+counted_cut Is spell bytes rest n small is none counted =
+    let (xs, many, e) = counted_stand Is spell bytes rest n small is counted in
+    none xs [] many e
 
 pub counted_whole : {X : Type 0} (Is : X → Type 0) (spell : X → List ℕ) → PrefixFree Is spell → (bytes rest more : List ℕ) (n : ℕ) → n < 2 ^ 16 → bytes ≡ u16_bytes n ++ rest
     → Begins (AreMany Is n) (flat_map spell) rest more → Counted Is spell bytes → more ≡ []
-counted_whole Is spell free bytes rest more n small is some (xs, all, fits, e) =
-    let both = same_u16 n (length xs) rest (flat_map spell xs) small fits (sym is ∙ e) in
-    let lists = same_many Is spell free n some.0 xs more [] some.1 (sym both.0, all) (sym some.2 ∙ both.1 ∙ sym (append-nil (flat_map spell xs))) in
+counted_whole Is spell free bytes rest more n small is some counted =
+    let (xs, many, e) = counted_stand Is spell bytes rest n small is counted in
+    let lists = same_many Is spell free n some.0 xs more [] some.1 many (sym some.2 ∙ e) in
     lists.1
 
 pub counted_found : {X : Type 0} (Is : X → Type 0) (spell : X → List ℕ) (bytes rest : List ℕ) (n : ℕ) (xs : List X) → bytes ≡ u16_bytes n ++ rest
@@ -556,50 +562,3 @@ is_nothing (x ∷ xs) b e t = absurd (omega (arith, eqb-true (length (x ∷ xs))
 
 pub nothing_is : (xs : List ℕ) (b : Bool) → b ≡ (length xs == 0) → xs ≡ [] → IsTrue b
 nothing_is xs b e none = e ∙ ap (λ l. length l == 0) none
-
--- ---- what is built from parts that were checked
-
-pub left_first : {X : Type 0} (Is : X → Type 0) (spell : X → List ℕ) (rest more : List ℕ) (done count : ℕ) → done < count
-    → Begins (AreMany Is (count - done)) (flat_map spell) rest more → (behind : List ℕ) × Begins Is spell rest behind
-left_first Is spell rest more done count l ([], many, e) = absurd (omega (arith, l, many.0))
-left_first Is spell rest more done count l (x ∷ xs, many, e) =
-    (flat_map spell xs ++ more, (x, many.1.0, e ∙ append_assoc (spell x) (flat_map spell xs) more))
-
--- the serial and the number of headers in front of a stream, and what follows them
-pub stream_long : (v : Version) (bytes : List ℕ) → ((rest : List ℕ) × Begins (IsStreamOfFeed v) (stream_bytes v) bytes rest) → 6 ≤ length bytes
-stream_long v bytes (rest, (s, h, e)) =
-    let behind : List ℕ = flat_map packet_bytes s.headers ++ behind_bytes v (behind_of_stream s) in
-    omega (
-      arith,
-      ap length (e ∙ ap (λ l. l ++ rest) (stream_parts v s)),
-      length-append (u32_bytes s.serial ++ (u16_bytes (length s.headers) ++ behind)) rest,
-      length-append (u32_bytes s.serial) (u16_bytes (length s.headers) ++ behind),
-      length-append (u16_bytes (length s.headers)) behind,
-      length-u32_bytes s.serial,
-      length-u16_bytes (length s.headers),
-    )
-
-pub stream_headers_stand : (v : Version) (bytes b1 b2 : List ℕ) (serial count : ℕ) → serial < 2 ^ 32 → count < 2 ^ 16 → bytes ≡ u32_bytes serial ++ b1 → b1 ≡ u16_bytes count ++ b2
-    → ((rest : List ℕ) × Begins (IsStreamOfFeed v) (stream_bytes v) bytes rest) → (rest : List ℕ) × Begins (AreMany IsPacket count) (flat_map packet_bytes) b2 rest
-stream_headers_stand v bytes b1 b2 serial count hs hc e1 e2 (more, (s, h, e)) =
-    let behind = stream_behind v bytes b1 b2 more serial count s hs hc e1 e2 h e in
-    (behind_bytes v (behind_of_stream s) ++ more, (s.headers, (sym behind.0, stream_headers v s h), behind.1 ∙ append_assoc (flat_map packet_bytes s.headers) (behind_bytes v (behind_of_stream s)) more))
-
-pub stream_behind_stands : (v : Version) (bytes b1 b2 b3 : List ℕ) (serial count : ℕ) (headers : List (List ℕ)) → serial < 2 ^ 32 → count < 2 ^ 16 → bytes ≡ u32_bytes serial ++ b1 → b1 ≡ u16_bytes count ++ b2
-    → AreMany IsPacket count headers → b2 ≡ flat_map packet_bytes headers ++ b3
-    → ((rest : List ℕ) × Begins (IsStreamOfFeed v) (stream_bytes v) bytes rest) → (rest : List ℕ) × Begins (IsBehind v) (behind_bytes v) b3 rest
-stream_behind_stands v bytes b1 b2 b3 serial count headers hs hc e1 e2 many e3 (more, (s, h, e)) =
-    let behind = stream_behind v bytes b1 b2 more serial count s hs hc e1 e2 h e in
-    let same = front (AreMany IsPacket count) (flat_map packet_bytes) (same_many IsPacket packet_bytes same_packet count) headers s.headers b3 (behind_bytes v (behind_of_stream s)) more
-    many (sym behind.0, stream_headers v s h) (sym e3 ∙ behind.1) in
-    (more, (behind_of_stream s, stream_behind_headers v s h, same.1))
-
-pub counted_long : {X : Type 0} (Is : X → Type 0) (spell : X → List ℕ) (bytes : List ℕ) → Counted Is spell bytes → 2 ≤ length bytes
-counted_long Is spell bytes (xs, all, fits, e) =
-    omega (arith, ap length e, length-append (u16_bytes (length xs)) (flat_map spell xs), length-u16_bytes (length xs))
-
-pub counted_stand : {X : Type 0} (Is : X → Type 0) (spell : X → List ℕ) (bytes rest : List ℕ) (n : ℕ) → n < 2 ^ 16 → bytes ≡ u16_bytes n ++ rest → Counted Is spell bytes
-    → Begins (AreMany Is n) (flat_map spell) rest []
-counted_stand Is spell bytes rest n small is (xs, all, fits, e) =
-    let both = same_u16 n (length xs) rest (flat_map spell xs) small fits (sym is ∙ e) in
-    (xs, (sym both.0, all), both.1 ∙ sym (append-nil (flat_map spell xs)))
