@@ -1,6 +1,6 @@
 -- Sessions in a list, and those of the machine.
-use Rattle.std.proofs.Common.{◌≡◌, ℕ, zero, suc, ◌+◌, ◌<◌, Bool, not, Some, List, [], ◌∷◌, ◌++◌, length, get_or, set, take, append_assoc, refl, sym, ◌∙◌, ap, subst, arith, inl, inr}
-use Rattle.std.specs.Prelude.{nat_eq, slice_get}
+use Rattle.std.proofs.Common.{◌≡◌, ℕ, zero, suc, ◌+◌, ◌<◌, Bool, not, Option, None, Some, List, [], ◌∷◌, ◌++◌, length, get_or, set, take, append_assoc, refl, sym, ◌∙◌, ap, subst, arith, inl, inr}
+use Rattle.std.specs.Prelude.{IfSome, nat_eq, slice_get}
 use Rattle.std.specs.List.{filter}
 use Rattle.std.specs.Option.{option_map}
 use Rattle.std.proofs.lemmas.Bool.{cases_Bool, cond-true, cond-false}
@@ -73,6 +73,10 @@ place_inside id place (s ∷ parts) e =
           let inside = place_inside id j parts is in
           omega (arith, inside, k)
     ]
+
+pub all_inside : (id : ℕ) (parts : List SessionParts) (r : Option ℕ) → r ≡ place_in id parts → IfSome r (λ place. place < length parts)
+all_inside id parts None e = tt
+all_inside id parts (Some place) e = place_inside id place parts (sym e)
 
 -- what is written through a slice of a vector
 pub written_back : (n place : ℕ) (parts seen : List SessionParts) (new : SessionParts) (rest : List SessionParts) → seen ≡ parts → n ≡ length parts

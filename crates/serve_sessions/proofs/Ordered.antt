@@ -1,5 +1,5 @@
 -- Sessions whose numbers rise.
-use Rattle.std.proofs.Common.{◌≡◌, ◌≢◌, ℕ, zero, suc, ◌+◌, ◌<◌, ◌≤◌, false, not, Option, Some, None, Result, Ok, Err, List, [], ◌∷◌, ◌++◌, length, get_or, set, refl, sym, ◌∙◌, ap, subst, arith, inl, inr}
+use Rattle.std.proofs.Common.{◌≡◌, ◌≢◌, ℕ, zero, suc, ◌+◌, ◌<◌, ◌≤◌, false, not, Option, Some, None, Result, Ok, Err, List, [], ◌∷◌, ◌++◌, length, get_or, set, take, refl, sym, ◌∙◌, ap, subst, arith, inl, inr}
 use Rattle.std.specs.Prelude.{nat_eq}
 use Rattle.std.specs.List.{AllByRecursion, filter, remove}
 use Rattle.std.specs.List.Sorted.{IsBinarySearchResult, IsNonDecreasingBy, IsSearchInRange}
@@ -11,7 +11,7 @@ use Rattle.std.proofs.lemmas.Cmp.{ranked}
 use Rattle.std.proofs.lemmas.List.{get_or_default}
 use Rattle.serve_sessions.specs.Sessions.{AreInOrder, IdsRise, place_in}
 use Rattle.serve_sessions.specs.declared.session.Session.{Session}
-use Rattle.serve_sessions.proofs.Listed.{is_other}
+use Rattle.serve_sessions.proofs.Listed.{is_other, written_back}
 use Rattle.serve_sessions.specs.Laws.Found.{map_none, none_more, none_not, some_not, some_same}
 
 -- ---- what holds of each
@@ -181,3 +181,15 @@ order_set next parts place new own order = (
 pub same_id : (parts seen : List Session) (place : ℕ) (r d : Session) → seen ≡ parts → place < length parts → (get_or seen place r).id ≡ (get_or parts place d).id
 same_id parts seen place r d same inside =
     ap (λ (s : Session). s.id) (ap (λ (l : List Session). get_or l place r) same ∙ get_or_default parts place r d inside)
+
+-- and so the order stays, if the stage is written through a slice of the vector
+module _ (n place : ℕ) (parts seen : List Session) (new r : Session) (rest : List Session) (same : seen ≡ parts) (long : n ≡ length parts) (own : new.id ≡ (get_or seen place r).id) where
+  pub rise_back : IdsRise parts → IdsRise (take n (set seen place new ++ rest))
+  rise_back rise =
+      subst IdsRise (sym (written_back n place parts seen new rest same long))
+      (rise_set parts place new (λ d inside. own ∙ same_id parts seen place r d same inside) rise)
+
+  pub order_back : (next : ℕ) → AreInOrder next parts → AreInOrder next (take n (set seen place new ++ rest))
+  order_back next order =
+      subst (AreInOrder next) (sym (written_back n place parts seen new rest same long))
+      (order_set next parts place new (λ d inside. own ∙ same_id parts seen place r d same inside) order)

@@ -7,7 +7,7 @@ ghost use Rattle.serve_machine.specs.Hub.{HubState, Phase, Session as SessionOf,
 ghost use Rattle.serve_sessions.specs.Sessions.{AreInOrder, AreSessions, IdsRise, IsPhase, place_in};
 ghost use Rattle.serve_sessions.specs.Serving.{PhaseGives};
 
-use crate::session::{Session, Stage, end_after, place_of};
+use crate::session::{Session, Stage, end_after, place_among};
 use ogg_page::{PageSource, Window};
 use serve_machine::{HubFault, Pulled};
 
@@ -69,7 +69,7 @@ pub fn pull_in<S: PageSource>(
     ensures later { S.failures window.old.source ≤ S.failures window.new.source }
     ensures source { KeepsSource S.bytes S.is_honest S.size S.only_reads window.old.source window.new.source }
 {
-    let Some(place) = place_of(sessions.as_slice(), id) else {
+    let Some(place) = place_among(sessions, id) else {
         return Err(HubFault::NoSession);
     };
     match pull_stage(window, &mut sessions.as_mut_slice()[place].stage, buffer) {

@@ -8,7 +8,7 @@ ghost use Rattle.serve_sessions.specs.Sessions.{AreInOrder, AreSessions, IdsRise
 ghost use Rattle.serve_sessions.specs.Serving.{HeadGets, LacksRoom, LacksRoomIn, PhaseGets, Indexes, fault_in};
 
 use crate::indexing::bring_up;
-use crate::session::{Session, Stage, end_after, place_of};
+use crate::session::{Session, Stage, end_after, place_among};
 use link_index::Index;
 use ogg_http::{HeadRead, Request};
 use ogg_page::{PageSource, Window};
@@ -131,7 +131,7 @@ pub fn receive_in<S: PageSource>(
     ensures capacity { vec_capacity sessions.new ≡ vec_capacity sessions.old }
     ensures indexes { Indexes S.bytes S.is_honest S.size S.failures S.only_reads (fault_in result) window.old.source window.new.source index.old index.new }
 {
-    let Some(place) = place_of(sessions.as_slice(), id) else {
+    let Some(place) = place_among(sessions, id) else {
         return Err(HubFault::NoSession);
     };
     match receive_stage(

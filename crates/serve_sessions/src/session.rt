@@ -1,5 +1,5 @@
 //! The sessions of clients, in the order of their numbers.
-ghost use Rattle.std.specs.Prelude.{vec_len, vec_capacity, ◌≡◌, ◌<◌, ◌+◌, ◌++◌, ◌∷◌, [], ℕ, List};
+ghost use Rattle.std.specs.Prelude.{IfSome, vec_len, vec_capacity, ◌≡◌, ◌<◌, ◌+◌, ◌++◌, ◌∷◌, [], ℕ, List};
 ghost use Rattle.link_index.specs.Adding.{IndexState};
 ghost use Rattle.serve_machine.specs.Hub.{Event, HubState, Session as SessionOf, Reading, hub_step, without_in};
 ghost use Rattle.serve_sessions.specs.declared.session.Session.{Session as SessionParts};
@@ -36,6 +36,15 @@ pub fn place_of(sessions: &[Session], id: u64) -> Option<usize>
         Ok(place) => Some(place),
         Err(_) => None,
     }
+}
+
+/// The same in the vector that keeps the sessions.
+pub(crate) fn place_among(sessions: &Vec<Session>, id: u64) -> Option<usize>
+    requires { IdsRise sessions.now.items }
+    ensures place { result ≡ place_in id sessions.now.items }
+    ensures inside { IfSome result (λ place. place < vec_len sessions.now) }
+{
+    place_of(sessions.as_slice(), id)
 }
 
 /// Adds a session that has received nothing, behind the others. There must be room for it: no memory is taken.
