@@ -17,7 +17,6 @@ mod Open
 mod Origins
 mod Parts
 mod Plain
-mod ReadBack
 mod Rooms
 mod Runs
 mod Sound

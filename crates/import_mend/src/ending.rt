@@ -13,11 +13,10 @@ ghost use Rattle.ogg_command.specs.declared.command.Command.{Command as CommandO
 
 use crate::Memory;
 use crate::taking::take;
-use crate::writing::write_last;
+use crate::writing::{write_last, written_page};
 use import_gather::Gatherer;
 use link_chain::{Chain, StreamState, is_open};
 use ogg_command::Command;
-use ogg_page::split_known_page;
 
 /// The first of the streams that hasn't ended.
 fn first_unended(streams: &[StreamState]) -> Option<StreamState>
@@ -66,7 +65,7 @@ fn end_stream(
     room.clear();
     let number = stream.next_sequence as u32;
     write_last(stream.serial, stream.last_position, number, room)?;
-    let (page, _) = split_known_page(room.as_slice());
+    let page = written_page(room.as_slice());
     take(gatherer, &page, commands)
 }
 

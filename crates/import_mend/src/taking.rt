@@ -17,11 +17,11 @@ use crate::Memory;
 use crate::cutting::whole_values;
 use crate::joining::is_joined;
 use crate::ways::Way;
-use crate::writing::write_mended;
+use crate::writing::{write_mended, written_page};
 use import_gather::Gatherer;
 use link_chain::StreamState;
 use ogg_command::Command;
-use ogg_page::{Page, split_known_page};
+use ogg_page::Page;
 use std::alloc::AllocError;
 
 /// Takes a page that may follow. `Memory` is its one fault.
@@ -60,10 +60,9 @@ fn take_mended(
     ensures gives { OnOk result ((more : List CommandOf) × (commands.new.items ≡ commands.old.items ++ more)
         × GathersPage (mended joined number page.now) gatherer.old gatherer.new more) }
 {
-    let _bytes = page.whole();
     room.clear();
     write_mended(page, joined, number, room)?;
-    let (left, _) = split_known_page(room.as_slice());
+    let left = written_page(room.as_slice());
     take(gatherer, &left, commands)
 }
 

@@ -1,12 +1,12 @@
 //! Pages that are made: a mended one, and the last page of a stream that has none.
 ghost use Rattle.std.specs.Prelude.{◌≡◌, ◌≤◌, ◌++◌, OnOk, length, sum, take, drop};
-ghost use Rattle.ogg_page.specs.Page.{IsPage, page_bytes};
+ghost use Rattle.ogg_page.specs.Page.{Page as PageValue, IsPage, page_bytes};
 ghost use Rattle.ogg_page.specs.Sizes.{most_values};
 ghost use Rattle.import_mend.specs.Mended.{behind_rest, last_page, mended};
 
 use crate::cutting::{front_values, whole_values};
 use import_pages::size_of_values;
-use ogg_page::{CONTINUED, LAST, Memory, Page, PageHead, write_page};
+use ogg_page::{CONTINUED, LAST, Memory, Page, PageHead, split_known_page, write_page};
 
 /// Lacing values, and the bytes that they stand for.
 #[derive(Clone, Copy)]
@@ -100,8 +100,10 @@ pub fn write_mended(
     number: u32,
     out: &mut Vec<u8>,
 ) -> Result<(), Memory>
-    ensures { OnOk result (out.new.items ≡ out.old.items ++ page_bytes (mended joined number page.now)) }
+    ensures ok { OnOk result (out.new.items ≡ out.old.items ++ page_bytes (mended joined number page.now)) }
+    ensures is_page { IsPage (mended joined number page.now) }
 {
+    let _bytes = page.whole();
     let part = left_of(page, joined);
     let head = PageHead {
         flags: flags_of(page, joined),
@@ -125,4 +127,13 @@ pub fn write_last(serial: u32, position: u64, number: u32, out: &mut Vec<u8>) ->
         sequence: number,
     };
     write_page(&head, &[], &[], out)
+}
+
+/// The page that was written there, and nothing else.
+pub fn written_page(bytes: &[u8]) -> Page<'_>
+    requires { (page : PageValue) × IsPage page × (bytes.now ≡ page_bytes page) }
+    ensures { (page : PageValue) → IsPage page → bytes.now ≡ page_bytes page → result ≡ page }
+{
+    let (page, _) = split_known_page(bytes);
+    page
 }
