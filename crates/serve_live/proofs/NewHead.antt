@@ -1,34 +1,18 @@
 -- A page's head with another number.
-use Rattle.std.proofs.Common.{◌≡◌, ℕ, zero, suc, ◌+◌, ◌≤◌, ◌<◌, ◌^◌, List, [], ◌∷◌, ◌++◌, length, take, drop, refl, sym, ◌∙◌, ap, subst, arith, append_assoc, length-append, length-take}
-use Rattle.std.proofs.lemmas.List.{take-append-le}
+use Rattle.std.proofs.Common.{◌≡◌, ℕ, ◌+◌, ◌≤◌, List, [], ◌++◌, length, take, drop, sym, ◌∙◌, ap, arith, append_assoc, length-append}
 use Rattle.std.proofs.Math.Seq.{take-append_seam, take-append-add, take-add, drop-append-add}
-use Rattle.page_checksum.specs.Checksum.{checksum_of, number_of, message_bits}
-use Rattle.ogg_page.specs.Page.{Page, page_bytes}
-use Rattle.ogg_page.specs.PageLaws.{length-page_bytes}
-use Rattle.page_checksum.specs.Laws.BitNumbers.{number_lt}
-use Rattle.page_checksum.specs.Laws.ByteStep.{left_of, length-left_of}
 use Rattle.ogg_page.specs.Laws.Prefixes.{same_fronts}
-use Rattle.ogg_page.specs.Head.{Stands, head_size}
-use Rattle.serve_live.proofs.Linear.{checksum-left}
-
--- a checksum has 32 bits
-pub checksum_small : (bytes : List ℕ) → checksum_of bytes < 2 ^ 32
-checksum_small bytes =
-    let left : List _ = left_of (message_bits bytes) in
-    subst (λ n. n < 2 ^ 32) (sym (checksum-left bytes)) (subst (λ k. number_of left < 2 ^ k) (length-left_of (message_bits bytes)) (number_lt left))
+use Rattle.std.proofs.lemmas.List.{length-take-le}
 
 -- ---- a head with another number
 record SameTakes (a b : ℕ) (x y : List ℕ) : Type 0 where
   pub fronts : take a x ≡ take a y
   pub backs : take b (drop a x) ≡ take b (drop a y)
 
-length_taken : (n : ℕ) (l : List ℕ) → n ≤ length l → length (take n l) ≡ n
-length_taken n l le = grind (arith, length-take)
-
 same_takes : (a b : ℕ) (x y : List ℕ) → a ≤ length x → a ≤ length y → take (a + b) x ≡ take (a + b) y → SameTakes a b x y
 same_takes a b x y lx ly e =
     let both : (take a x ≡ take a y) × (take b (drop a x) ≡ take b (drop a y)) =
-    same_fronts (take a x) (take a y) (take b (drop a x)) (take b (drop a y)) (length_taken a x lx ∙ sym (length_taken a y ly))
+    same_fronts (take a x) (take a y) (take b (drop a x)) (take b (drop a y)) (length-take-le a x lx ∙ sym (length-take-le a y ly))
     (sym (take-add a b x) ∙ e ∙ take-add a b y) in
     record { fronts = both.0; backs = both.1 }
 
@@ -55,20 +39,3 @@ heads_alike bytes front mid other back k lf lm lo long e =
     ∙ sym (take-append-add (front ++ other) back k)
     ∙ ap (λ n. take (n + k) ((front ++ other) ++ back)) put
     ∙ ap (take (26 + k)) (append_assoc front other back)
-
--- what was read of a page's head, with whatever stands after it in the buffer
-pub head_is : (bytes room rest : List ℕ) (page : Page) (n : ℕ) → Stands bytes page → head_size page ≤ n → n ≤ length bytes → room ≡ take n bytes →
-    take (head_size page) (room ++ rest) ≡ take (head_size page) (page_bytes page)
-head_is bytes room rest page n s le long is =
-    let h : ℕ = head_size page in
-    let fits : h ≤ length (page_bytes page) = omega (arith, length-page_bytes page) in
-    let size : length room ≡ n = ap length is ∙ length_taken n bytes long in
-    take-append-le h room rest (omega (arith, size, le))
-    ∙ ap (take h) is ∙ take-take-le h n bytes le
-    ∙ ap (take h) s.spelled ∙ take-append-le h (page_bytes page) s.tail fits
-  where
-    take-take-le : (a b : ℕ) (l : List ℕ) → a ≤ b → take a (take b l) ≡ take a l
-    take-take-le zero b l lt = refl
-    take-take-le (suc a) zero l lt = absurd (omega arith)
-    take-take-le (suc a) (suc b) [] lt = refl
-    take-take-le (suc a) (suc b) (x ∷ l) lt = ap (λ k. x ∷ k) (take-take-le a b l (omega arith))

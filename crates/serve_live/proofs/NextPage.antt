@@ -2,9 +2,9 @@
 use Rattle.std.proofs.Common.{◌≡◌, ℕ, ◌+◌, ◌-◌, ◌≤◌, ◌<◌, Bool, true, false, cond, List, [], ◌∷◌, ◌++◌, length, take, drop, refl, sym, ◌∙◌, ap, subst, arith, append_assoc, length-append, length-take, length-drop, drop-drop, take-append-drop, inl, inr}
 use Rattle.std.specs.Prelude.{◌||◌}
 use Rattle.std.specs.List.{AllByRecursion}
-use Rattle.std.proofs.lemmas.List.{append-nil, take-append-le, drop-append-le, drop_at}
+use Rattle.std.proofs.lemmas.List.{append-nil, take-append-le, drop-append-le, drop_at, length-take-le}
 use Rattle.std.proofs.lemmas.Bool.{cond_both, cases_lt}
-use Rattle.std.proofs.Math.Seq.{take-append-add, drop-append-add, take-add, take-append_seam}
+use Rattle.std.proofs.Math.Seq.{drop-append-add, take-add}
 use Rattle.byteorder.specs.Endian.{little_bytes}
 use Rattle.ogg_page.specs.Page.{Page, IsPage, page_bytes, page_size, bytes_of_pages}
 use Rattle.ogg_page.specs.LogicalStream.{is_first}
@@ -12,7 +12,7 @@ use Rattle.ogg_page.specs.PageLaws.{length-page_bytes}
 use Rattle.serve_live.specs.Heard.{heard_page, heard_after}
 use Rattle.serve_live.specs.Gaps.{gap_in}
 use Rattle.serve_live.specs.Heads.{next_heard, IsHeadOf}
-use Rattle.serve_live.specs.Listening.{ArePagesLeft, HasFailed, IsWithin, part_at}
+use Rattle.serve_live.specs.Listening.{ArePagesLeft, IsWithin, part_at}
 use Rattle.serve_live.specs.Pulling.{ArePulled, gaps_kept}
 use Rattle.serve_live.specs.Renumbering.{front_of, back_of}
 use Rattle.ogg_page.specs.Head.{Stands, head_size, checksum_in}
@@ -20,6 +20,7 @@ use Rattle.serve_live.specs.declared.gaps.StreamGap.{StreamGap}
 use Rattle.serve_live.specs.declared.heads.HeardHead.{HeardHead}
 use Rattle.serve_live.specs.declared.pages.PageLeft.{PageLeft}
 use Rattle.serve_live.proofs.Linear.{old_bytes}
+use Rattle.page_heads.specs.Laws.{front_two, part_of_page}
 
 -- ---- what is heard of the next page, and of those after it
 abbrev pub gaps_after : List StreamGap → Page → List StreamGap
@@ -171,33 +172,18 @@ body_same gaps page skip le = by_case (is_first page)
         ap (λ k. drop k (page_bytes (heard_page gaps page))) at ∙ drop_back (heard_page gaps page) (skip - 26)
         ∙ sym (drop_back page (skip - 26)) ∙ ap (λ k. drop k (page_bytes page)) (sym at)
 
--- a part of a page lies in the page
-pub part_of_page : (bytes : List ℕ) (page : Page) (place skip n : ℕ) → Stands (drop place bytes) page → skip + n ≤ length (page_bytes page)
-    → part_at (place + skip) n bytes ≡ part_at skip n (page_bytes page)
-part_of_page bytes page place skip n s le =
-    ap (take n) (sym (drop-drop skip place bytes) ∙ ap (drop skip) s.spelled ∙ drop-append-le skip (page_bytes page) s.tail (omega arith))
-    ∙ take-append-le n (drop skip (page_bytes page)) s.tail (let len = length-drop skip (page_bytes page) in omega (arith, len))
-
 -- ---- how far a pull has come
-front_two : (a b c : List ℕ) (g n : ℕ) → length a ≡ g → length b ≡ n → take (g + n) (a ++ (b ++ c)) ≡ a ++ b
-front_two a b c g n la lb =
-    ap (λ k. take (k + n) (a ++ (b ++ c))) (sym la) ∙ take-append-add a (b ++ c) n
-    ∙ ap (λ l. a ++ l) (ap (λ k. take k (b ++ c)) (sym lb) ∙ take-append_seam b c)
-
-length_front : (n : ℕ) (l : List ℕ) → n ≤ length l → length (take n l) ≡ n
-length_front n l le = grind (arith, length-take)
-
 pub more_pulled : (committed rest : List ℕ) (gaps : List StreamGap) (left after : PageLeft) (given n : ℕ) (before part now : List ℕ) →
     ArePulled committed rest gaps left given before → given ≤ length before → n ≤ length (drop given rest) →
     now ≡ take given before ++ (part ++ drop (given + n) before) → part ≡ take n (drop given rest) →
     ArePagesLeft committed (gaps_kept gaps after) after.place after.skip (drop n (drop given rest)) →
     ArePulled committed rest gaps after (given + n) now
 more_pulled committed rest gaps left after given n before part now b room some copied is next =
-    let size : length part ≡ n = ap length is ∙ length_front n (drop given rest) some in
+    let size : length part ≡ n = ap length is ∙ length-take-le n (drop given rest) some in
     record {
       some = omega (arith, b.some, some, length-drop given rest);
       taken = ap (take (given + n)) copied
-          ∙ front_two (take given before) part (drop (given + n) before) given n (length_front given before room) size
+          ∙ front_two (take given before) part (drop (given + n) before) given n (length-take-le given before room) size
           ∙ ap (λ l. l ++ part) b.taken ∙ ap (λ l. take given rest ++ l) is ∙ sym (take-add given n rest);
       left_is = subst (ArePagesLeft committed (gaps_kept gaps after) after.place after.skip) (drop-drop n given rest) next;
     }
@@ -272,10 +258,6 @@ pub part_of_body : (gaps : ℕ → ℕ) (bytes : List ℕ) (page : Page) (place 
     part_at (place + skip) n bytes ≡ part_at skip n (page_bytes (next_heard gaps page))
 part_of_body gaps bytes page place skip n s le fits =
     part_of_page bytes page place skip n s (omega (arith, fits, length-page_bytes page)) ∙ ap (take n) (sym (body_same gaps page skip le))
-
-pub later_failed : (first before now : ℕ) → first ≤ before → HasFailed before now → HasFailed first now
-later_failed first before now le (inl rose) = inl (omega arith)
-later_failed first before now le (inr at) = inr at
 
 -- at the end of what is committed nothing is left
 pub none_left : (committed rest : List ℕ) (gaps : List StreamGap) (left : PageLeft) (given : ℕ) (buffer : List ℕ) → ArePulled committed rest gaps left given buffer →

@@ -6,9 +6,9 @@ use Rattle.ogg_page.specs.Head.{Stands}
 use Rattle.ogg_page.specs.Page.{Page, IsPage, page_bytes, page_size, bytes_of_pages}
 use Rattle.ogg_page.specs.PageLaws.{length-page_bytes}
 use Rattle.link_chain.specs.Laws.StateBehind.{map-map}
-use Rattle.serve_live.specs.Heads.{facts_of}
+use Rattle.page_heads.specs.Fronts.{facts_of}
 use Rattle.serve_live.specs.Noting.{noted, stream_with, HasLeft}
-use Rattle.serve_live.specs.declared.heads.PageFacts.{PageFacts}
+use Rattle.page_heads.specs.declared.front.PageFacts.{PageFacts}
 use Rattle.serve_live.specs.declared.joined.JoinedStream.{JoinedStream}
 use Rattle.serve_live.specs.declared.joined.LinkPart.{LinkPart}
 

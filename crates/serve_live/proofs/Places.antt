@@ -17,7 +17,7 @@ use Rattle.link_chain.specs.Laws.LastLink.{all_split}
 use Rattle.link_chain.specs.Laws.Grow.{all_both, all_weaker, stream_some, serials_same}
 use Rattle.link_chain.specs.Laws.StateBehind.{last_is, map-map}
 use Rattle.link_chain.specs.declared.stream_state.StreamState.{StreamState}
-use Rattle.serve_live.specs.Heads.{facts_of}
+use Rattle.page_heads.specs.Fronts.{facts_of}
 use Rattle.serve_live.specs.Joined.{joined_stream, joined_streams, as_of_now, ends_of, end_of, ends_unheard, gap_between, IsNew}
 use Rattle.serve_live.specs.Hearing.{IsHearing}
 use Rattle.serve_live.specs.Listening.{ListenerState}

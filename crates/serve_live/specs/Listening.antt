@@ -1,5 +1,6 @@
 -- What a listener has still to hear of what is committed. Ours.
-use Rattle.std.specs.Prelude.{◌≡◌, ◌⊎◌, ℕ, ◌+◌, ◌-◌, ◌^◌, ◌<◌, ◌≤◌, List, [], ◌∷◌, ◌++◌, length, take, drop, min}
+use Rattle.std.specs.Prelude.{◌≡◌, ℕ, ◌+◌, ◌<◌, ◌≤◌, List, [], ◌∷◌, ◌++◌, length, take, drop, min}
+pub use Rattle.page_heads.specs.Failures.{HasFailed}
 use Rattle.std.specs.List.{AllByRecursion}
 use Rattle.ogg_page.specs.Page.{Page, IsPage, page_size, bytes_of_pages}
 use Rattle.serve_live.specs.Heard.{heard_after}
@@ -52,7 +53,3 @@ pub record Gives (committed rest : List ℕ) (size : ℕ) (buffer : List ℕ) (c
   pub count_is : count ≡ min (length rest) size
   pub given : take count buffer ≡ take size rest
   pub left : IsLeft committed after (drop size rest)
-
--- a failure was counted, or the count stands at the top of a `u64`
-abbrev pub HasFailed : ℕ → ℕ → Type 0
-HasFailed before now = (before < now) ⊎ (now ≡ 2 ^ 64 - 1)

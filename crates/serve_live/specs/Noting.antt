@@ -2,8 +2,8 @@
 use Rattle.std.specs.Prelude.{◌≡◌, ℕ, ◌+◌, false, ◌||◌, min, nat_eq, if◌then◌else◌, List, [], ◌∷◌, ◌++◌, length, map, drop}
 use Rattle.std.specs.List.{AllByRecursion}
 use Rattle.ogg_page.specs.Page.{Page, IsPage, bytes_of_pages}
-use Rattle.serve_live.specs.Heads.{facts_of}
-use Rattle.serve_live.specs.declared.heads.PageFacts.{PageFacts}
+use Rattle.page_heads.specs.Fronts.{facts_of}
+use Rattle.page_heads.specs.declared.front.PageFacts.{PageFacts}
 use Rattle.serve_live.specs.declared.joined.JoinedStream.{JoinedStream}
 use Rattle.serve_live.specs.declared.joined.LinkPart.{LinkPart}
 use Rattle.serve_live.specs.declared.joined.LinkPart.TheVariants.{Beginning, Since}

@@ -8,9 +8,9 @@ ghost use Rattle.serve_live.specs.Joined.{as_of_now, gap_between};
 ghost use Rattle.serve_live.specs.Noting.{noted, stream_with};
 
 use crate::gaps::StreamGap;
-use crate::heads::{PageFacts, read_front};
 use link_chain::StreamState;
 use ogg_page::{Memory, PageSource, SourceFault};
+use page_heads::{PageFacts, read_front};
 use std::alloc::Global;
 
 /// A stream of the link that is joined: at the link's beginning, and at the boundary where the listener joins.

@@ -1,12 +1,11 @@
 -- What stands at the place of a stream's rest.
-use Rattle.std.proofs.Common.{◌≡◌, inl, inr, ℕ, ◌+◌, ◌≤◌, ◌<◌, List, [], ◌∷◌, ◌++◌, length, drop, ◌∙◌, ap, arith, append_assoc, length-append}
+use Rattle.std.proofs.Common.{◌≡◌, ℕ, ◌+◌, ◌≤◌, ◌<◌, List, [], ◌∷◌, ◌++◌, length, drop, ◌∙◌, ap, arith, append_assoc, length-append}
 use Rattle.std.specs.List.{AllByRecursion}
 use Rattle.std.proofs.lemmas.List.{drop-append-le, drop_at}
 use Rattle.ogg_page.specs.Page.{Page, IsPage, page_bytes, bytes_of_pages}
 use Rattle.link_chain.specs.Links.{pages_with}
 use Rattle.serve_machine.specs.Places.{IsStreamRest}
 use Rattle.ogg_page.specs.Head.{Stands}
-use Rattle.serve_sending.specs.Sending.{HasFailed}
 
 first_of : (committed : List ℕ) (serial place skip count : ℕ) (front behind : List ℕ) (pages : List Page) → committed ≡ front ++ (bytes_of_pages pages ++ behind)
     → length front ≡ place → AllByRecursion IsPage pages → skip + count ≤ length (bytes_of_pages (pages_with serial pages)) → 0 < count
@@ -42,7 +41,3 @@ ahead bytes committed more serial place skip count rest is r some =
             ∙ append_assoc (page_bytes page) stands.tail more;
       };
     }
-
-pub later_failed : (first before now : ℕ) → first ≤ before → HasFailed before now → HasFailed first now
-later_failed first before now le (inl rose) = inl (omega arith)
-later_failed first before now le (inr at) = inr at

@@ -1,27 +1,12 @@
 -- How far a pull of a stream's rest has come.
-use Rattle.std.proofs.Common.{◌≡◌, ℕ, ◌+◌, ◌≤◌, List, ◌++◌, length, take, drop, sym, ◌∙◌, ap, subst, arith, drop-drop, length-take, length-drop}
-use Rattle.std.proofs.lemmas.List.{take-append-le, drop-append-le}
-use Rattle.std.proofs.Math.Seq.{take-append_seam, take-append-add, take-add}
+use Rattle.std.proofs.Common.{◌≡◌, ℕ, ◌+◌, ◌≤◌, List, ◌++◌, length, take, drop, sym, ◌∙◌, ap, subst, arith, drop-drop, length-drop}
+use Rattle.std.proofs.lemmas.List.{length-take-le}
+use Rattle.std.proofs.Math.Seq.{take-add}
 use Rattle.ogg_page.specs.Page.{Page, page_bytes}
 use Rattle.serve_machine.specs.Places.{part_at, IsStreamRest}
-use Rattle.ogg_page.specs.Head.{Stands}
 use Rattle.serve_sending.specs.Walking.{IsGivenOf, IsPulled}
 use Rattle.serve_sending.specs.declared.walking.StreamLeft.{StreamLeft}
-
-front_two : (a b c : List ℕ) (g n : ℕ) → length a ≡ g → length b ≡ n → take (g + n) (a ++ (b ++ c)) ≡ a ++ b
-front_two a b c g n la lb =
-    ap (λ k. take (k + n) (a ++ (b ++ c))) (sym la) ∙ take-append-add a (b ++ c) n
-    ∙ ap (λ l. a ++ l) (ap (λ k. take k (b ++ c)) (sym lb) ∙ take-append_seam b c)
-
-length_front : (n : ℕ) (l : List ℕ) → n ≤ length l → length (take n l) ≡ n
-length_front n l le = grind (arith, length-take)
-
--- a part of a page lies in the page
-pub part_of_page : (bytes : List ℕ) (page : Page) (place skip n : ℕ) → Stands (drop place bytes) page → skip + n ≤ length (page_bytes page)
-    → part_at (place + skip) n bytes ≡ part_at skip n (page_bytes page)
-part_of_page bytes page place skip n s le =
-    ap (take n) (sym (drop-drop skip place bytes) ∙ ap (drop skip) s.spelled ∙ drop-append-le skip (page_bytes page) s.tail (omega arith))
-    ∙ take-append-le n (drop skip (page_bytes page)) s.tail (let len = length-drop skip (page_bytes page) in omega (arith, len))
+use Rattle.page_heads.specs.Laws.{front_two}
 
 -- nothing of a page was given, and it was passed
 pub none_given : (committed rest : List ℕ) (serial : ℕ) (left after : StreamLeft) (given n : ℕ) (now : List ℕ) (page : Page)
@@ -42,10 +27,10 @@ pub some_given : (committed rest : List ℕ) (serial : ℕ) (left after : Stream
 some_given committed rest serial left after given n before part now page b room count copied is g =
     let own : take n (drop given rest) ≡ part = g.given ∙ sym is in
     let some : n ≤ length (drop given rest) = let len = length-drop given rest in omega (arith, len, b.total, count) in
-    let size : length part ≡ n = ap length (sym own) ∙ length_front n (drop given rest) some in
+    let size : length part ≡ n = ap length (sym own) ∙ length-take-le n (drop given rest) some in
     record {
       taken = ap (take (given + n)) copied
-          ∙ front_two (take given before) part (drop (given + n) before) given n (length_front given before room) size
+          ∙ front_two (take given before) part (drop (given + n) before) given n (length-take-le given before room) size
           ∙ ap (λ l. l ++ part) b.taken ∙ ap (λ l. take given rest ++ l) (sym own) ∙ sym (take-add given n rest);
       total = omega (arith, b.total, count);
       is_rest = subst (IsStreamRest committed serial after.place after.skip after.count) (drop-drop n given rest) g.is_rest;

@@ -1,5 +1,6 @@
 -- What is left of a response, as a text and a place in the committed bytes. Ours.
-use Rattle.std.specs.Prelude.{◌≡◌, ◌≢◌, ◌⊎◌, ℕ, ◌-◌, ◌^◌, ◌<◌, Bool, true, ◌==◌, List, [], ◌++◌, length, take, drop, min}
+use Rattle.std.specs.Prelude.{◌≡◌, ◌≢◌, ℕ, Bool, true, ◌==◌, List, [], ◌++◌, length, take, drop, min}
+pub use Rattle.page_heads.specs.Failures.{HasFailed}
 use Rattle.serve_machine.specs.Hub.{is_nothing}
 use Rattle.serve_machine.specs.Places.{part_at, LiesIn, IsStreamRest, stream_rest}
 use Rattle.serve_machine.specs.declared.answers.Pulled.{Pulled}
@@ -51,10 +52,6 @@ pub record Gives (committed rest : List ℕ) (size : ℕ) (buffer : List ℕ) (p
   pub given : take pulled.count buffer ≡ take size rest
   pub done : pulled.done ≡ is_nothing (drop size rest)
   pub left : IsLeft committed after (drop size rest)
-
--- a failure was counted, or the count stands at the top of a `u64`
-abbrev pub HasFailed : ℕ → ℕ → Type 0
-HasFailed before now = (before < now) ⊎ (now ≡ 2 ^ 64 - 1)
 
 -- why a pull of this much met a fault: a read failed, and a byte was to be given
 abbrev pub IsFaultOf : List ℕ → ℕ → ℕ → ℕ → Type 0

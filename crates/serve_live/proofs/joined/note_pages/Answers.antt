@@ -1,8 +1,8 @@
 use Rattle.std.proofs.Common.{map, drop, sym, ◌∙◌, subst, arith}
 use Rattle.ogg_page.specs.Head.{Stands}
 use Rattle.serve_live.specs.Noting.{noted}
-use Rattle.serve_live.proofs.NextPage.{later_failed}
 use Rattle.serve_live.proofs.Noted.{next_noted, noted_on, all_noted}
+use Rattle.page_heads.specs.Laws.{later_failed}
 use Rattle.serve_live.proofs.joined.note_pages.Goals as goal
 
 pub pages-preserved : goal.pages-preserved

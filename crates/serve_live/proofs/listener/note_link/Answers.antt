@@ -3,8 +3,8 @@ use Rattle.std.specs.Prelude.{OnOk}
 use Rattle.serve_live.specs.Noting.{noted}
 use Rattle.serve_live.specs.declared.joined.JoinedStream.{JoinedStream}
 use Rattle.serve_live.specs.declared.joined.LinkPart.TheVariants.{Since}
-use Rattle.serve_live.proofs.NextPage.{later_failed}
 use Rattle.serve_live.proofs.Places.{begin_stands, since_stands, begin_pages, since_pages, stand_at}
+use Rattle.page_heads.specs.Laws.{later_failed}
 use Rattle.serve_live.proofs.listener.note_link.Goals as goal
 
 pub returns-in-Ok-clause-noted : goal.returns-in-Ok-clause-noted

@@ -1,6 +1,7 @@
 use Rattle.std.proofs.Common.{◌<◌, length, inl, inr, ◌∙◌, arith}
-use Rattle.serve_live.proofs.NextPage.{none_left, some_more, later_failed}
+use Rattle.serve_live.proofs.NextPage.{none_left, some_more}
 use Rattle.serve_live.proofs.Passing.{passed_on}
+use Rattle.page_heads.specs.Laws.{later_failed}
 use Rattle.serve_live.proofs.pages.pull_pages.Goals as goal
 
 pub pages-preserved : goal.pages-preserved

@@ -3,7 +3,8 @@ use Rattle.ogg_page.specs.Page.{page_bytes}
 use Rattle.ogg_page.specs.PageLaws.{length-page_bytes}
 use Rattle.serve_machine.specs.Places.{part_at}
 use Rattle.serve_sending.proofs.Ahead.{ahead}
-use Rattle.serve_sending.proofs.Pulled.{none_given, some_given, part_of_page}
+use Rattle.serve_sending.proofs.Pulled.{none_given, some_given}
+use Rattle.page_heads.specs.Laws.{part_of_page}
 use Rattle.serve_sending.proofs.walking.pull_page.Goals as goal
 
 pub returns-then-count-eq0-clause-pulled : goal.returns-then-count-eq0-clause-pulled

@@ -1,5 +1,5 @@
 use Rattle.std.proofs.Common.{inl, inr, ◌∙◌, arith}
-use Rattle.serve_sending.proofs.Ahead.{later_failed}
+use Rattle.page_heads.specs.Laws.{later_failed}
 use Rattle.serve_sending.proofs.walking.pull_stream.Goals as goal
 
 pub pages-preserved : goal.pages-preserved

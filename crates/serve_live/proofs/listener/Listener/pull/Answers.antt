@@ -5,8 +5,8 @@ use Rattle.serve_live.specs.declared.gaps.StreamGap.{StreamGap}
 use Rattle.serve_live.proofs.Pulled.{pulled_all, some_of_part, some_after_part}
 use Rattle.std.specs.List.{list_any}
 use Rattle.ogg_page.specs.LogicalStream.{is_first}
-use Rattle.serve_live.proofs.NextPage.{later_failed}
 use Rattle.serve_live.proofs.Passing.{from_both}
+use Rattle.page_heads.specs.Laws.{later_failed}
 use Rattle.serve_live.proofs.listener.Listener.pull.Goals as goal
 
 pub returns-in-Ok-pull_behind-clause-gives : goal.returns-in-Ok-pull_behind-clause-gives

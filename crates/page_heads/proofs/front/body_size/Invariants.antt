@@ -1,5 +1,5 @@
 use Rattle.std.proofs.Common.{◌≡◌, ◌≤◌, ◌*◌, take, sum}
-use Rattle.serve_sending.proofs.extent.body_size.Given as goal
+use Rattle.page_heads.proofs.front.body_size.Given as goal
 
 -- the values so far are added up
 abbrev pub invariant-loop-value : goal.invariant-loop-value
