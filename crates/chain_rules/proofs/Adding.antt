@@ -9,7 +9,7 @@ use Rattle.link_chain.specs.Links.{AreLinks, IsLink, with_pages}
 use Rattle.link_chain.specs.ChainState.{ChainState, chain_state_of, is_open}
 use Rattle.link_chain.specs.Rules.{Rule, first_broken}
 use Rattle.link_chain.specs.Progress.{next_in, with_position}
-use Rattle.link_chain.specs.Laws.LastLink.{all_split, open_some, not_false}
+use Rattle.link_chain.specs.Laws.LastLink.{all_split, open_some}
 use Rattle.link_chain.specs.declared.stream_state.StreamState.{StreamState}
 use Rattle.ogg_command.specs.Command.{IsCommand}
 use Rattle.ogg_command.specs.Refusal.{code_of}
@@ -26,6 +26,7 @@ use Rattle.chain_rules.specs.Encoding.{pages_of_command, pages_behind, pages_of_
 use Rattle.chain_rules.proofs.Unbroken.{no_rule_broken, Unbroken}
 use Rattle.chain_rules.proofs.Held.{is_held}
 use Rattle.command_pages.specs.Laws.Runs.{some_values}
+use Rattle.std.proofs.lemmas.Bool.{not-false}
 
 -- ---- the refusals that a decision can have
 -- the refusals of the table
@@ -158,9 +159,9 @@ adds_pages bytes links recording (BeginOf begin) size is are holds kept =
     last_of_all (AllByRecursion IsPage) links (pages_of_command (chain_state_of links) (BeginOf begin)) (is_held bytes links recording (BeginOf begin) size is are holds kept).0.pages
 adds_pages bytes links recording (PutOf put) size is are holds kept =
     let unbroken : Unbroken (rules_for (chain_state_of links) (PutOf put)) = no_rule_broken (chain_state_of links) (PutOf put) size kept in
-    of_last links (pages_of_command (chain_state_of links) (PutOf put)) (open_some links (not_false (is_open (chain_state_of links)) unbroken.0))
+    of_last links (pages_of_command (chain_state_of links) (PutOf put)) (open_some links (not-false (is_open (chain_state_of links)) unbroken.0))
     (is_held bytes links recording (PutOf put) size is are holds kept).0.pages
 adds_pages bytes links recording (EndOf serial) size is are holds kept =
     let unbroken : Unbroken (rules_for (chain_state_of links) (EndOf serial)) = no_rule_broken (chain_state_of links) (EndOf serial) size kept in
-    of_last links (pages_of_command (chain_state_of links) (EndOf serial)) (open_some links (not_false (is_open (chain_state_of links)) unbroken.0))
+    of_last links (pages_of_command (chain_state_of links) (EndOf serial)) (open_some links (not-false (is_open (chain_state_of links)) unbroken.0))
     (is_held bytes links recording (EndOf serial) size is are holds kept).0.pages

@@ -18,12 +18,13 @@ use Rattle.ogg_command.specs.Command.{IsNewStream, IsSkeleton}
 use Rattle.chain_rules.specs.Begun.{states_of, serials_in, skeleton_serial, has_more_pages}
 use Rattle.ogg_command.specs.declared.command.SkeletonHead.{SkeletonHead}
 use Rattle.link_chain.specs.Laws.LastLink.{closed_link, ended_links, last_is_link, all_split}
-use Rattle.link_chain.specs.Laws.Grow.{all_weaker, all_both}
+use Rattle.link_chain.specs.Laws.Grow.{all_weaker}
 use Rattle.chain_rules.proofs.Unbroken.{Unbroken, numbers_fit}
 use Rattle.chain_rules.proofs.Beginning.{IsGood, fresh, are_distinct, are_good, all_to_map, firsts_pages, laters_pages}
 use Rattle.chain_rules.proofs.Kept.{IsKeptBegin, begin_fits}
 use Rattle.chain_rules.proofs.NewLink.{IsNewLink, CanBegin, plain_link, described_link}
 use Rattle.chain_rules.proofs.SkeletonPart.{fishead_page, fisbones_pages, end_is_page}
+use Rattle.ogg_page.specs.Laws.PageBytes.{all_both}
 
 zip_push : (links : List (List Page)) (recording : Recording) (link : List Page) (streams : List Stream) → HoldsLinks links recording → HoldsLink link streams →
     HoldsLinks (links ++ link ∷ []) (recording ++ streams ∷ [])

@@ -16,10 +16,12 @@ use Rattle.chain_rules.specs.Encoding.{first_flag, header, first_pages, header_p
 use Rattle.chain_rules.specs.Limits.{longest_first}
 use Rattle.chain_rules.specs.Decision.{is_long, streams_rules}
 use Rattle.ogg_command.specs.Command.{IsNewStream}
-use Rattle.link_chain.specs.Laws.Grow.{all_weaker, all_both, Own}
+use Rattle.link_chain.specs.Laws.Grow.{all_weaker, Own}
 use Rattle.chain_rules.proofs.Unbroken.{Unbroken}
 use Rattle.link_chain.specs.Laws.LastLink.{all_split}
 use Rattle.chain_rules.proofs.RunState.{run_own as plain_own}
+use Rattle.ogg_page.specs.Laws.PageBytes.{all_both}
+use Rattle.ogg_page.specs.StreamLaws.{false_is_not_true}
 
 -- ---- the first page of a stream
 -- a stream with headers, the first of which lies whole in one page
@@ -97,9 +99,6 @@ not_last stream = ap (λ n. nat_eq (n / 4 % 2) 1) (flags_of stream)
 not_continued : (stream : NewStream) → is_continued (first_page stream) ≡ false
 not_continued stream = ap (λ n. nat_eq (n % 2) 1) (flags_of stream)
 
-no_flag : (b : Bool) {A : Type 0} → b ≡ false → b ≡ true → A
-no_flag b e f = cc
-
 pub first_fits : (stream : NewStream) → IsGood stream → FitsBehind [] (first_page stream)
 first_fits stream good = record {
   continued = not_continued stream;
@@ -107,7 +106,7 @@ first_fits stream good = record {
   first = (λ _. refl, λ _. marked_first stream);
   first_packet = λ _. (is_first_page stream good).lacing;
   last = refl;
-  last_packet = λ e. no_flag (is_last (first_page stream)) (not_last stream) e;
+  last_packet = λ e. false_is_not_true (is_last (first_page stream)) (not_last stream) e;
 }
 
 -- the pages with further flags hold the same

@@ -2,7 +2,7 @@
 use Rattle.std.proofs.Common.{◌≡◌, ◌≢◌, ℕ, ◌+◌, ◌^◌, true, false, cond, List, [], ◌∷◌, ◌++◌, refl, ◌∙◌, ap, arith, Ok}
 use Rattle.std.specs.Prelude.{nat_eq, nat_lt, not, ◌||◌}
 use Rattle.std.specs.List.{list_any}
-use Rattle.std.proofs.lemmas.Bool.{cond-true, lt-ltb, or_right, eq-eqb}
+use Rattle.std.proofs.lemmas.Bool.{cond-true, lt-ltb, or_right, eq-eqb, not-false}
 use Rattle.std.proofs.lemmas.List.{append-nil}
 use Rattle.std.proofs.lemmas.List.Concat.{flat_map-append}
 use Rattle.std.proofs.lemmas.List.Sums.{fold-append}
@@ -16,7 +16,7 @@ use Rattle.link_chain.specs.Progress.{next_in, ended_by}
 use Rattle.chain_rules.specs.Decision.{decision, rules_for}
 use Rattle.chain_rules.specs.Encoding.{pages_of_command, links_after, end_page}
 use Rattle.link_chain.specs.Laws.Grow.{with_own, ended_both}
-use Rattle.link_chain.specs.Laws.LastLink.{known_stream, next_is, position_is, position_small, open_some, not_false}
+use Rattle.link_chain.specs.Laws.LastLink.{known_stream, next_is, position_is, position_small, open_some}
 use Rattle.chain_rules.proofs.Unbroken.{no_rule_broken, Unbroken}
 use Rattle.link_chain.specs.Laws.StateBehind.{state, state_behind}
 use Rattle.link_chain.specs.Followed.{moved_by}
@@ -53,7 +53,7 @@ unfolding pages_of_command
 end_state links serial size e =
     let chain : ChainState = chain_state_of links in
     let kept : Unbroken (rules_for chain (EndOf serial)) = no_rule_broken chain (EndOf serial) size e in
-    let some : links ≢ [] = open_some links (not_false (is_open chain) kept.0) in
+    let some : links ≢ [] = open_some links (not-false (is_open chain) kept.0) in
     let known = known_stream links serial kept.1.0 in
     let page : Page = end_page chain serial in
     state_behind links (page ∷ []) serial (ended_by (next_in chain.streams serial + 1)) some (omega arith) (refl, tt) (refl, tt)

@@ -1,5 +1,5 @@
 -- The definitions on small files.
-use Rattle.std.proofs.Common.{◌≡◌, ℕ, ℤ, List, [], ◌∷◌, ◌++◌, refl, length, map, replicate, codes, Result, Ok, Err, Some, None, true}
+use Rattle.std.proofs.Common.{◌≡◌, ℕ, ℤ, List, [], ◌∷◌, refl, length, map, replicate, codes, Result, Ok, Err, Some, None, true}
 use Rattle.std.specs.Prelude.{pos}
 use Rattle.ogg_page.specs.Page.{Page, page_bytes, page_size, fixed_part as page_head}
 use Rattle.ogg_page.specs.Lacing.{lacing_of}
@@ -12,6 +12,7 @@ use Rattle.skeleton3.specs.Fishead.{fishead_with}
 use Rattle.ogg_page.specs.Numbers.{u16_bytes, u32_bytes, i64_bytes}
 use Rattle.link_chain.specs.ChainState.{chain_state_of}
 use Rattle.chain_rules.specs.Encoding.{pages_of_command, command_bytes}
+use Rattle.chain_rules.specs.Commands.{links_behind}
 use Rattle.chain_rules.specs.Decision.{decision}
 use Rattle.chain_rules.specs.Recording.{after}
 use Rattle.ogg_command.specs.declared.command.Command.{Command}
@@ -37,25 +38,8 @@ abbrev pub put : ℕ → ℕ → List ℕ → Command
 put serial position packet = PutOf (record { entries = record { serial = serial; position = position; packet = packet } ∷ [] })
 
 -- the links after a command that is kept
-abbrev add_pages : List (List Page) → List Page → List (List Page)
-add_pages [] pages = []
-add_pages (link ∷ []) pages = (link ++ pages) ∷ []
-add_pages (link ∷ next ∷ links) pages = link ∷ add_pages (next ∷ links) pages
-
-abbrev then_links : List (List Page) → Command → List Page → List (List Page)
-then_links links (BeginOf b) pages = links ++ pages ∷ []
-then_links links (PutOf p) pages = add_pages links pages
-then_links links (EndOf s) pages = add_pages links pages
-
-abbrev grown : List (List Page) → Command → List (List Page)
-grown links command = then_links links command (pages_of_command (chain_state_of links) command)
-
-abbrev grown_by : List (List Page) → List Command → List (List Page)
-grown_by links [] = links
-grown_by links (command ∷ commands) = grown_by (grown links command) commands
-
 abbrev answer : List Command → Command → Result ℕ Refusal
-answer before command = decision (chain_state_of (grown_by [] before)) command
+answer before command = decision (chain_state_of (links_behind [] before)) command
 
 size_of_a_begin : answer [] (begin (1 ∷ [])) ≡ Ok 31
 unfolding decision pages_of_command pages_of_run page_of_run page_position run_lacing run_bytes values_at values_before lacing_of
@@ -69,7 +53,7 @@ size_of_an_end : answer (begin (1 ∷ []) ∷ put 1 5 hello ∷ []) (EndOf 1) �
 unfolding decision pages_of_command pages_of_run page_of_run page_position run_lacing run_bytes values_at values_before lacing_of
 size_of_an_end = refl
 
-page_of_an_end : pages_of_command (chain_state_of (grown_by [] (begin (1 ∷ []) ∷ put 1 5 hello ∷ []))) (EndOf 1) ≡ record { flags = 4; position = 5; serial = 1; sequence = 2; lacing = []; body = [] } ∷ []
+page_of_an_end : pages_of_command (chain_state_of (links_behind [] (begin (1 ∷ []) ∷ put 1 5 hello ∷ []))) (EndOf 1) ≡ record { flags = 4; position = 5; serial = 1; sequence = 2; lacing = []; body = [] } ∷ []
 unfolding pages_of_command pages_of_run page_of_run page_position run_lacing run_bytes values_at values_before lacing_of
 page_of_an_end = refl
 
@@ -106,12 +90,12 @@ unfolding decision pages_of_command pages_of_run page_of_run page_position run_l
 position_back = refl
 
 -- a header of three, and one run of two neighbours, two of one stream each
-runs_by_stream : map (λ (p : Page). p.serial) (pages_of_command (chain_state_of (grown_by [] (begin (1 ∷ 2 ∷ []) ∷ [])))
+runs_by_stream : map (λ (p : Page). p.serial) (pages_of_command (chain_state_of (links_behind [] (begin (1 ∷ 2 ∷ []) ∷ [])))
     (PutOf (record { entries = record { serial = 1; position = 0; packet = 97 ∷ [] } ∷ record { serial = 1; position = 0; packet = 98 ∷ [] } ∷ record { serial = 2; position = 0; packet = 99 ∷ [] } ∷ record { serial = 1; position = 0; packet = 100 ∷ [] } ∷ [] }))) ≡ 1 ∷ 2 ∷ 1 ∷ []
 unfolding pages_of_command pages_of_run page_of_run page_position run_lacing run_bytes values_at values_before lacing_of
 runs_by_stream = refl
 
-numbers_of_the_runs : map (λ (p : Page). p.sequence) (pages_of_command (chain_state_of (grown_by [] (begin (1 ∷ 2 ∷ []) ∷ [])))
+numbers_of_the_runs : map (λ (p : Page). p.sequence) (pages_of_command (chain_state_of (links_behind [] (begin (1 ∷ 2 ∷ []) ∷ [])))
     (PutOf (record { entries = record { serial = 1; position = 0; packet = 97 ∷ [] } ∷ record { serial = 1; position = 0; packet = 98 ∷ [] } ∷ record { serial = 2; position = 0; packet = 99 ∷ [] } ∷ record { serial = 1; position = 0; packet = 100 ∷ [] } ∷ [] }))) ≡ 1 ∷ 1 ∷ 2 ∷ []
 unfolding pages_of_command pages_of_run page_of_run page_position run_lacing run_bytes values_at values_before lacing_of
 numbers_of_the_runs = refl

@@ -1,8 +1,8 @@
 -- What holds of a command that is kept.
-use Rattle.std.proofs.Common.{◌≡◌, ℕ, zero, suc, ◌+◌, ◌<◌, ◌≤◌, ◌^◌, Bool, true, false, List, [], ◌∷◌, ◌++◌, length, sum_by, refl, sym, arith, Option, Some, None, Result, Ok, Err}
+use Rattle.std.proofs.Common.{◌≡◌, ℕ, zero, suc, ◌+◌, ◌<◌, ◌≤◌, ◌^◌, true, false, List, [], ◌∷◌, ◌++◌, length, sum_by, refl, sym, arith, Option, Some, None, Result, Ok, Err}
 use Rattle.std.specs.Prelude.{nat_eq, nat_lt, nat_le, not, ◌&&◌, ◌||◌, IsOk, IfOk, IfSome}
 use Rattle.std.specs.List.{list_any, list_all}
-use Rattle.std.proofs.lemmas.Bool.{and_parts, or_parts, or_from, ltb-false, leb-false, le-ltb}
+use Rattle.std.proofs.lemmas.Bool.{and_parts, or_parts, or_from, ltb-false, leb-false, le-ltb, not-false}
 use Rattle.ogg_command.specs.declared.command.Command.{Command}
 use Rattle.ogg_command.specs.declared.command.Command.TheVariants.{Begin as BeginOf, Put as PutOf, End as EndOf}
 use Rattle.ogg_command.specs.declared.command.Begin.{Begin}
@@ -89,14 +89,10 @@ not_none : (n : ℕ) → nat_eq n 0 ≡ false → 0 < n
 not_none zero e = cc
 not_none (suc n) e = omega arith
 
-not_not : (b : Bool) → not b ≡ false → b ≡ true
-not_not true e = refl
-not_not false e = cc
-
 -- the message fields of a media type and of few fields that are allowed aren't long
 message_short : (stream : NewStream) → not (is_media_type stream.media && list_all is_field stream.fields) ≡ false → has_many_fields stream ≡ false → has_long_message stream ≡ false
 message_short stream e few =
-    let parts : (is_media_type stream.media ≡ true) × (list_all is_field stream.fields ≡ true) = and_parts _ _ (not_not _ e) in
+    let parts : (is_media_type stream.media ≡ true) × (list_all is_field stream.fields ≡ true) = and_parts _ _ (not-false _ e) in
     le-ltb longest_message (length (message_of stream.media stream.fields))
     (omega (arith, message_size stream.media stream.fields parts.0 parts.1, ltb-false most_fields (length stream.fields) few))
 

@@ -3,7 +3,7 @@ use Rattle.std.proofs.Common.{◌≡◌, ℕ, zero, suc, ◌+◌, ◌*◌, ◌/�
 use Rattle.std.specs.Prelude.{nat_eq, nat_lt}
 use Rattle.std.specs.List.{fold, flat_map}
 use Rattle.std.proofs.lemmas.Bool.{cond-true, cond-false, ne_eqb, lt-ltb}
-use Rattle.std.proofs.lemmas.List.{append-nil, take_all, drop-append-le}
+use Rattle.std.proofs.lemmas.List.{append-nil, take_all, drop-append-le, map_push}
 use Rattle.std.proofs.lemmas.List.Sums.{fold-append, sum_by-append, sum_by-cons}
 use Rattle.ogg_page.specs.Page.{Page}
 use Rattle.ogg_page.specs.Lacing.{lace, lacing_of}
@@ -93,11 +93,7 @@ counted-more : (first n : ℕ) → counted first (suc n) ≡ counted first n ++ 
 counted-more first zero = ap (λ k. k ∷ []) (omega arith)
 counted-more first (suc n) = ap (λ l. first ∷ l) (counted-more (first + 1) n ∙ ap (λ k. counted (first + 1) n ++ k ∷ []) (omega arith))
 
-map-push : {X Y : Type 0} (f : X → Y) (xs : List X) (x : X) → map f (xs ++ x ∷ []) ≡ map f xs ++ f x ∷ []
-map-push f [] x = refl
-map-push f (y ∷ xs) x = ap (λ l. f y ∷ l) (map-push f xs x)
-
-abbrev reached : ℕ → Page → ℕ
+abbrev pub reached : ℕ → Page → ℕ
 reached found page = cond (nat_lt page.position (2 ^ 63)) page.position found
 
 reached-push : (pages : List Page) (page : Page) (found : ℕ) → page.position < 2 ^ 63 → fold reached found (pages ++ page ∷ []) ≡ page.position
@@ -114,7 +110,7 @@ reached_by serial first run before zero some small e = absurd (omega (arith, e, 
 reached_by serial first run before (suc m) some small e =
     let last : Page = page_of_run serial first run m in
     let at : last.position ≡ end_position run = position_is serial first run m ∙ last_page_position run m some e in
-    ap (λ l. last_position (before ++ l)) (ap (map (page_of_run serial first run)) (counted-more 0 m ∙ ap (λ k. counted 0 m ++ k ∷ []) (omega arith)) ∙ map-push (page_of_run serial first run) (counted 0 m) m)
+    ap (λ l. last_position (before ++ l)) (ap (map (page_of_run serial first run)) (counted-more 0 m ∙ ap (λ k. counted 0 m ++ k ∷ []) (omega arith)) ∙ map_push (page_of_run serial first run) (counted 0 m) m)
     ∙ ap last_position (sym (append_assoc before (map (page_of_run serial first run) (counted 0 m)) (last ∷ [])))
     ∙ reached-push (before ++ map (page_of_run serial first run) (counted 0 m)) last 0 (omega (arith, at, small))
     ∙ at

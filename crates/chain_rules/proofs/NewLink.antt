@@ -2,7 +2,7 @@
 use Rattle.std.proofs.Common.{◌≡◌, ◌≢◌, ℕ, zero, suc, ◌+◌, ◌<◌, ◌≤◌, Bool, true, false, cond, List, inl, [], ◌∷◌, ◌++◌, length, map, take, drop, refl, sym, ◌∙◌, ap, subst, arith, eq-eqb, length-append, Option, None, Some}
 use Rattle.std.specs.Prelude.{nat_eq, nat_lt, not, ◌||◌}
 use Rattle.std.specs.List.{list_any, flat_map, AllByRecursion, IsDistinct}
-use Rattle.std.proofs.lemmas.Bool.{cond-true, cond-false, or_from, or_left, lt-ltb, ne_eqb, eqb-false}
+use Rattle.std.proofs.lemmas.Bool.{cond-true, cond-false, or_left, lt-ltb, ne_eqb, eqb-false}
 use Rattle.std.proofs.lemmas.List.Concat.{flat_map-append}
 use Rattle.std.proofs.lemmas.List.Folds.{list_any-append}
 use Rattle.std.proofs.lemmas.List.Sums.{fold-append}
@@ -11,7 +11,7 @@ use Rattle.ogg_page.specs.Lacing.{ends_open, lacing_of}
 use Rattle.ogg_page.specs.LogicalStream.{HoldsPackets, FitsBehind, is_first, is_last, joined_lacing, number_behind}
 use Rattle.packetiser.specs.Run.{pages_of_run, pages_for, run_lacing}
 use Rattle.packetiser.specs.Laws.Pieces.{run_pages}
-use Rattle.ogg_page.specs.StreamLaws.{finished, ends_open-append}
+use Rattle.ogg_page.specs.StreamLaws.{finished, ends_open-append, false_is_not_true}
 use Rattle.packetiser.specs.Laws.Behind.{run_fits, number_behind_run}
 use Rattle.link_chain.specs.declared.stream_state.StreamState.{StreamState}
 use Rattle.ogg_command.specs.declared.command.NewStream.{NewStream}
@@ -22,7 +22,7 @@ use Rattle.chain_rules.specs.Decision.{has_long_message}
 use Rattle.chain_rules.specs.Encoding.{header, first_flag, first_pages, header_pages, pages_of_begin, skeleton_stream}
 use Rattle.link_chain.specs.Links.{IsLink, pages_with, serials_of, has_stream, has_ended}
 use Rattle.chain_rules.specs.Recording.{Stream, HoldsLink, begun, begun_link, ended_skeleton}
-use Rattle.link_chain.specs.Laws.Grow.{GoOn, Unmarked, all_both, all_weaker, not_ended, serials_same, with_own, ended_both, grow_link, grow_holds, grown, stream_some}
+use Rattle.link_chain.specs.Laws.Grow.{GoOn, Unmarked, all_weaker, not_ended, serials_same, with_own, ended_both, grow_link, grow_holds, grown, stream_some}
 use Rattle.chain_rules.proofs.Beginning.{IsGood, serials, first_page, is_first_page, number_of_first, marked_first, not_last, first_held, headers_held, headers_own, all_of_map, all_to_map}
 use Rattle.chain_rules.proofs.Parts.{Part, IsPart, IsStill, plain_part, page_of, first_of, later_of, begun_of, firsts, laters, part_serials, new_link, new_holds, its_pages, serials_are, stream_held, all_first, firsts_are, laters_unmarked, all_go_on, none_ends}
 use Rattle.std.proofs.lemmas.List.{length-map}
@@ -31,6 +31,9 @@ use Rattle.chain_rules.proofs.SkeletonPart.{skeleton_part, is_skeleton_part, las
 use Rattle.link_chain.specs.Laws.StateBehind.{state, state_other, data_with}
 use Rattle.chain_rules.proofs.RunState.{run_unmarked, run_goes_on}
 use Rattle.chain_rules.proofs.Still.{run_still, flagged_still, still_position}
+use Rattle.ogg_page.specs.Laws.PageBytes.{all_both}
+use Rattle.link_chain.specs.Laws.InTurn.{no_data}
+use Rattle.std.proofs.Math.Bool.{or-true}
 
 -- ---- a stream that has only its headers
 plain_is_part : (stream : NewStream) → IsGood stream → IsPart (plain_part stream)
@@ -97,10 +100,6 @@ new_is link part h go_on own_is =
     ∙ ap (λ b. state serial (1 + length part.later) 0 false (not b)) (finished own part.stream.headers (stream_held part h))
 
 -- ---- whether there are pages that are no stream's first
-none_later : (pages : List Page) → AllByRecursion (λ (p : Page). is_first p ≡ true) pages → list_any (λ p. not (is_first p)) pages ≡ false
-none_later [] h = refl
-none_later (page ∷ pages) h = or_from (not (is_first page)) (list_any (λ p. not (is_first p)) pages) (ap not h.0) (none_later pages h.1)
-
 later_pages : (pages : List Page) → Unmarked pages → list_any (λ p. not (is_first p)) pages ≡ nat_lt 0 (length pages)
 later_pages [] h = refl
 later_pages (page ∷ pages) h =
@@ -133,7 +132,7 @@ any_pages (stream ∷ streams) =
 has_later : (parts : List Part) → AllByRecursion IsPart parts → list_any (λ p. not (is_first p)) (firsts parts ++ laters parts) ≡ nat_lt 0 (length (laters parts))
 has_later parts good =
     list_any-append (λ (p : Page). not (is_first p)) (firsts parts) (laters parts)
-    ∙ ap (λ b. b || list_any (λ (p : Page). not (is_first p)) (laters parts)) (none_later (firsts parts) (all_first (λ (p : Page). is_first p ≡ true) (λ s. marked_first s.stream) parts good))
+    ∙ ap (λ b. b || list_any (λ (p : Page). not (is_first p)) (laters parts)) (no_data (firsts parts) (all_first (λ (p : Page). is_first p ≡ true) (λ s. marked_first s.stream) parts good))
     ∙ later_pages (laters parts) (laters_unmarked parts good)
 
 -- ---- the link
@@ -189,18 +188,11 @@ plain_link streams can =
     })
 
 -- ---- with a Skeleton
-no_flag : (b : Bool) {A : Type 0} → b ≡ false → b ≡ true → A
-no_flag b e f = cc
-
 abbrev closed_by : Stream → Stream
 closed_by stream = record { serial = stream.serial; packets = stream.packets ++ [] ∷ []; ended = true }
 
 abbrev closed_at : ℕ → Stream → Stream
 closed_at serial stream = cond (nat_eq stream.serial serial) (closed_by stream) stream
-
-or_true : (b : Bool) → (b || true) ≡ true
-or_true true = refl
-or_true false = refl
 
 ended_page : (serial sequence : ℕ) → has_ended (last_page serial sequence ∷ []) serial ≡ true
 ended_page serial sequence =
@@ -211,7 +203,7 @@ closed_here : (serial sequence : ℕ) (stream : Stream) → stream.serial ≡ se
 closed_here serial sequence stream e =
     cond-true (nat_eq stream.serial serial) (closed_by stream) stream (eq-eqb stream.serial serial e)
     ∙ ap (λ (b : Bool). record { serial = stream.serial; packets = stream.packets ++ [] ∷ []; ended = b })
-    (sym (ap (λ b. stream.ended || b) (ended_page serial sequence) ∙ or_true stream.ended))
+    (sym (ap (λ b. stream.ended || b) (ended_page serial sequence) ∙ or-true stream.ended))
 
 closed_elsewhere : (serial : ℕ) (stream : Stream) → (stream.serial ≡ serial → ⊥) → closed_at serial stream ≡ stream
 closed_elsewhere serial stream ne = cond-false (nat_eq stream.serial serial) (closed_by stream) stream (ne_eqb stream.serial serial ne)
@@ -239,7 +231,7 @@ closed_state body serial count own packets is still held =
     let both : pages_with serial link ≡ own ++ page ∷ [] = with_own serial body (page ∷ []) (refl, tt) ∙ ap (λ (l : List Page). l ++ page ∷ []) is in
     let number : number_behind (own ++ page ∷ []) ≡ count + 2 = fold-append (λ (found : ℕ) (p : Page). p.sequence + 1) 0 own (page ∷ []) ∙ omega arith in
     let position : last_position (own ++ page ∷ []) ≡ 0 = still_position (own ++ page ∷ []) (all_both IsStill own (page ∷ []) still (inl refl, tt)) in
-    let ended : has_ended link serial ≡ true = ended_both serial body (page ∷ []) ∙ ap (λ b. has_ended body serial || b) (ended_page serial (count + 1)) ∙ or_true (has_ended body serial) in
+    let ended : has_ended link serial ≡ true = ended_both serial body (page ∷ []) ∙ ap (λ b. has_ended body serial || b) (ended_page serial (count + 1)) ∙ or-true (has_ended body serial) in
     let whole : ends_open (joined_lacing (own ++ page ∷ [])) ≡ false =
     ap ends_open (flat_map-append (λ (p : Page). p.lacing) own (page ∷ [])) ∙ ends_open-append (joined_lacing own) (0 ∷ []) (finished own packets held) in
     ap (λ (l : List Page). state serial (number_behind l) (last_position l) (has_ended link serial) (not (ends_open (joined_lacing l)))) both
@@ -284,7 +276,7 @@ described_link head streams can size short =
     let fits : FitsBehind own page = record {
       continued = sym closed;
       sequence = λ _. sym number;
-      first = (λ e. no_flag (is_first page) refl e, λ e. absurd (stream_some body serial there e));
+      first = (λ e. false_is_not_true (is_first page) refl e, λ e. absurd (stream_some body serial there e));
       first_packet = λ e. absurd (stream_some body serial there e);
       last = not_ended serial body go_on;
       last_packet = λ _. ap ends_open (flat_map-append (λ (p : Page). p.lacing) own (page ∷ [])) ∙ ends_open-append (joined_lacing own) (0 ∷ []) closed;

@@ -12,11 +12,12 @@ use Rattle.ogg_command.specs.declared.command.NewStream.{NewStream}
 use Rattle.link_chain.specs.Links.{IsLink, pages_with, serials_of, has_stream, has_ended, all_ended}
 use Rattle.chain_rules.specs.Recording.{Stream, HoldsStream, HoldsLink, begun}
 use Rattle.chain_rules.specs.Encoding.{first_pages, header_pages}
-use Rattle.link_chain.specs.Laws.Grow.{all_weaker, all_both, Own, Unmarked, GoOn, OpenBehind, not_ended, own_with, other_with, filter_all, serials_same}
+use Rattle.link_chain.specs.Laws.Grow.{all_weaker, Own, Unmarked, GoOn, OpenBehind, not_ended, own_with, other_with, filter_all, serials_same}
 use Rattle.packetiser.specs.Run.{no_position}
 use Rattle.std.specs.Prelude.{◌⊎◌}
 use Rattle.ogg_page.specs.LogicalStream.{number_behind}
 use Rattle.chain_rules.proofs.Beginning.{all_and, all_of_map, IsGood, first_page, is_first_page, serial_of, marked_first, not_last, first_fits, first_held, first_own}
+use Rattle.ogg_page.specs.Laws.PageBytes.{all_both}
 
 -- a stream of a new link, and its pages after the first
 pub record Part : Type 0 where

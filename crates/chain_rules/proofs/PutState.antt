@@ -2,7 +2,7 @@
 use Rattle.std.proofs.Common.{◌≡◌, ◌≢◌, ℕ, ◌+◌, ◌<◌, ◌^◌, Bool, true, false, cond, List, [], ◌∷◌, ◌++◌, length, map, refl, sym, ◌∙◌, ap, subst, arith, append_assoc, Option, Some, Ok}
 use Rattle.std.specs.Prelude.{nat_eq, is_none}
 use Rattle.std.specs.List.{AllByRecursion, fold}
-use Rattle.std.proofs.lemmas.Bool.{leb-false}
+use Rattle.std.proofs.lemmas.Bool.{leb-false, not-false}
 use Rattle.std.proofs.lemmas.List.{append-nil, length-map}
 use Rattle.std.proofs.lemmas.List.Sums.{sum_by-append}
 use Rattle.ogg_page.specs.Page.{Page, page_size}
@@ -19,7 +19,7 @@ use Rattle.link_chain.specs.Progress.{change_at, advanced, moved_to, next_in, st
 use Rattle.chain_rules.specs.Decision.{decision, rules_for, entries_rules, room_rules}
 use Rattle.chain_rules.specs.Encoding.{timed, with_pages, run_serial, run_position, pages_behind, with_run, with_front, runs_of, pages_of_runs, pages_of_command, links_after}
 use Rattle.link_chain.specs.Size.{size_of_pages}
-use Rattle.link_chain.specs.Laws.LastLink.{known_stream, next_is, open_some, all_split, not_false}
+use Rattle.link_chain.specs.Laws.LastLink.{known_stream, next_is, open_some, all_split}
 use Rattle.chain_rules.proofs.Unbroken.{no_rule_broken, Unbroken}
 use Rattle.chain_rules.proofs.LastPage.{end_position}
 use Rattle.command_pages.specs.Laws.Runs.{some_values}
@@ -215,7 +215,7 @@ put_state links put size e =
     let kept : Unbroken (rules_for chain (PutOf put)) = no_rule_broken chain (PutOf put) size e in
     let items : Unbroken (entries_rules chain.streams put.entries) × Unbroken (room_rules chain (PutOf put)) =
     all_split (λ rule. rule.0 ≡ false) (entries_rules chain.streams put.entries) (room_rules chain (PutOf put)) kept.1.1.1 in
-    let some : links ≢ [] = open_some links (not_false (is_open chain) kept.0) in
+    let some : links ≢ [] = open_some links (not-false (is_open chain) kept.0) in
     behind_all (runs_of put.entries) links (some_runs put.entries (many put.entries kept.1.0)) some
     (ready_runs chain.streams put.entries (ready_entries chain.streams chain.streams put.entries (λ serial. refl) items.0))
   where

@@ -5,7 +5,7 @@ use Rattle.std.specs.List.{AllByRecursion, flat_map, fold}
 use Rattle.std.specs.Option.{option_map_or}
 use Rattle.std.proofs.lemmas.List.{append-nil}
 use Rattle.std.proofs.lemmas.List.Sums.{fold-append}
-use Rattle.std.proofs.lemmas.Bool.{cond-true, cond-false, cond_both, ne_eqb, eqb-true, cases_eq}
+use Rattle.std.proofs.lemmas.Bool.{cond-true, cond-false, cond_both, ne_eqb, eqb-true, cases_eq, not-false}
 use Rattle.ogg_page.specs.Page.{Page, IsPage}
 use Rattle.ogg_page.specs.LogicalStream.{number_behind}
 use Rattle.packetiser.specs.Run.{Timed, IsTimed, pages_of_run}
@@ -23,12 +23,14 @@ use Rattle.link_chain.specs.ChainState.{ChainState, chain_state_of, last_link, i
 use Rattle.link_chain.specs.Progress.{stream_in, next_in, change_at, advanced, moved_to, brought_to, with_position}
 use Rattle.chain_rules.specs.Encoding.{timed, with_front, runs_of, run_position, pages_behind, with_run, pages_of_runs, pages_of_command, command_bytes, links_after}
 use Rattle.chain_rules.specs.Decision.{decision, entries_rules, room_rules, rules_for}
-use Rattle.link_chain.specs.Laws.Grow.{grow_link, grow_holds, stream_finished, stream_some, stream_same, ended_same, not_ended, still_open, open_behind, with_own, with_other, all_weaker, all_both, Own, Unmarked, GoOn, or_false}
+use Rattle.link_chain.specs.Laws.Grow.{grow_link, grow_holds, stream_finished, stream_some, stream_same, ended_same, not_ended, still_open, open_behind, with_own, with_other, all_weaker, Own, Unmarked, GoOn}
 use Rattle.chain_rules.proofs.Unbroken.{no_rule_broken, Unbroken, numbers_fit}
-use Rattle.link_chain.specs.Laws.LastLink.{all_split, not_false, open_link, open_some, known_stream, found_at, next_is, not_ended_is, last_grows, Grows}
+use Rattle.link_chain.specs.Laws.LastLink.{all_split, open_link, open_some, known_stream, found_at, next_is, not_ended_is, last_grows, Grows}
 use Rattle.chain_rules.proofs.RunState.{run_own, run_unmarked, run_goes_on}
 use Rattle.link_chain.specs.Laws.StateBehind.{map-map, map-same}
 use Rattle.chain_rules.proofs.PutState.{looked_up}
+use Rattle.std.proofs.Math.Bool.{or-false}
+use Rattle.ogg_page.specs.Laws.PageBytes.{all_both}
 
 -- ---- runs of entries
 -- entries of one stream, at least one
@@ -216,7 +218,7 @@ run_grows link serial first run streams change l h opened there unended number h
           (open_behind link pages opened go_on);
       holds = grow_holds link serial pages (map (λ (t : Timed). t.packet) run) streams change own unmarked (run_is_held serial first run)
           (λ stream e. here stream e ∙ ap (λ (b : Bool). record stream { packets = stream.packets ++ map (λ (t : Timed). t.packet) run; ended = b })
-          (sym (or_false stream.ended) ∙ ap (λ b. stream.ended || b) (sym (not_ended serial pages go_on))))
+          (sym (or-false stream.ended) ∙ ap (λ b. stream.ended || b) (sym (not_ended serial pages go_on))))
           elsewhere h;
     }
 
@@ -366,7 +368,7 @@ put_is_held bytes links recording put size small l h e =
     let runs : List (List Entry) = runs_of put.entries in
     let pages : List Page = pages_of_runs chain.streams runs in
     let kept : Unbroken (rules_for chain (PutOf put)) = no_rule_broken chain (PutOf put) size e in
-    let opened : is_open chain ≡ true = not_false (is_open chain) kept.0 in
+    let opened : is_open chain ≡ true = not-false (is_open chain) kept.0 in
     let rest : Unbroken (entries_rules chain.streams put.entries) × Unbroken (room_rules chain (PutOf put)) =
     all_split (λ rule. rule.0 ≡ false) (entries_rules chain.streams put.entries) (room_rules chain (PutOf put)) kept.1.1.1 in
     let ready : AllByRecursion (TakesPackets (last_link links)) put.entries =

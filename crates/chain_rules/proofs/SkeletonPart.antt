@@ -23,13 +23,14 @@ use Rattle.ogg_command.specs.declared.command.SkeletonHead.{SkeletonHead}
 use Rattle.ogg_command.specs.Command.{AreFieldBytes, IsNewStream, IsSkeletonHead}
 use Rattle.chain_rules.specs.Decision.{has_long_message}
 use Rattle.chain_rules.specs.Encoding.{header, fishead_of, fisbone_packet, fisbone_pages, skeleton_stream, skeleton_end, first_pages}
-use Rattle.link_chain.specs.Laws.Grow.{all_both, any_none, Own, Unmarked, GoOn}
+use Rattle.link_chain.specs.Laws.Grow.{any_none, Own, Unmarked, GoOn}
 use Rattle.chain_rules.proofs.Beginning.{IsGood, is_first_page, first_page, first_held, first_is_page, not_last, number_of_first, headers_timed}
 use Rattle.chain_rules.proofs.Parts.{Part, IsPart, IsStill}
 use Rattle.command_pages.specs.Laws.Short.{short_fishead, short_fisbone, one_each}
 use Rattle.link_chain.specs.Laws.LastLink.{all_split}
 use Rattle.chain_rules.proofs.RunState.{run_own, run_unmarked, run_goes_on}
 use Rattle.chain_rules.proofs.Still.{run_still}
+use Rattle.ogg_page.specs.Laws.PageBytes.{all_both}
 
 -- ---- the fisbones' pages
 fisbones_own : (serial first : ℕ) (streams : List NewStream) → Own serial (fisbone_pages serial first streams)

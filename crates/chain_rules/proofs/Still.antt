@@ -8,6 +8,7 @@ use Rattle.packetiser.specs.Run.{counted, page_of_run, pages_of_run, pages_for, 
 use Rattle.link_chain.specs.ChainState.{last_position}
 use Rattle.chain_rules.specs.Encoding.{header}
 use Rattle.chain_rules.proofs.Parts.{IsStill}
+use Rattle.chain_rules.proofs.LastPage.{reached}
 
 position_still : (n : ℕ) (headers : List (List ℕ)) → (position_of n (map header headers) ≡ 0) ⊎ (position_of n (map header headers) ≡ no_position)
 position_still zero headers = inr refl
@@ -40,9 +41,6 @@ run_still serial first headers = from_still serial first headers (pages_for (len
 pub flagged_still : (flags : ℕ) (pages : List Page) → AllByRecursion IsStill pages → AllByRecursion IsStill (flagged flags pages)
 flagged_still flags [] h = tt
 flagged_still flags (page ∷ pages) h = h
-
-abbrev reached : ℕ → Page → ℕ
-reached found page = cond (nat_lt page.position (2 ^ 63)) page.position found
 
 stays_at_0 : (page : Page) → IsStill page → reached 0 page ≡ 0
 stays_at_0 page h =

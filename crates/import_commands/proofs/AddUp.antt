@@ -11,17 +11,16 @@ use Rattle.ogg_page.specs.Lacing.{lace, lacing_of}
 use Rattle.ogg_page.specs.LogicalStream.{joined_lacing, is_last}
 use Rattle.packetiser.specs.Run.{packets_ended}
 use Rattle.link_chain.specs.Links.{IsLink, AreLinks, pages_with, serials_of, has_ended}
-use Rattle.chain_rules.specs.Recording.{Stream, Recording, HoldsStream, HoldsLink, HoldsLinks, with_packet, with_end, change_last, add, after, begun, begun_link}
+use Rattle.chain_rules.specs.Recording.{Stream, Recording, HoldsStream, HoldsLink, HoldsLinks, with_packet, with_end, add, after, begun, begun_link}
 use Rattle.ogg_command.specs.declared.command.Command.TheVariants.{End as EndOf}
 use Rattle.ogg_command.specs.declared.command.Entry.{Entry}
-use Rattle.link_chain.specs.Laws.Grow.{ended_both, or_false}
+use Rattle.link_chain.specs.Laws.Grow.{ended_both, all_weaker}
 use Rattle.import_commands.specs.Commands.{packets_of, ended_in, page_packets, entry_of, put_of, end_of, page_commands, pages_commands, new_stream, link_commands, commands_of}
+use Rattle.std.proofs.Math.Bool.{or-false}
+use Rattle.link_chain.specs.Laws.LastLink.{last_changed}
+use Rattle.link_chain.specs.Laws.StateBehind.{map-map}
 
 -- ---- lists
-pub map_map : {A B C : Type 0} (g : B → C) (f : A → B) (xs : List A) → map g (map f xs) ≡ map (λ x. g (f x)) xs
-map_map g f [] = refl
-map_map g f (x ∷ xs) = ap (λ l. g (f x) ∷ l) (map_map g f xs)
-
 pub map_alike : {A B : Type 0} (f g : A → B) (xs : List A) → AllByRecursion (λ x. f x ≡ g x) xs → map f xs ≡ map g xs
 map_alike f g [] h = refl
 map_alike f g (x ∷ xs) h = ap (λ y. y ∷ map f xs) h.0 ∙ ap (λ l. g x ∷ l) (map_alike f g xs h.1)
@@ -33,10 +32,6 @@ map_self f (x ∷ xs) h = ap (λ y. y ∷ map f xs) h.0 ∙ ap (λ l. x ∷ l) (
 pub every : {A : Type 0} (P : A → Type 0) → ((x : A) → P x) → (xs : List A) → AllByRecursion P xs
 every P h [] = tt
 every P h (x ∷ xs) = (h x, every P h xs)
-
-pub all_to : {A : Type 0} (P Q : A → Type 0) → ((x : A) → P x → Q x) → (xs : List A) → AllByRecursion P xs → AllByRecursion Q xs
-all_to P Q f [] h = tt
-all_to P Q f (x ∷ xs) h = (f x h.0, all_to P Q f xs h.1)
 
 pub dropped_take : {A : Type 0} (k n : ℕ) (xs : List A) → drop k (take n xs) ≡ take (n - k) (drop k xs)
 dropped_take zero n xs = ap (λ m. take m xs) (less n)
@@ -144,7 +139,7 @@ end_by page stream = cond (is_last page) (end_at page.serial stream) stream
 pub folded : (f : Stream → Stream) (entries : List Entry) (streams : List Stream) → fold with_packet (map f streams) entries ≡ map (λ stream. fold grow (f stream) entries) streams
 folded f [] streams = refl
 folded f (entry ∷ entries) streams =
-    ap (λ l. fold with_packet l entries) (map_map (λ (s : Stream). grow s entry) f streams)
+    ap (λ l. fold with_packet l entries) (map-map (λ (s : Stream). grow s entry) f streams)
     ∙ folded (λ stream. grow (f stream) entry) entries streams
 
 grown_here : (page : Page) (packets : List (List ℕ)) (serial : ℕ) (had : List (List ℕ)) (ended : Bool) → page.serial ≡ serial →
@@ -235,19 +230,13 @@ one_page headers streams before page stream found =
           ∙ ends_elsewhere page serial had ended other
           ∙ ap (λ l. stream_of serial l ended) (ap at count)
           ∙ ap (stream_of serial (at (ended_in (before ++ page ∷ []) serial)))
-          (sym (ended_is ∙ ap (λ l. ended || list_any is_last l) (other_one serial page other) ∙ or_false ended))
+          (sym (ended_is ∙ ap (λ l. ended || list_any is_last l) (other_one serial page other) ∙ or-false ended))
     ]
   where
     no_more : (n : ℕ) → n + 0 ≡ n
     no_more n = omega arith
 
 -- ---- the last link
-pub last_changed : (change : List Stream → List Stream) (recording : Recording) (streams : List Stream) →
-    change_last change (recording ++ streams ∷ []) ≡ recording ++ change streams ∷ []
-last_changed change [] streams = refl
-last_changed change (r ∷ []) streams = refl
-last_changed change (r ∷ s ∷ recording) streams = ap (λ l. r ∷ l) (last_changed change (s ∷ recording) streams)
-
 after_put : (recording : Recording) (streams : List Stream) (entries : List Entry) →
     after (recording ++ streams ∷ []) (put_of entries) ≡ recording ++ fold with_packet streams entries ∷ []
 after_put recording streams [] = refl
@@ -258,7 +247,7 @@ after_end : (recording : Recording) (f : Stream → Stream) (streams : List Stre
 after_end recording f streams page = by_case (is_last page)
   where
     by_case : (b : Bool) → after (recording ++ map f streams ∷ []) (cond b (EndOf page.serial ∷ []) []) ≡ recording ++ map (λ s. cond b (end_at page.serial (f s)) (f s)) streams ∷ []
-    by_case true = last_changed (with_end page.serial) recording (map f streams) ∙ ap (λ l. recording ++ l ∷ []) (map_map (end_at page.serial) f streams)
+    by_case true = last_changed (with_end page.serial) recording (map f streams) ∙ ap (λ l. recording ++ l ∷ []) (map-map (end_at page.serial) f streams)
     by_case false = refl
 
 after_page : (headers : ℕ → ℕ) (recording : Recording) (streams : List Stream) (before : List Page) (page : Page) → AllByRecursion (IsFound streams) streams →
@@ -271,7 +260,7 @@ after_page headers recording streams before page found =
     ∙ after_end recording (λ stream. fold grow (behind headers before stream) entries) streams page
     ∙ ap (λ l. recording ++ l ∷ [])
     (map_alike (λ s. end_by page (fold grow (behind headers before s) entries)) (behind headers (before ++ page ∷ [])) streams
-    (all_to (IsFound streams) (λ s. end_by page (fold grow (behind headers before s) entries) ≡ behind headers (before ++ page ∷ []) s)
+    (all_weaker (IsFound streams) (λ s. end_by page (fold grow (behind headers before s) entries) ≡ behind headers (before ++ page ∷ []) s)
     (λ s f. one_page headers streams before page s f) streams found))
 
 after_pages : (headers : ℕ → ℕ) (recording : Recording) (streams : List Stream) (before pages : List Page) → AllByRecursion (IsFound streams) streams →
@@ -306,7 +295,7 @@ all_found (x ∷ streams) d =
 
 pub begun_as : (headers : ℕ → ℕ) (streams : List Stream) → begun_link None (map (new_stream headers) streams) ≡ map (behind headers []) streams
 begun_as headers streams =
-    map_map begun (new_stream headers) streams
+    map-map begun (new_stream headers) streams
     ∙ map_alike (λ s. begun (new_stream headers s)) (behind headers []) streams
     (every (λ s. begun (new_stream headers s) ≡ behind headers [] s) (λ s. ap (λ n. stream_of s.serial (take n s.packets) false) (none (headers s.serial))) streams)
   where

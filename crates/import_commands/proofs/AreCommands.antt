@@ -13,11 +13,12 @@ use Rattle.ogg_command.specs.Command.{IsCommand, IsNewStream, IsEntry}
 use Rattle.chain_rules.specs.Commands.{AreKept, bytes_of_commands}
 use Rattle.ogg_command.specs.declared.command.Command.TheVariants.{End as EndOf}
 use Rattle.ogg_command.specs.declared.command.Entry.{Entry}
-use Rattle.link_chain.specs.Laws.Grow.{all_both, all_filter}
+use Rattle.link_chain.specs.Laws.Grow.{all_filter}
 use Rattle.link_chain.specs.Laws.LastLink.{all_split}
 use Rattle.ogg_command.specs.declared.command.Command.{Command}
 use Rattle.import_commands.specs.Commands.{packets_of, ended_in, page_packets, entry_of, put_of, end_of, page_commands, pages_commands, new_stream, link_commands, commands_of}
 use Rattle.import_commands.proofs.AddUp.{add_up}
+use Rattle.ogg_page.specs.Laws.PageBytes.{all_both}
 
 -- ---- lists
 pub all_taken : {A : Type 0} (P : A → Type 0) (n : ℕ) (xs : List A) → AllByRecursion P xs → AllByRecursion P (take n xs)

@@ -4,9 +4,9 @@ use Rattle.std.specs.Prelude.{nat_eq, ◌||◌, is_none, option_map}
 use Rattle.std.specs.Option.{option_map_or}
 use Rattle.std.specs.List.{AllByRecursion, AllZip, IsDistinct, list_any}
 use Rattle.std.proofs.lemmas.List.Elements.{filter-append}
-use Rattle.std.proofs.lemmas.Bool.{eqb-true, ne_eqb, cases_Bool, cases_eq, cond-true, false≢true, or_parts, or_from, not_from_true}
+use Rattle.std.proofs.lemmas.Bool.{eqb-true, ne_eqb, cases_Bool, cases_eq, cond-true, false≢true, or_parts, or_from, not_from_true, not-false}
 use Rattle.ogg_page.specs.Page.{Page, IsPage}
-use Rattle.ogg_page.specs.LogicalStream.{FitsBehind, is_first, is_last}
+use Rattle.ogg_page.specs.LogicalStream.{FitsBehind, is_last}
 use Rattle.link_chain.specs.declared.stream_state.StreamState.{StreamState}
 use Rattle.ogg_command.specs.declared.command.Command.{Command}
 use Rattle.ogg_command.specs.declared.command.Command.TheVariants.{Begin as BeginOf, Put as PutOf, End as EndOf}
@@ -22,13 +22,16 @@ use Rattle.chain_rules.specs.Encoding.{links_after}
 use Rattle.link_chain.specs.Progress.{stream_in, moved_to, with_position}
 use Rattle.link_chain.specs.Rules.{Rule, first_broken}
 use Rattle.chain_rules.specs.Decision.{decision, rules_for, size_of, begin_rules, streams_rules, put_rules, entries_rules, end_rules, room_rules}
-use Rattle.link_chain.specs.Laws.Grow.{all_both}
-use Rattle.link_chain.specs.Laws.LastLink.{all_split, any_map, some_open, found_at, some_not}
+use Rattle.link_chain.specs.Laws.LastLink.{all_split, any_map, found_at, some_not, last_changed}
 use Rattle.link_chain.specs.Laws.Fronts.{behind_at}
 use Rattle.link_chain.specs.Laws.TakenLinks.{without}
 use Rattle.import_commands.specs.Commands.{page_packets, entry_of, put_of, end_of, page_commands, pages_commands, new_stream, link_commands, commands_of, of_input, RefusedByInput, AddsItsPackets}
-use Rattle.import_commands.proofs.AddUp.{map_map, map_alike, map_self, all_to, folded, grow, end_by, behind, IsFound, one_page, last_changed, serials_held, all_found, begun_as, held_whole}
+use Rattle.import_commands.proofs.AddUp.{map_alike, map_self, folded, grow, end_by, behind, IsFound, one_page, serials_held, all_found, begun_as, held_whole}
 use Rattle.import_commands.proofs.AreCommands.{page_is, link_is, IsStream, are_streams, small_serials}
+use Rattle.ogg_page.specs.Laws.PageBytes.{all_both}
+use Rattle.link_chain.specs.Laws.LeftWhole.{none_open}
+use Rattle.link_chain.specs.Laws.StateBehind.{map-map}
+use Rattle.link_chain.specs.Laws.Grow.{all_weaker}
 
 -- ---- rules
 abbrev Sound : Rule Refusal → Type 0
@@ -37,7 +40,7 @@ Sound rule = rule.0 ≡ true → of_input rule.1 ≡ true
 abbrev AreSound : List (Rule Refusal) → Type 0
 AreSound rules = AllByRecursion Sound rules
 
-unbroken : {r : Bool} {b : Bool} → b ≡ false → b ≡ true → r ≡ true
+pub unbroken : {r : Bool} {b : Bool} → b ≡ false → b ≡ true → r ≡ true
 unbroken e f = absurd (false≢true (sym e ∙ f))
 
 first_is : (rules : List (Rule Refusal)) → AreSound rules → (refusal : Refusal) → first_broken rules ≡ Some refusal → of_input refusal ≡ true
@@ -48,7 +51,7 @@ first_is (rule ∷ rules) sound refusal e = by_case rule.0 refl (λ f. first_is 
     by_case true f rest e = sym (ap (λ o. option_map_or of_input o true) e) ∙ sound.0 f
     by_case false f rest e = rest e
 
-broken_is : (o : Option Refusal) (size : ℕ) (refusal : Refusal) → option_map_or (λ r. Err r) o (Ok size) ≡ Err refusal → o ≡ Some refusal
+pub broken_is : (o : Option Refusal) (size : ℕ) (refusal : Refusal) → option_map_or (λ r. Err r) o (Ok size) ≡ Err refusal → o ≡ Some refusal
 broken_is None size refusal e = cc
 broken_is (Some r) size refusal e = cc
 
@@ -278,7 +281,7 @@ open_now : (headers : ℕ → ℕ) (streams : List Stream) (link before : List P
     has_stream link serial ≡ true → has_ended before serial ≡ false → Open (map (behind headers before) streams) serial
 open_now headers streams link before serial serials known going =
     record {
-      known = ap (list_any (nat_eq serial)) (map_map (λ (s : Stream). s.serial) (behind headers before) streams ∙ serials) ∙ known;
+      known = ap (list_any (nat_eq serial)) (map-map (λ (s : Stream). s.serial) (behind headers before) streams ∙ serials) ∙ known;
       going = each streams;
     }
   where
@@ -292,7 +295,7 @@ ends_mapped page f streams = by_case (is_last page)
   where
     by_case : (b : Bool) → cond b (with_end page.serial (map f streams)) (map f streams)
         ≡ map (λ (s : Stream). cond b (cond (nat_eq (f s).serial page.serial) (record (f s) { ended = true }) (f s)) (f s)) streams
-    by_case true = map_map (λ (s : Stream). cond (nat_eq s.serial page.serial) (record s { ended = true }) s) f streams
+    by_case true = map-map (λ (s : Stream). cond (nat_eq s.serial page.serial) (record s { ended = true }) s) f streams
     by_case false = refl
 
 page_step : (headers : ℕ → ℕ) (links : List (List Page)) (recording : Recording) (streams : List Stream) (link before : List Page) (page : Page) (pages : List Page)
@@ -314,7 +317,7 @@ page_step headers links recording streams link before page pages rest l p are sp
     ap (λ y. cond (is_last page) (with_end page.serial y) y) (folded (behind headers before) entries streams)
     ∙ ends_mapped page (λ stream. fold grow (behind headers before stream) entries) streams
     ∙ map_alike (λ s. end_by page (fold grow (behind headers before s) entries)) (behind headers (before ++ page ∷ [])) streams
-    (all_to (IsFound streams) (λ s. end_by page (fold grow (behind headers before s) entries) ≡ behind headers (before ++ page ∷ []) s)
+    (all_weaker (IsFound streams) (λ s. end_by page (fold grow (behind headers before s) entries) ≡ behind headers (before ++ page ∷ []) s)
     (λ s f. one_page headers streams before page s f) streams found) in
     subst (λ (c : List Command). RefusedByInput links c) (sym (append_assoc (put_of entries) (end_of page) rest))
     (put_step links recording now page.serial entries (end_of page ++ rest) s is.0 (entries_own page packets) o
@@ -368,17 +371,6 @@ link_step headers links recording link streams rest l all h s closed go =
     (λ last u. go last (subst (λ (x : List Stream). State last (recording ++ x ∷ [])) (map_self (behind headers link) streams (held_whole headers link (serials_of link) streams h)) u)))
 
 -- ---- links
-none_open : (pages : List Page) → all_ended pages ≡ true → list_any (λ serial. not (has_ended pages serial)) (serials_of pages) ≡ false
-none_open pages e = by_case (list_any (λ serial. not (has_ended pages serial)) (serials_of pages)) refl
-  where
-    by_case : (t : Bool) → list_any (λ serial. not (has_ended pages serial)) (serials_of pages) ≡ t → t ≡ false
-    by_case true t = absurd (false≢true (sym (some_open (has_ended pages) is_first pages t) ∙ e))
-    by_case false t = refl
-
-not_false : (b : Bool) → not b ≡ false → b ≡ true
-not_false true e = refl
-not_false false e = cc
-
 streams_ended : (link : List Page) (serials : List ℕ) (streams : List Stream) → AllZip (HoldsStream link) serials streams →
     list_any (λ serial. not (has_ended link serial)) serials ≡ false → AllByRecursion (λ (s : Stream). s.ended ≡ true) streams
 streams_ended link [] [] h e = tt
@@ -387,7 +379,7 @@ streams_ended link (n ∷ serials) [] h e = tt
 streams_ended link (n ∷ serials) (s ∷ streams) h e =
     let parts : (not (has_ended link n) ≡ false) × (list_any (λ serial. not (has_ended link serial)) serials ≡ false) =
     or_parts (not (has_ended link n)) (list_any (λ serial. not (has_ended link serial)) serials) e in
-    (h.0.ended ∙ not_false (has_ended link n) parts.0, streams_ended link serials streams h.1 parts.1)
+    (h.0.ended ∙ not-false (has_ended link n) parts.0, streams_ended link serials streams h.1 parts.1)
 
 ended_streams : (link : List Page) (serials : List ℕ) (streams : List Stream) → AllZip (HoldsStream link) serials streams →
     AllByRecursion (λ (s : Stream). s.ended ≡ true) streams → list_any (λ serial. not (has_ended link serial)) serials ≡ false

@@ -1,9 +1,9 @@
 -- If an input is within the limits of one command, no command is refused for itself.
-use Rattle.std.proofs.Common.{◌≡◌, ℕ, zero, suc, ◌+◌, ◌-◌, ◌^◌, ◌<◌, ◌≤◌, Bool, true, false, cond, List, [], ◌∷◌, ◌++◌, length, map, take, drop, refl, sym, ◌∙◌, ap, arith, Option, None, Some, Ok, Err}
+use Rattle.std.proofs.Common.{◌≡◌, ℕ, zero, suc, ◌+◌, ◌-◌, ◌^◌, ◌<◌, ◌≤◌, Bool, true, false, cond, List, [], ◌∷◌, ◌++◌, length, map, take, drop, refl, sym, ◌∙◌, ap, arith, None, Some, Err}
 use Rattle.std.specs.Prelude.{nat_eq, nat_lt, nat_le, ◌&&◌, ◌||◌}
 use Rattle.std.specs.Option.{option_map_or}
 use Rattle.std.specs.List.{AllByRecursion, list_any}
-use Rattle.std.proofs.lemmas.Bool.{ltb-true, leb-true, ne_eqb, false≢true, or_from, cond_both}
+use Rattle.std.proofs.lemmas.Bool.{ltb-true, leb-true, ne_eqb, or_from, cond_both}
 use Rattle.std.proofs.lemmas.List.Sums.{sum_by-cons}
 use Rattle.ogg_page.specs.Page.{Page, IsPage}
 use Rattle.ogg_page.specs.LogicalStream.{is_first, is_last}
@@ -22,11 +22,12 @@ use Rattle.ogg_command.specs.declared.command.Command.TheVariants.{Begin as Begi
 use Rattle.ogg_command.specs.declared.command.NewStream.{NewStream}
 use Rattle.ogg_command.specs.declared.command.Entry.{Entry}
 use Rattle.ogg_command.specs.declared.refusal.Refusal.{Refusal}
-use Rattle.link_chain.specs.Laws.Grow.{all_both, serials_same, filter_all}
+use Rattle.link_chain.specs.Laws.Grow.{serials_same, filter_all}
 use Rattle.import_commands.specs.Commands.{packets_of, ended_in, page_packets, entry_of, put_of, end_of, page_commands, pages_commands, new_stream, link_commands, commands_of, of_input, not_for_itself, of_the_whole, RefusedBy, RefusedByInput, IsFeedable, HasPosition, CanBeFed, AddsItsPackets}
 use Rattle.import_commands.proofs.AddUp.{serials_held}
 use Rattle.import_commands.proofs.AreCommands.{all_taken, all_dropped, all_mapped}
-use Rattle.import_commands.proofs.ByInput.{by_input}
+use Rattle.import_commands.proofs.ByInput.{by_input, broken_is, unbroken}
+use Rattle.ogg_page.specs.Laws.PageBytes.{all_both}
 
 -- ---- rules
 abbrev Fine : Rule Refusal → Type 0
@@ -34,9 +35,6 @@ Fine rule = rule.0 ≡ true → not_for_itself rule.1 ≡ true
 
 abbrev AreFine : List (Rule Refusal) → Type 0
 AreFine rules = AllByRecursion Fine rules
-
-unbroken : {r : Bool} {b : Bool} → b ≡ false → b ≡ true → r ≡ true
-unbroken e f = absurd (false≢true (sym e ∙ f))
 
 first_is : (rules : List (Rule Refusal)) → AreFine rules → (refusal : Refusal) → first_broken rules ≡ Some refusal → not_for_itself refusal ≡ true
 first_is [] fine refusal e = cc
@@ -46,10 +44,6 @@ first_is (rule ∷ rules) fine refusal e = by_case rule.0 refl (λ f. first_is r
         not_for_itself refusal ≡ true
     by_case true f rest e = sym (ap (λ o. option_map_or not_for_itself o true) e) ∙ fine.0 f
     by_case false f rest e = rest e
-
-broken_is : (o : Option Refusal) (size : ℕ) (refusal : Refusal) → option_map_or (λ r. Err r) o (Ok size) ≡ Err refusal → o ≡ Some refusal
-broken_is None size refusal e = cc
-broken_is (Some r) size refusal e = cc
 
 refused_is : (chain : ChainState) (command : Command) (refusal : Refusal) → AreFine (rules_for chain command) → decision chain command ≡ Err refusal → not_for_itself refusal ≡ true
 unfolding decision

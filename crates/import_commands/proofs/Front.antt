@@ -7,9 +7,8 @@ use Rattle.ogg_page.specs.Lacing.{lace, lacing_of}
 use Rattle.ogg_page.specs.LogicalStream.{HoldsPackets, joined_lacing, joined_bodies}
 use Rattle.packetiser.specs.Run.{packets_ended}
 use Rattle.import_commands.proofs.AddUp.{ended_app, ended_full, ended_packets}
-
-parts_of : {X : Type 0} (x y : X) (xs ys : List X) → x ∷ xs ≡ y ∷ ys → (x ≡ y) × (xs ≡ ys)
-parts_of x y xs ys e = (cc, cc)
+use Rattle.link_chain.specs.Laws.Fronts.{parts_of}
+use Rattle.ogg_page.specs.StreamLaws.{same_lacing}
 
 same_values : (m a n b : ℕ) (xs ys : List ℕ) → a < 255 → b < 255 → replicate m 255 ++ a ∷ xs ≡ replicate n 255 ++ b ∷ ys → (m ≡ n) × (a ≡ b) × (xs ≡ ys)
 same_values zero a zero b xs ys small few e =
@@ -30,15 +29,6 @@ same_values (suc m) a (suc n) b xs ys small few e =
 spelled : (packet xs : List ℕ) → lace packet ++ xs ≡ replicate (length packet / 255) 255 ++ length packet % 255 ∷ xs
 unfolding lacing_of
 spelled packet xs = append_assoc (replicate (length packet / 255) 255) (length packet % 255 ∷ []) xs
-
-same_first : (p q xs ys : List ℕ) → lace p ++ xs ≡ lace q ++ ys → (length p ≡ length q) × (xs ≡ ys)
-same_first p q xs ys e =
-    let same : (length p / 255 ≡ length q / 255) × (length p % 255 ≡ length q % 255) × (xs ≡ ys) =
-    same_values (length p / 255) (length p % 255) (length q / 255) (length q % 255) xs ys (omega arith) (omega arith) (sym (spelled p xs) ∙ e ∙ spelled q ys) in
-    (whole (length p) (length q) same.0 same.1, same.2)
-  where
-    whole : (m n : ℕ) → m / 255 ≡ n / 255 → m % 255 ≡ n % 255 → m ≡ n
-    whole m n e f = omega (arith, e, f)
 
 not_nothing : (n a : ℕ) (xs : List ℕ) → replicate n 255 ++ a ∷ xs ≡ [] → ⊥
 not_nothing zero a xs e = cc
@@ -61,7 +51,7 @@ firsts (p ∷ packets) [] values bytes e f =
     (sym (append_assoc (lace p) (flat_map lace packets) values ∙ spelled p (flat_map lace packets ++ values)) ∙ e))
 firsts (p ∷ packets) (q ∷ all) values bytes e f =
     let same : (length p ≡ length q) × (flat_map lace packets ++ values ≡ flat_map lace all) =
-    same_first p q (flat_map lace packets ++ values) (flat_map lace all) (sym (append_assoc (lace p) (flat_map lace packets) values) ∙ e) in
+    same_lacing p q (flat_map lace packets ++ values) (flat_map lace all) (sym (append_assoc (lace p) (flat_map lace packets) values) ∙ e) in
     let parts : (p ≡ q) × (concat packets ++ bytes ≡ concat all) =
     same_parts p q (concat packets ++ bytes) (concat all) same.0 (sym (append_assoc p (concat packets) bytes) ∙ f) in
     ap (λ l. q ∷ l) (firsts packets all values bytes same.1 parts.1) ∙ ap (λ l. l ∷ packets) (sym parts.0)

@@ -1,12 +1,13 @@
 -- Lacing values are cut off one after the other.
-use Rattle.std.proofs.Common.{◌≡◌, ℕ, zero, suc, ◌+◌, ◌*◌, ◌/◌, ◌%◌, ◌<◌, ◌≤◌, List, [], ◌∷◌, ◌++◌, length, drop, replicate, refl, sym, ◌∙◌, ap, arith, append_assoc, append-nil, length-append, sum, get_or}
+use Rattle.std.proofs.Common.{◌≡◌, ℕ, suc, ◌+◌, ◌*◌, ◌<◌, ◌≤◌, List, [], ◌∷◌, ◌++◌, length, drop, replicate, refl, sym, ◌∙◌, ap, arith, append_assoc, append-nil, length-append, sum, get_or}
 use Rattle.std.specs.List.{flat_map, concat}
 use Rattle.std.proofs.lemmas.List.Concat.{flat_map-append}
 use Rattle.std.proofs.lemmas.List.Sums.{sum_by-drop_more}
 use Rattle.std.proofs.Math.ListN.{drop_of_length-le}
-use Rattle.ogg_page.specs.Lacing.{lace, lacing_of}
+use Rattle.ogg_page.specs.Lacing.{lace}
 use Rattle.ogg_page.specs.StreamLaws.{concat-append}
 use Rattle.import_gather.specs.Cutting.{CutsInto}
+use Rattle.link_chain.specs.Laws.LeftWhole.{lace_is, one_more_full}
 
 -- the values so far, with the bytes that are left of the body
 pub record CutSoFar (segments : ℕ) (rest values body : List ℕ) (packets : List (List ℕ)) (unfinished left : List ℕ) : Type 0 where
@@ -14,20 +15,6 @@ pub record CutSoFar (segments : ℕ) (rest values body : List ℕ) (packets : Li
   pub lacing : replicate segments 255 ++ values ≡ flat_map lace packets ++ replicate later 255
   pub bodies : rest ++ body ≡ concat packets ++ (unfinished ++ left)
   pub left_size : length unfinished ≡ 255 * later
-
-full_and : (n : ℕ) (values : List ℕ) → replicate n 255 ++ 255 ∷ values ≡ replicate (suc n) 255 ++ values
-full_and zero values = refl
-full_and (suc n) values = ap (λ l. 255 ∷ l) (full_and n values)
-
-one_more_full : (n : ℕ) (values : List ℕ) → values ≡ [] → replicate n 255 ++ 255 ∷ values ≡ replicate (suc n) 255
-one_more_full n values e = full_and n values ∙ ap (λ l. replicate (suc n) 255 ++ l) e ∙ append-nil (replicate (suc n) 255)
-
-lace_is : (packet : List ℕ) (segments value : ℕ) → value < 255 → length packet ≡ 255 * segments + value → lace packet ≡ replicate segments 255 ++ value ∷ []
-unfolding lacing_of
-lace_is packet segments value small e =
-    let whole : length packet / 255 ≡ segments = omega arith in
-    let last : length packet % 255 ≡ value = omega arith in
-    ap (λ n. replicate n 255 ++ length packet % 255 ∷ []) whole ∙ ap (λ n. replicate segments 255 ++ n ∷ []) last
 
 more_values : (segments later value : ℕ) (values : List ℕ) (packets : List (List ℕ)) → replicate segments 255 ++ values ≡ flat_map lace packets ++ replicate later 255 →
     replicate segments 255 ++ (values ++ value ∷ []) ≡ flat_map lace packets ++ (replicate later 255 ++ value ∷ [])
@@ -42,7 +29,7 @@ cut_full segments rest values body packets unfinished left piece others value fu
   later = suc c.later;
   lacing = more_values segments c.later value values packets c.lacing
       ∙ ap (λ v. flat_map lace packets ++ (replicate c.later 255 ++ v ∷ [])) full
-      ∙ ap (λ l. flat_map lace packets ++ l) (one_more_full c.later [] refl);
+      ∙ ap (λ l. flat_map lace packets ++ l) (one_more_full c.later [] ∙ append-nil (replicate (suc c.later) 255));
   bodies = c.bodies ∙ ap (λ l. concat packets ++ (unfinished ++ l)) split ∙ ap (λ l. concat packets ++ l) (sym (append_assoc unfinished piece others));
   left_size = length-append unfinished piece ∙ omega (arith, c.left_size, full, size);
 }

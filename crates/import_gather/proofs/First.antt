@@ -1,39 +1,23 @@
 -- A stream's first page.
-use Rattle.std.proofs.Common.{◌≡◌, ℕ, ◌+◌, ◌≤◌, Bool, true, false, cond, List, [], ◌∷◌, ◌++◌, refl, sym, ◌∙◌, ap, subst, arith, append-nil, sum}
-use Rattle.std.specs.Prelude.{nat_eq, not, ◌&&◌, ◌||◌, min}
+use Rattle.std.proofs.Common.{◌≡◌, ℕ, ◌+◌, ◌≤◌, Bool, true, false, cond, List, [], ◌∷◌, ◌++◌, refl, sym, ◌∙◌, ap, subst, arith, append-nil}
+use Rattle.std.specs.Prelude.{not, ◌||◌, min}
 use Rattle.std.specs.List.{list_any}
-use Rattle.std.proofs.lemmas.Bool.{eqb-true, ltb-true}
-use Rattle.std.proofs.lemmas.List.Sums.{sum_by-cons}
+use Rattle.std.proofs.lemmas.Bool.{and_parts}
 use Rattle.ogg_page.specs.Page.{Page, IsPage}
 use Rattle.ogg_page.specs.Lacing.{lace, lacing_of}
 use Rattle.ogg_page.specs.LogicalStream.{HoldsPackets, is_last, is_continued}
 use Rattle.link_chain.specs.Links.{pages_with}
 use Rattle.link_chain.specs.Recording.{Stream}
 use Rattle.link_chain.specs.Taking.{is_one_packet, is_whole_packet}
-use Rattle.link_chain.specs.Laws.Grow.{with_own, or_false}
-use Rattle.link_chain.specs.Laws.TakenLinks.{more_lacing, one_lacing}
+use Rattle.link_chain.specs.Laws.Grow.{with_own}
+use Rattle.link_chain.specs.Laws.TakenLinks.{whole_lacing}
 use Rattle.import_commands.specs.Headers.{header_count, is_vorbis, is_theora, is_opus, is_flac, is_speex, flac_headers, speex_headers}
 use Rattle.import_gather.specs.Headers.{is_skeleton, wanted_by}
 use Rattle.import_gather.specs.Limits.{most_headers}
 use Rattle.import_gather.specs.Kept.{entered}
 use Rattle.import_gather.specs.Gathered.{KeepsUp}
 use Rattle.import_gather.proofs.Issued.{stream_of}
-
-and_both : (a b : Bool) → (a && b) ≡ true → (a ≡ true) × (b ≡ true)
-and_both true b e = (refl, e)
-and_both false b e = cc
-
-whole_lacing : (lacing : List ℕ) → is_one_packet lacing ≡ true → lacing ≡ lacing_of (sum lacing)
-whole_lacing [] e = cc
-whole_lacing (value ∷ []) e =
-    one_lacing value (ltb-true value 255 e) ∙ ap lacing_of (sym (sum_by-cons (λ (x : ℕ). x) value [] ∙ omega arith))
-whole_lacing (value ∷ next ∷ values) e =
-    let parts : (nat_eq value 255 ≡ true) × (is_one_packet (next ∷ values) ≡ true) = and_both (nat_eq value 255) (is_one_packet (next ∷ values)) e in
-    let is : value ≡ 255 = eqb-true value 255 parts.0 in
-    ap (λ l. value ∷ l) (whole_lacing (next ∷ values) parts.1)
-    ∙ ap (λ v. v ∷ lacing_of (sum (next ∷ values))) is
-    ∙ sym (more_lacing (sum (next ∷ values)))
-    ∙ ap lacing_of (sym (sum_by-cons (λ (x : ℕ). x) value (next ∷ values) ∙ ap (λ v. v + sum (next ∷ values)) is))
+use Rattle.std.proofs.Math.Bool.{or-false}
 
 -- the stream that the page begins
 abbrev pub begun_by : Page → Stream
@@ -42,13 +26,13 @@ begun_by page = stream_of page.serial (page.body ∷ []) (is_last page)
 pub keeps_first : (pages : List Page) (page : Page) → IsPage page → is_whole_packet page ≡ true → pages_with page.serial pages ≡ [] → KeepsUp (pages ++ page ∷ []) (entered page) (begun_by page)
 keeps_first pages page is whole none =
     let own : pages_with page.serial (pages ++ page ∷ []) ≡ page ∷ [] = with_own page.serial pages (page ∷ []) (refl, tt) ∙ ap (λ (l : List Page). l ++ page ∷ []) none in
-    let lacing : page.lacing ≡ lace page.body = whole_lacing page.lacing (and_both (not (is_continued page)) (is_one_packet page.lacing) whole).1 ∙ ap lacing_of is.whole in
+    let lacing : page.lacing ≡ lace page.body = whole_lacing page.lacing (and_parts (not (is_continued page)) (is_one_packet page.lacing) whole).1 ∙ ap lacing_of is.whole in
     record {
       serial = refl;
       segments = 0;
       packets = subst (λ (l : List Page). HoldsPackets l (page.body ∷ []) 0 []) (sym own)
           (record { lacing = append-nil page.lacing ∙ lacing ∙ sym (append-nil (lace page.body)) ∙ sym (append-nil (lace page.body ++ [])); bodies = sym (append-nil (page.body ++ [])); rest_size = refl });
-      ended = sym (or_false (is_last page)) ∙ ap (list_any is_last) (sym own);
+      ended = sym (or-false (is_last page)) ∙ ap (list_any is_last) (sym own);
       marked = refl;
     }
 

@@ -2,7 +2,7 @@
 use Rattle.std.proofs.Common.{◌≡◌, ◌≢◌, ℕ, Bool, true, false, List, [], ◌∷◌, ◌++◌, refl, sym, ◌∙◌, ap, subst, arith, append-nil, inl, inr, None}
 use Rattle.std.specs.Prelude.{nat_eq, not, ◌||◌}
 use Rattle.std.specs.List.{list_any}
-use Rattle.std.proofs.lemmas.Bool.{cases_Bool, false≢true}
+use Rattle.std.proofs.lemmas.Bool.{cases_Bool, false≢true, not-false}
 use Rattle.std.proofs.lemmas.List.Folds.{list_any-append}
 use Rattle.ogg_page.specs.Page.{Page, IsPage, page_bytes}
 use Rattle.ogg_page.specs.LogicalStream.{is_first}
@@ -13,7 +13,7 @@ use Rattle.link_chain.specs.LinkLaws.{one_recording}
 use Rattle.link_chain.specs.Laws.Rules.{NoneBroken}
 use Rattle.link_chain.specs.Laws.PageRules.{later_kept, joining_kept, opening_kept}
 use Rattle.link_chain.specs.Laws.PageState.{begins_here, goes_on_open, goes_on_later, not_zero, absent, no_pages}
-use Rattle.link_chain.specs.Laws.LastLink.{known_stream, last_is_link, not_false, open_some}
+use Rattle.link_chain.specs.Laws.LastLink.{known_stream, last_is_link, open_some}
 use Rattle.link_chain.specs.Laws.StateBehind.{last_with, data_with, last_is}
 use Rattle.link_chain.specs.Laws.TakenLinks.{page_is_taken}
 use Rattle.chain_rules.specs.Recording.{Recording, HoldsLinks, after}
@@ -82,7 +82,7 @@ module _ (links : List (List Page)) (g : Gathered) (given : List Command) (page 
         taken (before_last links) (last_link links ++ page ∷ []) before last
             (subst (λ (l : KeptLink). HoldsSoFar (before_last links) (last_link links ++ page ∷ []) (state chain' l) (given ++ more)) (sym made.0)
             (subst (λ (m : List Command). HoldsSoFar (before_last links) (last_link links ++ page ∷ []) (state chain' (with_first page g.link)) (given ++ m)) (sym made.1)
-            (joins_on (before_last links) (last_link links) page g.link given g.chain chain' is first (not_false (is_whole_packet page) kept.1.1.0)
+            (joins_on (before_last links) (last_link links) page g.link given g.chain chain' is first (not-false (is_whole_packet page) kept.1.1.0)
             (no_pages (last_link links) page.serial bare_is fresh)
             (absent_all page.serial g.link.streams (ap (list_any (nat_eq page.serial)) h.so_far.order ∙ fresh))
             begun no_data so_far))),
@@ -107,7 +107,7 @@ module _ (links : List (List Page)) (g : Gathered) (given : List Command) (page 
       whole_held h.bytes links (begun_if (waits g.link) g.link) g.chain commands h.are (gives_on (before_last links) (last_link links) g.link given g.chain so_far)
       (none_waits g.link) (closed_where_ended h.bytes links h.are shut) in
       let part : HoldsSoFar links (page ∷ []) (state chain' (with_first page no_link)) (commands ++ []) =
-      joins_on links [] page no_link commands chain' chain' is first (not_false (is_whole_packet page) kept.0) refl tt refl no_data
+      joins_on links [] page no_link commands chain' chain' is first (not-false (is_whole_packet page) kept.0) refl tt refl no_data
       (no_pages_yet links (after [] commands) commands chain' no_data whole refl) in (
         taken links (page ∷ []) before last
             (subst (λ (l : KeptLink). HoldsSoFar links (page ∷ []) (state chain' l) (given ++ more)) (sym made.0)

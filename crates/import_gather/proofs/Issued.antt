@@ -8,12 +8,13 @@ use Rattle.ogg_page.specs.Page.{Page}
 use Rattle.ogg_page.specs.LogicalStream.{is_last}
 use Rattle.ogg_command.specs.declared.command.Command.TheVariants.{End as EndOf}
 use Rattle.ogg_command.specs.declared.command.Entry.{Entry}
-use Rattle.chain_rules.specs.Recording.{Stream, Recording, with_packet, with_end, change_last, add, after, begun}
-use Rattle.link_chain.specs.Laws.Grow.{or_false}
+use Rattle.chain_rules.specs.Recording.{Stream, Recording, with_packet, with_end, add, after, begun}
 use Rattle.import_commands.specs.Commands.{entry_of, put_of, end_of}
 use Rattle.import_gather.specs.Kept.{KeptStream, KeptLink}
 use Rattle.import_gather.specs.Giving.{new_stream, link_begin}
-use Rattle.import_gather.proofs.Others.{map_twice}
+use Rattle.std.proofs.Math.Bool.{or-false, or_assoc}
+use Rattle.link_chain.specs.Laws.StateBehind.{map-same, map-map}
+use Rattle.link_chain.specs.Laws.LastLink.{last_changed}
 
 abbrev pub stream_of : ℕ → List (List ℕ) → Bool → Stream
 stream_of serial packets ended = record { serial = serial; packets = packets; ended = ended }
@@ -24,14 +25,6 @@ grown packets last stream = stream_of stream.serial (stream.packets ++ packets) 
 -- the page's stream has these further packets, and ends or not
 abbrev pub grows : Page → List (List ℕ) → Bool → Stream → Stream
 grows page packets last stream = cond (nat_eq stream.serial page.serial) (grown packets last stream) stream
-
-pub map_alike : {A B : Type 0} (f g : A → B) → ((x : A) → f x ≡ g x) → (xs : List A) → map f xs ≡ map g xs
-map_alike f g h [] = refl
-map_alike f g h (x ∷ xs) = ap (λ y. y ∷ map f xs) (h x) ∙ ap (λ l. g x ∷ l) (map_alike f g h xs)
-
-or_assoc : (a b c : Bool) → ((a || b) || c) ≡ (a || (b || c))
-or_assoc true b c = refl
-or_assoc false b c = refl
 
 pub grows_own : (page : Page) (packets : List (List ℕ)) (last : Bool) (stream : Stream) → nat_eq stream.serial page.serial ≡ true → grows page packets last stream ≡ grown packets last stream
 grows_own page packets last stream e = cond-true (nat_eq stream.serial page.serial) (grown packets last stream) stream e
@@ -56,13 +49,13 @@ grows_nothing : (page : Page) (stream : Stream) → stream ≡ grows page [] fal
 grows_nothing page stream = by_case (nat_eq stream.serial page.serial)
   where
     by_case : (b : Bool) → stream ≡ cond b (grown [] false stream) stream
-    by_case true = ap (λ l. stream_of stream.serial l stream.ended) (sym (append-nil stream.packets)) ∙ ap (stream_of stream.serial (stream.packets ++ [])) (sym (or_false stream.ended))
+    by_case true = ap (λ l. stream_of stream.serial l stream.ended) (sym (append-nil stream.packets)) ∙ ap (stream_of stream.serial (stream.packets ++ [])) (sym (or-false stream.ended))
     by_case false = refl
 
 grows_packet : (page : Page) (packet : List ℕ) (stream : Stream) →
     cond (nat_eq stream.serial page.serial) (stream_of stream.serial (stream.packets ++ packet ∷ []) stream.ended) stream ≡ grows page (packet ∷ []) false stream
 grows_packet page packet stream =
-    ap (λ e. cond (nat_eq stream.serial page.serial) (stream_of stream.serial (stream.packets ++ packet ∷ []) e) stream) (sym (or_false stream.ended))
+    ap (λ e. cond (nat_eq stream.serial page.serial) (stream_of stream.serial (stream.packets ++ packet ∷ []) e) stream) (sym (or-false stream.ended))
 
 or_true : (a : Bool) → true ≡ (a || true)
 or_true true = refl
@@ -81,16 +74,11 @@ folded page [] streams = unchanged streams
     unchanged (s ∷ streams) = ap (λ x. x ∷ streams) (grows_nothing page s) ∙ ap (λ l. grows page [] false s ∷ l) (unchanged streams)
 folded page (packet ∷ packets) streams =
     folded page packets (with_packet streams (entry_of page packet))
-    ∙ ap (map (grows page packets false)) (map_alike _ (grows page (packet ∷ []) false) (grows_packet page packet) streams)
-    ∙ map_twice (grows page packets false) (grows page (packet ∷ []) false) streams
-    ∙ map_alike (λ s. grows page packets false (grows page (packet ∷ []) false s)) (grows page (packet ∷ packets) false) (λ s. grows_twice page (packet ∷ []) packets false false s) streams
+    ∙ ap (map (grows page packets false)) (map-same _ (grows page (packet ∷ []) false) (grows_packet page packet) streams)
+    ∙ map-map (grows page packets false) (grows page (packet ∷ []) false) streams
+    ∙ map-same (λ s. grows page packets false (grows page (packet ∷ []) false s)) (grows page (packet ∷ packets) false) (λ s. grows_twice page (packet ∷ []) packets false false s) streams
 
 -- ---- the last link
-last_changed : (change : List Stream → List Stream) (done : Recording) (streams : List Stream) → change_last change (done ++ streams ∷ []) ≡ done ++ change streams ∷ []
-last_changed change [] streams = refl
-last_changed change (r ∷ []) streams = refl
-last_changed change (r ∷ s ∷ done) streams = ap (λ l. r ∷ l) (last_changed change (s ∷ done) streams)
-
 after_put : (done : Recording) (streams : List Stream) (entries : List Entry) → after (done ++ streams ∷ []) (put_of entries) ≡ done ++ fold with_packet streams entries ∷ []
 after_put done streams [] = refl
 after_put done streams (entry ∷ entries) = last_changed (λ link. fold with_packet link (entry ∷ entries)) done streams
@@ -103,9 +91,9 @@ after_end done streams page packets = by_case (is_last page)
     by_case true =
         last_changed (with_end page.serial) done (map (grows page packets false) streams)
         ∙ ap (λ l. done ++ l ∷ [])
-        (map_alike _ (grows page [] true) (grows_end page) (map (grows page packets false) streams)
-        ∙ map_twice (grows page [] true) (grows page packets false) streams
-        ∙ map_alike (λ s. grows page [] true (grows page packets false s)) (grows page packets true)
+        (map-same _ (grows page [] true) (grows_end page) (map (grows page packets false) streams)
+        ∙ map-map (grows page [] true) (grows page packets false) streams
+        ∙ map-same (λ s. grows page [] true (grows page packets false s)) (grows page packets true)
         (λ s. grows_twice page packets [] false true s ∙ ap (λ l. grows page l true s) (append-nil packets)) streams)
     by_case false = refl
 
@@ -135,15 +123,15 @@ after_ends done streams [] = ap (λ l. done ++ l ∷ []) (unchanged streams)
   where
     unchanged : (streams : List Stream) → streams ≡ map (ended_by []) streams
     unchanged [] = refl
-    unchanged (s ∷ streams) = ap (λ e. stream_of s.serial s.packets e ∷ streams) (sym (or_false s.ended)) ∙ ap (λ l. ended_by [] s ∷ l) (unchanged streams)
+    unchanged (s ∷ streams) = ap (λ e. stream_of s.serial s.packets e ∷ streams) (sym (or-false s.ended)) ∙ ap (λ l. ended_by [] s ∷ l) (unchanged streams)
 after_ends done streams (serial ∷ ends) =
     ap (λ r. after r (map (λ serial. EndOf serial) ends)) (last_changed (with_end serial) done streams)
     ∙ after_ends done (with_end serial streams) ends
-    ∙ ap (λ l. done ++ l ∷ []) (map_twice (ended_by ends) _ streams ∙ map_alike _ (ended_by (serial ∷ ends)) (one_end serial ends) streams)
+    ∙ ap (λ l. done ++ l ∷ []) (map-map (ended_by ends) _ streams ∙ map-same _ (ended_by (serial ∷ ends)) (one_end serial ends) streams)
 
 pub after_begin : (done : Recording) (link : KeptLink) → after done (link_begin link) ≡ done ++ map (begun_as link.ends) link.streams ∷ []
 after_begin done link =
     after_ends done (map begun (map new_stream link.streams)) link.ends
     ∙ ap (λ l. done ++ l ∷ [])
-    (ap (map (ended_by link.ends)) (map_twice begun new_stream link.streams)
-    ∙ map_twice (ended_by link.ends) (λ k. begun (new_stream k)) link.streams)
+    (ap (map (ended_by link.ends)) (map-map begun new_stream link.streams)
+    ∙ map-map (ended_by link.ends) (λ k. begun (new_stream k)) link.streams)

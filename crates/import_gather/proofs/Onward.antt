@@ -2,7 +2,7 @@
 use Rattle.std.proofs.Common.{◌≡◌, ℕ, Bool, true, false, cond, List, [], ◌∷◌, ◌++◌, length, map, drop, refl, sym, ◌∙◌, ap, subst, append-nil, inl, inr, arith, ◌<◌}
 use Rattle.std.specs.Prelude.{nat_eq, not, ◌&&◌, ◌||◌}
 use Rattle.std.specs.List.{AllByRecursion, AllZip, IsDistinct}
-use Rattle.std.proofs.lemmas.Bool.{cases_Bool, ne_eqb, false≢true}
+use Rattle.std.proofs.lemmas.Bool.{cases_Bool, ne_eqb, false≢true, or_parts}
 use Rattle.std.proofs.lemmas.List.{map-append}
 use Rattle.std.proofs.lemmas.List.Sums.{fold-append}
 use Rattle.ogg_page.specs.Page.{Page, IsPage}
@@ -19,11 +19,12 @@ use Rattle.import_gather.specs.Headers.{lacking}
 use Rattle.import_gather.specs.Kept.{KeptStream, KeptLink, TakenBy, has_some, is_ready, waits, no_link, entered, ends_by}
 use Rattle.import_gather.specs.Giving.{Follows, bare, begun_link, begun_if, begin_if, begins_now, link_begin, marked, page_end, with_first}
 use Rattle.import_gather.specs.Gathered.{Gathered, KeepsUp, AreWanted, Waits, HoldsSoFar, held_back}
-use Rattle.import_gather.proofs.Others.{serials, Others, apart, zip_push, zip_weaker, zip_all, map_each, map_twice}
+use Rattle.import_gather.proofs.Others.{serials, Others, apart, zip_push, zip_weaker, zip_all, map_each}
 use Rattle.import_gather.proofs.Issued.{stream_of, grows, begun_as, after_page, after_begin}
 use Rattle.import_gather.proofs.Pages.{keeps_other, keeps_bare}
 use Rattle.import_gather.proofs.First.{keeps_first, begun_by, one_wanted}
 use Rattle.import_gather.proofs.Steps.{Taken, taken_last, taken_serials, taken_wanted, Marks, marks, begun_same, kept_same, ends_more}
+use Rattle.link_chain.specs.Laws.StateBehind.{map-map}
 
 some_is : {A : Type 0} (x : A) (list : List A) → has_some (x ∷ list) ≡ true
 some_is x list = ap not (ne_eqb (length (x ∷ list)) 0 (λ e. absurd (omega (arith, e))))
@@ -35,10 +36,6 @@ has_more (y ∷ front) x back = some_is y (front ++ x ∷ back)
 pub nothing_in : {A : Type 0} (list : List A) → has_some list ≡ false → list ≡ []
 nothing_in [] e = refl
 nothing_in (x ∷ list) e = absurd (false≢true (sym e ∙ some_is x list))
-
-or_no : (a b : Bool) → (a || b) ≡ false → (a ≡ false) × (b ≡ false)
-or_no true b e = cc
-or_no false b e = (refl, e)
 
 and_true : (a b : Bool) → a ≡ false → (not a && b) ≡ b
 and_true true b e = cc
@@ -72,7 +69,7 @@ given_more : (given more : List Command) (r s : Recording) → after [] given �
 given_more given more r s e f = fold-append add [] given more ∙ ap (λ x. after x more) e ∙ f
 
 bare_serials : (streams : List KeptStream) → serials (map bare streams) ≡ serials streams
-bare_serials streams = map_twice (λ (k : KeptStream). k.serial) bare streams
+bare_serials streams = map-map (λ (k : KeptStream). k.serial) bare streams
 
 bare_zip : (pages : List Page) (streams : List KeptStream) (held : List Stream) → AllZip (KeepsUp pages) streams held → AllZip (KeepsUp pages) (map bare streams) held
 bare_zip pages streams held z =
@@ -194,7 +191,7 @@ follows_on front pages page link new given more chain chain' unmarked distinct h
                 (on_begin front pages page link f.streams f.later given chain chain' unmarked h t waits_is))
             | inr wait ↦
                 (let is = at false (and_true link.begun (has_some f.later || is_ready f.streams) waits_is ∙ wait) in
-                let parts : (has_some f.later ≡ false) × (is_ready f.streams ≡ false) = or_no (has_some f.later) (is_ready f.streams) wait in
+                let parts : (has_some f.later ≡ false) × (is_ready f.streams ≡ false) = or_parts (has_some f.later) (is_ready f.streams) wait in
                 let none : f.later ≡ [] = nothing_in f.later parts.0 in
                 moved (record { streams = f.streams; begun = link.begun; ends = link.ends ++ ends_by page }) new [] more
                 (sym (ap (λ b. cond b middle (record middle { ends = link.ends ++ ends_by page })) waits_is) ∙ is.0)

@@ -108,7 +108,3 @@ zip_all R P h (a ∷ xs) (b ∷ ys) z = (h a b z.0, zip_all R P h xs ys z.1)
 pub map_each : {B : Type 0} (P : KeptStream → Type 0) (f g : KeptStream → B) (streams : List KeptStream) → AllByRecursion P streams → ((k : KeptStream) → P k → f k ≡ g k) → map f streams ≡ map g streams
 map_each P f g [] all h = refl
 map_each P f g (k ∷ streams) all h = ap (λ x. x ∷ map f streams) (h k all.0) ∙ ap (λ l. g k ∷ l) (map_each P f g streams all.1 h)
-
-pub map_twice : {A B C : Type 0} (g : B → C) (f : A → B) (xs : List A) → map g (map f xs) ≡ map (λ x. g (f x)) xs
-map_twice g f [] = refl
-map_twice g f (x ∷ xs) = ap (λ l. g (f x) ∷ l) (map_twice g f xs)

@@ -1,21 +1,23 @@
 -- What the pages of a link hold, with another page.
-use Rattle.std.proofs.Common.{◌≡◌, ℕ, zero, suc, Bool, true, false, List, [], ◌∷◌, ◌++◌, length, replicate, refl, sym, ◌∙◌, ap, subst, arith, append_assoc, append-nil}
+use Rattle.std.proofs.Common.{◌≡◌, ℕ, Bool, true, false, List, [], ◌∷◌, ◌++◌, length, replicate, refl, sym, ◌∙◌, ap, subst, arith, append_assoc, append-nil}
 use Rattle.std.specs.Prelude.{nat_eq, ◌||◌}
 use Rattle.std.specs.List.{flat_map, concat, list_any}
 use Rattle.std.proofs.lemmas.List.Concat.{flat_map-append}
-use Rattle.std.proofs.lemmas.Bool.{eqb-false, eq-eqb, false≢true}
+use Rattle.std.proofs.lemmas.Bool.{eqb-false, eq-eqb}
 use Rattle.ogg_page.specs.Page.{Page}
 use Rattle.ogg_page.specs.Lacing.{lace, ends_open}
 use Rattle.ogg_page.specs.LogicalStream.{HoldsPackets, joined_lacing, joined_bodies, is_last}
-use Rattle.ogg_page.specs.StreamLaws.{concat-append, ends_open-append, ends_open-laces, ends_open-at}
+use Rattle.ogg_page.specs.StreamLaws.{concat-append}
 use Rattle.link_chain.specs.Links.{pages_with, has_ended}
 use Rattle.link_chain.specs.Recording.{Stream, HoldsStream}
-use Rattle.link_chain.specs.Laws.Grow.{with_own, with_other, or_false}
+use Rattle.link_chain.specs.Laws.Grow.{with_own, with_other}
 use Rattle.import_gather.specs.Kept.{KeptStream}
 use Rattle.import_gather.specs.Cutting.{CutsInto, EndIn}
 use Rattle.import_gather.specs.Giving.{bare}
 use Rattle.import_gather.specs.Gathered.{KeepsUp}
 use Rattle.import_gather.proofs.Issued.{grown, grows, grows_own, grows_other}
+use Rattle.std.proofs.Math.Bool.{or-false}
+use Rattle.link_chain.specs.Laws.LeftWhole.{no_segment}
 
 -- the packets that end in the page are the next ones
 pub held_more : (before : List Page) (page : Page) (packets : List (List ℕ)) (segments : ℕ) (rest : List ℕ) (more : List (List ℕ)) (left : List ℕ) → HoldsPackets before packets segments rest →
@@ -59,7 +61,7 @@ ended_own pages page serial own =
     or_more false b c = refl
 
     any_push : (l : List Page) → list_any is_last (l ++ page ∷ []) ≡ (list_any is_last l || is_last page)
-    any_push [] = or_false (is_last page)
+    any_push [] = or-false (is_last page)
     any_push (p ∷ l) = ap (λ b. is_last p || b) (any_push l) ∙ or_more (is_last p) (list_any is_last l) (is_last page)
 
 -- the page's stream has the packets that end in it
@@ -93,18 +95,6 @@ pub keeps_bare : (pages : List Page) (kept : KeptStream) (stream : Stream) → K
 keeps_bare pages kept stream k = record { serial = k.serial; segments = k.segments; packets = k.packets; ended = k.ended; marked = k.marked }
 
 -- ---- a stream whose last packet is whole
-full_open : (n : ℕ) → ends_open (replicate (suc n) 255) ≡ true
-full_open n = ap ends_open (sym (append-nil (replicate (suc n) 255)) ∙ turn n []) ∙ ends_open-at (replicate n 255) 255 []
-  where
-    turn : (n : ℕ) (values : List ℕ) → replicate (suc n) 255 ++ values ≡ replicate n 255 ++ 255 ∷ values
-    turn zero values = refl
-    turn (suc n) values = ap (λ l. 255 ∷ l) (turn n values)
-
-no_segment : (packets : List (List ℕ)) (segments : ℕ) → ends_open (flat_map lace packets ++ replicate segments 255) ≡ false → segments ≡ 0
-no_segment packets zero closed = refl
-no_segment packets (suc n) closed =
-    absurd (false≢true (sym closed ∙ ends_open-append (flat_map lace packets) (replicate (suc n) 255) (ends_open-laces packets) ∙ full_open n))
-
 pub keeps_whole : (pages : List Page) (kept : KeptStream) (stream : Stream) → ends_open (joined_lacing (pages_with kept.serial pages)) ≡ false → KeepsUp pages kept stream → HoldsStream pages kept.serial stream
 keeps_whole pages kept stream closed k =
     let none : k.segments ≡ 0 = no_segment stream.packets k.segments (ap ends_open (sym k.packets.lacing) ∙ closed) in

@@ -8,9 +8,7 @@ use Rattle.ogg_page.specs.PageLaws.{page_fits}
 use Rattle.ogg_page.specs.Lacing.{lace, lacing_of}
 use Rattle.import_gather.specs.Limits.{longest_packet}
 use Rattle.import_gather.specs.Cutting.{CutsInto, EndIn, first_size}
-
-parts : {X : Type 0} (x y : X) (xs ys : List X) → x ∷ xs ≡ y ∷ ys → (x ≡ y) × (xs ≡ ys)
-parts x y xs ys e = (cc, cc)
+use Rattle.link_chain.specs.Laws.Fronts.{parts_of}
 
 first_ends : (value : ℕ) (values : List ℕ) → value < 255 → first_size (value ∷ values) ≡ value
 first_ends value values small = cond-true (nat_lt value 255) value (value + first_size values) (lt-ltb value 255 small)
@@ -22,10 +20,10 @@ first_is zero (suc full) value values others small e =
     let rest : 255 * full + value ≡ 255 * 0 + first_size (replicate full 255 ++ value ∷ others) = first_is zero full value (replicate full 255 ++ value ∷ others) others small refl in
     omega (arith, ap first_size e, rest)
 first_is (suc before) zero value values others small e =
-    let head : 255 ≡ value = (parts 255 value (replicate before 255 ++ values) others e).0 in
+    let head : 255 ≡ value = (parts_of 255 value (replicate before 255 ++ values) others e).0 in
     absurd (omega (arith, head, small))
 first_is (suc before) (suc full) value values others small e =
-    let tail : replicate before 255 ++ values ≡ replicate full 255 ++ value ∷ others = (parts 255 255 (replicate before 255 ++ values) (replicate full 255 ++ value ∷ others) e).1 in
+    let tail : replicate before 255 ++ values ≡ replicate full 255 ++ value ∷ others = (parts_of 255 255 (replicate before 255 ++ values) (replicate full 255 ++ value ∷ others) e).1 in
     omega (arith, first_is before full value values others small tail)
 
 -- no packet ends
@@ -33,7 +31,7 @@ goes_on : (before full : ℕ) (values : List ℕ) → replicate before 255 ++ va
 goes_on zero zero values e = omega (arith, ap first_size e)
 goes_on zero (suc full) values e = omega (arith, ap first_size e, goes_on zero full (replicate full 255) refl)
 goes_on (suc before) zero values e = cc
-goes_on (suc before) (suc full) values e = omega (arith, goes_on before full values (parts 255 255 (replicate before 255 ++ values) (replicate full 255) e).1)
+goes_on (suc before) (suc full) values e = omega (arith, goes_on before full values (parts_of 255 255 (replicate before 255 ++ values) (replicate full 255) e).1)
 
 first_packet : (before : ℕ) (values packet others : List ℕ) → replicate before 255 ++ values ≡ lace packet ++ others → length packet ≡ 255 * before + first_size values
 unfolding lacing_of

@@ -8,14 +8,16 @@ use Rattle.ogg_page.specs.Page.{Page}
 use Rattle.ogg_page.specs.LogicalStream.{is_last}
 use Rattle.link_chain.specs.Links.{with_pages, has_ended}
 use Rattle.link_chain.specs.ChainState.{last_link}
-use Rattle.link_chain.specs.Laws.Grow.{ended_both, or_false}
+use Rattle.link_chain.specs.Laws.Grow.{ended_both}
 use Rattle.chain_rules.specs.Recording.{Stream}
 use Rattle.import_gather.specs.Headers.{lacking}
 use Rattle.import_gather.specs.Kept.{KeptStream, KeptLink, TakenBy, ends_by, room_of}
 use Rattle.import_gather.specs.Gathered.{KeepsUp, AreWanted, before_last, held_back}
-use Rattle.import_gather.proofs.Others.{serials, Others, map_step, all_step, zip_step, zip_all, map_twice}
+use Rattle.import_gather.proofs.Others.{serials, Others, map_step, all_step, zip_step, zip_all}
 use Rattle.import_gather.proofs.Issued.{stream_of, grows, grows_own, grows_other, begun_as}
 use Rattle.import_gather.proofs.Pages.{keeps_grown, keeps_beside}
+use Rattle.std.proofs.Math.Bool.{or-false}
+use Rattle.link_chain.specs.Laws.StateBehind.{map-map}
 
 -- ---- the last link
 pub before_with : (links : List (List Page)) (pages : List Page) → before_last (with_pages links pages) ≡ before_last links
@@ -84,7 +86,7 @@ begun_same page link streams pages held later t waits_is ends kept =
     let last : Bool = is_last page in
     let p : List (List ℕ) = k.takes.packets in
     let n : ℕ = room_of link.begun k.stream in
-    map_twice (grows page later last) (begun_as link.ends) streams
+    map-map (grows page later last) (begun_as link.ends) streams
     ∙ ap (map (λ x. grows page later last (begun_as link.ends x))) k.is
     ∙ map_step page.serial k.stream k.changed (Marks pages) (λ x. grows page later last (begun_as link.ends x)) (λ x. grows page p last (held_back x)) k.front k.back t.front t.back
     (zip_all (KeepsUp pages) (Marks pages) (marks pages) (k.front ++ k.stream ∷ k.back) held t.last)
@@ -98,7 +100,7 @@ begun_same page link streams pages held later t waits_is ends kept =
     ∙ ap (λ b. stream_of k.stream.serial (k.changed.headers ++ later) (b || last)) (ends k.stream.serial ∙ sym m)
     ∙ ap (λ l. stream_of k.stream.serial l (k.stream.ended || last)) (ap (λ l. l ++ later) k.takes.headers ∙ ap (λ l. (k.stream.headers ++ take n p) ++ l) k.takes.others ∙ shared k.stream.headers n p)
     ∙ sym (grows_own page p last (held_back k.stream) (eq-eqb k.stream.serial page.serial k.own)))
-    ∙ sym (map_twice (grows page p last) held_back (k.front ++ k.stream ∷ k.back))
+    ∙ sym (map-map (grows page p last) held_back (k.front ++ k.stream ∷ k.back))
     ∙ ap (λ l. map (grows page p last) (map held_back l)) (sym k.was)
     ∙ ap (map (grows page p last)) (sym kept)
 
@@ -113,7 +115,7 @@ kept_same page link streams pages held later t none kept =
     let all : k.changed.headers ≡ k.stream.headers ++ p =
     k.takes.headers ∙ sym (append-nil (k.stream.headers ++ take n p)) ∙ ap (λ l. (k.stream.headers ++ take n p) ++ l) (sym (sym k.takes.others ∙ none)) ∙ shared k.stream.headers n p in
     ap (map (grows page p last)) (kept ∙ ap (map held_back) k.was)
-    ∙ map_twice (grows page p last) held_back (k.front ++ k.stream ∷ k.back)
+    ∙ map-map (grows page p last) held_back (k.front ++ k.stream ∷ k.back)
     ∙ sym (map_step page.serial k.stream k.changed (Marks pages) held_back (λ x. grows page p last (held_back x)) k.front k.back t.front t.back
     (zip_all (KeepsUp pages) (Marks pages) (marks pages) (k.front ++ k.stream ∷ k.back) held t.last)
     (λ x other m. sym (grows_other page p last (held_back x) other))
@@ -171,7 +173,7 @@ ends_more pages page ends h serial =
     pick false last e = refl
 
     fold_in : (b last : Bool) → list_any (nat_eq serial) (cond last (page.serial ∷ []) []) ≡ cond (nat_eq serial page.serial) (last || false) false
-    fold_in b true = or_false (nat_eq serial page.serial) ∙ as_cond (nat_eq serial page.serial)
+    fold_in b true = or-false (nat_eq serial page.serial) ∙ as_cond (nat_eq serial page.serial)
       where
         as_cond : (b : Bool) → b ≡ cond b true false
         as_cond true = refl

@@ -1,14 +1,13 @@
 -- If nothing waits and no packet is unfinished, the commands hold all links.
 use Rattle.std.proofs.Common.{◌≡◌, ◌≢◌, ℕ, ◌<◌, Bool, true, false, cond, List, [], ◌∷◌, ◌++◌, length, map, refl, sym, ◌∙◌, ap, subst, arith, inl, inr}
-use Rattle.std.specs.Prelude.{not, ◌&&◌, ◌||◌, IsTrue}
-use Rattle.std.specs.List.{AllByRecursion, AllZip, list_any, filter}
+use Rattle.std.specs.Prelude.{not, ◌&&◌, IsTrue}
+use Rattle.std.specs.List.{AllByRecursion, AllZip, filter}
 use Rattle.std.proofs.lemmas.Bool.{cases_Bool, cond-true, false≢true}
 use Rattle.ogg_page.specs.Page.{Page}
-use Rattle.ogg_page.specs.Lacing.{ends_open}
-use Rattle.ogg_page.specs.LogicalStream.{joined_lacing, is_first}
-use Rattle.ogg_page.specs.StreamLaws.{finished, last_closes}
+use Rattle.ogg_page.specs.LogicalStream.{is_first}
+use Rattle.ogg_page.specs.StreamLaws.{finished}
 use Rattle.link_chain.specs.declared.stream_state.StreamState.{StreamState}
-use Rattle.link_chain.specs.Links.{IsLink, AreLinks, pages_with, serials_of, has_ended}
+use Rattle.link_chain.specs.Links.{IsLink, AreLinks, pages_with, serials_of}
 use Rattle.link_chain.specs.Recording.{Stream, Recording, HoldsStream, HoldsLink, HoldsLinks}
 use Rattle.link_chain.specs.ChainState.{ChainState, chain_state_of, state_of, last_link, is_open}
 use Rattle.link_chain.specs.Laws.LastLink.{last_is_link, any_map}
@@ -20,27 +19,14 @@ use Rattle.import_gather.proofs.Others.{serials, zip_push, zip_weaker, zip_all}
 use Rattle.import_gather.proofs.Pages.{keeps_whole}
 use Rattle.import_gather.proofs.Steps.{and_its_last}
 use Rattle.import_gather.proofs.Onward.{state, nothing_in}
-
--- the last packet of the stream with this serial is whole
-abbrev pub IsClosed : List Page → ℕ → Type 0
-IsClosed pages serial = ends_open (joined_lacing (pages_with serial pages)) ≡ false
+use Rattle.link_chain.specs.Laws.LeftWhole.{IsClosed, closed_by_end}
 
 -- ---- a stream that has ended
-closed_ends : (pages : List Page) (numbers : List ℕ) → IsLink pages → list_any (λ serial. not (has_ended pages serial)) numbers ≡ false → AllByRecursion (IsClosed pages) numbers
-closed_ends pages [] link e = tt
-closed_ends pages (serial ∷ numbers) link e =
-    let parts : (has_ended pages serial ≡ true) × (list_any (λ s. not (has_ended pages s)) numbers ≡ false) = both (has_ended pages serial) (list_any (λ s. not (has_ended pages s)) numbers) e in
-    (last_closes [] (pages_with serial pages) (link.streams serial) refl parts.0, closed_ends pages numbers link parts.1)
-  where
-    both : (a b : Bool) → (not a || b) ≡ false → (a ≡ true) × (b ≡ false)
-    both true b e = (refl, e)
-    both false b e = cc
-
 pub closed_where_ended : (bytes : List ℕ) (links : List (List Page)) → AreLinks bytes links → is_open (chain_state_of links) ≡ false → AllByRecursion (IsClosed (last_link links)) (serials_of (last_link links))
 closed_where_ended bytes [] are e = tt
 closed_where_ended bytes (link ∷ links) are e =
     let last : List Page = last_link (link ∷ links) in
-    closed_ends last (serials_of last) (last_is_link (link ∷ links) are.each (λ f. cc))
+    closed_by_end last (serials_of last) (last_is_link (link ∷ links) are.each (λ f. cc))
     (sym (any_map (λ (s : StreamState). not s.ended) (state_of last) (serials_of last)) ∙ e)
 
 -- ---- links that hold a recording

@@ -20,7 +20,7 @@ use Rattle.import_gather.specs.Giving.{Follows, begins_now, begun_if}
 use Rattle.import_gather.specs.Kept.{KeptLink, has_kept, is_too_long, rest_of}
 use Rattle.import_mend.specs.Gives.{GathersLeft, Gives, Mending}
 use Rattle.import_mend.specs.Mended.{behind_rest, ends_some, front_values, is_cut, is_joined, left_whole, mended, without_values}
-use Rattle.import_mend.specs.Runs.{ArePut, AreRun, BeginsRun, ComeOut, GoOnUntold, HoldWhole, counts, is_left_out, packets_of, run_of}
+use Rattle.import_mend.specs.Runs.{AreRun, BeginsRun, GoOnUntold, HoldWhole, counts, is_left_out, run_of}
 use Rattle.import_mend.specs.Steps.{Mends, broken_off}
 use Rattle.import_mend.specs.Telling.{mend_of}
 use Rattle.import_mend.specs.Ways.{is_repeated, number_due, way_of}
@@ -36,8 +36,9 @@ use Rattle.import_mend.proofs.Kepts.{begun_rest, rest_after, rest_before, rest_e
 use Rattle.import_mend.proofs.Origins.{Known, broken_rest, finished_rest, is_known, mended_position}
 use Rattle.import_mend.proofs.Sound.{whole_left}
 use Rattle.import_mend.proofs.Taken.{restarts_first, taken_later}
-use Rattle.import_mend.proofs.Waiting.{IsBare, StepOut, marked_same, no_step, other_step, own_step, packet_in, steps_on, waiting_dropped}
+use Rattle.import_mend.proofs.Waiting.{StepOut, marked_same, no_step, other_step, own_step, packet_in, steps_on, waiting_dropped}
 use Rattle.import_mend.proofs.WholeRuns.{first_whole, hold_as, one_more}
+use Rattle.link_chain.specs.Laws.Fronts.{push_not_nil}
 
 -- ---- what is told of a page that is taken
 abbrev pub told_by : Bool → Bool → Bool → Bool → Mend → Mend → Mend → Option Mend
@@ -320,10 +321,6 @@ not_left serial page mend e =
     no true f = cc
     no false f = refl
 
-pub some_run : (run : List Page) (page : Page) → run ++ page ∷ [] ≢ []
-some_run [] page e = cc
-some_run (p ∷ run) page e = cc
-
 pub goes_on : (serial : ℕ) (later : List LentAt) (mends : List (Option Mend)) (old new : Mending) (before given : List Command) (links : List (List Page)) → HasMended links old.gathered before
     → AllByRecursion IsPage (pages_of later) → GoOnUntold serial later mends → TakesPages later old new mends given → (run : List Page) (entries : List Entry) → run ≢ []
     → (whole : HoldWhole serial run entries) → whole.unfinished ≡ rest_of serial old.gathered.link.streams
@@ -400,7 +397,7 @@ goes_on serial (lent ∷ later) (mend ∷ mends) old new before given links h (i
         let (now, left) = one_more serial run entries page o.packets o.left same_serial some whole
         (subst (λ r. CutsInto whole.segments r page.lacing page.body o.packets o.left) same o.cuts) in
         finish (map (entry_of page) o.packets) (page ∷ []) (subst (λ n. StepOut n (map (entry_of page) o.packets) old.gathered.link next.gathered.link own) same_serial o.out)
-        (on (run ++ page ∷ []) (entries ++ map (entry_of page) o.packets) (some_run run page) now
+        (on (run ++ page ∷ []) (entries ++ map (entry_of page) o.packets) (push_not_nil run page) now
         (left ∙ sym o.after ∙ ap (λ n. rest_of n next.gathered.link.streams) same_serial))
         (sym (cond-true (counts serial page mend) (page ∷ run_of serial later mends) (run_of serial later mends) counted))
 

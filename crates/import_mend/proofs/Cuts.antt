@@ -11,7 +11,6 @@ use Rattle.ogg_page.specs.Page.{Page, IsPage, IsByte}
 use Rattle.ogg_page.specs.Lacing.{ends_open, lace}
 use Rattle.ogg_page.specs.LogicalStream.{EachBehind, FitsBehind, HoldsPackets, is_continued, is_last, joined_bodies, joined_lacing}
 use Rattle.ogg_page.specs.StreamLaws.{ends_open-at, ends_open-lace, ends_open-laces, some_values}
-use Rattle.link_chain.specs.Laws.Grow.{all_both}
 use Rattle.link_chain.specs.Laws.LastLink.{all_split}
 use Rattle.import_mend.specs.Cut.{cut_before, cut_flags, cut_page, cut_pages, some_ends}
 use Rattle.import_mend.specs.Mended.{ends_some, whole_values, with_values}
@@ -19,6 +18,7 @@ use Rattle.import_mend.proofs.Alike.{Alike, AreAlike, any_alike, itself, none_al
 use Rattle.import_mend.proofs.Fits.{closed_end, some_whole, whole_length}
 use Rattle.import_mend.proofs.Kept.{with_is_page, flagged, either_page, front_fits}
 use Rattle.import_mend.proofs.Lacings.{full_sum, full_values, none_whole, some_both, whole_closed, whole_front, whole_later, whole_within}
+use Rattle.ogg_page.specs.Laws.PageBytes.{all_both}
 
 -- ---- a page
 loses_flag : Page → Bool

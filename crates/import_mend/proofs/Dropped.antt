@@ -23,6 +23,7 @@ use Rattle.import_gather.specs.Gathered.{AreWanted, Gathered, HasGathered, Holds
 use Rattle.import_gather.specs.Kept.{KeptStream, is_ready, is_waiting, kept_bytes, rest_of, size_of_rest, without_rest}
 use Rattle.import_mend.specs.Cut.{cut_back, cut_before, cut_links, cut_pages}
 use Rattle.import_mend.proofs.Alike.{Alike, AreAlike, any_alike, ended_alike, itself, link_alike, number_alike, position_alike, serials_alike, with_alike}
+use Rattle.import_mend.proofs.Kepts.{serials}
 use Rattle.import_mend.proofs.Cuts.{before_alike, before_is_page, cut_closed, cut_fits, cut_holds, less_bodies, less_lacing}
 
 -- ---- the pages of the last link
@@ -183,9 +184,6 @@ size_cut serial n (l ∷ k ∷ links) e =
     size_last (l ∷ n ∷ links) some = omega (arith, sum_by-cons size_of_pages l (n ∷ links), size_last (n ∷ links) (λ f. cc))
 
 -- ---- what is kept of the streams
-abbrev named : List KeptStream → List ℕ
-named streams = map (λ (k : KeptStream). k.serial) streams
-
 -- the pages of a stream hold packets, and then this rest of one
 pub record HoldsRest (pages : List Page) (rest : List ℕ) : Type 0 where
   pub packets : List (List ℕ)
@@ -193,7 +191,7 @@ pub record HoldsRest (pages : List Page) (rest : List ℕ) : Type 0 where
   pub holds : HoldsPackets pages packets segments rest
 
 pub find_rest : (serial : ℕ) (pages : List Page) (streams : List KeptStream) (held : List Stream) → AllZip (KeepsUp pages) streams held
-    → (list_any (nat_eq serial) (named streams) ≡ false → pages_with serial pages ≡ []) → HoldsRest (pages_with serial pages) (rest_of serial streams)
+    → (list_any (nat_eq serial) (serials streams) ≡ false → pages_with serial pages ≡ []) → HoldsRest (pages_with serial pages) (rest_of serial streams)
 find_rest serial pages [] [] z none =
     record { packets = []; segments = 0; holds = subst (λ (l : List Page). HoldsPackets l [] 0 []) (sym (none refl)) (record { lacing = refl; bodies = refl; rest_size = refl }) }
 find_rest serial pages [] (s ∷ held) z none = absurd z
@@ -209,7 +207,7 @@ find_rest serial pages (k ∷ streams) (s ∷ held) z none =
           }
       | inr other ↦
           subst (λ (l : List ℕ). HoldsRest (pages_with serial pages) l) (sym (cond-false (nat_eq k.serial serial) k.rest (rest_of serial streams) (ne_eqb k.serial serial other)))
-          (find_rest serial pages streams held z.1 (λ e. none (ap (λ b. b || list_any (nat_eq serial) (named streams)) (ne_eqb serial k.serial (λ f. other (sym f))) ∙ e)))
+          (find_rest serial pages streams held z.1 (λ e. none (ap (λ b. b || list_any (nat_eq serial) (serials streams)) (ne_eqb serial k.serial (λ f. other (sym f))) ∙ e)))
     ]
 
 -- without a rest nothing else changes

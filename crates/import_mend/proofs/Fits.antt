@@ -3,7 +3,7 @@ use Rattle.std.proofs.Common.{◌≡◌, ◌≢◌, ◌≤◌, ◌<◌, ℕ, zer
 use Rattle.std.specs.Prelude.{nat_eq, nat_lt, not, ◌&&◌, ◌||◌, is_none}
 use Rattle.std.specs.Option.{option_map_or}
 use Rattle.std.proofs.lemmas.Bool.{cases_Bool, cond-true, cond-false, ne_eqb, ltb-true, ltb-false, le-ltb, eq-eqb}
-use Rattle.std.proofs.lemmas.List.{length-take-le}
+use Rattle.std.proofs.lemmas.List.{length-map, length-take-le}
 use Rattle.std.proofs.lemmas.List.Sums.{sum_by-cons}
 use Rattle.ogg_page.specs.Page.{Page, IsPage}
 use Rattle.ogg_page.specs.Lacing.{ends_open}
@@ -22,6 +22,7 @@ use Rattle.import_mend.specs.Mended.{behind_rest, ends_some, is_joined, mended, 
 use Rattle.import_mend.specs.Steps.{broken_off}
 use Rattle.import_mend.specs.Ways.{number_due}
 use Rattle.import_mend.proofs.Kept.{behind_last, mended_first, mended_last, mended_serial, joined_behind, joined_continued, broken_continued, mended_is_page}
+use Rattle.import_mend.proofs.Lacings.{whole_within}
 
 -- ---- a page that isn't its stream's first
 pub later_fits : (chain : ChainState) (page : Page) (stream : StreamState) → is_first page ≡ false → nat_eq chain.links 0 ≡ false
@@ -94,6 +95,13 @@ pub broken_known : (joined : Bool) (serial : ℕ) (gathered : Gathered) (stream 
 broken_known true serial gathered stream known = known
 broken_known false serial gathered stream known = found_changed serial whole_stream gathered.chain.streams stream (λ s. refl) known
 
+pub broken_count : (joined : Bool) (serial : ℕ) (g : Gathered) → length (broken_off joined serial g).chain.streams ≡ length g.chain.streams
+broken_count true serial g = refl
+broken_count false serial g = length-map g.chain.streams (change_at serial whole_stream)
+
+pub some_same : {a b : StreamState} → Some a ≡ Some b → a ≡ b
+some_same e = cc
+
 pub broken_links : (joined : Bool) (serial : ℕ) (gathered : Gathered) → (broken_off joined serial gathered).chain.links ≡ gathered.chain.links
 broken_links true serial gathered = refl
 broken_links false serial gathered = refl
@@ -108,16 +116,8 @@ some_whole [] e f = cc
 some_whole (value ∷ values) e f =
     absurd (omega (arith, sym (cond-true (ends_some (value ∷ values)) (suc (whole_values values)) 0 e) ∙ f))
 
-whole_fits : (values : List ℕ) → whole_values values ≤ length values
-whole_fits [] = omega arith
-whole_fits (value ∷ values) = by_case (ends_some (value ∷ values)) (whole_values values) (whole_fits values)
-  where
-    by_case : (b : Bool) (n : ℕ) → n ≤ length values → cond b (suc n) 0 ≤ length (value ∷ values)
-    by_case true n le = omega (arith, le)
-    by_case false n le = omega arith
-
 pub whole_length : (values : List ℕ) → length (take (whole_values values) values) ≡ whole_values values
-whole_length values = length-take-le (whole_values values) values (whole_fits values)
+whole_length values = length-take-le (whole_values values) values (whole_within values)
 
 -- they end with one that isn't full
 closing : (value : ℕ) (front : List ℕ) → ends_open front ≡ false → (front ≡ [] → nat_lt value 255 ≡ true) → ends_open (value ∷ front) ≡ false

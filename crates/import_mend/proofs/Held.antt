@@ -32,6 +32,7 @@ use Rattle.import_mend.proofs.Dropped.{HoldsRest, absent_pages, drops, find_rest
 use Rattle.import_mend.proofs.Lacings.{whole_within}
 use Rattle.import_mend.proofs.Sound.{InTurn, StaysAsItIs, none_lost, sound_page}
 use Rattle.import_mend.proofs.Taken.{if_taken, stranger, full}
+use Rattle.import_mend.proofs.Fits.{some_same}
 
 -- ---- the unfinished packet of a stream is dropped, or not
 pub dropped_goes_on : (serial : ℕ) (links : List (List Page)) (g : Gathered) (given : List Command) → HasMended links g given → HasMended (cut_links serial links) (without_packet serial g) given
@@ -66,9 +67,6 @@ known_later chain lost page later way = at (stream_in chain.streams page.serial)
         let a = if_taken (nat_le (2 ^ 62) chain.length_of) Full (cond (is_first page) (way_of_first chain page) known) full way in
         absurd (stranger (ap (way_of_known chain lost page) (sym e) ∙ sym (cond-false (is_first page) (way_of_first chain page) known later) ∙ a.1))
 
-same_stream : {a b : StreamState} → Some a ≡ Some b → a ≡ b
-same_stream e = cc
-
 -- the page is left out
 left_out : (links : List (List Page)) (old new : Mending) (given more : List Command) → (new ≡ old) × (more ≡ []) → HasMended links old.gathered given → HasMended links new.gathered (given ++ more)
 left_out links old new given more e h =
@@ -91,7 +89,7 @@ becomes Take offset lost page old new mend given more links way g h =
             links_later lost stream page old.gathered links,
             (
               (λ first. absurd (false≢true (sym later ∙ first))),
-              (λ _ other is. ap (λ (s : StreamState). links_later lost s page old.gathered links) (same_stream (sym known ∙ is))),
+              (λ _ other is. ap (λ (s : StreamState). links_later lost s page old.gathered links) (some_same (sym known ∙ is))),
             ),
             (g.1 later stream known).0.goes_on (broken_links joined page.serial links) given broken.0 broken.1,
           ))

@@ -7,7 +7,7 @@ use Rattle.ogg_page.specs.Page.{Page}
 use Rattle.ogg_page.specs.LogicalStream.{is_last}
 use Rattle.link_chain.specs.declared.stream_state.StreamState.{StreamState}
 use Rattle.link_chain.specs.Progress.{change_at, stream_in}
-use Rattle.link_chain.specs.Laws.Grow.{all_both, all_weaker}
+use Rattle.link_chain.specs.Laws.Grow.{all_weaker}
 use Rattle.link_chain.specs.Laws.LastLink.{all_split}
 use Rattle.ogg_command.specs.declared.command.Command.{Command}
 use Rattle.ogg_command.specs.declared.command.Command.TheVariants.{Begin as BeginOf, Put as PutOf, End as EndOf}
@@ -18,6 +18,7 @@ use Rattle.import_gather.specs.Giving.{Follows, bare, begin_if, begins_now, begu
 use Rattle.import_gather.specs.Kept.{KeptLink, KeptStream, TakenBy, TakesPage, ends_by, has_kept, rest_of, room_of, without_rest}
 use Rattle.import_mend.specs.Origin.{CommandFrom, ComesFrom, HeaderFrom, KeptFrom}
 use Rattle.import_mend.proofs.Runs.{comes_more}
+use Rattle.ogg_page.specs.Laws.PageBytes.{all_both}
 
 abbrev pub serials : List KeptStream → List ℕ
 serials streams = map (λ (k : KeptStream). k.serial) streams

@@ -8,14 +8,7 @@ use Rattle.ogg_page.specs.Page.{IsByte}
 use Rattle.ogg_page.specs.Lacing.{ends_open}
 use Rattle.ogg_page.specs.StreamLaws.{ends_open-at}
 use Rattle.import_mend.specs.Mended.{ends_some, whole_values}
-
-or_false : (b : Bool) → (b || false) ≡ b
-or_false true = refl
-or_false false = refl
-
-or_true : (b : Bool) → (b || true) ≡ true
-or_true true = refl
-or_true false = refl
+use Rattle.std.proofs.Math.Bool.{or-false, or-true}
 
 pub none_whole : (values : List ℕ) → ends_some values ≡ false → whole_values values ≡ 0
 none_whole [] e = refl
@@ -36,14 +29,14 @@ some_both a b = list_any-append (λ (value : ℕ). nat_lt value 255) a b
 pub whole_later : (a b : List ℕ) → ends_some b ≡ true → whole_values (a ++ b) ≡ length a + whole_values b
 whole_later [] b e = omega arith
 whole_later (v ∷ a) b e =
-    let some : ends_some ((v ∷ a) ++ b) ≡ true = some_both (v ∷ a) b ∙ ap (λ x. ends_some (v ∷ a) || x) e ∙ or_true (ends_some (v ∷ a)) in
+    let some : ends_some ((v ∷ a) ++ b) ≡ true = some_both (v ∷ a) b ∙ ap (λ x. ends_some (v ∷ a) || x) e ∙ or-true (ends_some (v ∷ a)) in
     omega (arith, cond-true (ends_some ((v ∷ a) ++ b)) (suc (whole_values (a ++ b))) 0 some, whole_later a b e)
 
 -- none does
 pub whole_front : (a b : List ℕ) → ends_some b ≡ false → whole_values (a ++ b) ≡ whole_values a
 whole_front [] b e = none_whole b e
 whole_front (v ∷ a) b e =
-    ap (λ x. cond x (suc (whole_values (a ++ b))) 0) (some_both (v ∷ a) b ∙ ap (λ x. ends_some (v ∷ a) || x) e ∙ or_false (ends_some (v ∷ a)))
+    ap (λ x. cond x (suc (whole_values (a ++ b))) 0) (some_both (v ∷ a) b ∙ ap (λ x. ends_some (v ∷ a) || x) e ∙ or-false (ends_some (v ∷ a)))
     ∙ ap (λ n. cond (ends_some (v ∷ a)) (suc n) 0) (whole_front a b e)
 
 -- if the last value isn't full, that is all of them
@@ -60,7 +53,7 @@ whole_closed (v ∷ w ∷ values) bytes closed =
     let rest : whole_values (w ∷ values) ≡ length (w ∷ values) = whole_closed (w ∷ values) bytes.1 (sym (ends_open-at (v ∷ []) w values) ∙ closed) in
     elim (cases_Bool (ends_some (w ∷ values))) [
       | inl some ↦
-          (let more : ends_some (v ∷ w ∷ values) ≡ true = ap (λ b. nat_lt v 255 || b) some ∙ or_true (nat_lt v 255) in
+          (let more : ends_some (v ∷ w ∷ values) ≡ true = ap (λ b. nat_lt v 255 || b) some ∙ or-true (nat_lt v 255) in
           omega (arith, cond-true (ends_some (v ∷ w ∷ values)) (suc (whole_values (w ∷ values))) 0 more, rest))
       | inr none ↦ absurd (omega (arith, none_whole (w ∷ values) none, rest))
     ]

@@ -13,7 +13,6 @@ use Rattle.link_chain.specs.ChainState.{ChainState, chain_state_of, is_open}
 use Rattle.link_chain.specs.Followed.{after_page, continued, entered, followed, joined as joined_chain, opened}
 use Rattle.link_chain.specs.Progress.{change_at, stream_in, left_whole as whole_stream}
 use Rattle.link_chain.specs.Taking.{is_whole_packet}
-use Rattle.link_chain.specs.Laws.Grow.{all_both}
 use Rattle.link_chain.specs.Laws.PageRules.{joining_kept}
 use Rattle.ogg_command.specs.declared.command.Command.{Command}
 use Rattle.import_gather.specs.Gathered.{Gathered}
@@ -27,12 +26,13 @@ use Rattle.import_mend.specs.Whole.{IsStart, TakesPages, lost_of, pages_of}
 use Rattle.import_mend.specs.declared.mend.Mend.{Mend}
 use Rattle.import_mend.specs.declared.ways.Way.{Way}
 use Rattle.import_mend.specs.declared.ways.Way.TheVariants.{Take, Restart, Stranger, Repeated, Misshapen, Full}
-use Rattle.import_mend.proofs.Fits.{broken_length}
+use Rattle.import_mend.proofs.Fits.{broken_length, broken_count, broken_links}
 use Rattle.import_mend.proofs.Held.{known_later}
 use Rattle.import_mend.proofs.Kept.{mended_first, mended_is_page, mended_last}
 use Rattle.import_mend.proofs.Open.{none_unended}
 use Rattle.import_mend.proofs.Rooms.{numbers_stay, open_few, some_open}
 use Rattle.import_mend.proofs.Taken.{TakenLater, first_fits, full, if_taken, repeated, restarts_first, stranger, taken_later}
+use Rattle.ogg_page.specs.Laws.PageBytes.{all_both}
 
 -- ---- what is known of a page that is taken
 leaves_one : (page : Page) (n : ℕ) → leaves_number page n ≡ true → is_last page ≡ false → n + 1 < 2 ^ 32
@@ -122,14 +122,6 @@ broken_numbers : (joined : Bool) (serial : ℕ) (g : Gathered) → AllByRecursio
 broken_numbers true serial g all = all
 broken_numbers false serial g all = numbers_stay serial whole_stream g.chain.streams (λ s h. h) all
 
-broken_links_same : (joined : Bool) (serial : ℕ) (g : Gathered) → (broken_off joined serial g).chain.links ≡ g.chain.links
-broken_links_same true serial g = refl
-broken_links_same false serial g = refl
-
-broken_count : (joined : Bool) (serial : ℕ) (g : Gathered) → length (broken_off joined serial g).chain.streams ≡ length g.chain.streams
-broken_count true serial g = refl
-broken_count false serial g = length-map g.chain.streams (change_at serial whole_stream)
-
 room_later : (lost : ℕ) (page : Page) (stream' : StreamState) (g : Gathered) (new : ChainState) → IsPage page → HasRoom g.chain → is_first page ≡ false → way_of g.chain lost page ≡ Take
     → stream_in g.chain.streams page.serial ≡ Some stream' → new ≡ after_later lost stream' page g → HasRoom new
 room_later lost page stream' g new is r later way known e =
@@ -142,7 +134,7 @@ room_later lost page stream' g new is r later way known e =
     let after : new ≡ continued b.chain m = e ∙ cond-false (is_first m) (cond (is_open b.chain) (joined_chain b.chain m) (opened b.chain m)) (continued b.chain m) (mended_first joined number page ∙ later) in
     record {
       few = omega (arith, r.few, ap (λ (c : ChainState). length c.streams) after, length-map b.chain.streams (change_at m.serial (followed m)), broken_count joined page.serial g);
-      links = λ _. ap (λ (c : ChainState). nat_eq c.links 0) after ∙ ap (λ n. nat_eq n 0) (broken_links_same joined page.serial g) ∙ t.links;
+      links = λ _. ap (λ (c : ChainState). nat_eq c.links 0) after ∙ ap (λ n. nat_eq n 0) (broken_links joined page.serial g) ∙ t.links;
       numbers = subst (λ (c : ChainState). AllByRecursion HasNumber c.streams) (sym after)
           (numbers_stay m.serial (followed m) b.chain.streams
           (λ s h f. leaves_one page number (later_numbered g.chain lost page stream' later known way) (sym (mended_last joined number page) ∙ (or_parts s.ended (is_last m) f).1))

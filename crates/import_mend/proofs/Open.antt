@@ -8,6 +8,7 @@ use Rattle.link_chain.specs.declared.stream_state.StreamState.{StreamState}
 use Rattle.link_chain.specs.Places.{HaveOwnSerials}
 use Rattle.link_chain.specs.Progress.{change_at, stream_in}
 use Rattle.link_chain.specs.Laws.OwnSerials.{found_there, lacking_stay}
+use Rattle.import_mend.proofs.Fits.{some_same}
 
 abbrev unended : StreamState → Bool
 unended stream = not stream.ended
@@ -50,9 +51,6 @@ none_open (x ∷ xs) e =
     some_none e = cc
 
 -- ---- the first open stream is ended
-same_some : {a b : StreamState} → Some a ≡ Some b → a ≡ b
-same_some e = cc
-
 none_left : (x : StreamState) (xs : List StreamState) → unended x ≡ false → filter unended (x ∷ xs) ≡ filter unended xs
 none_left x xs e = cond-false (unended x) (x ∷ filter unended xs) (filter unended xs) e
 
@@ -70,7 +68,7 @@ ends_first change keeps (x ∷ xs) stream own ends e =
     let xs' : List StreamState = map (change_at stream.serial change) xs in
     elim (cases_Bool (unended x)) [
       | inl here ↦
-          (let is : x ≡ stream = same_some (sym (cond-true (unended x) (Some x) (find unended xs) here) ∙ e) in
+          (let is : x ≡ stream = some_same (sym (cond-true (unended x) (Some x) (find unended xs) here) ∙ e) in
           let changed : x' ≡ change x = cond-true (nat_eq x.serial stream.serial) (change x) x (eq-eqb x.serial stream.serial (ap (λ (s : StreamState). s.serial) is)) in
           let closed : unended x' ≡ false = ap unended changed ∙ ap (λ (s : StreamState). unended (change s)) is ∙ ap not ends in
           let rest : xs' ≡ xs = ap (λ (s : StreamState). map (change_at s.serial change) xs) (sym is) ∙ lacking_stay x.serial change xs own.0 in

@@ -13,7 +13,7 @@ use Rattle.link_chain.specs.Followed.{continued, followed, joined as joined_chai
 use Rattle.link_chain.specs.Links.{has_stream, pages_with}
 use Rattle.link_chain.specs.Progress.{change_at, stream_in, left_whole as whole_stream}
 use Rattle.link_chain.specs.Taking.{leaves_open}
-use Rattle.link_chain.specs.Laws.Grow.{all_both, all_filter, all_weaker}
+use Rattle.link_chain.specs.Laws.Grow.{all_filter, all_weaker}
 use Rattle.link_chain.specs.Laws.LastLink.{known_stream, last_is_link}
 use Rattle.link_chain.specs.Laws.OwnSerials.{serial_in, serials_stay}
 use Rattle.ogg_command.specs.declared.command.Command.{Command}
@@ -32,7 +32,7 @@ use Rattle.import_mend.specs.declared.ways.Way.{Way}
 use Rattle.import_mend.specs.declared.ways.Way.TheVariants.{Take, Stranger, Repeated, Full}
 use Rattle.import_mend.proofs.Cuts.{lacing_bytes}
 use Rattle.import_mend.proofs.Dropped.{HoldsRest, absent_pages, find_rest, pages_of_last}
-use Rattle.import_mend.proofs.Fits.{broken_known, broken_stream, found_changed, four_parts, no_rest}
+use Rattle.import_mend.proofs.Fits.{broken_known, broken_stream, found_changed, four_parts, no_rest, broken_count, some_same}
 use Rattle.import_mend.proofs.Held.{broken_goes_on, rest_size}
 use Rattle.import_mend.proofs.Kept.{either_has, left_has, mended_first, mended_last, mended_serial}
 use Rattle.import_mend.proofs.Kepts.{FollowsFrom, command_more, follows_from, is_kept, kept_more, other_found, rest_after, rest_before, rest_dropped, serials, without_from}
@@ -41,6 +41,7 @@ use Rattle.import_mend.proofs.Lost.{lost_other, lost_own, same_place}
 use Rattle.import_mend.proofs.Parts.{CutHas, PageHas, cut_has, fresh_has, goes_on_has}
 use Rattle.import_mend.proofs.Runs.{rest_more}
 use Rattle.import_mend.proofs.Taken.{TakenLater, full, if_taken, repeated, stranger, taken_later}
+use Rattle.ogg_page.specs.Laws.PageBytes.{all_both}
 
 -- ---- by more pages nothing is lost
 pub headers_more : (seen more : List Page) (streams : List KeptStream) → AllByRecursion (KeptFrom seen) streams → AllByRecursion (KeptFrom (seen ++ more)) streams
@@ -61,9 +62,6 @@ origin_more seen more state given o = record {
 }
 
 -- ---- a stream of the last link, and what is kept of it
-some_same : {a b : StreamState} → Some a ≡ Some b → a ≡ b
-some_same e = cc
-
 pub record Known (links : List (List Page)) (g : Gathered) (serial : ℕ) (stream : StreamState) : Type 0 where
   pub is : stream ≡ state_of (last_link links) serial
   pub kept : has_kept serial g.link.streams ≡ true
@@ -172,10 +170,6 @@ length_lost losses streams serial count = at (place_in streams serial)
 broken_serials : (joined : Bool) (serial : ℕ) (g : Gathered) → map serial_in (broken_off joined serial g).chain.streams ≡ map serial_in g.chain.streams
 broken_serials true serial g = refl
 broken_serials false serial g = serials_stay serial whole_stream g.chain.streams (λ s. refl)
-
-broken_count : (joined : Bool) (serial : ℕ) (g : Gathered) → length (broken_off joined serial g).chain.streams ≡ length g.chain.streams
-broken_count true serial g = refl
-broken_count false serial g = length-map g.chain.streams (change_at serial whole_stream)
 
 broken_found : (joined : Bool) (serial other : ℕ) (g : Gathered) → (other ≡ serial → ⊥) → stream_in (broken_off joined serial g).chain.streams other ≡ stream_in g.chain.streams other
 broken_found true serial other g ne = refl

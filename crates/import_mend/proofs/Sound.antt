@@ -31,6 +31,7 @@ use Rattle.import_mend.specs.declared.ways.Way.{Way}
 use Rattle.import_mend.specs.declared.ways.Way.TheVariants.{Take, Restart, Stranger, Repeated, Misshapen, Full}
 use Rattle.import_mend.proofs.Lacings.{none_whole, whole_closed}
 use Rattle.import_mend.proofs.Taken.{unchanged}
+use Rattle.std.proofs.Math.Bool.{and-false}
 
 -- ---- no page was lost
 pub all_none : (count : ℕ) → LostNone (replicate count 0)
@@ -72,14 +73,6 @@ pub record InTurn (chain : ChainState) (page : Page) : Type 0 where
   pub numbered : leaves_number page page.sequence ≡ true
   pub small : chain.length_of < 2 ^ 62
 
-and_no : (b : Bool) → (b && false) ≡ false
-and_no true = refl
-and_no false = refl
-
-or_no : (b : Bool) → (b || false) ≡ b
-or_no true = refl
-or_no false = refl
-
 -- a stream's first page
 first_chosen : (chain : ChainState) (page : Page) → not (is_whole_packet page) ≡ false → is_one_more chain page ≡ false → leaves_number page page.sequence ≡ true → restarts chain page ≡ false →
     way_of_first chain page ≡ Take
@@ -95,7 +88,7 @@ first_turn chain page first t =
       | inl opened ↦
           (let kept : NoneBroken (joining_rules chain page) = joining_kept chain page first opened t.follows in
           let again : restarts chain page ≡ false =
-          ap (λ b. is_open chain && (b || is_some (stream_in chain.streams page.serial))) kept.0 ∙ ap (λ b. is_open chain && b) kept.1.0 ∙ and_no (is_open chain) in
+          ap (λ b. is_open chain && (b || is_some (stream_in chain.streams page.serial))) kept.0 ∙ ap (λ b. is_open chain && b) kept.1.0 ∙ and-false (is_open chain) in
           let few : is_one_more chain page ≡ false =
           cond-true (is_open chain && not (restarts chain page)) (nat_le 64 (length chain.streams)) (nat_le 65536 chain.links)
           (ap (λ b. b && not (restarts chain page)) opened ∙ ap not again)
@@ -175,7 +168,7 @@ closed_last : (page : Page) (stream : StreamState) → (is_last page && leaves_o
 closed_last page stream e = at page.lacing e
   where
     at : (lacing : List ℕ) → (is_last page && cond (nat_eq (length lacing) 0) (not stream.finished) (ends_open lacing)) ≡ false → (is_last page && ends_open lacing) ≡ false
-    at [] e' = and_no (is_last page)
+    at [] e' = and-false (is_last page)
     at (v ∷ lacing) e' =
         ap (λ b. is_last page && b)
         (sym (cond-false (nat_eq (length (v ∷ lacing)) 0) (not stream.finished) (ends_open (v ∷ lacing)) (ne_eqb (length (v ∷ lacing)) 0 (λ f. omega (arith, f)))))

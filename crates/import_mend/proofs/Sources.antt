@@ -1,10 +1,9 @@
 -- Where what is kept and given comes from, after first pages, ends, and all pages.
-use Rattle.std.proofs.Common.{◌≡◌, ℕ, ◌+◌, ◌^◌, ◌<◌, Bool, true, false, cond, List, [], ◌∷◌, ◌++◌, length, map, sum, Option, Some, None, refl, sym, ◌∙◌, ap, subst, arith, inl, inr, append_assoc, append-nil, length-append, replicate}
+use Rattle.std.proofs.Common.{◌≡◌, ℕ, ◌+◌, ◌^◌, ◌<◌, Bool, true, false, cond, List, [], ◌∷◌, ◌++◌, length, map, Option, Some, None, refl, sym, ◌∙◌, ap, subst, arith, inl, inr, append_assoc, append-nil, length-append, replicate}
 use Rattle.std.specs.Prelude.{nat_eq, nat_le, not, ◌||◌}
 use Rattle.std.specs.List.{AllByRecursion}
-use Rattle.std.proofs.lemmas.Bool.{cases_Bool, cases_eq, cond-true, cond-false, eqb-true, leb-false, ltb-true, and_parts, false≢true}
+use Rattle.std.proofs.lemmas.Bool.{cases_Bool, cases_eq, cond-true, cond-false, leb-false, and_parts, false≢true, not-false}
 use Rattle.std.proofs.lemmas.List.{length-map, length-set}
-use Rattle.std.proofs.lemmas.List.Sums.{sum_by-cons}
 use Rattle.ogg_page.specs.Page.{Page, IsPage}
 use Rattle.ogg_page.specs.Lacing.{ends_open, lace, lacing_of}
 use Rattle.ogg_page.specs.LogicalStream.{is_continued, is_first}
@@ -15,11 +14,9 @@ use Rattle.link_chain.specs.ChainState.{ChainState, chain_state_of, is_open}
 use Rattle.link_chain.specs.Followed.{after_page, continued, entered, followed, joined as joined_chain, opened}
 use Rattle.link_chain.specs.Progress.{change_at, stream_in, left_whole as whole_stream}
 use Rattle.link_chain.specs.Taking.{fault_of_page, is_one_packet, is_whole_packet}
-use Rattle.link_chain.specs.Laws.Grow.{all_both}
-use Rattle.link_chain.specs.Laws.LastLink.{not_false}
 use Rattle.link_chain.specs.Laws.OwnSerials.{serial_in, serials_stay}
 use Rattle.link_chain.specs.Laws.PageRules.{joining_kept, opening_kept}
-use Rattle.link_chain.specs.Laws.TakenLinks.{more_lacing, one_lacing}
+use Rattle.link_chain.specs.Laws.TakenLinks.{whole_lacing}
 use Rattle.ogg_command.specs.declared.command.Command.{Command}
 use Rattle.import_gather.specs.Cutting.{CutsInto}
 use Rattle.import_gather.specs.Gathered.{Gathered, without_packet}
@@ -36,7 +33,7 @@ use Rattle.import_mend.specs.Whole.{HasMended, IsStart, TakesPages, links_ended,
 use Rattle.import_mend.specs.declared.mend.Mend.{Mend}
 use Rattle.import_mend.specs.declared.ways.Way.{Way}
 use Rattle.import_mend.specs.declared.ways.Way.TheVariants.{Take, Restart, Stranger, Repeated, Misshapen, Full}
-use Rattle.import_mend.proofs.Fits.{broken_known, found_changed, no_rest}
+use Rattle.import_mend.proofs.Fits.{broken_known, found_changed, no_rest, some_same}
 use Rattle.import_mend.proofs.Held.{becomes, dropped_goes_on, each_ended, known_later}
 use Rattle.import_mend.proofs.Kepts.{FollowsFrom, begin_if_from, follows_from, other_found, pushed_found, rest_before, rest_dropped, without_from}
 use Rattle.import_mend.proofs.Lost.{same_place}
@@ -44,23 +41,9 @@ use Rattle.import_mend.proofs.Origins.{Known, commands_more, headers_more, is_kn
 use Rattle.import_mend.proofs.Parts.{alone, no_packets}
 use Rattle.import_mend.proofs.Runs.{laced_length}
 use Rattle.import_mend.proofs.Taken.{first_fits, restarts_first}
-
-some_same : {a b : StreamState} → Some a ≡ Some b → a ≡ b
-some_same e = cc
+use Rattle.ogg_page.specs.Laws.PageBytes.{all_both}
 
 -- ---- a first page
-whole_lacing : (lacing : List ℕ) → is_one_packet lacing ≡ true → lacing ≡ lacing_of (sum lacing)
-whole_lacing [] e = cc
-whole_lacing (value ∷ []) e =
-    one_lacing value (ltb-true value 255 e) ∙ ap lacing_of (sym (sum_by-cons (λ x. x) value [] ∙ omega arith))
-whole_lacing (value ∷ next ∷ values) e =
-    let parts : (nat_eq value 255 ≡ true) × (is_one_packet (next ∷ values) ≡ true) = and_parts (nat_eq value 255) (is_one_packet (next ∷ values)) e in
-    let is : value ≡ 255 = eqb-true value 255 parts.0 in
-    ap (λ l. value ∷ l) (whole_lacing (next ∷ values) parts.1)
-    ∙ ap (λ v. v ∷ lacing_of (sum (next ∷ values))) is
-    ∙ sym (more_lacing (sum (next ∷ values)))
-    ∙ ap lacing_of (sym (sum_by-cons (λ x. x) value (next ∷ values) ∙ ap (λ v. v + sum (next ∷ values)) is))
-
 record FirstPage (page : Page) : Type 0 where
   is : IsPage page
   own : is_continued page ≡ false
@@ -261,11 +244,11 @@ origin_first seen page old new given more is o first fits chain t lost =
     elim (cases_Bool (is_open old.gathered.chain)) [
       | inl open' ↦
           (let kept = joining_kept old.gathered.chain page first open' fits in
-          origin_joins seen page old new given more o (first_page page is (not_false (is_whole_packet page) kept.1.1.0)) first open' kept.0
+          origin_joins seen page old new given more o (first_page page is (not-false (is_whole_packet page) kept.1.1.0)) first open' kept.0
           (leb-false 64 (length old.gathered.chain.streams) kept.1.1.1.0) chain t lost)
       | inr closed ↦
           (let kept = opening_kept old.gathered.chain page first closed fits in
-          origin_opens seen page old.losses old.gathered new given more (first_page page is (not_false (is_whole_packet page) kept.0)) first closed o.losses o.headers o.commands chain t lost)
+          origin_opens seen page old.losses old.gathered new given more (first_page page is (not-false (is_whole_packet page) kept.0)) first closed o.losses o.headers o.commands chain t lost)
     ]
 
 pub origin_page : (way : Way) (seen : List Page) (offset : ℕ) (page : Page) (old new : Mending) (mend : Option Mend) (given more : List Command) (links : List (List Page)) → way_of old.gathered.chain (lost_of old page) page ≡ way

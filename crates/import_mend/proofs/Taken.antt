@@ -1,7 +1,7 @@
 -- What is known of a page that is taken.
 use Rattle.std.proofs.Common.{◌≡◌, ◌<◌, ℕ, ◌-◌, ◌^◌, Bool, true, false, cond, Some, None, refl, sym, ◌∙◌, ap, arith, inl, inr}
 use Rattle.std.specs.Prelude.{nat_eq, nat_lt, nat_le, not, is_some, length, Option, ◌&&◌, ◌||◌}
-use Rattle.std.proofs.lemmas.Bool.{cases_Bool, cond-true, cond-false, eqb-true, leb-false, ltb-true, and_parts}
+use Rattle.std.proofs.lemmas.Bool.{cases_Bool, cond-true, cond-false, eqb-true, leb-false, ltb-true, and_parts, or_parts}
 use Rattle.ogg_page.specs.Page.{Page}
 use Rattle.ogg_page.specs.LogicalStream.{is_first, is_last, is_continued}
 use Rattle.link_chain.specs.declared.stream_state.StreamState.{StreamState}
@@ -85,10 +85,6 @@ misshapen e = cc
 restart : Restart ≡ Take → ⊥
 restart e = cc
 
-or_none : (a b : Bool) → (a || b) ≡ false → (a ≡ false) × (b ≡ false)
-or_none true b e = cc
-or_none false b e = (refl, e)
-
 pub first_fits : (chain : ChainState) (lost : ℕ) (page : Page) → is_first page ≡ true → way_of chain lost page ≡ Take → fault_of_page chain page ≡ None
 first_fits chain lost page first way =
     let later : Way = way_of_known chain lost page (stream_in chain.streams page.serial) in
@@ -102,7 +98,7 @@ first_fits chain lost page first way =
     let e = if_taken (restarts chain page) Restart Take restart d.1 in
     elim (cases_Bool (is_open chain)) [
       | inl opened ↦
-          (let none = or_none chain.has_data (is_some (stream_in chain.streams page.serial))
+          (let none = or_parts chain.has_data (is_some (stream_in chain.streams page.serial))
           (sym (ap (λ b. b && (chain.has_data || is_some (stream_in chain.streams page.serial))) opened) ∙ e.0) in
           let few : nat_le 64 (length chain.streams) ≡ false =
           sym (cond-true (is_open chain && not (restarts chain page)) (nat_le 64 (length chain.streams)) (nat_le 65536 chain.links)

@@ -12,7 +12,7 @@ use Rattle.import_commands.specs.Commands.{entry_of, put_of}
 use Rattle.import_gather.specs.Giving.{Follows, bare, begin_if, begins_now, begun_if, marked, new_stream, page_end}
 use Rattle.import_gather.specs.Kept.{KeptLink, KeptStream, TakenBy, ends_by, has_some, is_ready, room_of, without_rest}
 use Rattle.import_mend.specs.Runs.{ArePut, ComeOut, entries_in, headers_in, is_of, packets_in, waiting_in}
-use Rattle.import_mend.proofs.Kepts.{serials}
+use Rattle.import_mend.proofs.Kepts.{serials, serials_there}
 
 abbrev pub packet_in : Entry → List ℕ
 packet_in entry = entry.packet
@@ -39,10 +39,6 @@ waiting_elsewhere : (serial : ℕ) (front : List KeptStream) (k changed : KeptSt
     → waiting_in serial (front ++ changed ∷ back) ≡ waiting_in serial (front ++ k ∷ back)
 waiting_elsewhere serial [] k changed back ne same = behind_head serial changed back (λ e. ne (sym same ∙ e)) ∙ sym (behind_head serial k back ne)
 waiting_elsewhere serial (x ∷ front) k changed back ne same = ap (λ l. cond (nat_eq x.serial serial) x.headers l) (waiting_elsewhere serial front k changed back ne same)
-
-serials_same : (front : List KeptStream) (k changed : KeptStream) (back : List KeptStream) → changed.serial ≡ k.serial → serials (front ++ changed ∷ back) ≡ serials (front ++ k ∷ back)
-serials_same [] k changed back same = ap (λ n. n ∷ serials back) same
-serials_same (x ∷ front) k changed back same = ap (λ l. x.serial ∷ l) (serials_same front k changed back same)
 
 waiting_bare : (serial : ℕ) (streams : List KeptStream) → waiting_in serial (map bare streams) ≡ []
 waiting_bare serial [] = refl
@@ -299,7 +295,7 @@ module _ (page : Page) (old new : KeptLink) (more : List Command) (f : Follows p
   is =
       ap (waiting_in page.serial) t.is ∙ ap (λ n. waiting_in n (t.front ++ t.changed ∷ t.back)) (sym named)
       ∙ waiting_there t.front t.changed t.back
-      (subst (λ l. IsDistinct nat_eq l) (sym (serials_same t.front t.stream t.changed t.back t.takes.serial)) (subst (λ l. IsDistinct nat_eq (serials l)) t.was distinct))
+      (subst (λ l. IsDistinct nat_eq l) (sym (serials_there t.front t.stream t.changed t.back t.takes.serial)) (subst (λ l. IsDistinct nat_eq (serials l)) t.was distinct))
       ∙ t.takes.headers ∙ ap (λ l. l ++ take room t.takes.packets) (sym was)
 
   p : Passed page.serial page old new f.later f.streams more begins

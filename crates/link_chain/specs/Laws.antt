@@ -1,6 +1,7 @@
 -- What holds of links, of their chain state and of rules, and why LinkLaws holds. Nobody needs these to read a
 -- contract.
 pub mod Rules
+pub mod Lent
 pub mod Grow
 pub mod LastLink
 pub mod StateBehind
@@ -13,3 +14,4 @@ pub mod InTurn
 pub mod LeftWhole
 pub mod OneChain
 pub mod Walked
+pub mod Lengths

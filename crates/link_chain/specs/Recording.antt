@@ -32,8 +32,8 @@ HoldsLinks links recording = AllZip HoldsLink links recording
 abbrev pub Holds : List ℕ → Recording → Type 0
 Holds bytes recording = (links : List (List Page)) × AreLinks bytes links × HoldsLinks links recording
 
--- a change of the last link
-abbrev pub change_last : (List Stream → List Stream) → Recording → Recording
+-- a change of the last one, as of the last link
+abbrev pub change_last : {A : Type 0} → (A → A) → List A → List A
 change_last change [] = []
-change_last change (link ∷ []) = change link ∷ []
-change_last change (link ∷ next ∷ links) = link ∷ change_last change (next ∷ links)
+change_last change (x ∷ []) = change x ∷ []
+change_last change (x ∷ y ∷ xs) = x ∷ change_last change (y ∷ xs)

@@ -49,7 +49,7 @@ impl Model for Chain {
 }
 
 impl Chain {
-    ghost use Rattle.link_chain.specs.ChainState.{chain_state_of};
+    ghost use Rattle.link_chain.specs.ChainState.{chain_state_of, is_open};
     ghost use Rattle.link_chain.specs.Places.{HaveOwnSerials};
     ghost use Rattle.link_chain.specs.Taking.{fault_of_page, links_with, unfinished_stream, HasRoomFor};
     ghost use Rattle.link_chain.specs.Followed.{opened, joined, continued, with_link, moved_on, moved_by, dropped, after_page};
@@ -132,15 +132,21 @@ impl Chain {
         if let Some(fault) = self.fault_of(page) {
             return Err(fault);
         }
-        let streams = self.streams.as_slice();
         if !page.is_first() {
             self.continue_link(page);
-        } else if is_open(streams) {
+        } else if self.is_open() {
             self.join_link(page)?;
         } else {
             self.open_link(page)?;
         }
         Ok(())
+    }
+
+    /// Whether a stream of the last link hasn't ended.
+    fn is_open(&self) -> bool
+        ensures { result ≡ is_open self.now.chain }
+    {
+        is_open(self.streams.as_slice())
     }
 
     fn continue_link(&mut self, page: &Page<'_>)

@@ -1,32 +1,29 @@
 -- The index of links with one more page.
 use Rattle.std.proofs.Common.{◌≡◌, ◌≢◌, ℕ, ◌+◌, Bool, true, false, List, [], ◌∷◌, ◌++◌, length, map, refl, sym, ◌∙◌, ap, subst, arith, inl, inr, eq-eqb, length-append, None}
-use Rattle.std.specs.Prelude.{nat_eq, ◌||◌, sum_by}
+use Rattle.std.specs.Prelude.{nat_eq, ◌||◌}
 use Rattle.std.specs.List.{flat_map, list_any}
 use Rattle.std.proofs.lemmas.Bool.{cond-true, cond-false, ne_eqb, cases_eq, eqb-false, or_parts}
-use Rattle.std.proofs.lemmas.List.{append-nil}
-use Rattle.std.proofs.lemmas.List.Sums.{sum_by-cons}
-use Rattle.ogg_page.specs.Page.{Page, page_bytes, bytes_of_pages, page_size}
-use Rattle.ogg_page.specs.PageLaws.{bytes_both, length-page_bytes}
+use Rattle.std.proofs.lemmas.List.{append-nil, map-append}
+use Rattle.ogg_page.specs.Page.{Page, page_bytes, bytes_of_pages}
+use Rattle.ogg_page.specs.PageLaws.{bytes_both}
 use Rattle.ogg_page.specs.LogicalStream.{is_first, is_last}
 use Rattle.link_chain.specs.Links.{pages_with, serials_of, has_ended, with_pages, flattened}
 use Rattle.link_chain.specs.ChainState.{chain_state_of, is_open, last_link}
 use Rattle.link_chain.specs.Taking.{fault_of_page, links_with, joining_rules, later_rules}
 use Rattle.link_chain.specs.Laws.Rules.{NoneBroken}
 use Rattle.link_chain.specs.Laws.PageRules.{joining_kept, later_kept}
-use Rattle.link_chain.specs.Laws.Grow.{with_own, with_other, serials_same, ended_both, or_false, no_stream}
-use Rattle.link_chain.specs.Laws.LastLink.{open_some}
-use Rattle.link_chain.specs.Laws.StateBehind.{last_is}
+use Rattle.link_chain.specs.Laws.Grow.{with_own, with_other, serials_same, ended_both, no_stream}
+use Rattle.link_chain.specs.Laws.LastLink.{open_some, last_changed}
+use Rattle.link_chain.specs.Laws.StateBehind.{last_is, map-map, map-same}
 use Rattle.link_chain.specs.Laws.PageState.{begins_here, goes_on_open, goes_on_later, not_zero, serials_both, absent, no_pages, one_serial}
 use Rattle.link_index.specs.declared.info.StreamInfo.{StreamInfo}
 use Rattle.link_index.specs.Index.{LinkEntry, stream_info, link_entry, index_from, index_of}
 use Rattle.link_index.specs.Growth.{first_info, counted, opened_entry, joined_entry, continued_entry, change_last}
+use Rattle.std.proofs.Math.Bool.{or-false}
+use Rattle.link_chain.specs.Laws.Lengths.{sizes_are}
+use Rattle.link_chain.specs.Laws.InTurn.{with_more}
 
 -- ---- lists
-pub change_last_at : {A : Type 0} (f : A → A) (xs : List A) (x : A) → change_last f (xs ++ x ∷ []) ≡ xs ++ f x ∷ []
-change_last_at f [] x = refl
-change_last_at f (a ∷ []) x = refl
-change_last_at f (a ∷ b ∷ xs) x = ap (λ l. a ∷ l) (change_last_at f (b ∷ xs) x)
-
 pub record EndsWith {A : Type 0} (xs : List A) : Type 0 where
   pub front : List A
   pub last : A
@@ -39,38 +36,11 @@ ends_with (x ∷ y ∷ xs) some =
     let more : EndsWith (y ∷ xs) = ends_with (y ∷ xs) (λ e. cc) in
     record { front = x ∷ more.front; last = more.last; is = ap (λ l. x ∷ l) more.is }
 
-with_at : (done : List (List Page)) (last pages : List Page) → with_pages (done ++ last ∷ []) pages ≡ done ++ (last ++ pages) ∷ []
-with_at [] last pages = refl
-with_at (link ∷ []) last pages = refl
-with_at (link ∷ next ∷ done) last pages = ap (λ l. link ∷ l) (with_at (next ∷ done) last pages)
-
-pub map_both : {X Y : Type 0} (f : X → Y) (xs ys : List X) → map f (xs ++ ys) ≡ map f xs ++ map f ys
-map_both f [] ys = refl
-map_both f (x ∷ xs) ys = ap (λ l. f x ∷ l) (map_both f xs ys)
-
-map_same : {X Y : Type 0} (f g : X → Y) → ((x : X) → f x ≡ g x) → (xs : List X) → map f xs ≡ map g xs
-map_same f g e [] = refl
-map_same f g e (x ∷ xs) = ap (λ y. y ∷ map f xs) (e x) ∙ ap (λ l. g x ∷ l) (map_same f g e xs)
-
-map_map : {X Y Z : Type 0} (g : Y → Z) (f : X → Y) (xs : List X) → map g (map f xs) ≡ map (λ x. g (f x)) xs
-map_map g f [] = refl
-map_map g f (x ∷ xs) = ap (λ l. g (f x) ∷ l) (map_map g f xs)
-
 -- ---- sizes
 bytes_more : (pages : List Page) (page : Page) → length (bytes_of_pages (pages ++ page ∷ [])) ≡ length (bytes_of_pages pages) + length (page_bytes page)
 bytes_more pages page =
     ap length (bytes_both pages (page ∷ []) ∙ ap (λ l. bytes_of_pages pages ++ l) (append-nil (page_bytes page)))
     ∙ length-append (bytes_of_pages pages) (page_bytes page)
-
-pub size_is : (pages : List Page) → sum_by page_size pages ≡ length (bytes_of_pages pages)
-size_is [] = refl
-size_is (page ∷ pages) =
-    omega (arith, sum_by-cons page_size page pages, size_is pages, length-page_bytes page, length-append (page_bytes page) (bytes_of_pages pages))
-
-pub sizes_are : (links : List (List Page)) → (chain_state_of links).length_of ≡ length (flat_map bytes_of_pages links)
-sizes_are [] = refl
-sizes_are (link ∷ links) =
-    omega (arith, sum_by-cons (λ (l : List Page). sum_by page_size l) link links, sizes_are links, size_is link, length-append (bytes_of_pages link) (flat_map bytes_of_pages links))
 
 -- ---- a stream with another page
 abbrev info : ℕ → ℕ → ℕ → Bool → StreamInfo
@@ -79,7 +49,7 @@ info serial bytes pages ended = record { serial = serial; bytes = bytes; pages =
 ended_with : (link : List Page) (page : Page) → has_ended (link ++ page ∷ []) page.serial ≡ (has_ended link page.serial || is_last page)
 ended_with link page =
     let alone : pages_with page.serial (page ∷ []) ≡ page ∷ [] = cond-true (nat_eq page.serial page.serial) (page ∷ []) [] (eq-eqb page.serial page.serial refl) in
-    ended_both page.serial link (page ∷ []) ∙ ap (λ b. has_ended link page.serial || b) (ap (list_any is_last) alone ∙ or_false (is_last page))
+    ended_both page.serial link (page ∷ []) ∙ ap (λ b. has_ended link page.serial || b) (ap (list_any is_last) alone ∙ or-false (is_last page))
 
 own_counted : (link : List Page) (page : Page) → stream_info (link ++ page ∷ []) page.serial ≡ counted page (stream_info link page.serial)
 own_counted link page =
@@ -106,7 +76,7 @@ each_counted link page serial =
     ]
 
 -- ---- a link with another page
-abbrev entry : ℕ → ℕ → ℕ → List StreamInfo → LinkEntry
+abbrev pub entry : ℕ → ℕ → ℕ → List StreamInfo → LinkEntry
 entry start size count streams = record { info = record { start = start; length = size; streams = count }; streams = streams }
 
 continued : (start : ℕ) (link : List Page) (page : Page) → is_first page ≡ false → link_entry start (link ++ page ∷ []) ≡ continued_entry page (link_entry start link)
@@ -115,8 +85,8 @@ continued start link page later =
     ap (λ n. entry start n (length (serials_of (link ++ page ∷ []))) (map (stream_info (link ++ page ∷ [])) (serials_of (link ++ page ∷ [])))) (bytes_more link page)
     ∙ ap (λ s. entry start (length (bytes_of_pages link) + length (page_bytes page)) (length s) (map (stream_info (link ++ page ∷ [])) s)) serials
     ∙ ap (entry start (length (bytes_of_pages link) + length (page_bytes page)) (length (serials_of link)))
-    (map_same (stream_info (link ++ page ∷ [])) (λ s. counted page (stream_info link s)) (each_counted link page) (serials_of link)
-    ∙ sym (map_map (counted page) (stream_info link) (serials_of link)))
+    (map-same (stream_info (link ++ page ∷ [])) (λ s. counted page (stream_info link s)) (each_counted link page) (serials_of link)
+    ∙ sym (map-map (counted page) (stream_info link) (serials_of link)))
 
 others_same : (link : List Page) (page : Page) (serials : List ℕ) → list_any (nat_eq page.serial) serials ≡ false
     → map (stream_info (link ++ page ∷ [])) serials ≡ map (stream_info link) serials
@@ -133,13 +103,13 @@ begun link page none =
     let alone : pages_with serial (link ++ page ∷ []) ≡ page ∷ [] = with_own serial link (page ∷ []) (refl, tt) ∙ ap (λ l. l ++ page ∷ []) none in
     ap (λ (l : List Page). info serial (length (bytes_of_pages l)) (length l) (list_any is_last l)) alone
     ∙ ap (λ b. info serial b 1 (is_last page || false)) (ap length (append-nil (page_bytes page)))
-    ∙ ap (info serial (length (page_bytes page)) 1) (or_false (is_last page))
+    ∙ ap (info serial (length (page_bytes page)) 1) (or-false (is_last page))
 
 joined : (start : ℕ) (link : List Page) (page : Page) → is_first page ≡ true → pages_with page.serial link ≡ [] → link_entry start (link ++ page ∷ []) ≡ joined_entry page (link_entry start link)
 joined start link page first none =
     let serials : serials_of (link ++ page ∷ []) ≡ serials_of link ++ page.serial ∷ [] = serials_both link (page ∷ []) ∙ ap (λ l. serials_of link ++ l) (one_serial page first) in
     let streams : map (stream_info (link ++ page ∷ [])) (serials_of link ++ page.serial ∷ []) ≡ map (stream_info link) (serials_of link) ++ first_info page ∷ [] =
-    map_both (stream_info (link ++ page ∷ [])) (serials_of link) (page.serial ∷ [])
+    map-append (stream_info (link ++ page ∷ [])) (serials_of link) (page.serial ∷ [])
     ∙ ap (λ l. l ++ stream_info (link ++ page ∷ []) page.serial ∷ []) (others_same link page (serials_of link) (no_stream link page.serial none))
     ∙ ap (λ s. map (stream_info link) (serials_of link) ++ s ∷ []) (begun link page none) in
     ap (λ n. entry start n (length (serials_of (link ++ page ∷ []))) (map (stream_info (link ++ page ∷ [])) (serials_of (link ++ page ∷ [])))) (bytes_more link page)
@@ -171,10 +141,10 @@ index_grows links page change some grows =
     let start : ℕ = 0 + length (flat_map bytes_of_pages done) in
     let last : last_link links ≡ at.last = ap last_link at.is ∙ last_is done at.last in
     ap (λ l. index_of (with_pages l (page ∷ []))) at.is
-    ∙ ap index_of (with_at done at.last (page ∷ []))
+    ∙ ap index_of (with_more done at.last (page ∷ []))
     ∙ index_at 0 done (at.last ++ page ∷ [])
     ∙ ap (λ e. index_from 0 done ++ e ∷ []) (subst (λ (l : List Page). link_entry start (l ++ page ∷ []) ≡ change (link_entry start l)) last (grows start))
-    ∙ sym (change_last_at change (index_from 0 done) (link_entry start at.last))
+    ∙ sym (last_changed change (index_from 0 done) (link_entry start at.last))
     ∙ ap (change_last change) (sym (index_at 0 done at.last))
     ∙ ap (λ l. change_last change (index_of l)) (sym at.is)
 

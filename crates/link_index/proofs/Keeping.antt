@@ -1,6 +1,5 @@
 -- What is kept of an index while pages are added.
-use Rattle.std.proofs.Common.{◌≡◌, ℕ, ◌+◌, true, false, List, [], ◌∷◌, ◌++◌, length, take, drop, sym, ◌∙◌, ap, subst, arith, length-append, None}
-use Rattle.std.proofs.Math.Seq.{take-append_seam}
+use Rattle.std.proofs.Common.{◌≡◌, ℕ, ◌+◌, true, false, List, [], ◌∷◌, length, sym, ◌∙◌, ap, subst, arith, length-append, None}
 use Rattle.std.proofs.lemmas.List.{length-map}
 use Rattle.ogg_page.specs.Page.{Page, page_bytes, page_size}
 use Rattle.ogg_page.specs.PageLaws.{length-page_bytes}
@@ -14,27 +13,19 @@ use Rattle.link_index.specs.declared.info.StreamInfo.{StreamInfo}
 use Rattle.link_index.specs.declared.rows.Row.{Row}
 use Rattle.link_index.specs.Rows.{ArePacked, AreWithin, IsKept, last_count}
 
--- all items were lent, so exactly what they are now is given back
-pub given_back : {X : Type 0} (now was : List X) (n : ℕ) → length now ≡ n → take n (now ++ drop (length now) was) ≡ now
-given_back now was n e = ap (λ k. take k (now ++ drop (length now) was)) (sym e) ∙ take-append_seam now (drop (length now) was)
-
 -- what a chain is after it took the page
 abbrev pub Moves : ChainState → Page → ChainState → Type 0
 Moves chain page next = (links : List (List Page)) → chain ≡ chain_state_of links → next ≡ chain_state_of (links_with links page)
 
 module _ (chain next : ChainState) (page : Page) (links : List (List Page)) (is : chain ≡ chain_state_of links) (moves : Moves chain page next) where
   pub next_opened : is_first page ≡ true → is_open chain ≡ false → next ≡ opened chain page
-  next_opened first closed = moves links is ∙ opened_state links page first (ap is_open (sym is) ∙ closed) ∙ ap (λ (c : ChainState). opened c page) (sym is)
+  next_opened first closed = moves links is ∙ opened_state chain links page is first closed
 
   pub next_joined : is_first page ≡ true → is_open chain ≡ true → fault_of_page chain page ≡ None → next ≡ joined chain page
-  next_joined first open' none =
-      moves links is ∙ joined_state links page first (ap is_open (sym is) ∙ open') (ap (λ (c : ChainState). fault_of_page c page) (sym is) ∙ none)
-      ∙ ap (λ (c : ChainState). joined c page) (sym is)
+  next_joined first open' none = moves links is ∙ joined_state chain links page is first open' none
 
   pub next_later : is_first page ≡ false → fault_of_page chain page ≡ None → next ≡ continued chain page
-  next_later later none =
-      moves links is ∙ later_state links page later (ap (λ (c : ChainState). fault_of_page c page) (sym is) ∙ none)
-      ∙ ap (λ (c : ChainState). continued c page) (sym is)
+  next_later later none = moves links is ∙ later_state chain links page is later none
 
 -- the links and the size, whatever the page
 abbrev Within : ChainState → Page → ChainState → List Row → List StreamInfo → Type 0

@@ -7,14 +7,16 @@ use Rattle.std.specs.List.{AllByRecursion}
 use Rattle.std.proofs.lemmas.Bool.{cond_both}
 use Rattle.ogg_page.specs.PageLaws.{length-page_bytes}
 use Rattle.ogg_page.specs.LogicalStream.{is_last}
-use Rattle.std.proofs.lemmas.List.{append-nil, take-append-le, take-append-drop, drop-take, take-map, take_all, length-take-le}
+use Rattle.std.proofs.lemmas.List.{append-nil, take-append-le, take-append-drop, drop-take, take-map, take_all, length-take-le, map-append}
 use Rattle.ogg_page.specs.Page.{Page, page_bytes}
 use Rattle.link_index.specs.declared.info.StreamInfo.{StreamInfo}
 use Rattle.link_index.specs.declared.rows.Row.{Row}
-use Rattle.link_index.specs.Index.{LinkEntry}
 use Rattle.link_index.specs.Rows.{ArePacked, AreWithin, entry_of, entries_of, last_count}
 use Rattle.link_index.specs.Growth.{first_info, counted, opened_entry, joined_entry, continued_entry, change_last}
-use Rattle.link_index.proofs.Growing.{map_both, change_last_at}
+use Rattle.link_index.proofs.Growing.{entry}
+use Rattle.link_chain.specs.Laws.LastLink.{all_split, last_changed}
+use Rattle.ogg_page.specs.Laws.PageBytes.{all_both}
+use Rattle.link_chain.specs.Laws.Grow.{all_weaker}
 
 -- ---- the ends of rows
 pub packed_at : (rows : List Row) (row : Row) (at end : ℕ) → ArePacked at (rows ++ row ∷ []) end → ArePacked at rows row.first × (row.first + row.count ≡ end)
@@ -48,9 +50,6 @@ all_at P (y ∷ xs) x a =
     ((a.0, rest.0), rest.1)
 
 -- ---- what rows say of their links
-abbrev told : ℕ → ℕ → ℕ → List StreamInfo → LinkEntry
-told start size count streams = record { info = record { start = start; length = size; streams = count }; streams = streams }
-
 pub all_more : (rows : List Row) {end more : ℕ} → AllByRecursion (λ (row : Row). row.first + row.count ≤ end) rows → end ≤ more → AllByRecursion (λ (row : Row). row.first + row.count ≤ more) rows
 all_more [] p le = tt
 all_more (row ∷ rows) p le = (omega (arith, p.0, le), all_more rows p.1 le)
@@ -63,7 +62,7 @@ entries_front : (front own other : List StreamInfo) (rows : List Row) → AllByR
     → entries_of (front ++ own) rows ≡ entries_of (front ++ other) rows
 entries_front front own other [] inside = refl
 entries_front front own other (row ∷ rows) inside =
-    ap (λ (s : List StreamInfo). told row.start row.length row.count s ∷ entries_of (front ++ own) rows) (cut_front row.count front own row.first inside.0 ∙ sym (cut_front row.count front other row.first inside.0))
+    ap (λ (s : List StreamInfo). entry row.start row.length row.count s ∷ entries_of (front ++ own) rows) (cut_front row.count front own row.first inside.0 ∙ sym (cut_front row.count front other row.first inside.0))
     ∙ ap (λ l. entry_of (front ++ other) row ∷ l) (entries_front front own other rows inside.1)
 
 -- ---- another row, or another page in the last one
@@ -71,7 +70,7 @@ abbrev pub grown : Row → ℕ → ℕ → Row
 grown row size streams = record { start = row.start; length = row.length + size; first = row.first; count = row.count + streams }
 
 entries_at : (streams : List StreamInfo) (rows : List Row) (row : Row) → entries_of streams (rows ++ row ∷ []) ≡ entries_of streams rows ++ entry_of streams row ∷ []
-entries_at streams rows row = map_both (entry_of streams) rows (row ∷ [])
+entries_at streams rows row = map-append (entry_of streams) rows (row ∷ [])
 
 cut_at : (front own : List StreamInfo) (first n : ℕ) → first ≡ length front → take n (drop first (front ++ own)) ≡ take n own
 cut_at front own first n at = ap (λ k. take n (drop k (front ++ own))) at ∙ ap (take n) (behind front own)
@@ -92,8 +91,8 @@ rows_opened streams rows page row start packed is =
     ∙ ap (λ l. l ++ entry_of (streams ++ more) row ∷ [])
     (entries_front streams more [] rows (packed_inside rows 0 (length streams) packed) ∙ ap (λ s. entries_of s rows) (append-nil streams))
     ∙ ap (λ e. entries_of streams rows ++ e ∷ [])
-    (ap (λ (r : Row). told r.start r.length r.count (take r.count (drop r.first (streams ++ more)))) is
-    ∙ ap (told start (length (page_bytes page)) 1) (cut_at streams more (length streams) 1 refl))
+    (ap (λ (r : Row). entry r.start r.length r.count (take r.count (drop r.first (streams ++ more)))) is
+    ∙ ap (entry start (length (page_bytes page)) 1) (cut_at streams more (length streams) 1 refl))
 
 pub rows_joined : (streams : List StreamInfo) (rows : List Row) (row : Row) (page : Page) → ArePacked 0 (rows ++ row ∷ []) (length streams)
     → entries_of (streams ++ first_info page ∷ []) (rows ++ grown row (length (page_bytes page)) 1 ∷ []) ≡ change_last (joined_entry page) (entries_of streams (rows ++ row ∷ []))
@@ -116,8 +115,8 @@ rows_joined streams rows row page packed =
     ∙ take_just (own ++ more) (row.count + 1) (omega (arith, length-append own more, count)) in
     entries_at (streams ++ more) rows new_row
     ∙ ap (λ l. l ++ entry_of (streams ++ more) new_row ∷ []) (entries_front streams more [] rows inside ∙ ap (λ s. entries_of s rows) (append-nil streams))
-    ∙ ap (λ s. entries_of streams rows ++ told row.start (row.length + length (page_bytes page)) (row.count + 1) s ∷ []) (now ∙ ap (λ s. s ++ more) (sym was))
-    ∙ sym (change_last_at (joined_entry page) (entries_of streams rows) (entry_of streams row))
+    ∙ ap (λ s. entries_of streams rows ++ entry row.start (row.length + length (page_bytes page)) (row.count + 1) s ∷ []) (now ∙ ap (λ s. s ++ more) (sym was))
+    ∙ sym (last_changed (joined_entry page) (entries_of streams rows) (entry_of streams row))
     ∙ ap (change_last (joined_entry page)) (sym (entries_at streams rows row))
 
 pub rows_continued : (front own : List StreamInfo) (rows : List Row) (row : Row) (page : Page) → row.first ≡ length front → ArePacked 0 rows row.first
@@ -133,28 +132,12 @@ rows_continued front own rows row page at packed =
     ∙ ap (map (counted page)) (sym (cut_at front own row.first row.count at)) in
     entries_at (front ++ now) rows new_row
     ∙ ap (λ l. l ++ entry_of (front ++ now) new_row ∷ []) (entries_front front now own rows inside)
-    ∙ ap (λ n. entries_of (front ++ own) rows ++ told row.start (row.length + length (page_bytes page)) n (take (row.count + 0) (drop row.first (front ++ now))) ∷ []) (omega arith)
-    ∙ ap (λ s. entries_of (front ++ own) rows ++ told row.start (row.length + length (page_bytes page)) row.count s ∷ []) told_now
-    ∙ sym (change_last_at (continued_entry page) (entries_of (front ++ own) rows) (entry_of (front ++ own) row))
+    ∙ ap (λ n. entries_of (front ++ own) rows ++ entry row.start (row.length + length (page_bytes page)) n (take (row.count + 0) (drop row.first (front ++ now))) ∷ []) (omega arith)
+    ∙ ap (λ s. entries_of (front ++ own) rows ++ entry row.start (row.length + length (page_bytes page)) row.count s ∷ []) told_now
+    ∙ sym (last_changed (continued_entry page) (entries_of (front ++ own) rows) (entry_of (front ++ own) row))
     ∙ ap (change_last (continued_entry page)) (sym (entries_at (front ++ own) rows row))
 
-pub all_behind : {X : Type 0} (P : X → Type 0) (xs ys : List X) → AllByRecursion P (xs ++ ys) → AllByRecursion P ys
-all_behind P [] ys a = a
-all_behind P (x ∷ xs) ys a = all_behind P xs ys a.1
-
 -- ---- bounds
-pub all_weaker : {X : Type 0} (P Q : X → Type 0) → ((x : X) → P x → Q x) → (xs : List X) → AllByRecursion P xs → AllByRecursion Q xs
-all_weaker P Q f [] a = tt
-all_weaker P Q f (x ∷ xs) a = (f x a.0, all_weaker P Q f xs a.1)
-
-pub all_both : {X : Type 0} (P : X → Type 0) (xs ys : List X) → AllByRecursion P xs → AllByRecursion P ys → AllByRecursion P (xs ++ ys)
-all_both P [] ys a b = b
-all_both P (x ∷ xs) ys a b = (a.0, all_both P xs ys a.1 b)
-
-pub all_front : {X : Type 0} (P : X → Type 0) (xs ys : List X) → AllByRecursion P (xs ++ ys) → AllByRecursion P xs
-all_front P [] ys a = tt
-all_front P (x ∷ xs) ys a = (a.0, all_front P xs ys a.1)
-
 some_bytes : (page : Page) → 1 ≤ length (page_bytes page)
 some_bytes page = omega (arith, length-page_bytes page)
 
@@ -201,8 +184,8 @@ continued_within total rows row new_row front own page size w =
     let at : AllByRecursion (λ (r : Row). r.length ≤ total) rows × (row.length ≤ total) = all_at (λ (r : Row). r.length ≤ total) rows row w.lengths in
     record {
       lengths = all_both (λ (r : Row). r.length ≤ total + length (page_bytes page)) rows (new_row ∷ []) (rows_more total (length (page_bytes page)) rows at.0) (omega (arith, size, at.1), tt);
-      sizes = all_both (Sized (total + length (page_bytes page))) front (map (counted page) own) (streams_more total (length (page_bytes page)) front (all_front (Sized total) front own w.sizes))
-          (all_counted total page own (all_behind (Sized total) front own w.sizes));
+      sizes = all_both (Sized (total + length (page_bytes page))) front (map (counted page) own) (streams_more total (length (page_bytes page)) front (all_split (Sized total) front own w.sizes).0)
+          (all_counted total page own (all_split (Sized total) front own w.sizes).1);
     }
 
 -- what holds of each holds of the one at this place

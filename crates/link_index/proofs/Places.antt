@@ -12,7 +12,7 @@ use Rattle.link_chain.specs.LinkLaws.{in_turn, one_chain}
 use Rattle.link_index.specs.Adding.{IndexState, IsIndexOf, AddsPages}
 use Rattle.link_index.specs.Index.{LinkEntry, link_entry, index_from, index_of}
 use Rattle.link_index.specs.Pieces.{AreAdded}
-use Rattle.link_index.proofs.Growing.{sizes_are}
+use Rattle.link_chain.specs.Laws.Lengths.{sizes_are}
 
 -- ---- pieces
 taken_on : (start : List (List Page)) (pages more : List Page) (after last : List (List Page)) → AreTaken start pages after → AreTaken after more last → AreTaken start (pages ++ more) last

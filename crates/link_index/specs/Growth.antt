@@ -1,7 +1,8 @@
 -- What one more page makes of an index. Ours.
-use Rattle.std.specs.Prelude.{ℕ, ◌+◌, nat_eq, ◌||◌, if◌then◌else◌, List, [], ◌∷◌, ◌++◌, length, map}
+use Rattle.std.specs.Prelude.{ℕ, ◌+◌, nat_eq, ◌||◌, if◌then◌else◌, [], ◌∷◌, ◌++◌, length, map}
 use Rattle.ogg_page.specs.Page.{Page, page_bytes}
 use Rattle.ogg_page.specs.LogicalStream.{is_last}
+pub use Rattle.link_chain.specs.Recording.{change_last}
 use Rattle.link_index.specs.declared.info.StreamInfo.{StreamInfo}
 use Rattle.link_index.specs.Index.{LinkEntry}
 
@@ -35,9 +36,3 @@ continued_entry page entry =
       info = record { start = entry.info.start; length = entry.info.length + length (page_bytes page); streams = entry.info.streams };
       streams = map (counted page) entry.streams;
     }
-
--- a change of the last element
-abbrev pub change_last : {A : Type 0} → (A → A) → List A → List A
-change_last f [] = []
-change_last f (x ∷ []) = f x ∷ []
-change_last f (x ∷ y ∷ xs) = x ∷ change_last f (y ∷ xs)

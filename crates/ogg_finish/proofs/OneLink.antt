@@ -11,12 +11,13 @@ use Rattle.ogg_page.specs.StreamLaws.{behind_both, behind_front}
 use Rattle.link_chain.specs.ChainState.{last_position}
 use Rattle.link_chain.specs.Links.{IsLink, AreLinks, AllButLast, pages_with, serials_of, has_stream, has_ended, all_ended}
 use Rattle.link_chain.specs.Recording.{Stream, Recording, HoldsStream, HoldsLink, HoldsLinks}
-use Rattle.link_chain.specs.Laws.Grow.{all_both, all_true, each_true, all_weaker, all_filter, Own, Unmarked, OpenBehind, own_with, other_with, serials_same, stream_same}
+use Rattle.link_chain.specs.Laws.Grow.{all_true, each_true, all_weaker, all_filter, Own, Unmarked, OpenBehind, own_with, other_with, serials_same, stream_same}
 use Rattle.link_chain.specs.Laws.Fronts.{goes_on}
 use Rattle.ogg_finish.specs.Ended.{EndsFull}
 use Rattle.ogg_finish.specs.Finishing.{end_mark, marked_last, up_to, finished_page, finished_stream, finished_link, finished_links}
 use Rattle.ogg_finish.specs.declared.stream_end.Mark.{Mark}
 use Rattle.ogg_finish.proofs.OneStream.{SameStream, same_stream, marked_first, marked_is_page}
+use Rattle.ogg_page.specs.Laws.PageBytes.{all_both}
 
 -- ---- a page, finished
 -- what holds of a page, and of it marked as last, holds of each page that it becomes

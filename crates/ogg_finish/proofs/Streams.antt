@@ -9,12 +9,13 @@ use Rattle.std.proofs.lemmas.List.Sums.{fold-append}
 use Rattle.ogg_page.specs.Page.{Page, bytes_of_pages}
 use Rattle.ogg_page.specs.LogicalStream.{is_first, is_last}
 use Rattle.link_chain.specs.Links.{IsLink, pages_with, serials_of, has_stream}
-use Rattle.link_chain.specs.Laws.Grow.{all_both, all_weaker, serials_same}
+use Rattle.link_chain.specs.Laws.Grow.{all_weaker, serials_same}
 use Rattle.link_index.specs.Index.{LinkEntry, link_entry, index_from, stream_info}
 use Rattle.ogg_finish.specs.declared.stream_end.Mark.{Mark}
 use Rattle.ogg_finish.specs.declared.stream_end.StreamEnd.{StreamEnd}
 use Rattle.ogg_finish.specs.Ends.{without_pages, after_page, ends_after, mark_for, finished_by}
 use Rattle.ogg_finish.specs.Finishing.{end_mark, mark_in, mark_after, finished_page, finished_link, up_to}
+use Rattle.ogg_page.specs.Laws.PageBytes.{all_both}
 
 -- ---- one stream
 abbrev pub end_in : List Page → ℕ → StreamEnd

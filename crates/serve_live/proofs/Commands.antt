@@ -20,7 +20,7 @@ use Rattle.link_chain.specs.Progress.{next_in}
 use Rattle.link_chain.specs.ChainState.{chain_state_of, is_open, last_link}
 use Rattle.link_chain.specs.Links.{IsLink, AreLinks, with_pages, has_stream, all_ended, flattened}
 use Rattle.link_chain.specs.Recording.{Stream, HoldsLink}
-use Rattle.link_chain.specs.Laws.Grow.{all_both, all_weaker, stream_finished}
+use Rattle.link_chain.specs.Laws.Grow.{all_weaker, stream_finished}
 use Rattle.link_chain.specs.Laws.LastLink.{all_split, open_link}
 use Rattle.link_chain.specs.Laws.InTurn.{bytes_flattened}
 use Rattle.link_chain.specs.Laws.StateBehind.{last_is}
@@ -37,6 +37,7 @@ use Rattle.serve_live.specs.Live.{Moment}
 use Rattle.serve_live.specs.Places.{IsPlaceIn}
 use Rattle.serve_live.specs.declared.listener.JoinPlace.{JoinPlace}
 use Rattle.serve_live.proofs.Chain.{are_links, hold_links}
+use Rattle.ogg_page.specs.Laws.PageBytes.{all_both}
 
 -- ---- pages of commands
 runs_later : (streams : List StreamState) (runs : List (List Entry)) → AreLater (pages_of_runs streams runs)

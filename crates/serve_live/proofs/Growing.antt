@@ -16,7 +16,7 @@ use Rattle.link_chain.specs.Links.{AreLinks, IsLink, all_ended, flattened, has_e
 use Rattle.link_chain.specs.Taking.{AreTaken, fault_of_page, links_with}
 use Rattle.link_chain.specs.LinkLaws.{in_turn, one_chain, only, pages_flattened}
 use Rattle.link_chain.specs.Laws.Fronts.{behind_at}
-use Rattle.link_chain.specs.Laws.Grow.{all_both, filter_none}
+use Rattle.link_chain.specs.Laws.Grow.{filter_none}
 use Rattle.link_chain.specs.Laws.InTurn.{bytes_flattened, same_pages}
 use Rattle.link_chain.specs.Laws.LastLink.{all_split, closed_link, last_is_link}
 use Rattle.link_chain.specs.Laws.PageRules.{joining_kept}
@@ -28,6 +28,7 @@ use Rattle.serve_live.specs.Live.{IsBetween, IsLive, IsMidway, IsMomentOf, Momen
 use Rattle.serve_live.proofs.Chain.{are_links, front_is_chain, links_behind}
 use Rattle.serve_live.proofs.Commands.{with_last}
 use Rattle.serve_live.proofs.Hearing.{heard_alike, no_gaps}
+use Rattle.ogg_page.specs.Laws.PageBytes.{all_both}
 
 -- whether a page of the link is no stream's first
 abbrev has_data : List Page → Bool

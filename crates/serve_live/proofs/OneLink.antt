@@ -13,7 +13,7 @@ use Rattle.ogg_page.specs.StreamLaws.{behind_both, behind_front, behind_back, he
 use Rattle.link_chain.specs.ChainState.{last_position}
 use Rattle.link_chain.specs.Links.{IsLink, pages_with, serials_of, has_stream, has_ended, all_ended}
 use Rattle.link_chain.specs.Recording.{Stream, HoldsStream, HoldsLink}
-use Rattle.link_chain.specs.Laws.Grow.{Unmarked, all_both, all_true, each_true, all_weaker, all_filter, ended_both, serials_same, stream_same, stream_some}
+use Rattle.link_chain.specs.Laws.Grow.{Unmarked, all_true, each_true, all_weaker, all_filter, ended_both, serials_same, stream_same, stream_some}
 use Rattle.link_chain.specs.Laws.LastLink.{all_split, each_known, position_small}
 use Rattle.link_chain.specs.Laws.Fronts.{goes_on, front_is_link, page_fits}
 use Rattle.link_chain.specs.Laws.TakenLinks.{without}
@@ -21,6 +21,7 @@ use Rattle.serve_live.specs.Heard.{gap, heard_page, ended_unheard, end_page, end
 use Rattle.serve_live.specs.Joining.{AreLater, IsJoined, heard_stream, heard_streams}
 use Rattle.serve_live.proofs.Packets.{HoldsNothing, held_rest, none_held}
 use Rattle.serve_live.proofs.OneStream.{numbers_rise, nothing_follows, with_heard, own_of, heard_last, heard_holds, go_on_heard, end_fits, none_of, not_of, one_of}
+use Rattle.ogg_page.specs.Laws.PageBytes.{all_both}
 
 -- ---- the beginning of the link
 pub begin_some : (begin passed later : List Page) → IsLink (begin ++ (passed ++ later)) → IsJoined begin passed → begin ≢ []

@@ -8,11 +8,11 @@ use Rattle.std.proofs.lemmas.List.Folds.{list_any-append}
 use Rattle.ogg_page.specs.Page.{page_bytes, page_size, bytes_of_pages}
 use Rattle.ogg_page.specs.LogicalStream.{is_first}
 use Rattle.ogg_page.specs.PageLaws.{bytes_both, length-page_bytes, pages_both}
-use Rattle.link_chain.specs.Laws.Grow.{or_false}
 use Rattle.serve_live.specs.Pulling.{HasPassed, gaps_from}
 use Rattle.serve_live.specs.declared.gaps.StreamGap.{StreamGap}
 use Rattle.serve_live.specs.declared.pages.PageLeft.{PageLeft}
 use Rattle.serve_live.proofs.NextPage.{HasNext, IsAfter}
+use Rattle.std.proofs.Math.Bool.{or-false}
 
 pub none_passed : (committed : List ℕ) (left after : PageLeft) → after.place ≡ left.place → after.anew ≡ left.anew → HasPassed committed left after
 none_passed committed left after place anew = record {
@@ -20,7 +20,7 @@ none_passed committed left after place anew = record {
   are_pages = tt;
   between = ap (λ n. drop n committed) (sym place);
   place = place ∙ omega arith;
-  anew = anew ∙ sym (or_false left.anew);
+  anew = anew ∙ sym (or-false left.anew);
 }
 
 pub passed_some : (committed : List ℕ) (kept : List StreamGap) (rest : List ℕ) (left after : PageLeft) (begins : Bool) (n size : ℕ) →
@@ -44,7 +44,7 @@ passed_some committed kept rest left after begins n size h le size_is begins_is 
             are_pages = (h.is_page, tt);
             between = here ∙ ap (λ l. l ++ others) (sym (append-nil own)) ∙ ap (λ l. (own ++ []) ++ l) (sym next);
             place = to ∙ ap (λ l. left.place + length l) (sym (append-nil own));
-            anew = w.2 ∙ ap (λ b. left.anew || b) (begins_is ∙ sym (or_false (is_first h.page)));
+            anew = w.2 ∙ ap (λ b. left.anew || b) (begins_is ∙ sym (or-false (is_first h.page)));
           })
     ]
 

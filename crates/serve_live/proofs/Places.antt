@@ -14,7 +14,7 @@ use Rattle.link_chain.specs.ChainState.{chain_state_of, last_link, last_position
 use Rattle.link_chain.specs.Links.{AllButLast, AreLinks, IsLink, all_ended, pages_with, serials_of, has_stream}
 use Rattle.link_chain.specs.Laws.Fronts.{front_is_link, push_not_nil}
 use Rattle.link_chain.specs.Laws.LastLink.{all_split}
-use Rattle.link_chain.specs.Laws.Grow.{all_both, all_weaker, stream_some, serials_same}
+use Rattle.link_chain.specs.Laws.Grow.{all_weaker, stream_some, serials_same}
 use Rattle.link_chain.specs.Laws.StateBehind.{last_is, map-map}
 use Rattle.link_chain.specs.declared.stream_state.StreamState.{StreamState}
 use Rattle.page_heads.specs.Fronts.{facts_of}
@@ -34,6 +34,7 @@ use Rattle.serve_live.proofs.Beginning.{begins_hearing, each_there, joined_some}
 use Rattle.serve_live.proofs.Hearing.{goes_on_hearing}
 use Rattle.serve_live.proofs.OneLink.{with_three, with_both}
 use Rattle.serve_live.proofs.OneStream.{numbers_rise}
+use Rattle.ogg_page.specs.Laws.PageBytes.{all_both}
 
 -- ---- only the stream's own pages count
 abbrev noted_by : LinkPart → List Page → JoinedStream → JoinedStream

@@ -14,7 +14,7 @@ use Rattle.link_chain.specs.Laws.LastLink.{all_split, some_open, some_not}
 use Rattle.link_chain.specs.Laws.PageState.{serials_both}
 
 -- ---- each after those before it
-parts_of : {X : Type 0} (x y : X) (xs ys : List X) → x ∷ xs ≡ y ∷ ys → (x ≡ y) × (xs ≡ ys)
+pub parts_of : {X : Type 0} (x y : X) (xs ys : List X) → x ∷ xs ≡ y ∷ ys → (x ≡ y) × (xs ≡ ys)
 parts_of x y xs ys e = (cc, cc)
 
 pub behind_at : (R : List Page → Page → Type 0) (start pages : List Page) → EachBehind R start pages → (before after : List Page) (page : Page) →

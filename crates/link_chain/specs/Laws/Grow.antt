@@ -12,12 +12,10 @@ use Rattle.ogg_page.specs.LogicalStream.{HoldsPackets, FitsBehind, EachBehind, F
 use Rattle.ogg_page.specs.StreamLaws.{behind_both, held_both, finished}
 use Rattle.link_chain.specs.Links.{IsLink, pages_with, serials_of, has_stream, has_ended, all_ended}
 use Rattle.link_chain.specs.Recording.{Stream, HoldsStream, HoldsLink}
+use Rattle.std.proofs.Math.Bool.{or-false}
+use Rattle.ogg_page.specs.Laws.PageBytes.{all_both}
 
 -- ---- lists
-pub all_both : {X : Type 0} (P : X → Type 0) (xs ys : List X) → AllByRecursion P xs → AllByRecursion P ys → AllByRecursion P (xs ++ ys)
-all_both P [] ys a b = b
-all_both P (x ∷ xs) ys a b = (a.0, all_both P xs ys a.1 b)
-
 pub all_weaker : {X : Type 0} (P Q : X → Type 0) → ((x : X) → P x → Q x) → (xs : List X) → AllByRecursion P xs → AllByRecursion Q xs
 all_weaker P Q f [] a = tt
 all_weaker P Q f (x ∷ xs) a = (f x a.0, all_weaker P Q f xs a.1)
@@ -56,10 +54,6 @@ all_filter P test (x ∷ xs) h =
 list_all-same : {X : Type 0} (f g : X → Bool) → ((x : X) → f x ≡ g x) → (xs : List X) → list_all f xs ≡ list_all g xs
 list_all-same f g h [] = refl
 list_all-same f g h (x ∷ xs) = ap (λ b. b && list_all f xs) (h x) ∙ ap (λ b. g x && b) (list_all-same f g h xs)
-
-pub or_false : (b : Bool) → (b || false) ≡ b
-or_false true = refl
-or_false false = refl
 
 zip_changed : {A B : Type 0} (R S : A → B → Type 0) (f : B → B) → ((a : A) (b : B) → R a b → S a (f b)) → (xs : List A) (ys : List B) → AllZip R xs ys → AllZip S xs (map f ys)
 zip_changed R S f h [] [] z = tt
@@ -124,7 +118,7 @@ not_ended serial pages h =
     any_none is_last (pages_with serial pages) (all_filter (λ (p : Page). is_last p ≡ false) (λ (p : Page). nat_eq p.serial serial) pages h)
 
 pub ended_same : (serial : ℕ) (link pages : List Page) → GoOn pages → has_ended (link ++ pages) serial ≡ has_ended link serial
-ended_same serial link pages h = ended_both serial link pages ∙ ap (λ b. has_ended link serial || b) (not_ended serial pages h) ∙ or_false (has_ended link serial)
+ended_same serial link pages h = ended_both serial link pages ∙ ap (λ b. has_ended link serial || b) (not_ended serial pages h) ∙ or-false (has_ended link serial)
 
 pub still_open : (link pages : List Page) → all_ended link ≡ false → GoOn pages → all_ended (link ++ pages) ≡ false
 still_open link pages o h =

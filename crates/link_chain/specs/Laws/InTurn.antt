@@ -5,7 +5,7 @@ use Rattle.std.specs.List.{AllByRecursion, list_any, filter, flat_map}
 use Rattle.std.specs.Option.{option_map_or}
 use Rattle.std.proofs.lemmas.List.{append-nil, length-map}
 use Rattle.std.proofs.lemmas.List.Concat.{flat_map-append}
-use Rattle.std.proofs.lemmas.Bool.{ne_eqb, cases_Bool, or_from, and_from, lt-ltb, lt-leb, not_from_true}
+use Rattle.std.proofs.lemmas.Bool.{ne_eqb, cases_Bool, or_from, and_from, lt-ltb, lt-leb, not_from_true, and_right}
 use Rattle.ogg_page.specs.Page.{Page, IsPage, page_bytes, bytes_of_pages}
 use Rattle.ogg_page.specs.PageLaws.{one_page}
 use Rattle.ogg_page.specs.Lacing.{ends_open, lace, lacing_of}
@@ -17,8 +17,7 @@ use Rattle.link_chain.specs.Progress.{stream_in}
 use Rattle.link_chain.specs.ChainState.{ChainState, chain_state_of, state_of, last_link, is_open}
 use Rattle.link_chain.specs.Links.{with_pages}
 use Rattle.link_chain.specs.Taking.{fault_of_page, links_with, AreTaken, is_one_packet, is_whole_packet, of_stream, leaves_open}
-use Rattle.link_chain.specs.Laws.Grow.{filter_all, stream_some, all_both}
-use Rattle.ogg_page.specs.PageLaws.{length-page_bytes}
+use Rattle.link_chain.specs.Laws.Grow.{filter_all, stream_some}
 use Rattle.link_chain.specs.Laws.TakenLinks.{taken}
 use Rattle.link_chain.specs.Laws.LastLink.{found_at, known_stream, open_link}
 use Rattle.link_chain.specs.Laws.LastLink.{closed_link}
@@ -26,10 +25,8 @@ use Rattle.link_chain.specs.Laws.PageRules.{later_none, joining_none, opening_no
 use Rattle.link_chain.specs.Laws.StateBehind.{last_is}
 use Rattle.link_chain.specs.Laws.PageState.{open_with, begins_here, goes_on_open}
 use Rattle.link_chain.specs.Laws.Fronts.{behind_at, push_not_nil, front_is_link, page_fits, first_behind, later_behind}
-
-and_no : (b c : Bool) → c ≡ false → (b && c) ≡ false
-and_no true c e = e
-and_no false c e = refl
+use Rattle.ogg_page.specs.Laws.PageBytes.{all_both}
+use Rattle.ogg_page.specs.Laws.Walk.{nothing_is_no_page}
 
 -- ---- a page that is no stream's first
 continued_kept : (c e : Bool) → c ≡ e → cond c (not e) (not (not e)) ≡ false
@@ -59,7 +56,7 @@ later_is_taken links page back some later l =
     let eos : of_stream chain page (λ stream. is_last page && leaves_open page stream) ≡ false =
     at (λ stream. is_last page && leaves_open page stream)
     ∙ elim (cases_Bool (is_last page)) [
-      | inl last ↦ and_no (is_last page) (leaves_open page (state_of front serial)) (closed last)
+      | inl last ↦ and_right (is_last page) (leaves_open page (state_of front serial)) (closed last)
       | inr not' ↦ ap (λ b. b && leaves_open page (state_of front serial)) not'
     ] in
     later_none chain page later (
@@ -95,7 +92,7 @@ whole_is own page none fits =
     let continued : is_continued page ≡ false = fits.continued ∙ ap (λ (x : List Page). ends_open (joined_lacing x)) none in
     not_from_true (is_whole_packet page) (and_from (not (is_continued page)) (is_one_packet page.lacing) (ap not continued) (ap is_one_packet lacing.1 ∙ lace_is lacing.0))
 
-no_data : (pages : List Page) → AllByRecursion (λ (p : Page). is_first p ≡ true) pages → list_any (λ p. not (is_first p)) pages ≡ false
+pub no_data : (pages : List Page) → AllByRecursion (λ (p : Page). is_first p ≡ true) pages → list_any (λ p. not (is_first p)) pages ≡ false
 no_data [] h = refl
 no_data (page ∷ pages) h = or_from (not (is_first page)) (list_any (λ p. not (is_first p)) pages) (ap not h.0) (no_data pages h.1)
 
@@ -151,7 +148,7 @@ begin_is_taken links page back closed few first l =
     )
 
 -- ---- in turn
-with_more : (done : List (List Page)) (link pages : List Page) → with_pages (done ++ link ∷ []) pages ≡ done ++ (link ++ pages) ∷ []
+pub with_more : (done : List (List Page)) (link pages : List Page) → with_pages (done ++ link ∷ []) pages ≡ done ++ (link ++ pages) ∷ []
 with_more [] link pages = refl
 with_more (d ∷ []) link pages = refl
 with_more (d ∷ e ∷ done) link pages = ap (λ l. d ∷ l) (with_more (e ∷ done) link pages)
@@ -222,14 +219,11 @@ pub only : (bytes : List ℕ) (links : List (List Page)) → AreLinks bytes link
 only bytes links l = let few : length links ≤ 65536 = l.few in all_taken [] links (λ _. refl) (omega arith) l.each l.ended
 
 -- ---- a list of pages
-no_bytes : (page : Page) (more : List ℕ) → [] ≢ page_bytes page ++ more
-no_bytes page more e = absurd (omega (arith, ap length e, length-append (page_bytes page) more, length-page_bytes page))
-
 -- bytes are joined from one list of pages
 pub same_pages : (p q : List Page) → AllByRecursion IsPage p → AllByRecursion IsPage q → bytes_of_pages p ≡ bytes_of_pages q → p ≡ q
 same_pages [] [] a b e = refl
-same_pages [] (y ∷ q) a b e = absurd (no_bytes y (bytes_of_pages q) e)
-same_pages (x ∷ p) [] a b e = absurd (no_bytes x (bytes_of_pages p) (sym e))
+same_pages [] (y ∷ q) a b e = absurd (nothing_is_no_page y (bytes_of_pages q) e)
+same_pages (x ∷ p) [] a b e = absurd (nothing_is_no_page x (bytes_of_pages p) (sym e))
 same_pages (x ∷ p) (y ∷ q) a b e =
     let first : (x ≡ y) × (bytes_of_pages p ≡ bytes_of_pages q) = one_page x y (bytes_of_pages p) (bytes_of_pages q) a.0 b.0 e in
     ap (λ l. l ∷ p) first.0 ∙ ap (λ (l : List Page). y ∷ l) (same_pages p q a.1 b.1 first.1)

@@ -4,7 +4,7 @@ use Rattle.std.specs.Prelude.{nat_eq, nat_lt, ◌||◌, ◌&&◌, not, is_none}
 use Rattle.std.specs.List.{AllByRecursion, filter, list_any, list_all, find, fold, flat_map}
 use Rattle.std.specs.Option.{option_map_or}
 use Rattle.std.proofs.lemmas.List.{append-nil}
-use Rattle.std.proofs.lemmas.Bool.{eqb-true, ne_eqb, cases_eq, cases_Bool, cond-true, cond-false, cond_both, ltb-true, or_parts, or_left, or_right}
+use Rattle.std.proofs.lemmas.Bool.{eqb-true, ne_eqb, cases_eq, cases_Bool, cond-true, cond-false, cond_both, ltb-true, or_parts, or_left, or_right, not-false}
 use Rattle.ogg_page.specs.Page.{Page, IsPage, bytes_of_pages, page_bytes}
 use Rattle.ogg_page.specs.LogicalStream.{number_behind, is_first}
 use Rattle.link_chain.specs.declared.stream_state.StreamState.{StreamState}
@@ -12,17 +12,14 @@ use Rattle.link_chain.specs.Links.{IsLink, AreLinks, AllButLast, pages_with, wit
 use Rattle.link_chain.specs.Recording.{Stream, Recording, HoldsLink, HoldsLinks, change_last}
 use Rattle.link_chain.specs.ChainState.{chain_state_of, state_of, last_link, last_position, is_open}
 use Rattle.link_chain.specs.Progress.{stream_in, next_in}
-use Rattle.link_chain.specs.Laws.Grow.{all_both, all_true, all_weaker, filter_all, serials_same}
+use Rattle.link_chain.specs.Laws.Grow.{all_true, all_weaker, filter_all, serials_same}
+use Rattle.ogg_page.specs.Laws.PageBytes.{all_both}
 
 pub all_split : {X : Type 0} (P : X → Type 0) (xs ys : List X) → AllByRecursion P (xs ++ ys) → AllByRecursion P xs × AllByRecursion P ys
 all_split P [] ys h = (tt, h)
 all_split P (x ∷ xs) ys h =
     let rest : AllByRecursion P xs × AllByRecursion P ys = all_split P xs ys h.1 in
     ((h.0, rest.0), rest.1)
-
-pub not_false : (b : Bool) → not b ≡ false → b ≡ true
-not_false true e = refl
-not_false false e = cc
 
 -- ---- an open link
 pub any_map : {X Y : Type 0} (test : Y → Bool) (f : X → Y) (xs : List X) → list_any test (map f xs) ≡ list_any (λ x. test (f x)) xs
@@ -182,17 +179,19 @@ last_grows bytes links recording pages change some are step l h =
       held.1,
     )
 
--- ---- no link is open
-not_not : (b : Bool) → not b ≡ false → b ≡ true
-not_not true e = refl
-not_not false e = cc
+-- the last one is there
+pub last_changed : {A : Type 0} (change : A → A) (xs : List A) (x : A) → change_last change (xs ++ x ∷ []) ≡ xs ++ change x ∷ []
+last_changed change [] x = refl
+last_changed change (a ∷ []) x = refl
+last_changed change (a ∷ b ∷ xs) x = ap (λ l. a ∷ l) (last_changed change (b ∷ xs) x)
 
+-- ---- no link is open
 ended_serial : (ended : ℕ → Bool) (xs : List ℕ) → list_any (λ s. not (ended s)) xs ≡ false → (serial : ℕ) → list_any (nat_eq serial) xs ≡ true → ended serial ≡ true
 ended_serial ended [] e serial there = cc
 ended_serial ended (x ∷ xs) e serial there =
     let parts : (not (ended x) ≡ false) × (list_any (λ s. not (ended s)) xs ≡ false) = or_parts (not (ended x)) (list_any (λ s. not (ended s)) xs) e in
     elim (cases_eq serial x) [
-      | inl same ↦ ap ended same ∙ not_not (ended x) parts.0
+      | inl same ↦ ap ended same ∙ not-false (ended x) parts.0
       | inr other ↦ ended_serial ended xs parts.1 serial (sym (ap (λ b. b || list_any (nat_eq serial) xs) (ne_eqb serial x other)) ∙ there)
     ]
 

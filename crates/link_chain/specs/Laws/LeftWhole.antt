@@ -9,7 +9,7 @@ use Rattle.std.proofs.lemmas.Bool.{eqb-true, eq-eqb, false≢true}
 use Rattle.ogg_page.specs.Page.{Page, IsPage, IsByte}
 use Rattle.ogg_page.specs.Lacing.{lace, lacing_of, ends_open}
 use Rattle.ogg_page.specs.LogicalStream.{joined_lacing, joined_bodies, is_first}
-use Rattle.ogg_page.specs.StreamLaws.{ends_open-at, ends_open-append, ends_open-lace, last_closes}
+use Rattle.ogg_page.specs.StreamLaws.{ends_open-at, ends_open-append, last_closes, ends_open-laces}
 use Rattle.link_chain.specs.declared.stream_state.StreamState.{StreamState}
 use Rattle.link_chain.specs.Links.{IsLink, AreLinks, AllButLast, pages_with, serials_of, has_ended, all_ended}
 use Rattle.link_chain.specs.Recording.{Stream, Recording, HoldsStream, HoldsLink, HoldsLinks}
@@ -29,11 +29,11 @@ record Packets (values bytes : List ℕ) : Type 0 where
   pub bodies : bytes ≡ concat packets ++ rest
   pub rest_size : length rest ≡ 255 * segments
 
-one_more_full : (n : ℕ) (values : List ℕ) → replicate n 255 ++ 255 ∷ values ≡ replicate (suc n) 255 ++ values
+pub one_more_full : (n : ℕ) (values : List ℕ) → replicate n 255 ++ 255 ∷ values ≡ replicate (suc n) 255 ++ values
 one_more_full zero values = refl
 one_more_full (suc n) values = ap (λ l. 255 ∷ l) (one_more_full n values)
 
-lace_is : (packet : List ℕ) (segments value : ℕ) → value < 255 → length packet ≡ 255 * segments + value → lace packet ≡ replicate segments 255 ++ value ∷ []
+pub lace_is : (packet : List ℕ) (segments value : ℕ) → value < 255 → length packet ≡ 255 * segments + value → lace packet ≡ replicate segments 255 ++ value ∷ []
 unfolding lacing_of
 lace_is packet segments value small e =
     let whole : length packet / 255 ≡ segments = omega arith in
@@ -84,16 +84,12 @@ packets_behind (value ∷ values) segments bytes all e = by_cases (nat_eq value 
         one_packet segments value values packet (drop (255 * segments + value) bytes) bytes (lace_is packet segments value small size)
         (sym (take-append-drop (255 * segments + value) bytes)) (ends small)
 
-laces_closed : (packets : List (List ℕ)) → ends_open (flat_map lace packets) ≡ false
-laces_closed [] = refl
-laces_closed (packet ∷ packets) = ends_open-append (lace packet) (flat_map lace packets) (ends_open-lace packet) ∙ laces_closed packets
-
 -- if the last value ends its packet, no segment is left
-no_segment : (packets : List (List ℕ)) (segments : ℕ) → ends_open (flat_map lace packets ++ replicate segments 255) ≡ false → segments ≡ 0
+pub no_segment : (packets : List (List ℕ)) (segments : ℕ) → ends_open (flat_map lace packets ++ replicate segments 255) ≡ false → segments ≡ 0
 no_segment packets zero closed = refl
 no_segment packets (suc n) closed =
     let open_is : ends_open (flat_map lace packets ++ replicate (suc n) 255) ≡ true =
-    ends_open-append (flat_map lace packets) (replicate (suc n) 255) (laces_closed packets)
+    ends_open-append (flat_map lace packets) (replicate (suc n) 255) (ends_open-laces packets)
     ∙ ap ends_open (sym (one_more_full n [] ∙ append-nil (replicate (suc n) 255)))
     ∙ ends_open-at (replicate n 255) 255 [] in
     absurd (false≢true (sym closed ∙ open_is))
@@ -112,7 +108,7 @@ values_of_pages (page ∷ pages) all =
     both [] ys a b = b
     both (x ∷ xs) ys a b = (a.0, both xs ys a.1 b)
 
-abbrev IsClosed : List Page → ℕ → Type 0
+abbrev pub IsClosed : List Page → ℕ → Type 0
 IsClosed pages serial = ends_open (joined_lacing (pages_with serial pages)) ≡ false
 
 held_stream : (pages : List Page) (serial : ℕ) → AllByRecursion IsPage pages → IsClosed pages serial → (stream : Stream) × HoldsStream pages serial stream
@@ -148,7 +144,7 @@ held_streams pages (serial ∷ serials) all closed =
 
 -- ---- a stream that has ended
 -- each stream of a link in which all have ended is closed
-closed_by_end : (pages : List Page) (serials : List ℕ) → IsLink pages → list_any (λ serial. not (has_ended pages serial)) serials ≡ false → AllByRecursion (IsClosed pages) serials
+pub closed_by_end : (pages : List Page) (serials : List ℕ) → IsLink pages → list_any (λ serial. not (has_ended pages serial)) serials ≡ false → AllByRecursion (IsClosed pages) serials
 closed_by_end pages [] link e = tt
 closed_by_end pages (serial ∷ serials) link e = by_cases (has_ended pages serial) refl (closed_by_end pages serials link)
   where
@@ -160,7 +156,7 @@ closed_by_end pages (serial ∷ serials) link e = by_cases (has_ended pages seri
     )
     by_cases false t rest = absurd (false≢true (sym e ∙ ap (λ b. not b || list_any (λ s. not (has_ended pages s)) serials) t))
 
-none_open : (pages : List Page) → all_ended pages ≡ true → list_any (λ serial. not (has_ended pages serial)) (serials_of pages) ≡ false
+pub none_open : (pages : List Page) → all_ended pages ≡ true → list_any (λ serial. not (has_ended pages serial)) (serials_of pages) ≡ false
 none_open pages e = by_cases (list_any (λ serial. not (has_ended pages serial)) (serials_of pages)) refl
   where
     by_cases : (t : Bool) → list_any (λ serial. not (has_ended pages serial)) (serials_of pages) ≡ t → t ≡ false

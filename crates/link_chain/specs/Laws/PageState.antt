@@ -1,9 +1,9 @@
 -- The chain state after a page that may follow.
-use Rattle.std.proofs.Common.{◌≡◌, ◌≢◌, ◌+◌, ◌<◌, ◌^◌, ℕ, Bool, true, false, cond, List, [], ◌∷◌, ◌++◌, length, map, refl, sym, ◌∙◌, ap, arith, None, Some, inl, inr, eq-eqb, length-append, append_assoc}
+use Rattle.std.proofs.Common.{◌≡◌, ◌≢◌, ◌+◌, ◌<◌, ◌^◌, ℕ, true, false, cond, List, [], ◌∷◌, ◌++◌, length, map, refl, sym, ◌∙◌, ap, subst, arith, None, Some, inl, inr, eq-eqb, length-append, append_assoc}
 use Rattle.std.specs.Prelude.{nat_eq, nat_lt, not, ◌||◌, ◌&&◌, is_some}
 use Rattle.std.specs.List.{AllByRecursion, list_any, flat_map, filter}
-use Rattle.std.proofs.lemmas.Bool.{cond-true, cond-false, ne_eqb, eqb-false, or_parts, cases_Bool, leb-false}
-use Rattle.std.proofs.lemmas.List.{append-nil}
+use Rattle.std.proofs.lemmas.Bool.{cond-true, cond-false, ne_eqb, eqb-false, or_parts, cases_Bool, leb-false, not-false}
+use Rattle.std.proofs.lemmas.List.{append-nil, map-append}
 use Rattle.std.proofs.lemmas.List.Elements.{filter-append}
 use Rattle.std.proofs.lemmas.List.Concat.{flat_map-append}
 use Rattle.std.proofs.lemmas.List.Folds.{list_any-append}
@@ -20,19 +20,16 @@ use Rattle.link_chain.specs.Size.{size_of_pages}
 use Rattle.link_chain.specs.Progress.{stream_in}
 use Rattle.link_chain.specs.Taking.{fault_of_page, begins_link, links_with, leaves_open, later_rules, joining_rules}
 use Rattle.link_chain.specs.Followed.{followed, without_pages, entered, opened, joined, continued}
-use Rattle.link_chain.specs.Laws.Grow.{with_own, ended_both, or_false, filter_all, filter_none}
-use Rattle.link_chain.specs.Laws.LastLink.{not_false, any_map, open_some, length_more, found_at}
+use Rattle.link_chain.specs.Laws.Grow.{with_own, ended_both, filter_all, filter_none}
+use Rattle.link_chain.specs.Laws.LastLink.{any_map, open_some, length_more, found_at}
 use Rattle.link_chain.specs.Laws.StateBehind.{last_is, state, chain_of, state_behind, state_other, last_with, size_with, size_of_links}
 use Rattle.link_chain.specs.Followed.{moved_by}
 use Rattle.link_chain.specs.Laws.Rules.{NoneBroken}
 use Rattle.link_chain.specs.Laws.Rules.{none_if}
 use Rattle.link_chain.specs.Laws.PageRules.{later_kept, joining_kept, opening_kept}
+use Rattle.std.proofs.Math.Bool.{or-false, and-false, not-not}
 
 -- ---- the links with the page
-pub and_no : (b : Bool) → (b && false) ≡ false
-and_no true = refl
-and_no false = refl
-
 pub begins_here : (links : List (List Page)) (page : Page) → is_first page ≡ true → is_open (chain_state_of links) ≡ false → links_with links page ≡ links ++ (page ∷ []) ∷ []
 begins_here links page first closed =
     cond-true (begins_link (chain_state_of links) page) (links ++ (page ∷ []) ∷ []) (with_pages links (page ∷ []))
@@ -41,7 +38,7 @@ begins_here links page first closed =
 pub goes_on_open : (links : List (List Page)) (page : Page) → is_open (chain_state_of links) ≡ true → links_with links page ≡ with_pages links (page ∷ [])
 goes_on_open links page opened' =
     cond-false (begins_link (chain_state_of links) page) (links ++ (page ∷ []) ∷ []) (with_pages links (page ∷ []))
-    (ap (λ b. is_first page && not b) opened' ∙ and_no (is_first page))
+    (ap (λ b. is_first page && not b) opened' ∙ and-false (is_first page))
 
 pub goes_on_later : (links : List (List Page)) (page : Page) → is_first page ≡ false → links_with links page ≡ with_pages links (page ∷ [])
 goes_on_later links page later =
@@ -52,12 +49,8 @@ pub not_zero : (links : List (List Page)) → nat_eq (length links) 0 ≡ false 
 not_zero links e f = eqb-false (length links) 0 e (ap length f)
 
 -- ---- a stream with another page
-not_not : (b : Bool) → not (not b) ≡ b
-not_not true = refl
-not_not false = refl
-
 pub open_with : (before lacing : List ℕ) → ends_open (before ++ lacing) ≡ cond (nat_eq (length lacing) 0) (not (not (ends_open before))) (ends_open lacing)
-open_with before [] = ap ends_open (append-nil before) ∙ sym (not_not (ends_open before))
+open_with before [] = ap ends_open (append-nil before) ∙ sym (not-not (ends_open before))
 open_with before (value ∷ lacing) =
     ends_open-at before value lacing
     ∙ sym (cond-false (nat_eq (length (value ∷ lacing)) 0) (not (not (ends_open before))) (ends_open (value ∷ lacing)) (ne_eqb (length (value ∷ lacing)) 0 (λ e. omega arith)))
@@ -73,7 +66,7 @@ stream_behind link page =
     let position : last_position (own ++ page ∷ []) ≡ reached =
     fold_push (λ (found : ℕ) (p : Page). cond (nat_lt p.position (2 ^ 63)) p.position found) 0 own page in
     let ended : has_ended (link ++ page ∷ []) serial ≡ (has_ended link serial || is_last page) =
-    ended_both serial link (page ∷ []) ∙ ap (λ b. has_ended link serial || b) (ap (list_any is_last) alone ∙ or_false (is_last page)) in
+    ended_both serial link (page ∷ []) ∙ ap (λ b. has_ended link serial || b) (ap (list_any is_last) alone ∙ or-false (is_last page)) in
     let lacing : joined_lacing (own ++ page ∷ []) ≡ joined_lacing own ++ page.lacing =
     flat_map-append (λ (p : Page). p.lacing) own (page ∷ []) ∙ ap (λ l. joined_lacing own ++ l) (append-nil page.lacing) in
     let finished : not (ends_open (joined_lacing (own ++ page ∷ []))) ≡ not (leaves_open page (state_of link serial)) =
@@ -88,9 +81,9 @@ stream_behind link page =
 one_size : (page : Page) → size_of_pages (page ∷ []) ≡ page_size page
 one_size page = sum_by-cons page_size page [] ∙ omega arith
 
-pub later_state : (links : List (List Page)) (page : Page) → is_first page ≡ false → fault_of_page (chain_state_of links) page ≡ None →
+later_links : (links : List (List Page)) (page : Page) → is_first page ≡ false → fault_of_page (chain_state_of links) page ≡ None →
     chain_state_of (links_with links page) ≡ continued (chain_state_of links) page
-later_state links page later e =
+later_links links page later e =
     let chain : ChainState = chain_state_of links in
     let kept : NoneBroken (later_rules chain page) = later_kept chain page later e in
     ap chain_state_of (goes_on_later links page later)
@@ -101,9 +94,9 @@ later_state links page later e =
 pub one_serial : (page : Page) → is_first page ≡ true → serials_of (page ∷ []) ≡ page.serial ∷ []
 one_serial page first = ap (map (λ (p : Page). p.serial)) (cond-true (is_first page) (page ∷ []) [] first)
 
-pub opened_state : (links : List (List Page)) (page : Page) → is_first page ≡ true → is_open (chain_state_of links) ≡ false →
+opened_links : (links : List (List Page)) (page : Page) → is_first page ≡ true → is_open (chain_state_of links) ≡ false →
     chain_state_of (links_with links page) ≡ opened (chain_state_of links) page
-opened_state links page first closed =
+opened_links links page first closed =
     let link : List Page = page ∷ [] in
     let all : List (List Page) = links ++ link ∷ [] in
     let own : serials_of link ≡ page.serial ∷ [] = one_serial page first in
@@ -124,18 +117,14 @@ opened_state links page first closed =
     ∙ ap (λ n. chain_of (entered page ∷ []) false (flat_map serials_of links ++ page.serial ∷ []) (length links + 1) n) longer
 
 -- ---- the first page of one more stream
-map_both : {X Y : Type 0} (f : X → Y) (xs ys : List X) → map f (xs ++ ys) ≡ map f xs ++ map f ys
-map_both f [] ys = refl
-map_both f (x ∷ xs) ys = ap (λ l. f x ∷ l) (map_both f xs ys)
-
 pub serials_both : (xs ys : List Page) → serials_of (xs ++ ys) ≡ serials_of xs ++ serials_of ys
-serials_both xs ys = ap (map (λ (p : Page). p.serial)) (filter-append is_first xs ys) ∙ map_both (λ (p : Page). p.serial) (filter is_first xs) (filter is_first ys)
+serials_both xs ys = ap (map (λ (p : Page). p.serial)) (filter-append is_first xs ys) ∙ map-append (λ (p : Page). p.serial) (filter is_first xs) (filter is_first ys)
 
 pub all_first : (pages : List Page) → list_any (λ page. not (is_first page)) pages ≡ false → AllByRecursion (λ page. is_first page ≡ true) pages
 all_first [] e = tt
 all_first (page ∷ pages) e =
     let parts : (not (is_first page) ≡ false) × (list_any (λ p. not (is_first p)) pages ≡ false) = or_parts (not (is_first page)) (list_any (λ p. not (is_first p)) pages) e in
-    (not_false (is_first page) parts.0, all_first pages parts.1)
+    (not-false (is_first page) parts.0, all_first pages parts.1)
 
 -- no stream with this serial
 pub absent : (links : List (List Page)) (serial : ℕ) → is_some (stream_in (chain_state_of links).streams serial) ≡ false → has_stream (last_link links) serial ≡ false
@@ -179,9 +168,9 @@ serials_more (link ∷ next ∷ links) page some first =
     ap (λ l. serials_of link ++ l) (serials_more (next ∷ links) page (λ e. cc) first)
     ∙ sym (append_assoc (serials_of link) (flat_map serials_of (next ∷ links)) (page.serial ∷ []))
 
-pub joined_state : (links : List (List Page)) (page : Page) → is_first page ≡ true → is_open (chain_state_of links) ≡ true → fault_of_page (chain_state_of links) page ≡ None →
+joined_links : (links : List (List Page)) (page : Page) → is_first page ≡ true → is_open (chain_state_of links) ≡ true → fault_of_page (chain_state_of links) page ≡ None →
     chain_state_of (links_with links page) ≡ joined (chain_state_of links) page
-joined_state links page first open' e =
+joined_links links page first open' e =
     let chain : ChainState = chain_state_of links in
     let last : List Page = last_link links in
     let serial : ℕ = page.serial in
@@ -194,12 +183,12 @@ joined_state links page first open' e =
     ap (λ (own : List Page). state serial (number_behind own) (last_position own) (list_any is_last own) (not (ends_open (joined_lacing own)))) (no_pages last serial bare none) in
     let streams : map (state_of (last ++ page ∷ [])) (serials_of (last ++ page ∷ [])) ≡ chain.streams ++ entered page ∷ [] =
     ap (map (state_of (last ++ page ∷ []))) (serials_both last (page ∷ []) ∙ ap (λ l. serials_of last ++ l) (one_serial page first))
-    ∙ map_both (state_of (last ++ page ∷ [])) (serials_of last) (serial ∷ [])
+    ∙ map-append (state_of (last ++ page ∷ [])) (serials_of last) (serial ∷ [])
     ∙ ap (λ l. l ++ state_of (last ++ page ∷ []) serial ∷ []) (others_same last page (serials_of last) none)
     ∙ ap (λ s. map (state_of last) (serials_of last) ++ s ∷ []) (stream_behind last page ∙ ap (followed page) no_own) in
     let marked : list_any (λ p. not (is_first p)) (last ++ page ∷ []) ≡ list_any (λ p. not (is_first p)) last =
     list_any-append (λ (p : Page). not (is_first p)) last (page ∷ [])
-    ∙ ap (λ b. list_any (λ (p : Page). not (is_first p)) last || (not b || false)) first ∙ or_false (list_any (λ (p : Page). not (is_first p)) last) in
+    ∙ ap (λ b. list_any (λ (p : Page). not (is_first p)) last || (not b || false)) first ∙ or-false (list_any (λ (p : Page). not (is_first p)) last) in
     ap chain_state_of (goes_on_open links page open')
     ∙ ap (λ (l : List Page). chain_of (map (state_of l) (serials_of l)) (list_any (λ page. not (is_first page)) l) (flat_map serials_of all) (length all) (size_of_links all)) (last_with links (page ∷ []) some)
     ∙ ap (λ l. chain_of l (list_any (λ page. not (is_first page)) (last ++ page ∷ [])) (flat_map serials_of all) (length all) (size_of_links all)) streams
@@ -218,3 +207,17 @@ joins_fresh chain page first open' e = none_if (stream_in chain.streams page.ser
 
 pub opens_few : (chain : ChainState) (page : Page) → is_first page ≡ true → is_open chain ≡ false → fault_of_page chain page ≡ None → chain.links < 65536
 opens_few chain page first closed e = leb-false 65536 chain.links (opening_kept chain page first closed e).1.0
+
+-- ---- of a chain whose state is that of links
+module _ (chain : ChainState) (links : List (List Page)) (page : Page) (is : chain ≡ chain_state_of links) where
+  pub later_state : is_first page ≡ false → fault_of_page chain page ≡ None → chain_state_of (links_with links page) ≡ continued chain page
+  later_state later =
+      subst (λ (c : ChainState). fault_of_page c page ≡ None → chain_state_of (links_with links page) ≡ continued c page) (sym is) (later_links links page later)
+
+  pub opened_state : is_first page ≡ true → is_open chain ≡ false → chain_state_of (links_with links page) ≡ opened chain page
+  opened_state first =
+      subst (λ (c : ChainState). is_open c ≡ false → chain_state_of (links_with links page) ≡ opened c page) (sym is) (opened_links links page first)
+
+  pub joined_state : is_first page ≡ true → is_open chain ≡ true → fault_of_page chain page ≡ None → chain_state_of (links_with links page) ≡ joined chain page
+  joined_state first =
+      subst (λ (c : ChainState). is_open c ≡ true → fault_of_page c page ≡ None → chain_state_of (links_with links page) ≡ joined c page) (sym is) (joined_links links page first)

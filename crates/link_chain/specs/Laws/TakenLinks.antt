@@ -6,7 +6,7 @@ use Rattle.std.specs.Option.{option_map_or}
 use Rattle.std.proofs.lemmas.List.{append-nil, length-map}
 use Rattle.std.proofs.lemmas.List.Concat.{flat_map-append}
 use Rattle.std.proofs.lemmas.List.Sums.{sum_by-cons}
-use Rattle.std.proofs.lemmas.Bool.{cond-true, cond_both, ne_eqb, eqb-true, eqb-false, cases_eq, cases_Bool, or_parts, and_parts, ltb-true, leb-false}
+use Rattle.std.proofs.lemmas.Bool.{cond-true, cond_both, ne_eqb, eqb-true, eqb-false, cases_eq, cases_Bool, or_parts, and_parts, ltb-true, leb-false, not-false}
 use Rattle.ogg_page.specs.Page.{Page, IsPage, page_bytes, bytes_of_pages}
 use Rattle.ogg_page.specs.Lacing.{ends_open, lace, lacing_of}
 use Rattle.ogg_page.specs.LogicalStream.{FitsBehind, FlagsFit, joined_lacing, number_behind, is_first, is_continued, is_last}
@@ -17,12 +17,13 @@ use Rattle.link_chain.specs.Progress.{stream_in}
 use Rattle.link_chain.specs.ChainState.{ChainState, chain_state_of, state_of, last_link, is_open}
 use Rattle.link_chain.specs.Links.{with_pages}
 use Rattle.link_chain.specs.Taking.{fault_of_page, later_rules, joining_rules, opening_rules, links_with, AreTaken, is_one_packet, is_whole_packet, leaves_open}
-use Rattle.link_chain.specs.Laws.Grow.{grow_link, all_weaker, all_both, stream_some, with_own, with_other, filter_all, filter_none}
-use Rattle.link_chain.specs.Laws.LastLink.{not_false, open_link, open_some, known_stream, spelled_more, pages_more, length_more, ended_more, some_open}
+use Rattle.link_chain.specs.Laws.Grow.{grow_link, all_weaker, stream_some, with_own, with_other, filter_all, filter_none}
+use Rattle.link_chain.specs.Laws.LastLink.{open_link, open_some, known_stream, spelled_more, pages_more, length_more, ended_more, some_open}
 use Rattle.link_chain.specs.Laws.LastLink.{each_known, ended_links, last_is_link, closed_link}
 use Rattle.link_chain.specs.Laws.Rules.{NoneBroken}
 use Rattle.link_chain.specs.Laws.PageRules.{later_kept, joining_kept, opening_kept}
 use Rattle.link_chain.specs.Laws.PageState.{begins_here, goes_on_open, goes_on_later, not_zero, open_with, absent, all_first, serials_both}
+use Rattle.ogg_page.specs.Laws.PageBytes.{all_both}
 
 -- ---- further pages for the last link
 each_more : (links : List (List Page)) (pages : List Page) → (IsLink (last_link links) → IsLink (last_link links ++ pages)) → AllByRecursion IsLink links → AllByRecursion IsLink (with_pages links pages)
@@ -75,7 +76,7 @@ later_link links page unmarked kept l =
     let at : (test : StreamState → Bool) → option_map_or test (stream_in chain.streams serial) false ≡ test (state_of link serial) = λ test. at_stream links serial test known.1 in
     let unended : has_ended link serial ≡ false = sym (at (λ stream. stream.ended)) ∙ kept.1.1.0 in
     let number : page.sequence ≡ number_behind own =
-    eqb-true page.sequence (number_behind own) (not_false (nat_eq page.sequence (number_behind own)) (sym (at (λ stream. not (nat_eq page.sequence stream.next_sequence))) ∙ kept.1.1.1.0)) in
+    eqb-true page.sequence (number_behind own) (not-false (nat_eq page.sequence (number_behind own)) (sym (at (λ stream. not (nat_eq page.sequence stream.next_sequence))) ∙ kept.1.1.1.0)) in
     let continued : is_continued page ≡ ends_open (joined_lacing own) =
     continued_is (is_continued page) (ends_open (joined_lacing own)) (sym (at (λ stream. cond (is_continued page) stream.finished (not stream.finished))) ∙ kept.1.1.1.1.0) in
     let fits : FitsBehind own page = record {
@@ -108,7 +109,7 @@ one_lacing n small =
     let rest : n % 255 ≡ n = omega arith in
     sym (ap (λ k. replicate k 255 ++ n % 255 ∷ []) quotient ∙ ap (λ r. r ∷ []) rest)
 
-whole_lacing : (lacing : List ℕ) → is_one_packet lacing ≡ true → lacing ≡ lacing_of (sum lacing)
+pub whole_lacing : (lacing : List ℕ) → is_one_packet lacing ≡ true → lacing ≡ lacing_of (sum lacing)
 whole_lacing [] e = cc
 whole_lacing (value ∷ []) e =
     one_lacing value (ltb-true value 255 e) ∙ ap lacing_of (sym (sum_by-cons (λ x. x) value [] ∙ omega arith))
@@ -155,7 +156,7 @@ one_link page is first whole =
       one = (λ ne. absurd (ne refl), tt);
     }
 
-distinct_push : (xs : List ℕ) (y : ℕ) → IsDistinct nat_eq xs → list_any (nat_eq y) xs ≡ false → IsDistinct nat_eq (xs ++ y ∷ [])
+pub distinct_push : (xs : List ℕ) (y : ℕ) → IsDistinct nat_eq xs → list_any (nat_eq y) xs ≡ false → IsDistinct nat_eq (xs ++ y ∷ [])
 unfolding IsDistinct
 distinct_push [] y d e = (tt, tt)
 distinct_push (x ∷ xs) y d e =
@@ -215,7 +216,7 @@ page_is_taken bytes links page is l e =
                 (leb-false 64 (length (map (state_of (last_link links)) (serials_of (last_link links)))) kept.1.1.1.0) in
                 subst (AreLinks (bytes ++ page_bytes page)) (sym (goes_on_open links page opened))
                 (last_more bytes links page (open_some links opened) is
-                (first_link links page is first opened kept.0 (absent links page.serial kept.1.0) (not_false (is_whole_packet page) kept.1.1.0) few) l))
+                (first_link links page is first opened kept.0 (absent links page.serial kept.1.0) (not-false (is_whole_packet page) kept.1.1.0) few) l))
             | inr closed ↦
                 (let kept : NoneBroken (opening_rules (chain_state_of links) page) = opening_kept (chain_state_of links) page first closed e in
                 let small : length links < 65536 = leb-false 65536 (length links) kept.1.0 in
@@ -226,7 +227,7 @@ page_is_taken bytes links page is l e =
                       ∙ sym (flat_map-append bytes_of_pages links ((page ∷ []) ∷ []));
                   pages = all_both (AllByRecursion IsPage) links ((page ∷ []) ∷ []) l.pages ((is, tt), tt);
                   few = omega (arith, length-append links ((page ∷ []) ∷ []));
-                  each = all_both IsLink links ((page ∷ []) ∷ []) l.each (one_link page is first (not_false (is_whole_packet page) kept.0), tt);
+                  each = all_both IsLink links ((page ∷ []) ∷ []) l.each (one_link page is first (not-false (is_whole_packet page) kept.0), tt);
                   ended = ended_links (λ x. all_ended x ≡ true) links (page ∷ []) l.ended (λ ne. closed_link links (last_is_link links l.each ne) closed);
                 }))
           ]
@@ -247,3 +248,11 @@ are_taken (page ∷ pages) bytes start links are l h =
 pub taken : (pages : List Page) (links : List (List Page)) → AllByRecursion IsPage pages → AreTaken [] pages links → AreLinks (bytes_of_pages pages) links
 taken pages links are h =
     are_taken pages [] [] links are (record { spelled = refl; pages = tt; few = omega arith; each = tt; ended = tt }) h
+
+-- ---- pages taken in turn
+pub taken_front : (start : List (List Page)) (front rest : List Page) (links : List (List Page)) → AreTaken start (front ++ rest) links
+    → (middle : List (List Page)) × AreTaken start front middle
+taken_front start [] rest links all = (start, refl)
+taken_front start (page ∷ front) rest links all =
+    let (middle, more) = taken_front (links_with start page) front rest links all.1 in
+    (middle, (all.0, more))

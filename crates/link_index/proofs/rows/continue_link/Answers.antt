@@ -6,7 +6,8 @@ use Rattle.link_index.specs.declared.info.StreamInfo.{StreamInfo}
 use Rattle.link_index.specs.declared.rows.Row.{Row}
 use Rattle.link_index.specs.Growth.{continued_entry, change_last, counted}
 use Rattle.link_index.specs.Rows.{ArePacked, AreWithin, entries_of, last_count}
-use Rattle.link_index.proofs.Packing.{grown, last_at, all_behind, packed_at, packed_with, rows_continued, continued_within}
+use Rattle.link_chain.specs.Laws.LastLink.{all_split}
+use Rattle.link_index.proofs.Packing.{grown, last_at, packed_at, packed_with, rows_continued, continued_within}
 use Rattle.link_index.proofs.rows.continue_link.Goals as goal
 
 pub split_at_mut-own-requires : goal.split_at_mut-own-requires
@@ -21,8 +22,10 @@ count_page-requires c =
       total,
       record {
         lengths = tt;
-        sizes = all_behind (λ (s : StreamInfo). (s.bytes ≤ total) × (s.pages ≤ total)) c.split_at_mut-own.result.0.now c.split_at_mut-own.result.1.now
-            (subst (AllByRecursion (λ (s : StreamInfo). (s.bytes ≤ total) × (s.pages ≤ total))) c.split_at_mut-own.ensures.value c.requires.within.1.sizes);
+        sizes = (
+            all_split (λ (s : StreamInfo). (s.bytes ≤ total) × (s.pages ≤ total)) c.split_at_mut-own.result.0.now c.split_at_mut-own.result.1.now
+            (subst (AllByRecursion (λ (s : StreamInfo). (s.bytes ≤ total) × (s.pages ≤ total))) c.split_at_mut-own.ensures.value c.requires.within.1.sizes)
+            ).1;
       },
       c.requires.within.2,
     )

@@ -1,14 +1,10 @@
-use Rattle.std.proofs.Common.{◌≡◌, ◌++◌, ℕ, List, Bool, true, length, drop, take, sym, ◌∙◌, ap, subst, vec_len}
-use Rattle.std.proofs.Math.Seq.{take-append_seam}
+use Rattle.std.proofs.Common.{◌≡◌, ℕ, List, Bool, true, length, ◌∙◌, ap, subst, vec_len}
 use Rattle.ogg_page.specs.Page.{Page}
 use Rattle.ogg_command.specs.declared.command.Command.{Command}
 use Rattle.import_gather.specs.Kept.{KeptStream, KeptLink, TakenBy, has_kept}
 use Rattle.import_gather.specs.Giving.{Follows, PassesOn}
+use Rattle.link_chain.specs.Laws.Lent.{given_back}
 use Rattle.import_gather.proofs.link.LastLink.follow.Goals as goal
-
--- all items were lent, so exactly what they are now is given back
-given_back : {X : Type 0} (now was : List X) (n : ℕ) → length now ≡ n → take n (now ++ drop (length now) was) ≡ now
-given_back now was n e = ap (λ k. take k (now ++ drop (length now) was)) (sym e) ∙ take-append_seam now (drop (length now) was)
 
 abbrev link_of : List KeptStream → Bool → List ℕ → KeptLink
 link_of streams begun ends = record { streams = streams; begun = begun; ends = ends }

@@ -8,7 +8,7 @@ use Rattle.link_chain.specs.Followed.{followed}
 use Rattle.ogg_page.specs.PageLaws.{length-page_bytes}
 use Rattle.link_chain.specs.Places.{HaveOwnSerials}
 use Rattle.link_chain.specs.Laws.OwnSerials.{own_stay}
-use Rattle.link_chain.proofs.Lent.{given_back}
+use Rattle.link_chain.specs.Laws.Lent.{given_back}
 use Rattle.link_chain.specs.Laws.StateBehind.{chain_of}
 use Rattle.link_chain.proofs.chain.Chain.continue_link.Goals as goal
 

@@ -5,7 +5,7 @@ use Rattle.link_chain.specs.Room.{ChainWithRoom}
 use Rattle.link_chain.specs.Progress.{change_at, left_whole}
 use Rattle.link_chain.specs.Places.{HaveOwnSerials}
 use Rattle.link_chain.specs.Laws.OwnSerials.{own_stay}
-use Rattle.link_chain.proofs.Lent.{given_back}
+use Rattle.link_chain.specs.Laws.Lent.{given_back}
 use Rattle.link_chain.specs.Laws.StateBehind.{chain_of}
 use Rattle.link_chain.proofs.chain.Chain.drop_packet.Goals as goal
 

@@ -13,7 +13,8 @@ use Rattle.link_index.specs.Index.{index_of}
 use Rattle.link_index.specs.Growth.{continued_entry, change_last}
 use Rattle.link_index.specs.Rows.{AreWithin, IsKept, entries_of}
 use Rattle.link_index.proofs.Growing.{index_later}
-use Rattle.link_index.proofs.Keeping.{kept_later, given_back}
+use Rattle.link_index.proofs.Keeping.{kept_later}
+use Rattle.link_chain.specs.Laws.Lent.{given_back}
 use Rattle.link_index.proofs.index.Index.add_page.Goals as goal
 
 no_fault_if : (result : Result ⊤ ChainFault) (done : ⊤) (fault : ChainFault) → result ≡ Ok done → result ≡ Err fault → ⊥

@@ -1,4 +1,4 @@
--- A vector whose items were lent, and a chain that was read.
+-- A vector whose items were lent.
 use Rattle.std.proofs.Common.{◌≡◌, ℕ, List, ◌++◌, length, take, drop, sym, ◌∙◌, ap}
 use Rattle.std.proofs.Math.Seq.{take-append_seam}
 
