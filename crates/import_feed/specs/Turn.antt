@@ -29,23 +29,14 @@ fault_at at ReadOf = Read at
 abbrev pub HasNoFault : Gathered → PageValue → Type 0
 HasNoFault old page = (fault_of_page old.chain page ≡ None) × (is_too_long old.link page ≡ false)
 
--- why a page at this offset isn't gathered
-abbrev pub RefusesPage : Sourced → PageValue → ℕ → Sourced → MakingFault → Type 0
-RefusesPage old page offset new (Chain at fault) = (at ≡ offset) × (fault_of_page old.chain page ≡ Some fault) × (new ≡ old)
-RefusesPage old page offset new (PacketTooLong at) =
-    (at ≡ offset) × (fault_of_page old.chain page ≡ None) × (is_too_long old.link page ≡ true) × (new ≡ old)
-RefusesPage old page offset new (TooLong at) = (at ≡ offset) × (2 ^ 63 ≤ offset + page_size page) × (new ≡ old)
-RefusesPage old page offset new Memory = HasNoFault (gathered_of old) page
-RefusesPage old page offset new fault = ⊥
-
--- the same of what is gathered
-abbrev pub RefusesIn : Gathered → PageValue → ℕ → Gathered → MakingFault → Type 0
-RefusesIn old page offset new (Chain at fault) = (at ≡ offset) × (fault_of_page old.chain page ≡ Some fault) × (new ≡ old)
-RefusesIn old page offset new (PacketTooLong at) =
-    (at ≡ offset) × (fault_of_page old.chain page ≡ None) × (is_too_long old.link page ≡ true) × (new ≡ old)
-RefusesIn old page offset new (TooLong at) = (at ≡ offset) × (2 ^ 63 ≤ offset + page_size page) × (new ≡ old)
-RefusesIn old page offset new Memory = HasNoFault old page
-RefusesIn old page offset new fault = ⊥
+-- why a page at this offset isn't gathered; but for want of memory, what was gathered stays
+abbrev pub RefusesPage : Gathered → PageValue → ℕ → Type 0 → MakingFault → Type 0
+RefusesPage old page offset stays (Chain at fault) = (at ≡ offset) × (fault_of_page old.chain page ≡ Some fault) × stays
+RefusesPage old page offset stays (PacketTooLong at) =
+    (at ≡ offset) × (fault_of_page old.chain page ≡ None) × (is_too_long old.link page ≡ true) × stays
+RefusesPage old page offset stays (TooLong at) = (at ≡ offset) × (2 ^ 63 ≤ offset + page_size page) × stays
+RefusesPage old page offset stays Memory = HasNoFault old page
+RefusesPage old page offset stays fault = ⊥
 
 -- ---- what is kept between the pages
 pub record IsStarted (options : ChangeOptions) (maker : Maker) : Type 0 where

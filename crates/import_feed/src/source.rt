@@ -3,8 +3,8 @@ ghost use Rattle.std.specs.Prelude.{◌≡◌, ◌+◌, ◌-◌, ◌<◌, ◌^�
 ghost use Rattle.ogg_page.specs.Page.{Page as PageValue, page_size};
 ghost use Rattle.link_chain.specs.Taking.{unfinished_stream};
 ghost use Rattle.import_gather.specs.Gathered.{CanGoOn};
-ghost use Rattle.import_feed.specs.Turn.{RefusesIn, RefusesPage};
-ghost use Rattle.import_feed.specs.Source.{Gathers, GathersRest, GoesFurther, HasSourced, TakesIn};
+ghost use Rattle.import_feed.specs.Turn.{RefusesPage};
+ghost use Rattle.import_feed.specs.Source.{Gathers, GathersRest, GoesFurther, HasSourced, TakesIn, gathered_of};
 
 use crate::fault::MakingFault;
 use import_changes::{ChangeOptions, Changes};
@@ -54,7 +54,7 @@ impl Source {
         requires behind { behind ≡ min (at + page_size page.now) (2 ^ 64 - 1) }
         ensures ok { IfOk result (λ commands. Gathers self.old page.now self.new [] commands.items) }
         ensures short { OnOk result (at + page_size page.now < 2 ^ 63) }
-        ensures err { IfErr result (RefusesPage self.old page.now at self.new) }
+        ensures err { IfErr result (RefusesPage (gathered_of self.old) page.now at (self.new ≡ self.old)) }
     {
         let mut commands = Vec::new(self.alloc);
         match take_in(&mut self.gatherer, page, at, behind, &mut commands) {
@@ -106,7 +106,7 @@ fn take_in(
     requires behind { behind ≡ min (at + page_size page.now) (2 ^ 64 - 1) }
     ensures ok { OnOk result (TakesIn gatherer.old page.now gatherer.new commands.old.items commands.new.items
         × (at + page_size page.now < 2 ^ 63)) }
-    ensures err { IfErr result (RefusesIn gatherer.old page.now at gatherer.new) }
+    ensures err { IfErr result (RefusesPage gatherer.old page.now at (gatherer.new ≡ gatherer.old)) }
 {
     links_are_begun_without_a_skeleton();
     if behind >= 1 << 63 {
