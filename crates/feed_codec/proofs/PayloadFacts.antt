@@ -20,10 +20,11 @@ use Rattle.feed_records.specs.declared.item.Item.TheVariants.{Announcement, Reco
 use Rattle.feed_records.specs.Record.{packet_bytes, media_bytes, skeleton_bytes, field_bytes, fields_bytes, stream_bytes, entry_bytes, payload_of, FitsFields, FitsField, FitsMessage, FitsHeader, FitsStream, FitsEntry}
 use Rattle.feed_codec.specs.Payload.{Begins, BeginsNone, AreMany, IsPacket, IsMedia, IsFieldOfFeed, AreFields, IsEntryOfFeed, IsStreamOfFeed, IsTail, IsBehind, skeleton_head_bytes, IsPayload}
 use Rattle.feed_records.specs.Tail.{Tail, tail_bytes, Behind, behind_bytes, behind_of_stream}
-use Rattle.feed_codec.proofs.Lists.{all_front, all_back, all_joined, all_as, split_joins}
+use Rattle.feed_codec.proofs.Lists.{all_front, all_back, all_as, split_joins}
 use Rattle.ogg_page.specs.Laws.NumberBytes.{IsU16, IsU32, IsU64, same_u16, same_u32, same_u64, length-u16_bytes, length-u32_bytes, length-u64_bytes, length-i64_bytes, read_u32}
 use Rattle.feed_records.specs.Laws.{stream_parts}
 use Rattle.feed_codec.proofs.Spellings.{PrefixFree, front, fronts, same_packet, same_media, same_many, same_tail, same_skeleton, entry_packet, stream_headers, stream_behind_headers, command_streams, command_entries}
+use Rattle.ogg_page.specs.Laws.PageBytes.{all_both}
 
 -- bytes that begin with the spelling of some x
 abbrev Stands : {X : Type 0} → (X → Type 0) → (X → List ℕ) → List ℕ → Type 0
@@ -141,7 +142,7 @@ pub built_more : {X : Type 0} (Is : X → Type 0) (spell : X → List ℕ) (byte
     → AreMany Is done xs → bytes ≡ flat_map spell xs ++ rest → Is x → rest ≡ spell x ++ behind
     → AreMany Is (done + 1) (xs ++ x ∷ []) × (bytes ≡ flat_map spell (xs ++ x ∷ []) ++ behind)
 built_more Is spell bytes rest behind done xs x many e one f = (
-  (omega (arith, length-append xs (x ∷ []), many.0), all_joined Is xs (x ∷ []) many.1 (one, tt)),
+  (omega (arith, length-append xs (x ∷ []), many.0), all_both Is xs (x ∷ []) many.1 (one, tt)),
   e ∙ ap (λ l. flat_map spell xs ++ l) (f ∙ ap (λ l. l ++ behind) (sym (append-nil (spell x))))
       ∙ sym (append_assoc (flat_map spell xs) (spell x ++ []) behind) ∙ ap (λ l. l ++ behind) (sym (flat_map-append spell xs (x ∷ []))),
 )

@@ -13,8 +13,8 @@ use Rattle.ogg_command.specs.Command.{IsCommand}
 use Rattle.feed_records.specs.declared.version.Version.{Version}
 use Rattle.feed_records.specs.Record.{FitsFields, entry_bytes, kind_in, payload_in, payload_of}
 use Rattle.feed_codec.specs.Payload.{AreMany, Begins, IsEntryOfFeed, IsItem}
-use Rattle.feed_codec.proofs.Lists.{all_joined}
 use Rattle.feed_codec.specs.Room.{LacksEntryRoom, LacksPacketRoom, LacksRoomFor}
+use Rattle.ogg_page.specs.Laws.PageBytes.{all_both}
 
 -- a packet is too long for its room, after those that stand before it
 pub lacks_later : (rooms : List ℕ) (front : List Entry) (entry : Entry) (more : List Entry) → slice_index (drop (length front) rooms) 0 < length entry.packet
@@ -41,7 +41,7 @@ pub entry_lacks : (room : ℕ) (rooms bytes behind : List ℕ) (done count : ℕ
 entry_lacks room rooms bytes behind done count front entry less long many spelled (later, more, rest) short =
     let short_here : slice_index (drop (length front) rooms) 0 < length entry.packet = subst (λ n. slice_index (drop n rooms) 0 < length entry.packet) (sym long) short in (
       (front ++ entry ∷ []) ++ later,
-      (omega (arith, less, many.0, more.0, length-append (front ++ entry ∷ []) later), all_joined IsEntryOfFeed (front ++ entry ∷ []) later many.1 more.1),
+      (omega (arith, less, many.0, more.0, length-append (front ++ entry ∷ []) later), all_both IsEntryOfFeed (front ++ entry ∷ []) later many.1 more.1),
       spelled
           ∙ ap (λ l. flat_map entry_bytes (front ++ entry ∷ []) ++ l) (rest ∙ append-nil (flat_map entry_bytes later))
           ∙ sym (flat_map-append entry_bytes (front ++ entry ∷ []) later),
