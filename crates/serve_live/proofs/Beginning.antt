@@ -2,7 +2,7 @@
 use Rattle.std.proofs.Common.{◌≡◌, ◌≢◌, ℕ, suc, ◌+◌, ◌<◌, ◌^◌, Bool, true, false, cond, List, [], ◌∷◌, ◌++◌, length, take, drop, map, get_or, refl, sym, ◌∙◌, ap, subst, arith, length-append, inl, inr}
 use Rattle.std.specs.Prelude.{nat_eq, nat_lt, not, ◌&&◌, ◌||◌}
 use Rattle.std.specs.List.{AllByRecursion, filter, flat_map, list_any}
-use Rattle.std.proofs.lemmas.Bool.{cases_eq, cases_Bool, cond-true, cond-false, ne_eqb, eqb-false, eq-eqb, lt-ltb, or_left, or_right, or_parts, false≢true}
+use Rattle.std.proofs.lemmas.Bool.{cases_eq, cases_Bool, cond-true, cond-false, ne_eqb, eqb-false, eq-eqb, lt-ltb, or_parts, false≢true}
 use Rattle.std.proofs.lemmas.List.{append-nil, drop_at}
 use Rattle.std.proofs.lemmas.List.Concat.{flat_map-append}
 use Rattle.std.proofs.Math.Seq.{take-append_seam, take-suc}
@@ -10,7 +10,7 @@ use Rattle.ogg_page.specs.Page.{Page, IsPage, bytes_of_pages}
 use Rattle.ogg_page.specs.LogicalStream.{number_behind}
 use Rattle.ogg_page.specs.PageLaws.{bytes_both}
 use Rattle.link_chain.specs.Links.{AreLinks, IsLink, pages_with, serials_of, has_stream, has_ended, all_ended}
-use Rattle.link_chain.specs.Laws.Grow.{all_weaker, stream_same}
+use Rattle.link_chain.specs.Laws.Grow.{stream_same}
 use Rattle.link_chain.specs.Laws.LastLink.{all_split}
 use Rattle.link_chain.specs.Laws.TakenLinks.{without}
 use Rattle.serve_live.specs.Gaps.{gap_in}
@@ -21,16 +21,7 @@ use Rattle.serve_live.specs.Joining.{IsJoined}
 use Rattle.serve_live.specs.Listening.{ListenerState, part_at}
 use Rattle.serve_live.specs.Live.{Moment, IsMomentOf, begin_place}
 use Rattle.serve_live.specs.declared.joined.JoinedStream.{JoinedStream}
-use Rattle.serve_live.proofs.OneLink.{goes_unheard, end_is_page}
-
--- each serial of a list is one of the list
-pub each_there : (serials : List ℕ) → AllByRecursion (λ s. list_any (nat_eq s) serials ≡ true) serials
-each_there [] = tt
-each_there (s ∷ serials) = (
-  or_left (nat_eq s s) (list_any (nat_eq s) serials) (eq-eqb s s refl),
-  all_weaker (λ x. list_any (nat_eq x) serials ≡ true) (λ x. list_any (nat_eq x) (s ∷ serials) ≡ true)
-      (λ x e. or_right (nat_eq x s) (list_any (nat_eq x) serials) e) serials (each_there serials),
-)
+use Rattle.serve_live.proofs.OneLink.{goes_unheard, end_is_page, listed}
 
 -- a page stands before a boundary
 pub joined_some : (begin passed : List Page) → IsJoined begin passed → begin ++ passed ≢ []
@@ -116,7 +107,7 @@ pub begins_hearing : (committed front tail : List ℕ) (moment : Moment) (listen
 begins_hearing committed front tail moment listener l pages j at split new =
     let begin : List ℕ = bytes_of_pages moment.begin in
     let ends : List ℕ = bytes_of_pages (end_pages moment.begin moment.passed) in
-    let text : listener.text ≡ ends = new.text ∙ ap bytes_of_pages (ends_from moment (serials_of moment.begin) l pages (each_there (serials_of moment.begin))) in
+    let text : listener.text ≡ ends = new.text ∙ ap bytes_of_pages (ends_from moment (serials_of moment.begin) l pages (listed (serials_of moment.begin))) in
     let part : part_at listener.begin_place listener.begin_left committed ≡ begin =
     ap (λ n. part_at n listener.begin_left committed) new.begin_place ∙ ap (λ n. part_at (length front) n committed) new.begin_left
     ∙ ap (part_at (length front) (length begin)) split ∙ ap (take (length begin)) (drop_at front (begin ++ tail) (length front) refl)
@@ -214,7 +205,7 @@ waits_hearing committed listener new =
     }
 
 -- ---- at any moment
-spelled_last : (before : List (List Page)) (link : List Page) → flat_map bytes_of_pages (before ++ link ∷ []) ≡ flat_map bytes_of_pages before ++ bytes_of_pages link
+pub spelled_last : (before : List (List Page)) (link : List Page) → flat_map bytes_of_pages (before ++ link ∷ []) ≡ flat_map bytes_of_pages before ++ bytes_of_pages link
 spelled_last before link =
     flat_map-append bytes_of_pages before (link ∷ []) ∙ ap (λ l. flat_map bytes_of_pages before ++ l) (append-nil (bytes_of_pages link))
 

@@ -6,7 +6,7 @@ use Rattle.ogg_page.specs.Page.{Page, IsPage, bytes_of_pages}
 use Rattle.ogg_page.specs.LogicalStream.{is_first}
 use Rattle.link_chain.specs.Links.{IsLink, AreLinks, AllButLast, all_ended, flattened}
 use Rattle.link_chain.specs.Recording.{Stream, Recording, HoldsLink, HoldsLinks}
-use Rattle.link_chain.specs.Taking.{AreTaken, links_with}
+use Rattle.link_chain.specs.Taking.{AreTaken}
 use Rattle.link_chain.specs.LinkLaws.{in_turn, only, pages_flattened}
 use Rattle.link_chain.specs.Laws.LastLink.{all_split}
 use Rattle.link_chain.specs.Laws.Fronts.{page_fits}
@@ -14,6 +14,7 @@ use Rattle.link_chain.specs.Laws.InTurn.{bytes_flattened}
 use Rattle.serve_live.specs.Heard.{gap, heard_page, heard_after, heard, heard_bytes, heard_link, end_pages}
 use Rattle.serve_live.specs.Joining.{AreLater, IsJoined, heard_streams}
 use Rattle.serve_live.proofs.OneLink.{is_link, are_pages, still_ended, held_link}
+use Rattle.link_chain.specs.Laws.TakenLinks.{taken_front}
 
 -- ---- pages and links
 -- the pages of links begin with a stream's first page, if there are any
@@ -97,14 +98,6 @@ wait_links bytes before further are =
     subst (λ b. AreLinks b further) (bytes_flattened further ∙ sym (ap bytes_of_pages (from_link (gap [] []) further back.each))) back
 
 -- ---- fronts
--- a front of pages that are taken is taken
-taken_front : (start : List (List Page)) (front rest : List Page) (links : List (List Page)) → AreTaken start (front ++ rest) links →
-    (middle : List (List Page)) × AreTaken start front middle
-taken_front start [] rest links h = (start, refl)
-taken_front start (page ∷ front) rest links h =
-    let more : (middle : List (List Page)) × AreTaken (links_with start page) front middle = taken_front (links_with start page) front rest links h.1 in
-    (more.0, (h.0, more.1))
-
 -- the first pages of a chain are a chain
 pub front_is_chain : (bytes : List ℕ) (links : List (List Page)) (front rest : List Page) → AreLinks bytes links → flattened links ≡ front ++ rest →
     (some : List (List Page)) × AreLinks (bytes_of_pages front) some

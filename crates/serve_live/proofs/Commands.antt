@@ -38,6 +38,7 @@ use Rattle.serve_live.specs.Places.{IsPlaceIn}
 use Rattle.serve_live.specs.declared.listener.JoinPlace.{JoinPlace}
 use Rattle.serve_live.proofs.Chain.{are_links, hold_links}
 use Rattle.ogg_page.specs.Laws.PageBytes.{all_both}
+use Rattle.serve_live.proofs.Beginning.{spelled_last}
 
 -- ---- pages of commands
 runs_later : (streams : List StreamState) (runs : List (List Entry)) → AreLater (pages_of_runs streams runs)
@@ -174,10 +175,6 @@ Adds = (bytes : List ℕ) (links : List (List Page)) (recording : Recording) (co
 
 same_behind : (front xs ys : List ℕ) → front ++ xs ≡ front ++ ys → xs ≡ ys
 same_behind front xs ys e = (same_fronts front front xs ys refl e).1
-
-spelled_last : (before : List (List Page)) (link : List Page) → flat_map bytes_of_pages (before ++ link ∷ []) ≡ flat_map bytes_of_pages before ++ bytes_of_pages link
-spelled_last before link =
-    flat_map-append bytes_of_pages before (link ∷ []) ∙ ap (λ l. flat_map bytes_of_pages before ++ l) (append-nil (bytes_of_pages link))
 
 -- the link that the Begin began, with what was passed, may be joined
 record JoinsAt (bytes : List ℕ) (links : List (List Page)) (recording : Recording) (begin : Begin) (passed : List Command) : Type 0 where

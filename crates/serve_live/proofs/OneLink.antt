@@ -196,7 +196,7 @@ passing P test (x ∷ xs) h =
     cond_both (test x) (x ∷ filter test xs) (filter test xs) (λ l. AllByRecursion (λ y. P y × (test y ≡ true)) l)
     (λ e. ((h.0, e), passing P test xs h.1)) (λ _. passing P test xs h.1)
 
-listed : (serials : List ℕ) → AllByRecursion (λ s. list_any (nat_eq s) serials ≡ true) serials
+pub listed : (serials : List ℕ) → AllByRecursion (λ s. list_any (nat_eq s) serials ≡ true) serials
 listed [] = tt
 listed (s ∷ serials) = (
   or_left (nat_eq s s) (list_any (nat_eq s) serials) (eq-eqb s s refl),

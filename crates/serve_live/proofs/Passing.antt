@@ -12,7 +12,7 @@ use Rattle.serve_live.specs.Pulling.{HasPassed, gaps_from}
 use Rattle.serve_live.specs.declared.gaps.StreamGap.{StreamGap}
 use Rattle.serve_live.specs.declared.pages.PageLeft.{PageLeft}
 use Rattle.serve_live.proofs.NextPage.{HasNext, IsAfter}
-use Rattle.std.proofs.Math.Bool.{or-false}
+use Rattle.std.proofs.Math.Bool.{or-false, or_assoc}
 
 pub none_passed : (committed : List ℕ) (left after : PageLeft) → after.place ≡ left.place → after.anew ≡ left.anew → HasPassed committed left after
 none_passed committed left after place anew = record {
@@ -48,10 +48,6 @@ passed_some committed kept rest left after begins n size h le size_is begins_is 
           })
     ]
 
-or_three : (a b c : Bool) → ((a || b) || c) ≡ (a || (b || c))
-or_three true b c = refl
-or_three false b c = refl
-
 pub passed_on : (committed : List ℕ) (first second third : PageLeft) → HasPassed committed first second → HasPassed committed second third → HasPassed committed first third
 passed_on committed first second third a b = record {
   passed = a.passed ++ b.passed;
@@ -60,7 +56,7 @@ passed_on committed first second third a b = record {
       ∙ sym (append_assoc (bytes_of_pages a.passed) (bytes_of_pages b.passed) (drop third.place committed))
       ∙ ap (λ l. l ++ drop third.place committed) (sym (bytes_both a.passed b.passed));
   place = b.place ∙ omega (arith, a.place, ap length (bytes_both a.passed b.passed), length-append (bytes_of_pages a.passed) (bytes_of_pages b.passed));
-  anew = b.anew ∙ ap (λ t. t || list_any is_first b.passed) a.anew ∙ or_three first.anew (list_any is_first a.passed) (list_any is_first b.passed)
+  anew = b.anew ∙ ap (λ t. t || list_any is_first b.passed) a.anew ∙ or_assoc first.anew (list_any is_first a.passed) (list_any is_first b.passed)
       ∙ ap (λ t. first.anew || t) (sym (list_any-append is_first a.passed b.passed));
 }
 

@@ -30,9 +30,9 @@ use Rattle.serve_live.specs.declared.gaps.StreamGap.{StreamGap}
 use Rattle.serve_live.specs.declared.joined.JoinedStream.{JoinedStream}
 use Rattle.serve_live.specs.declared.joined.LinkPart.{LinkPart}
 use Rattle.serve_live.specs.declared.joined.LinkPart.TheVariants.{Beginning, Since}
-use Rattle.serve_live.proofs.Beginning.{begins_hearing, each_there, joined_some}
+use Rattle.serve_live.proofs.Beginning.{begins_hearing, joined_some}
 use Rattle.serve_live.proofs.Hearing.{goes_on_hearing}
-use Rattle.serve_live.proofs.OneLink.{with_three, with_both}
+use Rattle.serve_live.proofs.OneLink.{with_three, with_both, listed}
 use Rattle.serve_live.proofs.OneStream.{numbers_rise}
 use Rattle.ogg_page.specs.Laws.PageBytes.{all_both}
 
@@ -239,7 +239,7 @@ streams_tell moment since states streams l later states_are streams_are =
     ∙ map-map (noted Since since) (λ s. noted Beginning moment.begin (as_of_now (state_of link s))) serials in
     let each : AllByRecursion (λ s. AreAlike (noted_stream moment since s) (joined_stream moment s)) serials =
     all_weaker (λ s. has_stream moment.begin s ≡ true) (λ s. AreAlike (noted_stream moment since s) (joined_stream moment s))
-    (λ s there. stream_alike moment since s l there) serials (each_there serials) in
+    (λ s there. stream_alike moment since s l there) serials (listed serials) in
     record {
       ends = ap ends_of all ∙ ends_alike (noted_stream moment since) (joined_stream moment) serials each;
       gaps = ap (map gap_between) all ∙ gaps_alike (noted_stream moment since) (joined_stream moment) serials each;
