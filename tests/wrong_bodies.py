@@ -76,8 +76,8 @@ pub {name}_spec : {{M : Type 1}} → stated.statement M
 FUNCTION = re.compile(r"(?:    )?(?:pub(?:\(\w+\))? )?(?:const )?(?:unsafe )?fn (\w+)")
 TYPE = re.compile(r"(?:pub(?:\(\w+\))? )?(?:struct|enum) (\w+)")
 TRAIT = re.compile(r"(?:pub(?:\(\w+\))? )?trait ")
-# A trait, if there is one, what it is of, and the type.
-IMPL = re.compile(r"impl(?:<.*?>)? (?:(\w+)(?:<(\w+)>)?(?:<.*?>)? for )?(\w+)")
+# The parameters; a trait, if there is one, and what it is of; and the type, and what it is of.
+IMPL = re.compile(r"impl(?:<(.*?)>)? (?:(\w+)(?:<(\w+).*?>)? for )?(?:&(?:'\w+ )?(?:mut )?)?(\w+)(?:<(\w+)>)?")
 # What is said of a proof file that names something that the edit took away.
 MISSING = re.compile(r"has no field|has no `|is not in scope|was not admitted")
 NEAREST = re.compile(rf"{MISSING.pattern}|\(nearest: ")
@@ -102,8 +102,10 @@ def named_functions(text, module, types):
     outer = module
     for number, line in enumerate(text.splitlines(), 1):
         if found := IMPL.match(line):
-            trait, of = (found[1] or "") + (found[2] or ""), found[3]
-            outer = [*(module if trait else types.get(of, module)), of + trait]
+            parameters = re.findall(r"(?:^|, )(\w+)", found[1] or "")
+            part, of = (it if it and it not in parameters else "" for it in (found[3], found[5]))
+            name = "Any" if found[4] in parameters else found[4] + of.capitalize()
+            outer = [*module, name + found[2] + part] if found[2] else [*types.get(found[4], module), name]
         elif TRAIT.match(line):
             outer = None
         elif line.startswith("}"):
