@@ -1,14 +1,15 @@
 -- The pages of a new link: their numbers and their sizes.
-use Rattle.std.proofs.Common.{◌≡◌, ℕ, ◌+◌, ◌*◌, ◌≤◌, false, List, [], ◌∷◌, ◌++◌, length, map, take, drop, sum_by, refl, sym, ◌∙◌, arith, length-take, length-drop}
+use Rattle.std.proofs.Common.{◌≡◌, ℕ, ◌+◌, ◌*◌, ◌≤◌, false, List, [], ◌∷◌, ◌++◌, length, map, take, drop, sum_by, refl, ◌∙◌, arith, length-take, length-drop}
 use Rattle.std.specs.List.{list_any, flat_map, AllByRecursion}
 use Rattle.std.proofs.lemmas.List.{length-map}
 use Rattle.std.proofs.lemmas.Bool.{or_from, or_parts, ltb-false}
 use Rattle.std.proofs.lemmas.List.Folds.{list_any-append}
 use Rattle.std.proofs.lemmas.List.Sums.{sum_by-cons}
-use Rattle.ogg_page.specs.Page.{Page, page_size}
+use Rattle.ogg_page.specs.Page.{Page}
 use Rattle.packetiser.specs.Run.{Timed, pages_of_run, run_lacing, run_bytes, size_for, flagged}
 use Rattle.packetiser.specs.Laws.Pieces.{run_bytes_all}
 use Rattle.packetiser.specs.Laws.Sizes.{length-run_bytes}
+use Rattle.packetiser.specs.Laws.Appending.{flagged_size}
 use Rattle.ogg_command.specs.declared.command.NewStream.{NewStream}
 use Rattle.command_pages.specs.Fits.{header_bytes, has_many_headers}
 use Rattle.command_pages.specs.Encoding.{header, first_pages, header_pages, first_flag}
@@ -17,14 +18,10 @@ use Rattle.command_pages.specs.Laws.Runs.{few_values}
 use Rattle.command_pages.specs.Laws.Headers.{header_lengths, lengths_of_headers, few_pages, split_lengths}
 use Rattle.command_pages.proofs.RunPages.{within}
 
--- ---- flags change neither number nor size
+-- ---- flags change no number
 pub flagged_numbers : (flags : ℕ) (pages : List Page) → list_any has_no_number (flagged flags pages) ≡ list_any has_no_number pages
 flagged_numbers flags [] = refl
 flagged_numbers flags (page ∷ pages) = refl
-
-pub flagged_size : (flags : ℕ) (pages : List Page) → size_of_pages (flagged flags pages) ≡ size_of_pages pages
-flagged_size flags [] = refl
-flagged_size flags (page ∷ pages) = sum_by-cons page_size (record page { flags = page.flags + flags }) pages ∙ sym (sum_by-cons page_size page pages)
 
 -- ---- a stream's headers
 pub first_run : NewStream → List Timed

@@ -108,7 +108,8 @@ impl BeginPages<'_> {
     pub fn next<S: PageSpace>(&mut self, space: &mut S) -> bool
         requires on { BeginGoesOn self.old }
         requires room { NextFits S.fits space.old (pages_to_begin self.old) }
-        ensures page { NextMade S.has_made space.old (pages_to_begin self.old) result (pages_to_begin self.new) space.new }
+        ensures page { NextMade S.has_made space.old
+            (pages_to_begin self.old) result (pages_to_begin self.new) space.new }
         ensures on { BeginGoesOn self.new }
     {
         while !self.run.next(space) {
@@ -164,7 +165,8 @@ fn make_fisbone<S: PageSpace>(serial: u32, sequence: u32, stream: &NewStream, sp
     requires few { length stream.now.headers ≤ most_headers }
     requires message { has_long_message stream.now ≡ false }
     requires room { NextFits S.fits space.old (pages_of_run serial sequence (header (fisbone_packet stream.now) ∷ [])) }
-    ensures { NextMade S.has_made space.old (pages_of_run serial sequence (header (fisbone_packet stream.now) ∷ [])) true [] space.new }
+    ensures { NextMade S.has_made space.old
+        (pages_of_run serial sequence (header (fisbone_packet stream.now) ∷ [])) true [] space.new }
 {
     let fisbone = fisbone_of(stream).packet_with(stream.fields.as_slice());
     make_packet(serial, sequence, 0, fisbone.as_slice(), space);
@@ -175,7 +177,8 @@ fn make_packet<S: PageSpace>(serial: u32, sequence: u32, flags: u8, packet: &[u8
     requires short { length packet.now ≤ longest_whole }
     requires flags { flags < 255 }
     requires room { NextFits S.fits space.old (flagged flags (pages_of_run serial sequence (header packet.now ∷ []))) }
-    ensures { NextMade S.has_made space.old (flagged flags (pages_of_run serial sequence (header packet.now ∷ []))) true [] space.new }
+    ensures { NextMade S.has_made space.old
+        (flagged flags (pages_of_run serial sequence (header packet.now ∷ []))) true [] space.new }
 {
     let run = [Item {
         packet,

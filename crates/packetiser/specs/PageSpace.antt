@@ -5,7 +5,8 @@ use Rattle.ogg_page.specs.declared.head.PageHead.{PageHead}
 
 -- ---- a vector: what stands in it before and now, and its capacity before and now
 -- the page's body so far is appended, behind all that comes before a body; the checksum is still zero
-pub record IsAppending (before : List ℕ) (capacity : ℕ) (head : PageHead) (lacing body : List ℕ) (now : List ℕ) (capacity' : ℕ) : Type 0 where
+pub record IsAppending (before : List ℕ) (capacity : ℕ) (head : PageHead) (lacing body : List ℕ)
+    (now : List ℕ) (capacity' : ℕ) : Type 0 where
   pub items : now ≡ before ++ bytes_with 0 (page_of head lacing body)
   pub room : capacity ≤ capacity'
 

@@ -82,7 +82,8 @@ impl PageSpace for Vec<u8> {
     ghost in_work = { λ before head lacing body out.
         IsAppending before.items (vec_capacity before) head lacing body out.items (vec_capacity out) };
 
-    ghost has_made = { λ before page out. IsAppended before.items (vec_capacity before) page out.items (vec_capacity out) };
+    ghost has_made = { λ before page out.
+        IsAppended before.items (vec_capacity before) page out.items (vec_capacity out) };
 
     fn begin_page(&mut self, head: &PageHead, lacing: &[u8]) {
         open_page(head, lacing, self);

@@ -2,7 +2,7 @@ use Rattle.std.proofs.Common.{◌≡◌, [], ◌∷◌, length, sym, ◌∙◌, 
 use Rattle.packetiser.specs.Run.{pages_of_run}
 use Rattle.skeleton3.specs.Fishead.{fishead_bytes}
 use Rattle.command_pages.specs.Encoding.{header, first_flag, fishead_of}
-use Rattle.command_pages.proofs.BeginPages.{flagged_size}
+use Rattle.packetiser.specs.Laws.Appending.{flagged_size}
 use Rattle.command_pages.specs.Laws.Short.{length-fishead}
 use Rattle.command_pages.proofs.skeleton.size_of_fishead.Goals as goal
 
