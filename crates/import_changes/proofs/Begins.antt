@@ -17,7 +17,8 @@ use Rattle.import_changes.specs.Said.{IsDescribedBy, described_as, first_of}
 use Rattle.import_changes.specs.Steps.{IsDescribedUnder}
 use Rattle.import_changes.specs.Skeletons.{AreOthers, headers_in, headers_of, is_fishead, is_other, is_skeleton, leaves_out, left_out}
 use Rattle.import_changes.specs.Skeletons.{made_for, said_in, staying}
-use Rattle.import_changes.proofs.Renumbers.{clash}
+use Rattle.std.proofs.lemmas.Bool.{not-false}
+use Rattle.import_changes.proofs.Names.{clash}
 
 -- ---- which streams stay
 abbrev pub all_stay : Skeletons → List NewStream → Bool
@@ -57,17 +58,13 @@ none_left : (skeletons : Skeletons) (streams : List NewStream)
 none_left skeletons [] = tt
 none_left skeletons (stream ∷ streams) = ((λ e. clash refl e), none_left skeletons streams)
 
-not_other : (b : Bool) → not b ≡ false → b ≡ true
-not_other true e = refl
-not_other false e = absurd (clash refl e)
-
 others_left : (skeletons : Skeletons) (streams : List NewStream) → leaves_out skeletons ≡ true
     → AllZip (HasReason skeletons) (map is_other streams) (map begun streams)
 others_left skeletons [] asked = tt
 others_left skeletons (stream ∷ streams) asked = (
   (λ e. record {
     asked = asked;
-    skeleton = not_other
+    skeleton = not-false
         (is_skeleton stream) e;
   }),
   others_left skeletons streams asked,

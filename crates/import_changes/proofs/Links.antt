@@ -19,6 +19,7 @@ use Rattle.import_changes.specs.Changed.{AreNone, ChangeState, IsFollowed, IsUnd
 use Rattle.import_changes.proofs.Renumbers.{GoesWith, HasName, eq_named, has_name, serials_under}
 use Rattle.import_changes.proofs.Lists.{apart_still, before_still, left_out_still, map_same, no_serial, same_serials, those_distinct}
 use Rattle.import_changes.proofs.Lists.{those_map, under_still}
+use Rattle.link_chain.specs.Laws.LastLink.{last_changed}
 
 -- ---- the last link changes
 staying_serials : (change : Stream → Stream) → ((stream : Stream) → (change stream).serial ≡ stream.serial)
@@ -184,12 +185,6 @@ followed_changed taken state recording now by = pick by.up_to
     pick (inr up) = up_to_changed taken state recording now up
 
 -- ---- a change of the last link
-last_changes : (change : List Stream → List Stream) (links : Recording) (link : List Stream)
-    → change_last change (links ++ link ∷ []) ≡ links ++ change link ∷ []
-last_changes change [] link = refl
-last_changes change (l ∷ []) link = refl
-last_changes change (l ∷ k ∷ links) link = ap (λ r. l ∷ r) (last_changes change (k ∷ links) link)
-
 -- a change that changes nothing
 pub same_last : (recording : Recording) → change_last (λ link. link) recording ≡ recording
 same_last [] = refl
@@ -223,8 +218,8 @@ change_step taken state change now_change recording now same step by = record {
       link = change up.link;
       link_now = now_change up.link_now;
       last = step (taken ++ flat_map serials up.links_now) up.link up.link_now up.last;
-      recording_is = ap (change_last change) up.recording_is ∙ last_changes change up.links up.link;
-      now_is = ap (change_last now_change) up.now_is ∙ last_changes now_change up.links_now up.link_now;
+      recording_is = ap (change_last change) up.recording_is ∙ last_changed change up.links up.link;
+      now_is = ap (change_last now_change) up.now_is ∙ last_changed now_change up.links_now up.link_now;
     })
 
 -- ---- a new link

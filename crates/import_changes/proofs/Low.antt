@@ -11,6 +11,7 @@ use Rattle.import_changes.specs.Steps.{AreNamedFor, IsDescribedUnder, Names}
 use Rattle.import_changes.proofs.Begins.{described_serials}
 use Rattle.import_changes.proofs.Renumbers.{names_are}
 use Rattle.import_changes.proofs.Steps.{named_serials}
+use Rattle.std.proofs.Math.Bool.{or-false}
 
 or_more : (a b c : Bool) → (a || c) ≡ true → ((a || b) || c) ≡ true
 or_more true b c e = refl
@@ -23,16 +24,12 @@ low_given given more serials low is n less =
     ap (λ b. b || list_any (nat_eq n) serials) (list_any-append (nat_eq n) given more)
     ∙ or_more (list_any (nat_eq n) given) (list_any (nat_eq n) more) (list_any (nat_eq n) serials) (is n less)
 
-or_false : (b : Bool) → (b || false) ≡ b
-or_false true = refl
-or_false false = refl
-
 -- all names are given
 pub low_begun : (given : List ℕ) (names : List (ℕ × ℕ)) (stay : List NewStream) (low : ℕ) → IsDistinct nat_eq (keys_of names)
     → AreNamed names (serials_of stay) → AreOnlyOf names (serials_of stay) → IsLow given (values_of names) low
     → IsLow (given ++ serials_of (map (stream_named names) stay)) [] low
 low_begun given names stay low once all only is n less =
-    or_false (list_any (nat_eq n) (given ++ serials_of (map (stream_named names) stay)))
+    or-false (list_any (nat_eq n) (given ++ serials_of (map (stream_named names) stay)))
     ∙ list_any-append (nat_eq n) given (serials_of (map (stream_named names) stay))
     ∙ ap (λ b. list_any (nat_eq n) given || b) (ap (list_any (nat_eq n)) (named_serials names stay)
     ∙ sym (names_are names (serials_of stay) once all only n)) ∙ is n less

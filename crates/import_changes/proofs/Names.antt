@@ -18,6 +18,8 @@ use Rattle.std.specs.Prelude.{Option}
 use Rattle.std.specs.List.{cons_option}
 use Rattle.ogg_command.specs.declared.command.Entry.{Entry}
 use Rattle.ogg_command.specs.declared.command.NewStream.{NewStream}
+use Rattle.link_chain.specs.Laws.TakenLinks.{distinct_push}
+use Rattle.std.proofs.Math.Bool.{or-true}
 
 pub any_more : (p : ℕ → Bool) (xs ys : List ℕ) → list_any p xs ≡ true → list_any p (xs ++ ys) ≡ true
 any_more p xs ys e = list_any-append p xs ys ∙ ap (λ b. b || list_any p ys) e
@@ -55,14 +57,6 @@ pub or_right : (a b : Bool) → (a || b) ≡ false → b ≡ false
 or_right false b e = e
 or_right true b e = absurd (cc)
 
-pub distinct_push : (xs : List ℕ) (y : ℕ) → IsDistinct nat_eq xs → list_any (nat_eq y) xs ≡ false → IsDistinct nat_eq (xs ++ y ∷ [])
-unfolding IsDistinct
-distinct_push [] y d none = (tt, tt)
-distinct_push (x ∷ xs) y (apart, d) none = (
-  all_push (λ z. nat_eq x z ≡ false) xs y apart (eq_swaps x y ∙ or_left (nat_eq y x) (list_any (nat_eq y) xs) none),
-  distinct_push xs y d (or_right (nat_eq y x) (list_any (nat_eq y) xs) none),
-)
-
 pub names_push : (given : List ℕ) (names : List (ℕ × ℕ)) (serial now : ℕ) → AreNames given names
     → list_any (nat_eq serial) (keys_of names) ≡ false → list_any (nat_eq now) given ≡ false
     → (list_any (nat_eq serial) given ≡ false → now ≡ serial) → list_any (nat_eq now) (values_of names) ≡ false
@@ -90,16 +84,12 @@ keeps_none given serial names kept = record {
   only = λ serials is only. only;
 }
 
-pub or_true : (b : Bool) → (b || true) ≡ true
-or_true true = refl
-or_true false = refl
-
 own_key : (names : List (ℕ × ℕ)) (serial now : ℕ) → list_any (nat_eq serial) (keys_of (names ++ (serial, now) ∷ [])) ≡ true
 own_key names serial now =
     ap (list_any (nat_eq serial)) (map-append (λ (e : ℕ × ℕ). e.0) names ((serial, now) ∷ []))
     ∙ list_any-append (nat_eq serial) (keys_of names) (serial ∷ [])
     ∙ ap (λ b. list_any (nat_eq serial) (keys_of names) || (b || false)) (eq-eqb serial serial refl)
-    ∙ or_true (list_any (nat_eq serial) (keys_of names))
+    ∙ or-true (list_any (nat_eq serial) (keys_of names))
 
 only_push : (names : List (ℕ × ℕ)) (serial now : ℕ) (serials : List ℕ) → list_any (nat_eq serial) serials ≡ true → AreOnlyOf names serials
     → AreOnlyOf (names ++ (serial, now) ∷ []) serials
@@ -133,7 +123,7 @@ renames_none given serial names is = record {
   only = λ serials is only. only;
 }
 
-clash : {A : Type 0} {b : Bool} → b ≡ true → b ≡ false → A
+pub clash : {A : Type 0} {b : Bool} → b ≡ true → b ≡ false → A
 clash t f = absurd (true_false (sym t ∙ f))
   where
     true_false : true ≡ false → ⊥
@@ -173,7 +163,7 @@ low_more given more low is n less = had_more given [] more n (is n less)
 
 -- what isn't avoided may be taken all the same
 pub low_beside : (given serials : List ℕ) (low : ℕ) → IsLow [] serials low → IsLow given serials low
-low_beside given serials low is n less = ap (λ b. list_any (nat_eq n) given || b) (is n less) ∙ or_true (list_any (nat_eq n) given)
+low_beside given serials low is n less = ap (λ b. list_any (nat_eq n) given || b) (is n less) ∙ or-true (list_any (nat_eq n) given)
 
 -- a serial more is taken, which was the first free one
 pub low_named : (given : List ℕ) (names : List (ℕ × ℕ)) (serial now : ℕ) → IsFirstFree 0 given (values_of names) now
@@ -209,7 +199,7 @@ any_own : (serials : List ℕ) (serial : ℕ) → list_any (nat_eq serial) (seri
 any_own serials serial =
     list_any-append (nat_eq serial) serials (serial ∷ []) ∙ ap (λ b. list_any (nat_eq serial) serials || (b || false))
     (eq-eqb serial serial refl)
-    ∙ or_true (list_any (nat_eq serial) serials)
+    ∙ or-true (list_any (nat_eq serial) serials)
 
 only_more : (serials more keys : List ℕ) → AllByRecursion (λ key. list_any (nat_eq key) serials ≡ true) keys
     → AllByRecursion (λ key. list_any (nat_eq key) (serials ++ more) ≡ true) keys
@@ -255,7 +245,7 @@ serial_at (stream ∷ streams) zero d less = ap (λ b. b || list_any (nat_eq str
     (eq-eqb stream.serial stream.serial refl)
 serial_at (stream ∷ streams) (suc i) d less =
     ap (λ b. nat_eq (get_or streams i d).serial stream.serial || b) (serial_at streams i d (omega (arith, less)))
-    ∙ or_true (nat_eq (get_or streams i d).serial stream.serial)
+    ∙ or-true (nat_eq (get_or streams i d).serial stream.serial)
 
 -- ---- packet after packet
 pub entries_push : (names : List (ℕ × ℕ)) (entries : List Entry) (entry : Entry) (now : Option ℕ) → name_of names entry.serial ≡ now →

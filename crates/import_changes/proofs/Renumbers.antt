@@ -14,13 +14,8 @@ use Rattle.import_changes.specs.Changed.{IsNoName, stream_under}
 use Rattle.import_changes.specs.Links.{IsFrontOf}
 use Rattle.import_changes.specs.Said.{first_of}
 use Rattle.import_changes.specs.Skeletons.{is_fishead}
-use Rattle.import_changes.proofs.Names.{eq_swaps, or_true}
-
-pub clash : {A : Type 0} {b : Bool} → b ≡ true → b ≡ false → A
-clash t f = absurd (true_false (sym t ∙ f))
-  where
-    true_false : true ≡ false → ⊥
-    true_false e = cc
+use Rattle.import_changes.proofs.Names.{eq_swaps, clash}
+use Rattle.std.proofs.Math.Bool.{or-true}
 
 -- ---- distinct serials have distinct names
 -- a serial's name is one of the names
@@ -151,7 +146,7 @@ any_named names serial (y ∷ serials) e = by (any_named names serial serials) (
     by rest true p f = ap (λ b. b || list_any (nat_eq (named names serial)) (map (named names) serials))
         (eq-eqb (named names serial) (named names y) (ap (named names) (eqb-true serial y p)))
     by rest false p f = ap (λ b. nat_eq (named names serial) (named names y) || b) (rest f)
-        ∙ or_true (nat_eq (named names serial) (named names y))
+        ∙ or-true (nat_eq (named names serial) (named names y))
 
 values_had : (names : List (ℕ × ℕ)) (serials : List ℕ) (n : ℕ) → list_any (nat_eq n) (map (named names) serials) ≡ false
     → (rest : List (ℕ × ℕ))

@@ -28,8 +28,8 @@ use Rattle.import_changes.specs.Skeletons.{left_out, made_for, said_in, staying}
 use Rattle.import_changes.specs.Changed.{ChangeState, FollowsIf, HasChangedBeside, IsChangedIf, IsFollowed, IsNoName, IsPlain, IsUnderNames}
 use Rattle.import_changes.specs.Changed.{stream_under}
 use Rattle.import_changes.specs.Steps.{Begins, BeginsAs, BeginsDescribed, BeginsPlain, Names, end_of, option_list, put_of}
-use Rattle.import_changes.proofs.Names.{all_push, or_right}
-use Rattle.import_changes.proofs.Renumbers.{clash, end_named, end_other, ended, ended_serial, grown, grown_serial, names_are, packet_named}
+use Rattle.import_changes.proofs.Names.{all_push, or_right, clash}
+use Rattle.import_changes.proofs.Renumbers.{end_named, end_other, ended, ended_serial, grown, grown_serial, names_are, packet_named}
 use Rattle.import_changes.proofs.Renumbers.{packet_other}
 use Rattle.import_changes.proofs.Lists.{same_serials, zip_push}
 use Rattle.import_changes.proofs.Links.{begin_step, change_step, followed_changed, same_last, under_only, under_step}
