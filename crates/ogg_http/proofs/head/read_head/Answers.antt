@@ -3,7 +3,8 @@ use Rattle.httparse.specs.Grammar.{ReadsRequest}
 use Rattle.httparse.specs.Spans.{IsRequestOf, IsRequestAt}
 use Rattle.ogg_http.specs.declared.head.Request.{Request}
 use Rattle.ogg_http.specs.Head.{HoldsRequest, IsHopeless, most_fields, verb_of}
-use Rattle.ogg_http.proofs.HeadParts.{front_is, front_is_all, none_found, none_fits, on_partial, if_complete, is_complete_and, by_error, holds_request}
+use Rattle.ogg_http.proofs.HeadParts.{none_found, none_fits, holds_request}
+use Rattle.ogg_http.specs.Laws.{front_is, front_is_all, on_partial, if_complete, is_complete_and, by_error}
 use Rattle.ogg_http.proofs.head.read_head.Goals as goal
 
 pub returns-in-Ok-Complete-clause-whole : goal.returns-in-Ok-Complete-clause-whole
