@@ -81,6 +81,8 @@ IMPL = re.compile(r"impl(?:<(.*?)>)? (?:(\w+)(?:<(\w+).*?>)? for )?(?:&(?:'\w+ )
 # What is said of a proof file that names something that the edit took away.
 MISSING = re.compile(r"has no field|has no `|is not in scope|was not admitted")
 NEAREST = re.compile(rf"{MISSING.pattern}|\(nearest: ")
+# What is said of an answer to a goal that has another name now, so that it isn't answered.
+RENAMED = re.compile(r"\.Goals` has no `")
 
 
 def functions_of(sources):
@@ -386,10 +388,11 @@ def verdicts(crate, copy, output, status):
         return
     errors = {it: proof_errors(it, output) for it in said}
     # An error that names what isn't there any more tells nothing of the contract. Nor does any goal for sure, if an
-    # invariant has such an error: they all rest on it.
+    # invariant has such an error: they all rest on it. A goal that has another name now isn't answered, right or wrong.
     shown = copy.unproved(output) | {it for it in said if not all(MISSING.search(error) for _, error in errors[it])}
     sure = copy.unproved(output) | {it for it in said if not all(NEAREST.search(error) for _, error in errors[it])}
     sure -= {it for it in said if any(file == "Invariants" and NEAREST.search(error) for file, error in errors[it])}
+    sure -= {it for it in said if any(RENAMED.search(error) for _, error in errors[it])}
     for edit in copy.edits:
         for function in edit.refused:
             verdict = said.get(function, "not among the crate's functions")
