@@ -1,9 +1,9 @@
 -- The packets are those that the stream's pages before the first page at fault hold.
-use Rattle.std.proofs.Common.{◌≡◌, ◌≢◌, ℕ, zero, suc, ◌+◌, ◌-◌, ◌/◌, ◌%◌, Bool, true, false, not, List, [], ◌∷◌, ◌++◌, length, map, refl, sym, ◌∙◌, ap, subst, arith, append_assoc, length-append, append-nil, Option, Some, None, Ok, Err, Result}
+use Rattle.std.proofs.Common.{◌≡◌, ◌≢◌, ℕ, zero, suc, ◌+◌, ◌-◌, Bool, true, false, not, List, [], ◌∷◌, ◌++◌, length, map, refl, sym, ◌∙◌, ap, subst, arith, append_assoc, append-nil, Option, Some, None, Ok, Err, Result}
 use Rattle.std.specs.Prelude.{nat_eq, if◌then◌else◌, replicate, slice_index, ◌||◌}
 use Rattle.std.specs.List.{AllByRecursion, flat_map, concat, list_any}
 use Rattle.std.proofs.lemmas.Bool.{false≢true, eqb-true, ne_eqb}
-use Rattle.std.proofs.lemmas.List.{get_or-append-add, get_or-replicate, map-append, length-replicate}
+use Rattle.std.proofs.lemmas.List.{get_or-replicate, map-append, length-replicate}
 use Rattle.std.proofs.lemmas.List.Concat.{flat_map-append}
 use Rattle.std.proofs.lemmas.List.Sums.{fold-append}
 use Rattle.std.proofs.lemmas.List.Folds.{list_any-append}
@@ -11,42 +11,23 @@ use Rattle.ogg_page.specs.Page.{Page, IsPage, AreBytes, bytes_of_pages, page_siz
 use Rattle.ogg_page.specs.Reading.{page_at}
 use Rattle.ogg_page.specs.Pages.{FoundPage, found_in, located, fault_of, fault_at}
 use Rattle.ogg_page.specs.declared.fault.PageFault.{PageFault}
-use Rattle.ogg_page.specs.Lacing.{lace, lacing_of, ends_open}
+use Rattle.ogg_page.specs.Lacing.{lace, ends_open}
 use Rattle.ogg_page.specs.LogicalStream.{HoldsPackets, EachBehind, joined_lacing, joined_bodies, number_behind, is_continued, is_last}
 use Rattle.ogg_page.specs.Laws.Walk.{FoundFrom}
 use Rattle.ogg_page.specs.Laws.Found.{all_found}
-use Rattle.packet_view.specs.Packets.{Part, PacketParts, PacketsLeft, joined_parts, is_some_part, is_other_number, differ, misplaced, body_place, behind_page, position_in, no_packet, after_packets, packets_in, parts_behind, packets_from, packets_of}
+use Rattle.packet_view.specs.Packets.{Part, PacketParts, PacketsLeft, joined_parts, is_some_part, is_other_number, differ, misplaced, body_place, behind_page, position_in, no_packet, after_packets, packets_from, packets_of}
 use Rattle.packet_view.specs.Held.{found_page, pages_of_stream, FitsInOrder, number_after, behind_pages, IsFaultBehind, AreHeld, positions_of}
 use Rattle.packet_view.specs.declared.place.Behind.{Behind}
 use Rattle.packet_view.specs.declared.fault.ViewFault.{ViewFault}
 use Rattle.packet_view.specs.declared.fault.ViewFault.TheVariants.{Sequence, Continued, AfterEos, Unfinished}
 use Rattle.packet_view.proofs.Fronts.{pick_false}
-use Rattle.packet_view.proofs.Walks.{pick_true, by_place, from-page}
+use Rattle.packet_view.proofs.Walks.{begun_behind, ended_in, pick_true, by_place, from-page}
 use Rattle.packet_view.proofs.Positions.{positions_in}
 use Rattle.packet_view.proofs.PageHolds.{texts, Cuts, cuts}
+use Rattle.ogg_page.specs.StreamLaws.{ends_open-laces, ends_open-append, concat-append}
+use Rattle.std.proofs.Math.Bool.{or-false}
 
 -- ---- whether a packet goes on
-
-ends_open-at : (xs : List ℕ) (y : ℕ) (ys : List ℕ) → ends_open (xs ++ y ∷ ys) ≡ ends_open (y ∷ ys)
-ends_open-at xs y ys =
-    let at : length (xs ++ y ∷ ys) - 1 ≡ length xs + length ys = omega (arith, length-append xs (y ∷ ys)) in
-    let same : length ys ≡ length (y ∷ ys) - 1 = omega arith in
-    ap (λ v. nat_eq v 255)
-    (ap (λ n. slice_index (xs ++ y ∷ ys) n) at ∙ get_or-append-add xs (y ∷ ys) (length ys) 0 ∙ ap (λ n. slice_index (y ∷ ys) n) same)
-
-ends_open-append : (xs ys : List ℕ) → ends_open xs ≡ false → ends_open (xs ++ ys) ≡ ends_open ys
-ends_open-append xs [] e = ap ends_open (append-nil xs) ∙ e
-ends_open-append xs (y ∷ ys) e = ends_open-at xs y ys
-
-ends_open-lace : (packet : List ℕ) → ends_open (lace packet) ≡ false
-unfolding lacing_of
-ends_open-lace packet =
-    ends_open-at (replicate (length packet / 255) 255) (length packet % 255) []
-    ∙ ne_eqb (length packet % 255) 255 (λ e. omega arith)
-
-ends_open-laces : (packets : List (List ℕ)) → ends_open (flat_map lace packets) ≡ false
-ends_open-laces [] = refl
-ends_open-laces (packet ∷ packets) = ends_open-append (lace packet) (flat_map lace packets) (ends_open-lace packet) ∙ ends_open-laces packets
 
 ends_open-full : (n : ℕ) → ends_open (replicate n 255) ≡ not (nat_eq n 0)
 ends_open-full zero = refl
@@ -60,10 +41,6 @@ goes_on_behind pages packets segments rest h =
     ap ends_open h.lacing ∙ ends_open-append (flat_map lace packets) (replicate segments 255) (ends_open-laces packets) ∙ ends_open-full segments
 
 -- ---- another page
-
-concat-append : (xs ys : List (List ℕ)) → concat (xs ++ ys) ≡ concat xs ++ concat ys
-concat-append [] ys = refl
-concat-append (x ∷ xs) ys = ap (λ l. x ++ l) (concat-append xs ys) ∙ sym (append_assoc x (concat xs) (concat ys))
 
 holds_more : (pages : List Page) (page : Page) (before : List (List ℕ)) (segments : ℕ) (parts : List Part) (packets : List PacketParts) (behind : List Part) →
     HoldsPackets pages before segments (joined_parts parts) → (c : Cuts segments (joined_parts parts) page.lacing page.body packets behind) →
@@ -121,16 +98,12 @@ number_pushed : (before : List Page) (page : Page) → number_after (before ++ p
 number_pushed [] page = refl
 number_pushed (p ∷ pages) page = ap (λ n. let some : Option ℕ = Some n in some) (fold-append (λ (found : ℕ) (q : Page). q.sequence + 1) 0 (p ∷ pages) (page ∷ []))
 
-false_or : (b : Bool) → (b || false) ≡ b
-false_or true = refl
-false_or false = refl
-
 abbrev behind_of : Option ℕ → Bool → Behind
 behind_of number ended = record { number = number; ended = ended }
 
 behind_pushed : (before : List Page) (page : Page) → list_any is_last before ≡ false → behind_page page ≡ behind_pages (before ++ page ∷ [])
 behind_pushed before page last =
-    let ended : list_any is_last (before ++ page ∷ []) ≡ is_last page = list_any-append is_last before (page ∷ []) ∙ ap (λ b. b || (is_last page || false)) last ∙ false_or (is_last page) in
+    let ended : list_any is_last (before ++ page ∷ []) ≡ is_last page = list_any-append is_last before (page ∷ []) ∙ ap (λ b. b || (is_last page || false)) last ∙ or-false (is_last page) in
     ap (λ n. behind_of n (is_last page)) (sym (number_pushed before page)) ∙ ap (behind_of (number_after (before ++ page ∷ []))) (sym ended)
 
 -- ---- all that is found
@@ -228,18 +201,12 @@ turned true false x y e = refl
 turned false true x y e = refl
 turned false false x y e = absurd (cc)
 
-abbrev ended_in : List Part → ℕ × Page → List PacketParts
-ended_in parts at = packets_in (position_in at.1) parts (body_place at.0 at.1) 0 at.1.lacing at.1.body
-
-abbrev behind_it : List Part → ℕ × Page → List Part
-behind_it parts at = parts_behind parts (body_place at.0 at.1) 0 at.1.lacing at.1.body
-
 -- a page of the stream, misplaced or not
 by_misplaced : (serial : ℕ) (behind : Behind) (parts : List Part) (earlier : List Page) (before : List (List ℕ)) (segments : ℕ) (at : ℕ × Page) (found : List FoundPage) → IsPage at.1 →
     HoldsPackets earlier before segments (joined_parts parts) → behind ≡ behind_pages earlier → is_some_part parts ≡ not (nat_eq segments 0) → nat_eq at.1.serial serial ≡ true →
-    ((left : ℕ) → HoldsPackets (earlier ++ at.1 ∷ []) (before ++ texts (ended_in parts at)) left (joined_parts (behind_it parts at)) → behind_page at.1 ≡ behind_pages (earlier ++ at.1 ∷ []) →
-    is_some_part (behind_it parts at) ≡ not (nat_eq left 0) →
-    HeldFrom serial (earlier ++ at.1 ∷ []) (before ++ texts (ended_in parts at)) found (packets_from serial (behind_page at.1) (behind_it parts at) found)) →
+    ((left : ℕ) → HoldsPackets (earlier ++ at.1 ∷ []) (before ++ texts (ended_in parts at)) left (joined_parts (begun_behind parts at)) → behind_page at.1 ≡ behind_pages (earlier ++ at.1 ∷ []) →
+    is_some_part (begun_behind parts at) ≡ not (nat_eq left 0) →
+    HeldFrom serial (earlier ++ at.1 ∷ []) (before ++ texts (ended_in parts at)) found (packets_from serial (behind_page at.1) (begun_behind parts at) found)) →
     (m : Option ViewFault) → misplaced behind (is_some_part parts) at.0 at.1 ≡ m → HeldFrom serial earlier before (Ok at ∷ found) (by_place serial parts at.0 at.1 found m)
 by_misplaced serial behind parts earlier before segments at found is holds b some its later (Some fault) m =
     let same : misplaced behind (is_some_part parts) at.0 at.1 ≡ misplaced (behind_pages earlier) (not (nat_eq segments 0)) at.0 at.1 =
@@ -249,11 +216,11 @@ by_misplaced serial behind parts earlier before segments at found is holds b som
     let same : misplaced behind (is_some_part parts) at.0 at.1 ≡ misplaced (behind_pages earlier) (not (nat_eq segments 0)) at.0 at.1 =
     ap (λ l. misplaced l (is_some_part parts) at.0 at.1) b ∙ ap (λ u. misplaced (behind_pages earlier) u at.0 at.1) some in
     let fit : FitsInOrder earlier at.1 = fits earlier (not (nat_eq segments 0)) at.0 at.1 (goes_on_behind earlier before segments (joined_parts parts) holds) (sym same ∙ m) in
-    let c : Cuts segments (joined_parts parts) at.1.lacing at.1.body (ended_in parts at) (behind_it parts at) =
+    let c : Cuts segments (joined_parts parts) at.1.lacing at.1.body (ended_in parts at) (begun_behind parts at) =
     cuts at.1.lacing segments 0 0 segments (body_place at.0 at.1) (position_in at.1) parts at.1.body is.lacing (omega (arith, is.whole)) (omega arith) (omega arith) holds.rest_size some in
-    adds serial earlier before at found (ended_in parts at) (packets_from serial (behind_page at.1) (behind_it parts at) found) its
+    adds serial earlier before at found (ended_in parts at) (packets_from serial (behind_page at.1) (begun_behind parts at) found) its
     (positions_in at.1.lacing (position_in at.1) parts (body_place at.0 at.1) 0 at.1.body) fit
-    (later c.left (holds_more earlier at.1 before segments parts (ended_in parts at) (behind_it parts at) holds c) (behind_pushed earlier at.1 fit.last) c.some)
+    (later c.left (holds_more earlier at.1 before segments parts (ended_in parts at) (begun_behind parts at) holds c) (behind_pushed earlier at.1 fit.last) c.some)
 
 by_serial : (serial : ℕ) (earlier : List Page) (before : List (List ℕ)) (behind : Behind) (parts : List Part) (at : ℕ × Page) (found : List FoundPage) (t : Bool) → nat_eq at.1.serial serial ≡ t →
     HeldFrom serial earlier before found (packets_from serial behind parts found) →
@@ -277,7 +244,7 @@ held_from (Ok at ∷ found) serial behind parts earlier before segments all hold
     by_serial serial earlier before behind parts at found (nat_eq at.1.serial serial) refl
     (held_from found serial behind parts earlier before segments all.1 holds b some)
     (λ its. by_misplaced serial behind parts earlier before segments at found all.0 holds b some its
-    (λ left h p s. held_from found serial (behind_page at.1) (behind_it parts at) (earlier ++ at.1 ∷ []) (before ++ texts (ended_in parts at)) left all.1 h p s)
+    (λ left h p s. held_from found serial (behind_page at.1) (begun_behind parts at) (earlier ++ at.1 ∷ []) (before ++ texts (ended_in parts at)) left all.1 h p s)
     (misplaced behind (is_some_part parts) at.0 at.1) refl)
 
 pub all_are_pages : (offset : ℕ) (bytes : List ℕ) → AreBytes bytes → AllFound (found_in offset bytes)

@@ -14,7 +14,7 @@ use Rattle.packet_view.specs.declared.place.Behind.{Behind}
 use Rattle.packet_view.specs.declared.fault.ViewFault.{ViewFault}
 use Rattle.packet_view.proofs.AllHeld.{AllFound, all_are_pages}
 use Rattle.packet_view.proofs.Fronts.{pick_false}
-use Rattle.packet_view.proofs.Walks.{pick_true, by_place, from-page}
+use Rattle.packet_view.proofs.Walks.{ended_in, begun_behind, pick_true, by_place, from-page}
 
 none_apart : (serial : ℕ) (pages : List (ℕ × Page)) → LieApart serial pages []
 none_apart serial [] = tt
@@ -96,21 +96,15 @@ weaker : (serial : ℕ) (pages more : List (ℕ × Page)) (packets : List Packet
 weaker serial pages more [] all = tt
 weaker serial pages more (packet ∷ packets) (h, all) = (more_pages serial pages more packet.parts h, weaker serial pages more packets all)
 
-abbrev ended_in : List Part → ℕ × Page → List PacketParts
-ended_in parts at = packets_in (position_in at.1) parts (body_place at.0 at.1) 0 at.1.lacing at.1.body
-
-abbrev goes_on_behind : List Part → ℕ × Page → List Part
-goes_on_behind parts at = parts_behind parts (body_place at.0 at.1) 0 at.1.lacing at.1.body
-
 one_page : (serial : ℕ) (behind : Behind) (parts : List Part) (earlier : List (ℕ × Page)) (at : ℕ × Page) (found : List FoundPage) (t : Bool) → nat_eq at.1.serial serial ≡ t →
     IsPage at.1 → LieApart serial earlier parts →
     (LieApart serial (earlier ++ at ∷ []) parts → AllApart serial ((earlier ++ at ∷ []) ++ pages_found found) (packets_from serial behind parts found).packets) →
-    (LieApart serial (earlier ++ at ∷ []) (goes_on_behind parts at) →
-    AllApart serial ((earlier ++ at ∷ []) ++ pages_found found) (packets_from serial (behind_page at.1) (goes_on_behind parts at) found).packets) →
+    (LieApart serial (earlier ++ at ∷ []) (begun_behind parts at) →
+    AllApart serial ((earlier ++ at ∷ []) ++ pages_found found) (packets_from serial (behind_page at.1) (begun_behind parts at) found).packets) →
     AllApart serial (earlier ++ at ∷ pages_found found) (packets_from serial behind parts (Ok at ∷ found)).packets
 unfolding packets_from
 one_page serial behind parts earlier at found true t is h other its =
-    let later : PacketsLeft = packets_from serial (behind_page at.1) (goes_on_behind parts at) found in
+    let later : PacketsLeft = packets_from serial (behind_page at.1) (begun_behind parts at) found in
     let here = in_page at.1.lacing serial earlier at (position_in at.1) parts (body_place at.0 at.1) 0 at.1.body (eqb-true at.1.serial serial t) (omega arith) refl (omega (arith, is.whole)) h in
     let both : AllApart serial ((earlier ++ at ∷ []) ++ pages_found found) (ended_in parts at ++ later.packets) =
     all_both (λ (packet : PacketParts). LieApart serial ((earlier ++ at ∷ []) ++ pages_found found) packet.parts) (ended_in parts at) later.packets
@@ -121,7 +115,7 @@ one_page serial behind parts earlier at found true t is h other its =
     (by_fault (misplaced behind (is_some_part parts) at.0 at.1) all)
   where
     by_fault : (m : Option ViewFault) →
-        AllApart serial (earlier ++ at ∷ pages_found found) (ended_in parts at ++ (packets_from serial (behind_page at.1) (goes_on_behind parts at) found).packets) →
+        AllApart serial (earlier ++ at ∷ pages_found found) (ended_in parts at ++ (packets_from serial (behind_page at.1) (begun_behind parts at) found).packets) →
         AllApart serial (earlier ++ at ∷ pages_found found) (by_place serial parts at.0 at.1 found m).packets
     by_fault (Some fault) all = tt
     by_fault None all = all
@@ -139,7 +133,7 @@ apart (Err fault ∷ found) serial behind parts earlier all h = tt
 apart (Ok at ∷ found) serial behind parts earlier all h =
     one_page serial behind parts earlier at found (nat_eq at.1.serial serial) refl all.0 h
     (λ later. apart found serial behind parts (earlier ++ at ∷ []) all.1 later)
-    (λ later. apart found serial (behind_page at.1) (goes_on_behind parts at) (earlier ++ at ∷ []) all.1 later)
+    (λ later. apart found serial (behind_page at.1) (begun_behind parts at) (earlier ++ at ∷ []) all.1 later)
 
 pub all_apart : (serial : ℕ) (bytes : List ℕ) → AreBytes bytes → AllApart serial (pages_found (found_in 0 bytes)) (packets_of serial bytes).packets
 all_apart serial bytes are =

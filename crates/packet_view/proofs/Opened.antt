@@ -15,6 +15,7 @@ use Rattle.packet_view.specs.Packet.{parts_of}
 use Rattle.packet_view.specs.declared.place.Behind.{Behind}
 use Rattle.packet_view.specs.declared.place.Place.{Place}
 use Rattle.packet_view.specs.declared.unread.Unread.{Unread}
+use Rattle.ogg_page.specs.PageLaws.{pages_both}
 
 -- ---- parts
 
@@ -34,11 +35,7 @@ some_first place (byte ∷ first) more some = refl
 
 -- ---- pages
 
-all_append : (a b : List Page) → AllByRecursion IsPage a → AllByRecursion IsPage b → AllByRecursion IsPage (a ++ b)
-all_append [] b ha hb = hb
-all_append (p ∷ a) b ha hb = (ha.0, all_append a b ha.1 hb)
-
-with_more : (b : Bool) (part before behind : List Part) → (if b then part ++ (before ++ behind) else before ++ behind) ≡ (if b then part ++ before else before) ++ behind
+pub with_more : (b : Bool) (part before behind : List Part) → (if b then part ++ (before ++ behind) else before ++ behind) ≡ (if b then part ++ before else before) ++ behind
 with_more true part before behind = sym (append_assoc part before behind)
 with_more false part before behind = refl
 
@@ -107,7 +104,7 @@ grows serial from place next first piece len so_far reach front =
     let before : List Part = opened serial from first so_far.pages in
     record {
       pages = so_far.pages ++ reach.pages;
-      are_pages = all_append so_far.pages reach.pages so_far.are_pages reach.are_pages;
+      are_pages = pages_both so_far.pages reach.pages so_far.are_pages reach.are_pages;
       joined = so_far.joined ∙ ap (λ l. bytes_of_pages so_far.pages ++ l) reach.joined ∙ sym (append_assoc (bytes_of_pages so_far.pages) (bytes_of_pages reach.pages) next.rest.now) ∙ ap (λ l. l ++ next.rest.now) (sym bytes);
       size = omega (arith, so_far.size, reach.size, ap length bytes, length-append (bytes_of_pages so_far.pages) (bytes_of_pages reach.pages));
       parts_are =

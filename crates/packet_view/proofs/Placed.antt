@@ -19,7 +19,7 @@ use Rattle.packet_view.specs.Placed.{IsAtItsPlace, AreInOrder, parts_of_all}
 use Rattle.packet_view.specs.declared.place.Behind.{Behind}
 use Rattle.packet_view.specs.declared.fault.ViewFault.{ViewFault}
 use Rattle.packet_view.proofs.Fronts.{pick_false}
-use Rattle.packet_view.proofs.Walks.{pick_true, by_place, from-page}
+use Rattle.packet_view.proofs.Walks.{ended_in, begun_behind, pick_true, by_place, from-page}
 
 -- the same, up to this place
 abbrev AreInOrderUpTo : List ℕ → ℕ → List Part → ℕ → Type 0
@@ -166,23 +166,17 @@ body_at source offset page behind at =
     ∙ ap (drop (27 + length page.lacing)) (at ∙ append_assoc front page.body behind)
     ∙ drop_at front (page.body ++ behind) (27 + length page.lacing) size
 
-abbrev ended_in : List Part → ℕ × Page → List PacketParts
-ended_in parts at = packets_in (position_in at.1) parts (body_place at.0 at.1) 0 at.1.lacing at.1.body
-
-abbrev goes_on_behind : List Part → ℕ × Page → List Part
-goes_on_behind parts at = parts_behind parts (body_place at.0 at.1) 0 at.1.lacing at.1.body
-
 -- a page of the stream that was found, and what is found after it
 one_page : (serial : ℕ) (behind : Behind) (parts : List Part) (source : List ℕ) (from to : ℕ) (at : ℕ × Page) (found : List FoundPage) (t : Bool) → nat_eq at.1.serial serial ≡ t →
     AllAt source to (Ok at ∷ found) → AreInOrderUpTo source from parts to →
     (AreInOrderUpTo source from parts (at.0 + page_size at.1) → AreInOrder source from (parts_of_all (packets_from serial behind parts found).packets)) →
-    ((middle : ℕ) → AreInOrderUpTo source middle (goes_on_behind parts at) (at.0 + page_size at.1) →
-    AreInOrder source middle (parts_of_all (packets_from serial (behind_page at.1) (goes_on_behind parts at) found).packets)) →
+    ((middle : ℕ) → AreInOrderUpTo source middle (begun_behind parts at) (at.0 + page_size at.1) →
+    AreInOrder source middle (parts_of_all (packets_from serial (behind_page at.1) (begun_behind parts at) found).packets)) →
     AreInOrder source from (parts_of_all (packets_from serial behind parts (Ok at ∷ found)).packets)
 unfolding packets_from
 one_page serial behind parts source from to at found true t (le, is, (after, split), all) h other its =
     let ended : List PacketParts = ended_in parts at in
-    let goes_on : List Part = goes_on_behind parts at in
+    let goes_on : List Part = begun_behind parts at in
     let later : PacketsLeft = packets_from serial (behind_page at.1) goes_on found in
     let end : body_place at.0 at.1 + length at.1.body ≡ at.0 + page_size at.1 = omega arith in
     let here : Parted source from (parts_of_all ended) goes_on (at.0 + page_size at.1) =
@@ -196,7 +190,7 @@ one_page serial behind parts source from to at found true t (le, is, (after, spl
     subst (λ (l : PacketsLeft). AreInOrder source from (parts_of_all l.packets)) (sym (from-page serial behind parts at.0 at.1 found t))
     (by_fault (misplaced behind (is_some_part parts) at.0 at.1) both)
   where
-    by_fault : (m : Option ViewFault) → AreInOrder source from (parts_of_all (ended_in parts at ++ (packets_from serial (behind_page at.1) (goes_on_behind parts at) found).packets)) →
+    by_fault : (m : Option ViewFault) → AreInOrder source from (parts_of_all (ended_in parts at ++ (packets_from serial (behind_page at.1) (begun_behind parts at) found).packets)) →
         AreInOrder source from (parts_of_all (by_place serial parts at.0 at.1 found m).packets)
     by_fault (Some fault) both = tt
     by_fault None both = both
@@ -212,7 +206,7 @@ in_order (Err fault ∷ found) serial behind parts source from to all h = tt
 in_order (Ok at ∷ found) serial behind parts source from to all h =
     one_page serial behind parts source from to at found (nat_eq at.1.serial serial) refl all h
     (λ later. in_order found serial behind parts source from (at.0 + page_size at.1) all.3 later)
-    (λ middle later. in_order found serial (behind_page at.1) (goes_on_behind parts at) source middle (at.0 + page_size at.1) all.3 later)
+    (λ middle later. in_order found serial (behind_page at.1) (begun_behind parts at) source middle (at.0 + page_size at.1) all.3 later)
 
 pub all_in_order : (serial : ℕ) (bytes : List ℕ) → AreBytes bytes → AreInOrder bytes 0 (parts_of_all (packets_of serial bytes).packets)
 all_in_order serial bytes are =

@@ -10,7 +10,7 @@ use Rattle.ogg_page.specs.declared.fault.PageFault.{PageFault}
 use Rattle.ogg_page.specs.Laws.ReadAgain.{length-page_bytes}
 use Rattle.ogg_page.specs.Laws.Walk.{page_found}
 use Rattle.ogg_page.specs.Laws.Found.{found-nothing, found-fault, found-page}
-use Rattle.packet_view.specs.Packets.{Part, PacketsLeft, with_part, is_some_part, misplaced, body_place, behind_page, position_in, no_packet, after_packets, packets_in, parts_behind, packets_from}
+use Rattle.packet_view.specs.Packets.{Part, PacketParts, PacketsLeft, with_part, is_some_part, misplaced, body_place, behind_page, position_in, no_packet, after_packets, packets_in, parts_behind, packets_from}
 use Rattle.packet_view.specs.Front.{front_size}
 use Rattle.packet_view.specs.Walking.{packets_at, parts_in, IsBefore, Reaches}
 use Rattle.packet_view.specs.declared.place.Behind.{Behind}
@@ -18,6 +18,7 @@ use Rattle.packet_view.specs.declared.place.Place.{Place}
 use Rattle.packet_view.specs.declared.fault.ViewFault.{ViewFault}
 use Rattle.packet_view.specs.declared.fault.ViewFault.TheVariants.{Page as PageIsAtFault, Unfinished}
 use Rattle.packet_view.proofs.Fronts.{pick_false}
+use Rattle.packet_view.proofs.Opened.{with_more}
 
 pub pick_true : {A : Type 0} (b : Bool) (x y : A) → b ≡ true → (if b then x else y) ≡ x
 pick_true true x y e = refl
@@ -39,6 +40,13 @@ pub from-other : (serial : ℕ) (behind : Behind) (parts : List Part) (offset : 
 unfolding packets_from
 from-other serial behind parts offset page rest is e =
     ap (packets_from serial behind parts) (found-page offset page rest is) ∙ pick_false (nat_eq page.serial serial) _ _ e
+
+-- the packets that end in the page at this place, and the parts that go on behind it
+abbrev pub ended_in : List Part → ℕ × Page → List PacketParts
+ended_in parts at = packets_in (position_in at.1) parts (body_place at.0 at.1) 0 at.1.lacing at.1.body
+
+abbrev pub begun_behind : List Part → ℕ × Page → List Part
+begun_behind parts at = parts_behind parts (body_place at.0 at.1) 0 at.1.lacing at.1.body
 
 -- the packets from a page of the stream on, misplaced or not
 abbrev pub by_place : ℕ → List Part → ℕ → Page → List FoundPage → Option ViewFault → PacketsLeft
@@ -98,10 +106,6 @@ part_of serial offset page = if nat_eq page.serial serial then with_part [] (bod
 with_nothing : (b : Bool) (part : List Part) → (if b then part ++ [] else []) ≡ (if b then part else [])
 with_nothing true part = append-nil part
 with_nothing false part = refl
-
-with_more : (b : Bool) (part before behind : List Part) → (if b then part ++ (before ++ behind) else before ++ behind) ≡ (if b then part ++ before else before) ++ behind
-with_more true part before behind = sym (append_assoc part before behind)
-with_more false part before behind = refl
 
 parts_push : (serial start : ℕ) (pages : List Page) (page : Page) →
     parts_in serial (located start (pages ++ page ∷ [])) ≡ parts_in serial (located start pages) ++ part_of serial (start + length (bytes_of_pages pages)) page
