@@ -10,10 +10,10 @@ use Rattle.serve_clients.specs.declared.client.Stage.TheVariants.{Cut, Ending, W
 use Rattle.serve_sources.specs.declared.body.Body.{Body}
 use Rattle.serve_sources.specs.declared.outcome.Outcome.{Outcome}
 use Rattle.serve_sources.specs.declared.outcome.Outcome.TheVariants.{Lost}
-use Rattle.station.specs.Air.{outcome_of, wants_answer}
-use Rattle.station.specs.Parting.{HasParted, parting_answer}
-use Rattle.station.specs.declared.air.OnAir.{OnAir}
-use Rattle.station.specs.declared.air.Took.TheVariants.{Ended as TookEnd}
+use Rattle.station_sources.specs.Air.{outcome_of, parting_answer, wants_answer}
+use Rattle.station.specs.Parting.{HasParted}
+use Rattle.station_sources.specs.declared.air.OnAir.{OnAir}
+use Rattle.station_sources.specs.declared.air.Took.TheVariants.{Ended as TookEnd}
 use Rattle.station.specs.declared.stepping.Done.{Done}
 use Rattle.station.specs.declared.stepping.Done.TheVariants.{Ended, Failed, GivenUp, Lost as LostFile, Reopened, Stepped}
 

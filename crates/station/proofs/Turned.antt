@@ -6,7 +6,7 @@ use Rattle.serve_clients.specs.Clients.{goes_again, is_shut}
 use Rattle.serve_clients.specs.declared.client.After.{After}
 use Rattle.serve_clients.specs.declared.client.After.TheVariants.{Goes, Shuts, Closes}
 use Rattle.station.specs.Turning.{GoesOn, IsRead}
-use Rattle.station.specs.declared.air.OnAir.{OnAir}
+use Rattle.station_sources.specs.declared.air.OnAir.{OnAir}
 
 false_true : false ≡ true → ⊥
 false_true e = cc

@@ -1,15 +1,8 @@
-pub mod Counting
-pub mod Air
-pub mod Faring
 pub mod Offering
 pub mod Parting
-pub mod Patience
-pub mod Giving
-pub mod Asking
-pub mod Places
 pub mod Stepping
-pub mod Taking
 pub mod Lines
 pub mod Telling
 pub mod Turning
-pub mod Waking
+pub mod Ending
+pub mod Waiting

@@ -1,7 +1,7 @@
 -- What is counted of what a step has done. Ours.
 use Rattle.std.specs.Prelude.{Bool, false, true}
-use Rattle.station.specs.Counting.{counted, with_mend, with_step, with_taken}
-use Rattle.station.specs.declared.counting.Counts.{Counts}
+use Rattle.station_sources.specs.Counting.{counted, with_mend, with_step, with_taken}
+use Rattle.station_sources.specs.declared.counting.Counts.{Counts}
 use Rattle.station.specs.declared.stepping.Done.{Done}
 use Rattle.station.specs.declared.stepping.Done.TheVariants.{Ended, Failed, GivenUp, Lost, Reopened, Stepped}
 

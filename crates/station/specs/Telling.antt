@@ -2,11 +2,11 @@
 use Rattle.std.specs.Prelude.{ℕ, ◌/◌, Bool, false, count_by, Option, None, Some}
 use Rattle.slab.specs.Slab.{Slab}
 use Rattle.serve_texts.specs.declared.numbers.Mends.{Mends}
-use Rattle.station.specs.Counting.{counted}
+use Rattle.station_sources.specs.Counting.{counted}
 use Rattle.serve_clients.specs.Client.{ClientState, is_hearing}
 use Rattle.serve_clients.specs.declared.client.Stage.{Stage}
 use Rattle.serve_clients.specs.declared.client.Stage.TheVariants.{Asking, Offering, Waiting, Feeding, Reading, Sending, Hearing, Ending, Closing, Cut}
-use Rattle.station.specs.declared.counting.MendCounts.{MendCounts}
+use Rattle.station_sources.specs.declared.counting.MendCounts.{MendCounts}
 use Rattle.station.specs.declared.telling.Kind.{Kind}
 use Rattle.station.specs.declared.telling.Kind.TheVariants.{Listener, Session, Source, Other}
 use Rattle.station.specs.declared.telling.Kinds.{Kinds}

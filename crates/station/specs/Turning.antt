@@ -1,12 +1,12 @@
 -- What is done in a turn. Ours.
-use Rattle.std.specs.Prelude.{◌≡◌, ◌⊎◌, ⊤, ℕ, ◌-◌, Bool, true, false, not, ◌&&◌, ◌||◌, nat_le, Option, None, Some}
+use Rattle.std.specs.Prelude.{◌≡◌, ◌⊎◌, ⊤, ℕ, true, Option}
 use Rattle.serve_clients.specs.Client.{ClientState, after_of, cut, fresh, told, with_stage}
 use Rattle.serve_clients.specs.declared.client.After.TheVariants.{Shuts}
 use Rattle.serve_clients.specs.declared.client.Stage.{Stage}
 use Rattle.serve_clients.specs.declared.client.Stage.TheVariants.{Waiting, Feeding, Ending, Cut}
-use Rattle.station.specs.Air.{IsFedBy}
-use Rattle.station.specs.declared.air.Feeder.TheVariants.{Peer}
-use Rattle.station.specs.declared.air.OnAir.{OnAir}
+use Rattle.station_sources.specs.Air.{IsFedBy}
+use Rattle.station_sources.specs.declared.air.Feeder.TheVariants.{Peer}
+use Rattle.station_sources.specs.declared.air.OnAir.{OnAir}
 use Rattle.serve_sources.specs.declared.answers.TheConstants.{FULL}
 
 -- What a connection sends is read in its turn, or passed over if nothing more is expected of it. Only a source has to wait:
@@ -24,12 +24,6 @@ IsRead key client air = (client.line.readable ≡ true) × TakesIn client.stage 
 -- Another turn follows: bytes went over the connection, it has got its last one, or bytes of it are to be read.
 abbrev pub GoesOn : ℕ → ClientState → Option OnAir → Type 0
 GoesOn key client air = (client.line.moved ≡ true) ⊎ ((after_of client ≡ Shuts) ⊎ IsRead key client air)
-
--- A station that comes to its end has come to it once nobody is on the air, and nobody is connected any more, or those who
--- are have had a minute.
-abbrev pub has_finished : Option ℕ → Bool → Bool → ℕ → Bool
-has_finished None on_air left now = false
-has_finished (Some since) on_air left now = not on_air && (not left || nat_le 60000 (now - since))
 
 -- A connection too many is told so, and gets nothing more. Without memory for that it is cut.
 abbrev pub IsTurnedAway : ℕ → ClientState → Type 0

@@ -9,37 +9,26 @@
 //! A connection is a source, a listener, or a session of the hub, which answers it as `serve` does. There is one source
 //! at a time, which may also be the caller's own input. What a listener hears is on the disk.
 //!
-//! The connections are those of `serve_clients`, which says how far each has come and whose turn it is. Start at
-//! `src/station.rt`, which has the calls, and go on to `src/air.rt`, which takes a source's bytes, and `src/stepping.rt`,
-//! which says what is recorded and when it is committed.
+//! The connections are those of `serve_clients`, which says how far each has come and whose turn it is. The source that
+//! is on the air is one of `station_sources`, which says what is taken of its bytes; what a connection gets of the file
+//! is said by `station_hub`. Start at `src/station.rt`, which has the calls, and go on to `src/stepping.rt`, which says
+//! what is recorded and when it is committed.
 #![tactic(auto)]
 
-mod air;
-mod asking;
-mod counting;
-mod faring;
-mod giving;
-mod laws;
 mod lines;
-mod live_hub;
 mod offering;
-mod patience;
-mod places;
 mod station;
 mod stepping;
 mod telling;
 mod turning;
-mod waking;
 
-pub use air::Feeder;
-pub use counting::{Counts, MendCounts};
 pub use import_record::{Answered, Step, Taken};
-pub use laws::connections_are_owed_their_responses;
 pub use lines::{Shown, station_line};
-pub use live_hub::LiveHub;
 pub use serve_clients::{After, Trouble};
 pub use serve_sources::{FULL, Password};
 pub use serve_texts::Visit;
 pub use station::{Options, Station, Unaccepted};
+pub use station_hub::{LiveHub, connections_are_owed_their_responses};
+pub use station_sources::{Counts, Feeder, MendCounts};
 pub use std::alloc::AllocError as Memory;
 pub use stepping::Done;

@@ -7,17 +7,16 @@ ghost use Rattle.serve_clients.specs.Clients.{OthersStay};
 ghost use Rattle.serve_clients.specs.declared.client.Stage.TheVariants.{Waiting as WaitingOf};
 ghost use Rattle.serve_sources.specs.Asking.{HasHead};
 ghost use Rattle.serve_sources.specs.declared.password.Password.{Password as PasswordOf};
-ghost use Rattle.station.specs.Counting.{counted};
+ghost use Rattle.station_sources.specs.Counting.{counted};
 ghost use Rattle.station.specs.Offering.{IsRefusal, IsUnauthorized};
 
 use crate::Memory;
-use crate::air::{Feeder, OnAir};
-use crate::counting::counted;
 use crate::station::Station;
 use disk_model::Disk;
 use import_changes::ChangeOptions;
 use serve_clients::Stage;
 use serve_sources::{Body, Offer, Outcome, Password, Refused, sources_are_refused};
+use station_sources::{Feeder, OnAir, counted};
 
 /// What comes of a source's head, as far as it has come. A head without the password is refused.
 fn offered(head: &[u8], password: &Password) -> Offer
@@ -152,7 +151,7 @@ impl<D: Disk + Drop> Station<D> {
             renumber: true,
             skeletons: self.options.skeletons,
         };
-        let serials = self.live.hub.serials();
+        let serials = self.live.hub().serials();
         self.air = Some(OnAir::new(self.alloc, feeder, body, options, serials)?);
         self.on_air_since = now;
         self.counts.sources = counted(self.counts.sources, 1);

@@ -9,30 +9,26 @@ ghost use Rattle.serve_hub.specs.Images.{IfFile, Reads};
 ghost use Rattle.serve_hub.specs.Showing.{Shows};
 ghost use Rattle.serve_clients.specs.Client.{ClientState, HasWritten, fresh, given, moved_if, with_line, with_stage};
 ghost use Rattle.serve_clients.specs.Line.{moved_on};
-ghost use Rattle.station.specs.Asking.{stage_after};
+ghost use Rattle.station_hub.specs.Asking.{stage_after};
 ghost use Rattle.serve_clients.specs.declared.client.Stage.TheVariants.{Reading as ReadingOf, Waiting as WaitingOf};
-ghost use Rattle.station.specs.Air.{HoldsMore, IsFedBy, IsShort};
-ghost use Rattle.station.specs.declared.air.OnAir.{OnAir as OnAirOf};
-ghost use Rattle.station.specs.Counting.{counted};
-ghost use Rattle.station.specs.Giving.{Gives};
+ghost use Rattle.station_sources.specs.Air.{HoldsMore, IsFedBy, IsShort};
+ghost use Rattle.station_sources.specs.declared.air.OnAir.{OnAir as OnAirOf};
+ghost use Rattle.station_sources.specs.Counting.{counted};
+ghost use Rattle.station_hub.specs.Giving.{Gives};
+ghost use Rattle.station.specs.Ending.{is_over};
 ghost use Rattle.station.specs.Turning.{IsTurnedAway};
-ghost use Rattle.station.specs.Waking.{is_over};
 ghost use Rattle.serve_clients.specs.Clients.{OthersStay};
 
 use crate::Memory;
-use crate::air::{Feeder, OnAir};
-use crate::asking::{ask, connect, listen, read};
-use crate::counting::{Counts, counted};
-use crate::giving::give;
-use crate::live_hub::LiveHub;
 use crate::telling::tell_player;
-use crate::waking::Waking;
 use disk_model::Disk;
 use import_changes::Skeletons;
 use serve_clients::{Client, Clients, Stage, Trouble, is_refused};
 use serve_hub::Hub;
 use serve_sources::{Asks, FULL, OwnResource, Password, Refused};
 use serve_texts::Visit;
+use station_hub::{LiveHub, Waking, ask};
+use station_sources::{Counts, Feeder, OnAir, counted};
 use std::alloc::Global;
 
 /// How many connections too many are told so at once.
@@ -110,7 +106,7 @@ impl<D: Disk + Drop> Station<D> {
 
     /// The hub.
     pub fn hub(&self) -> &Hub<D> {
-        &self.live.hub
+        self.live.hub()
     }
 
     /// Who sends the stream that is recorded, if there is one.
@@ -130,7 +126,7 @@ impl<D: Disk + Drop> Station<D> {
     pub fn into_hub(self) -> Hub<D>
         ensures { result ≡ self.live.hub }
     {
-        self.live.hub
+        self.live.into_hub()
     }
 
     /// How many connections there are.
@@ -189,8 +185,7 @@ impl<D: Disk + Drop> Station<D> {
     {
         let client = self.clients.slots.try_remove(key)?;
         if let Some(id) = client.session {
-            // After a fault of the file the session has ended already.
-            let _ = self.live.hub.close(id);
+            self.live.close(id);
         }
         self.lose_feeder(key);
         client.visit
@@ -231,12 +226,12 @@ impl<D: Disk + Drop> Station<D> {
                     self.offer(key, &[], now);
                 }
                 Asks::Own { resource, head } => self.answer(key, resource, head, now),
-                Asks::Source | Asks::File => connect(&mut self.live.hub, client),
+                Asks::Source | Asks::File => self.live.connect(client),
             },
             Stage::Offering => self.offer(key, bytes, now),
             Stage::Reading => {
                 if let Some(id) = client.session {
-                    read(&mut self.live.hub, id, client, bytes);
+                    self.live.read(id, client, bytes);
                 }
             }
             Stage::Feeding => {
@@ -262,7 +257,7 @@ impl<D: Disk + Drop> Station<D> {
             return;
         };
         match resource {
-            OwnResource::Live => listen(&mut self.live, client, head),
+            OwnResource::Live => self.live.listen(client, head),
             OwnResource::Player => tell_player(self.alloc, client, head),
             OwnResource::Status => self.tell_numbers(key, head, now),
         }
@@ -329,7 +324,7 @@ impl<D: Disk + Drop> Station<D> {
         let Some(client) = self.clients.slots.get_mut(key) else {
             return 0;
         };
-        let count = give(&mut self.live.hub, client, buffer);
+        let count = self.live.give(client, buffer);
         client.given(count, over, now);
         count
     }

@@ -1,6 +1,6 @@
 //! What is recorded, step by step.
 ghost use Rattle.std.specs.Prelude.{◌≡◌, ◌≢◌, ◌⊎◌, ◌||◌, ℕ, None, Option, Some, length, true};
-ghost use Rattle.station.specs.Waking.{woken_at};
+ghost use Rattle.station_hub.specs.Waking.{woken_at};
 ghost use Rattle.slab.specs.Slab.{get};
 ghost use Rattle.serve_clients.specs.Client.{ClientState};
 ghost use Rattle.serve_clients.specs.Clients.{OthersStay};
@@ -13,18 +13,15 @@ ghost use Rattle.import_record.specs.declared.reading.ImportRun.{ImportRun as Im
 ghost use Rattle.import_record.specs.declared.reading.Step.{Step as StepOf};
 ghost use Rattle.serve_hub.specs.Parts.{failed_in};
 ghost use Rattle.serve_hub.specs.Running.{Answers, IsIn, Progress};
-ghost use Rattle.station.specs.Air.{GoesOn, HasAllTaken, KeepsBytes, noted};
-ghost use Rattle.station.specs.Parting.{HasParted, parting_answer};
-ghost use Rattle.station.specs.declared.air.OnAir.{OnAir as OnAirOf};
-ghost use Rattle.station.specs.Patience.{until_due};
+ghost use Rattle.station_sources.specs.Air.{GoesOn, HasAllTaken, KeepsBytes, noted, parting_answer};
+ghost use Rattle.station.specs.Parting.{HasParted};
+ghost use Rattle.station_sources.specs.declared.air.OnAir.{OnAir as OnAirOf};
+ghost use Rattle.station_hub.specs.Patience.{until_due};
 ghost use Rattle.station.specs.Stepping.{reopens, with_done};
-ghost use Rattle.station.specs.Taking.{TakesEnd, TakesStep};
+ghost use Rattle.station_sources.specs.Taking.{TakesEnd, TakesStep};
 ghost use Rattle.serve_hub.specs.Showing.{Shows};
 ghost use Rattle.serve_machine.specs.Hub.{HubState};
 
-use crate::air::{Feeder, OnAir, Took};
-use crate::counting::counted;
-use crate::patience::{is_due, until_due};
 use crate::station::Station;
 use disk_model::Disk;
 use feed_replies::Reply;
@@ -32,14 +29,11 @@ use feed_run::Runner;
 use gate_file::OpenFault;
 use import_mend::Mend;
 use import_record::{RecordFault, Step, Taken, run_all};
-use link_chain::StreamState;
-use ogg_command::Command;
 use serve_clients::Stage;
 use serve_sources::Outcome;
+use station_hub::{is_due, until_due};
+use station_sources::{Feeder, OnAir, Took, counted};
 use std::io;
-
-/// A link has at most this many streams.
-const MOST_STREAMS: usize = 64;
 
 /// What a step has done.
 #[derive(Clone, Copy, Debug, PartialEq, Eq)]
@@ -93,10 +87,10 @@ impl<D: Disk + Drop> Station<D> {
         ensures wakes { (before after : HubState) → Shows D.is_honest D.state self.old.live.hub before → Shows D.is_honest D.state self.new.live.hub after
             → length before.committed ≢ length after.committed → (self.new.waking ≡ woken_at now) ⊎ (self.new.waking.unheard ≡ true) }
     {
-        let end = self.live.hub.end();
+        let end = self.live.hub().end();
         let done = self.step_once(now);
         self.count(done);
-        if self.live.hub.end() != end {
+        if self.live.hub().end() != end {
             self.counts.commits = counted(self.counts.commits, 1);
             self.waking = self.waking.with_more();
         }
@@ -144,13 +138,13 @@ impl<D: Disk + Drop> Station<D> {
         ensures noted { (air : OnAirOf) → self.old.air ≡ Some air → result ≡ Done.Reopened
             → (after : OnAirOf) × (self.new.air ≡ Some after) × (after ≡ record air { import = after.import; lost = true }) }
     {
-        if self.live.hub.is_failed() {
+        if self.live.hub().is_failed() {
             return self.reopen(now);
         }
-        if is_due(self.live.hub.held(), self.waiting_since, now) {
+        if is_due(self.live.hub().held(), self.waiting_since, now) {
             return Done::Flushed(self.live.run_flush());
         }
-        let waited = self.live.hub.held() > 0;
+        let waited = self.live.hub().held() > 0;
         let done = self.step_air(now);
         if !waited {
             self.waiting_since = now;
@@ -231,7 +225,7 @@ impl<D: Disk + Drop> Station<D> {
     fn is_lost(&self, given_up: bool) -> bool
         ensures { result ≡ (given_up || failed_in self.now.live.hub.file) }
     {
-        given_up || self.live.hub.is_failed()
+        given_up || self.live.hub().is_failed()
     }
 
     /// A source has left the air. If a connection sent it, that gets its last bytes.
@@ -271,19 +265,7 @@ impl<D: Disk + Drop> Station<D> {
     pub fn end_open(&mut self)
         ensures { self.new ≡ record self.old { live = self.new.live } }
     {
-        for _ in 0..MOST_STREAMS {
-            let Some(serial) = first_open(self.live.hub.streams()) else {
-                break;
-            };
-            match self
-                .live
-                .run_command(&Command::End(serial), &mut io::sink())
-            {
-                Ok(Reply::Refused(_)) | Err(_) => break,
-                Ok(_) => {}
-            }
-        }
-        let _ = self.live.run_flush();
+        self.live.end_open();
     }
 
     /// Opens the file again, if anything was kept since that was done before.
@@ -297,16 +279,13 @@ impl<D: Disk + Drop> Station<D> {
         ensures lost { (fault : OpenFaultOf) → result ≡ Done.Lost fault → (self.new.air ≡ self.old.air) × (self.new.clients ≡ self.old.clients) }
         ensures reopens { reopens result ≡ true }
     {
-        let end = self.live.hub.end();
+        let end = self.live.hub().end();
         if self.reopened == Some(end) {
             return Done::Failed;
         }
         self.reopened = Some(end);
-        match self.live.hub.reopen() {
-            Ok(()) => {
-                self.live.reopened(end);
-                self.resume(now)
-            }
+        match self.live.reopen() {
+            Ok(()) => self.resume(now),
             Err(fault) => Done::Lost(fault),
         }
     }
@@ -326,7 +305,7 @@ impl<D: Disk + Drop> Station<D> {
             return Done::Reopened;
         };
         air.lose();
-        let hub = &self.live.hub;
+        let hub = self.live.hub();
         let resumed = match air.resume(hub.streams(), hub.serials()) {
             Ok(commands) => run_all(&mut self.live, commands.as_slice(), &mut io::sink()),
             Err(_) => {
@@ -348,12 +327,6 @@ impl<D: Disk + Drop> Station<D> {
         ensures { (machine : HubState) → Shows D.is_honest D.state self.now.live.hub machine
             → result ≡ until_due machine.waiting self.now.waiting_since now }
     {
-        until_due(self.live.hub.held(), self.waiting_since, now)
+        until_due(self.live.hub().held(), self.waiting_since, now)
     }
-}
-
-/// The serial of the first stream that hasn't ended.
-fn first_open(streams: &[StreamState]) -> Option<u32> {
-    let stream = streams.iter().find(|stream| !stream.ended)?;
-    Some(stream.serial)
 }

@@ -3,16 +3,16 @@ ghost use Rattle.std.specs.Prelude.{◌≡◌, ◌⊎◌};
 ghost use Rattle.serve_texts.specs.Player.{player_response};
 ghost use Rattle.serve_texts.specs.Status.{status_response};
 ghost use Rattle.serve_clients.specs.Client.{cut, told, with_stage};
-ghost use Rattle.station.specs.Counting.{counted};
+ghost use Rattle.station_sources.specs.Counting.{counted};
 ghost use Rattle.serve_clients.specs.Clients.{OthersStay};
 ghost use Rattle.station.specs.Telling.{in_seconds, kind_of, mends_of, with_one};
 ghost use Rattle.serve_clients.specs.declared.client.Stage.TheVariants.{Ending as EndingOf};
 
-use crate::counting::{MendCounts, counted};
 use crate::station::Station;
 use disk_model::Disk;
 use serve_clients::{Client, Stage};
 use serve_texts::{Mends, Numbers, append_player, append_status};
+use station_sources::{MendCounts, counted};
 use std::alloc::Global;
 
 /// What a connection is.
@@ -139,8 +139,8 @@ impl<D: Disk + Drop> Station<D> {
         let kinds = self.kinds();
         let on_air = self.air.is_some();
         Numbers {
-            committed_bytes: self.live.hub.end(),
-            links: self.live.hub.links(),
+            committed_bytes: self.live.hub().end(),
+            links: self.live.hub().links(),
             packets: self.counts.packets,
             commits: self.counts.commits,
             commit_milliseconds: self.counts.commit_microseconds / 1000,

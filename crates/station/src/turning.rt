@@ -7,18 +7,19 @@ ghost use Rattle.serve_clients.specs.Client.{ClientState, HasWritten, after_of, 
 ghost use Rattle.serve_clients.specs.Clients.{AreLookedAt, AreWoken, HasTurn, OthersStay, told_by, turned_at, unread_by, unwritten_by};
 ghost use Rattle.serve_clients.specs.Line.{taken_off};
 ghost use Rattle.serve_clients.specs.declared.client.After.TheVariants.{Closes};
-ghost use Rattle.station.specs.Patience.{until_due as until_commit};
+ghost use Rattle.station_hub.specs.Patience.{until_due as until_commit};
 ghost use Rattle.station.specs.Telling.{listeners_in};
-ghost use Rattle.station.specs.Turning.{GoesOn, IsRead, has_finished};
-ghost use Rattle.station.specs.Waking.{gathers, is_due, is_over, until_due, until_next, woken_at};
+ghost use Rattle.station.specs.Ending.{gathers, has_finished, is_over};
+ghost use Rattle.station.specs.Turning.{GoesOn, IsRead};
+ghost use Rattle.station.specs.Waiting.{sooner, until_next};
+ghost use Rattle.station_hub.specs.Waking.{is_due, until_due, woken_at};
 
-use crate::air::Feeder;
-use crate::counting::counted;
 use crate::lines::Shown;
 use crate::station::Station;
-use crate::waking::{Waking, sooner};
 use disk_model::Disk;
 use serve_clients::{After, Stage, Trouble};
+use station_hub::Waking;
+use station_sources::{Feeder, counted};
 
 /// For how many milliseconds is waited at most, if nothing comes.
 const LOOKS: u64 = 1000;
@@ -204,7 +205,7 @@ impl<D: Disk + Drop> Station<D> {
             on_air: self.air.is_some(),
             listeners: self.listeners(),
             packets: self.counts.packets,
-            bytes: self.live.hub.end(),
+            bytes: self.live.hub().end(),
             commits: self.commits_a_second,
         }
     }
@@ -250,5 +251,15 @@ impl<D: Disk + Drop> Station<D> {
             }
             None => false,
         }
+    }
+}
+
+/// What comes sooner: this, if there is one, or that.
+fn sooner(one: Option<u64>, other: u64) -> u64
+    ensures { result ≡ sooner one other }
+{
+    match one {
+        Some(one) => one.min(other),
+        None => other,
     }
 }

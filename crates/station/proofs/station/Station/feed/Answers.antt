@@ -1,6 +1,6 @@
 use Rattle.std.proofs.Common.{◌≡◌, ◌⊎◌, Some, length, refl, sym, ◌∙◌, subst}
-use Rattle.station.specs.Air.{HoldsMore, IsShort}
-use Rattle.station.specs.declared.air.OnAir.{OnAir}
+use Rattle.station_sources.specs.Air.{HoldsMore, IsShort}
+use Rattle.station_sources.specs.declared.air.OnAir.{OnAir}
 use Rattle.station.proofs.station.Station.feed.Goals as goal
 
 same_air : (one other : OnAir) → Some one ≡ Some other → one ≡ other

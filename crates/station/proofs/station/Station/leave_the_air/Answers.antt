@@ -1,8 +1,9 @@
 use Rattle.std.proofs.Common.{◌≡◌, Bool, ◌||◌, Some, sym, ◌∙◌, ap, subst}
 use Rattle.slab.specs.Slab.{get}
 use Rattle.serve_hub.specs.Parts.{failed_in}
-use Rattle.station.specs.Parting.{HasParted, parting_answer}
-use Rattle.station.specs.declared.air.OnAir.{OnAir}
+use Rattle.station.specs.Parting.{HasParted}
+use Rattle.station_sources.specs.Air.{parting_answer}
+use Rattle.station_sources.specs.declared.air.OnAir.{OnAir}
 use Rattle.station.proofs.Leaving.{parted_is_apart, same_air}
 use Rattle.station.proofs.station.Station.leave_the_air.Goals as goal
 

@@ -1,6 +1,6 @@
 use Rattle.std.proofs.Common.{◌≡◌, ◌+◌, sym, ◌∙◌, ap, arith}
 use Rattle.slab.specs.Slab.{get}
-use Rattle.station.specs.Counting.{counted}
+use Rattle.station_sources.specs.Counting.{counted}
 use Rattle.station.specs.Telling.{hears}
 use Rattle.station.proofs.Hearing.{are_all, as_many, at_most, one_more, tells}
 use Rattle.station.proofs.station.Station.listeners.Goals as goal

@@ -2,8 +2,8 @@ use Rattle.std.proofs.Common.{◌≡◌, Some, length, ◌∙◌, ap, subst}
 use Rattle.slab.specs.Slab.{get}
 use Rattle.serve_hub.specs.Showing.{Shows}
 use Rattle.serve_clients.specs.Client.{ClientState, given}
-use Rattle.station.specs.Giving.{Gives}
-use Rattle.station.specs.Waking.{is_over}
+use Rattle.station_hub.specs.Giving.{Gives}
+use Rattle.station.specs.Ending.{is_over}
 use Rattle.station.proofs.station.Station.next.Goals as goal
 
 pub returns-clause-gives : goal.returns-clause-gives

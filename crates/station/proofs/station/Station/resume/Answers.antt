@@ -1,6 +1,6 @@
-use Rattle.std.proofs.Common.{◌≡◌, true, Some, sym, ◌∙◌, ap, refl}
+use Rattle.std.proofs.Common.{sym, ◌∙◌, ap, refl}
 use Rattle.station.proofs.Leaving.{lost_answer, resumed, same_air}
-use Rattle.station.specs.declared.air.OnAir.{OnAir}
+use Rattle.station_sources.specs.declared.air.OnAir.{OnAir}
 use Rattle.station.proofs.station.Station.resume.Goals as goal
 
 pub returns-in-Err-clause-parts : goal.returns-in-Err-clause-parts

@@ -1,4 +1,4 @@
-use Rattle.std.proofs.Common.{◌≡◌, sym, ◌∙◌, ap, subst}
+use Rattle.std.proofs.Common.{sym, ◌∙◌, ap, subst}
 use Rattle.serve_hub.specs.Running.{IsIn}
 use Rattle.station.proofs.station.Station.step.Goals as goal
 use Rattle.station.proofs.station.Station.step.Goals.{then-end, else-end}

@@ -1,15 +1,15 @@
-use Rattle.std.proofs.Common.{◌≡◌, ◌||◌, false, Option, Some, Result, Ok, refl, sym, ◌∙◌, ap, subst}
+use Rattle.std.proofs.Common.{◌≡◌, Option, Result, Ok, refl, sym, ◌∙◌, ap, subst}
 use Rattle.import_record.specs.declared.fault.RecordFault.{RecordFault}
 use Rattle.import_record.specs.declared.reading.Step.{Step}
 use Rattle.serve_hub.specs.Parts.{failed_in}
 use Rattle.serve_hub.specs.Running.{Answers}
 use Rattle.serve_sources.specs.declared.outcome.Outcome.{Outcome}
-use Rattle.station.specs.Air.{GoesOn, HasAllTaken, KeepsBytes, noted}
+use Rattle.station_sources.specs.Air.{GoesOn, HasAllTaken, KeepsBytes, noted}
 use Rattle.station.specs.Parting.{HasParted}
-use Rattle.station.specs.Taking.{TakesEnd, TakesStep}
-use Rattle.station.specs.declared.air.OnAir.{OnAir}
-use Rattle.station.specs.declared.air.Took.{Took}
-use Rattle.station.specs.declared.air.Took.TheVariants.{Bytes, Ended, Stepped}
+use Rattle.station_sources.specs.Taking.{TakesEnd, TakesStep}
+use Rattle.station_sources.specs.declared.air.OnAir.{OnAir}
+use Rattle.station_sources.specs.declared.air.Took.{Took}
+use Rattle.station_sources.specs.declared.air.Took.TheVariants.{Stepped}
 use Rattle.station.proofs.Leaving.{lost_answer, same_air, same_answer, same_ended, same_step}
 use Rattle.station.proofs.station.Station.step_air.Goals as goal
 

@@ -1,0 +1,110 @@
+//! What a connection asks for.
+ghost use Rattle.std.specs.Prelude.{◌≡◌, ◌⊎◌, ◌++◌, Result};
+ghost use Rattle.serve_hub.specs.Images.{IfFile, Reads};
+ghost use Rattle.serve_hub.specs.Showing.{Shows};
+ghost use Rattle.serve_machine.specs.Calls.{Steps};
+ghost use Rattle.serve_machine.specs.Hub.{Receive};
+ghost use Rattle.serve_machine.specs.declared.answers.Progress.{Progress as ProgressOf};
+ghost use Rattle.serve_machine.specs.declared.fault.HubFault.{HubFault as HubFaultOf};
+ghost use Rattle.station_hub.specs.Asking.{IsConnected, stage_after};
+ghost use Rattle.serve_clients.specs.Client.{cut, with_stage};
+
+use crate::live_hub::LiveHub;
+use disk_model::Disk;
+use serve_clients::{Client, Stage};
+use serve_live::Listener;
+use serve_machine::{HubFault, Progress};
+use serve_sources::{Asks, LIVE};
+
+/// Adds bytes to the head, and says what it asks for. Without memory for them the connection is cut.
+pub fn ask(client: &mut Client, bytes: &[u8]) -> Asks
+    ensures { (client.new ≡ record client.old { head = client.old.head ++ bytes.now }) ⊎ (client.new ≡ cut client.old) }
+{
+    match client.head.extend_from_slice(bytes) {
+        Ok(()) => Asks::of(client.head.as_slice()),
+        Err(_) => {
+            client.stage = Stage::Cut;
+            Asks::More
+        }
+    }
+}
+
+impl<D: Disk + Drop> LiveHub<D> {
+    /// The hub answers this connection: a session takes what has come of its head. If there is no place for one, the
+    /// connection is cut.
+    pub fn connect(&mut self, client: &mut Client)
+        ensures connects { IsConnected (Shows D.is_honest D.state) self.old.hub self.new.hub client.old client.new
+            ⊎ ((self.new.hub ≡ self.old.hub) × (client.new ≡ cut client.old)) }
+        ensures disk { (self.new.hub.file ≡ self.old.hub.file)
+            ⊎ IfFile (Reads D.is_honest D.state D.moment D.images_since D.failures) self.old.hub.file self.new.hub.file }
+        ensures places { self.new.places ≡ self.old.places }
+    {
+        match self.hub.connect() {
+            Ok(id) => {
+                let progress = self.hub.receive(id, client.head.as_slice());
+                client.connected(id, stage_after(progress));
+            }
+            Err(_) => client.go_to(Stage::Cut),
+        }
+    }
+
+    /// Further bytes of a session's request.
+    pub fn read(&mut self, id: u64, client: &mut Client, bytes: &[u8])
+        ensures read { (progress : Result ProgressOf HubFaultOf)
+            × Steps (Shows D.is_honest D.state) self.old.hub self.new.hub (λ machine. Receive id bytes.now progress)
+            × (client.new ≡ with_stage (stage_after progress) client.old) }
+        ensures disk { (self.new.hub.file ≡ self.old.hub.file)
+            ⊎ IfFile (Reads D.is_honest D.state D.moment D.images_since D.failures) self.old.hub.file self.new.hub.file }
+        ensures places { self.new.places ≡ self.old.places }
+    {
+        let progress = self.hub.receive(id, bytes);
+        client.go_to(stage_after(progress));
+    }
+
+    /// A listener: it joins what is recorded, or waits until a link begins. If only the head of the answer is asked for, it
+    /// gets that. Without memory it is cut, and after a fault of the file.
+    pub fn listen(&mut self, client: &mut Client, head: bool)
+        ensures disk { (self.new.hub.file ≡ self.old.hub.file)
+            ⊎ IfFile (Reads D.is_honest D.state D.moment D.images_since D.failures) self.old.hub.file self.new.hub.file }
+        ensures places { self.new.places ≡ self.old.places }
+    {
+        client.head.clear();
+        if head {
+            client.tell_last(LIVE);
+            return;
+        }
+        match self.join() {
+            Ok(listener) => {
+                client.listener = Some(listener);
+                client.stage = match client.tell(LIVE) {
+                    Ok(()) => Stage::Hearing,
+                    Err(_) => Stage::Cut,
+                };
+            }
+            Err(_) => client.stage = Stage::Cut,
+        }
+    }
+
+    /// A listener that joins where it may.
+    fn join(&mut self) -> Result<Listener, HubFault>
+        ensures disk { (self.new.hub.file ≡ self.old.hub.file)
+            ⊎ IfFile (Reads D.is_honest D.state D.moment D.images_since D.failures) self.old.hub.file self.new.hub.file }
+        ensures places { self.new.places ≡ self.old.places }
+    {
+        match self.place() {
+            Some(place) => self.hub.join(place),
+            None => Ok(self.hub.wait()),
+        }
+    }
+}
+
+/// The stage of a connection whose session has taken bytes of its request. After a fault it is cut.
+fn stage_after(progress: Result<Progress, HubFault>) -> Stage
+    ensures { result ≡ stage_after progress }
+{
+    match progress {
+        Ok(Progress::More) => Stage::Reading,
+        Ok(Progress::Ready) => Stage::Sending,
+        Err(_) => Stage::Cut,
+    }
+}

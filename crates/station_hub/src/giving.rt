@@ -1,0 +1,109 @@
+//! What a connection is to be sent.
+ghost use Rattle.std.specs.Prelude.{◌≡◌, ◌≢◌, ◌⊎◌, ◌≤◌, ℕ, List, [], None, Some, Result, if◌then◌else◌, length, take};
+ghost use Rattle.serve_live.specs.Hearing.{IsHearing};
+ghost use Rattle.serve_live.specs.Listening.{ListenerState};
+ghost use Rattle.serve_live.specs.Live.{Moment};
+ghost use Rattle.serve_machine.specs.Hub.{Given as GivenOf, HubState, Pull};
+ghost use Rattle.serve_machine.specs.Calls.{Steps};
+ghost use Rattle.serve_machine.specs.declared.fault.HubFault.{HubFault as HubFaultOf};
+ghost use Rattle.serve_hub.specs.Images.{IfFile, Reads};
+ghost use Rattle.serve_hub.specs.Listening.{KeepsMachine};
+ghost use Rattle.serve_hub.specs.Showing.{Shows};
+ghost use Rattle.station_hub.specs.Giving.{HasHeard, HasPulled};
+ghost use Rattle.serve_clients.specs.declared.client.Stage.TheVariants.{Ending as EndingOf, Hearing as HearingOf, Sending as SendingOf};
+
+use crate::live_hub::LiveHub;
+use disk_model::Disk;
+use serve_clients::{Client, Stage};
+use serve_hub::Hub;
+
+/// Gives the first of the bytes that couldn't be written before, and returns how many.
+fn give_again(client: &Client, buffer: &mut [u8]) -> usize
+    ensures bytes { take result buffer.new ≡ take (length buffer.old) client.now.unsent }
+    ensures within { result ≤ length buffer.new }
+{
+    let unsent = client.unsent();
+    let count = unsent.len().min(buffer.len());
+    buffer[..count].copy_from_slice(&unsent[..count]);
+    count
+}
+
+/// Pulls the next bytes of the response of the connection's session.
+fn pull<D: Disk + Drop>(hub: &mut Hub<D>, id: u64, client: &mut Client, buffer: &mut [u8]) -> usize
+    ensures pulled { (answer : Result GivenOf HubFaultOf)
+        × Steps (Shows D.is_honest D.state) hub.old hub.new (λ after. Pull id (length buffer.old) answer)
+        × HasPulled answer client.old result buffer.new client.new }
+    ensures disk { (hub.new.file ≡ hub.old.file) ⊎ IfFile (Reads D.is_honest D.state D.moment D.images_since D.failures) hub.old.file hub.new.file }
+    ensures within { result ≤ length buffer.new }
+{
+    match hub.pull(id, buffer) {
+        Ok(pulled) => {
+            client.go_to(stage_after(pulled.done));
+            pulled.count
+        }
+        Err(_) => {
+            client.go_to(Stage::Cut);
+            0
+        }
+    }
+}
+
+/// The stage after a pull, by whether nothing is left.
+fn stage_after(done: bool) -> Stage
+    ensures { result ≡ (if done then EndingOf else SendingOf) }
+{
+    if done { Stage::Ending } else { Stage::Sending }
+}
+
+/// Pulls the next bytes that a listener hears. After a fault of the file the connection is cut.
+fn hear<D: Disk + Drop>(hub: &mut Hub<D>, client: &mut Client, buffer: &mut [u8]) -> usize
+    ensures heard { (machine : HubState) (moment : Moment) (given : List ℕ) (listener : ListenerState)
+        → Shows D.is_honest D.state hub.old machine → client.old.listener ≡ Some listener → (hearing : IsHearing moment machine.committed listener given)
+        → HasHeard moment machine.committed given hearing.rest (length buffer.old) client.old result buffer.new client.new }
+    ensures machine { KeepsMachine D.is_honest D.state hub.old hub.new }
+    ensures none { client.old.listener ≡ None → (result ≡ 0) × (hub.new ≡ hub.old) × (client.new ≡ client.old) }
+    ensures disk { (hub.new.file ≡ hub.old.file) ⊎ IfFile (Reads D.is_honest D.state D.moment D.images_since D.failures) hub.old.file hub.new.file }
+    ensures within { result ≤ length buffer.new }
+{
+    let Some(listener) = &mut client.listener else {
+        return 0;
+    };
+    match hub.hear(listener, buffer) {
+        Ok(count) => count,
+        Err(_) => {
+            client.go_to(Stage::Cut);
+            0
+        }
+    }
+}
+
+impl<D: Disk + Drop> LiveHub<D> {
+    /// Gives the next bytes to be written: those that couldn't be written before, or the next ones of its response, or those
+    /// that it hears next. It returns how many these are.
+    pub fn give(&mut self, client: &mut Client, buffer: &mut [u8]) -> usize
+        ensures again { client.old.unsent ≢ [] → (self.new.hub ≡ self.old.hub) × (client.new ≡ client.old)
+            × (take result buffer.new ≡ take (length buffer.old) client.old.unsent) }
+        ensures pulls { (id : ℕ) → client.old.unsent ≡ [] → client.old.stage ≡ SendingOf → client.old.session ≡ Some id
+            → (answer : Result GivenOf HubFaultOf) × Steps (Shows D.is_honest D.state) self.old.hub self.new.hub (λ after. Pull id (length buffer.old) answer)
+            × HasPulled answer client.old result buffer.new client.new }
+        ensures hears { (machine : HubState) (moment : Moment) (given : List ℕ) (listener : ListenerState)
+            → client.old.unsent ≡ [] → client.old.stage ≡ HearingOf
+            → Shows D.is_honest D.state self.old.hub machine → client.old.listener ≡ Some listener → (hearing : IsHearing moment machine.committed listener given)
+            → HasHeard moment machine.committed given hearing.rest (length buffer.old) client.old result buffer.new client.new }
+        ensures keeps { client.old.stage ≡ HearingOf → KeepsMachine D.is_honest D.state self.old.hub self.new.hub }
+        ensures nothing { client.old.unsent ≡ [] → client.old.stage ≢ SendingOf → client.old.stage ≢ HearingOf
+            → (result ≡ 0) × (self.new.hub ≡ self.old.hub) × (client.new ≡ client.old) }
+        ensures disk { (self.new.hub.file ≡ self.old.hub.file) ⊎ IfFile (Reads D.is_honest D.state D.moment D.images_since D.failures) self.old.hub.file self.new.hub.file }
+        ensures within { result ≤ length buffer.new }
+        ensures places { self.new.places ≡ self.old.places }
+    {
+        if !client.unsent().is_empty() {
+            return give_again(client, buffer);
+        }
+        match (client.stage, client.session) {
+            (Stage::Sending, Some(id)) => pull(&mut self.hub, id, client, buffer),
+            (Stage::Hearing, _) => hear(&mut self.hub, client, buffer),
+            _ => 0,
+        }
+    }
+}

@@ -1,0 +1,37 @@
+use Rattle.std.proofs.Common.{ℕ, Option, Some, None, [], refl, sym, ap, subst}
+use Rattle.import_mend.specs.declared.mend.Mend.{Mend}
+use Rattle.import_record.specs.Reading.{Steps}
+use Rattle.import_record.specs.Steps.{Ends, state_of}
+use Rattle.import_record.specs.declared.intake.Taken.{Taken}
+use Rattle.import_record.specs.declared.reading.ImportRun.{ImportRun}
+use Rattle.import_record.specs.declared.reading.Step.{Step}
+use Rattle.station_sources.specs.declared.air.OnAir.{OnAir}
+use Rattle.station_sources.specs.Taking.{HasEndedBy}
+use Rattle.station_sources.proofs.Ending.{same_end}
+use Rattle.station_sources.proofs.air.OnAir.take_page.Goals as goal
+
+pub returns-in_ok-taken-in-Ok-Ended-clause-ends : goal.returns-in_ok-taken-in-Ok-Ended-clause-ends
+returns-in_ok-taken-in-Ok-Ended-clause-ends g c before offset junk taken is_in is =
+    let (reached, in_reached, steps) = c.in-Ok-Ended.ensures.steps before is_in in
+    let (after, in_after, ends) = c.in_ok-taken-in-Ok-Ended.ensures.ends reached in_reached in
+    let old = c.args.self.now.import in
+    let between = c.step.new.self in
+    same_end
+    (λ (o : ℕ) (j : Option Mend) (t : Taken). (x : g.T.Runner.State) × g.T.Runner.is_in x c.finish.new.runner × HasEndedBy g.T.Runner.answers o j t old c.note.new.self.import before x)
+    c.offset-offset.result offset c.in-Ok-Ended.junk junk c.in_ok-taken-in-Ok-Ended.taken taken is (
+      after,
+      in_after,
+      record {
+        between = between;
+        reached = reached;
+        finds = record {
+          output = None;
+          new_output = None;
+          steps = subst (λ (step : Step). Steps g.T.Runner.answers step old.pages (state_of old.intake) (Some []) None before between.pages (state_of between.intake) (Some []) None reached) c.in-Ok-Ended.field-0-is steps;
+          lent_is = refl;
+        };
+        offset_is = c.offset-offset.ensures;
+        ends = subst (λ (o : ℕ). Ends g.T.Runner.answers o (state_of between.intake) (state_of c.note.new.self.import.intake) c.in_ok-taken-in-Ok-Ended.taken reached after None None) (sym c.offset-offset.ensures)
+            (subst (λ (run : ImportRun). Ends g.T.Runner.answers between.pages.offset (state_of between.intake) (state_of run.intake) c.in_ok-taken-in-Ok-Ended.taken reached after None None) (sym (ap (λ (air : OnAir). air.import) c.note.ensures)) ends);
+      },
+    )

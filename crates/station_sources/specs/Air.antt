@@ -1,0 +1,87 @@
+-- The source that is on the air. Ours.
+use Rattle.std.specs.Prelude.{◌≡◌, ◌⊎◌, ℕ, ◌+◌, ◌-◌, ◌<◌, vec_len, vec_capacity, List, [], ◌++◌, drop, slice_range, Bool, true, false, ◌&&◌, ◌||◌, not, if◌then◌else◌, Option, Some, None, Err, is_some}
+use Rattle.ogg_page.specs.Reading.{page_at}
+use Rattle.ogg_page.specs.declared.fault.PageFault.TheVariants.{Short}
+use Rattle.import_record.specs.declared.intake.Taken.{Taken}
+use Rattle.import_record.specs.declared.reading.Step.{Step}
+use Rattle.serve_sources.specs.declared.body.Body.{Body}
+use Rattle.serve_sources.specs.declared.outcome.Outcome.{Outcome}
+use Rattle.serve_sources.specs.declared.outcome.Outcome.TheVariants.{Whole, Broken, Lost}
+use Rattle.station_sources.specs.Faring.{HasDecoded, Look, look}
+use Rattle.station_sources.specs.Taking.{IsOver, PassesOn, loses}
+use Rattle.station_sources.specs.declared.air.Feeder.{Feeder}
+use Rattle.station_sources.specs.declared.air.OnAir.{OnAir}
+
+-- nothing that has come says what comes next, and more may come
+pub record IsStarved (air : OnAir) : Type 0 where
+  pub goes_on : air.ended ≡ false
+  pub starved : air.starved ≡ true
+  pub none : air.decoded ≡ 0
+  pub waits : page_at air.import.pages.unread ≡ Err Short
+
+-- bytes of this feeder are taken now
+abbrev pub IsFedBy : Feeder → Option OnAir → Type 0
+IsFedBy feeder None = ⊥
+IsFedBy feeder (Some air) = (air.feeder ≡ feeder) × IsStarved air
+
+-- ---- what became of a source by its end
+-- A body whose end is marked is whole once the end was found. One that ends with the connection, and an input without a
+-- framing, can't break off.
+abbrev pub outcome_in : Bool → Option Body → Outcome
+outcome_in complete None = Whole
+outcome_in complete (Some body) = if (body.framed && not complete) then Broken else Whole
+
+abbrev pub outcome_of : Bool → Bool → Option Body → Outcome
+outcome_of true complete body = Lost
+outcome_of false complete body = outcome_in complete body
+
+-- the source waits for an answer at its end
+abbrev pub wants_answer : Option Body → Bool
+wants_answer None = false
+wants_answer (Some body) = body.framed && not body.answered
+
+-- what it is answered, if it waits for that: something of it may be lost, as was noted before or is known now
+abbrev pub parting_answer : Bool → OnAir → Option Outcome
+parting_answer lost air = if wants_answer air.body then Some (outcome_of (lost || air.lost) air.complete air.body) else None
+
+-- packets that were refused are lost
+abbrev pub noted : Taken → OnAir → OnAir
+noted taken air = record air { lost = is_some taken.answered.refused || air.lost }
+
+-- What has come of the source and isn't taken yet is followed by these bytes. Whether there was no memory for earlier
+-- ones is known as before.
+abbrev pub HoldsMore : List ℕ → OnAir → OnAir → Type 0
+HoldsMore bytes old new =
+    (drop new.at new.pending.items ≡ drop old.at old.pending.items ++ bytes) × (new.short ≡ old.short)
+
+-- There was no room for this many bytes, which is noted, and no further byte comes. What came before them is kept.
+pub record IsShort (count : ℕ) (old new : OnAir) : Type 0 where
+  pub full : vec_capacity old.pending < vec_len old.pending - old.at + count
+  pub kept : drop new.at new.pending.items ≡ drop old.at old.pending.items
+  pub noted : new.short ≡ true
+  pub ended : new.ended ≡ true
+
+-- ---- what goes on to the pages
+abbrev pub look_of : OnAir → Look
+look_of air = look air.body air.at air.decoded air.starved air.ended air.complete
+
+-- all that came of it is taken, and no more comes
+abbrev pub HasAllTaken : OnAir → Type 0
+HasAllTaken air = IsOver air.ended air.starved air.decoded
+
+-- The next bytes of the stream were looked for among those that came. Or the next ones that were found came to it.
+abbrev pub GoesOn : OnAir → OnAir → Type 0
+GoesOn old new =
+    ((old.decoded ≡ 0) × (new.import ≡ old.import) × HasDecoded (drop old.at old.pending.items) (look_of old) (look_of new)
+    × ((new.pending ≡ old.pending) ⊎ ((new.pending.items ≡ []) × (new.starved ≡ true) × (new.ended ≡ true))))
+    ⊎ ((count : ℕ) × PassesOn (slice_range old.pending.items old.at (old.at + old.decoded)) count old.import new.import
+    × (look_of new ≡ look old.body (old.at + count) (old.decoded - count) old.starved old.ended old.complete)
+    × (new.pending ≡ old.pending))
+
+-- A step of its stream takes nothing of what came and isn't taken yet.
+pub record KeepsBytes (step : Step) (old new : OnAir) : Type 0 where
+  pub seen : look_of new ≡ look_of old
+  pub pending : new.pending ≡ old.pending
+  pub feeder : new.feeder ≡ old.feeder
+  pub short : new.short ≡ old.short
+  pub lost : new.lost ≡ (loses step || old.lost)

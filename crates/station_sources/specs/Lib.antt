@@ -1,0 +1,4 @@
+pub mod Counting
+pub mod Air
+pub mod Faring
+pub mod Taking

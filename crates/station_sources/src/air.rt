@@ -1,0 +1,353 @@
+//! The source that is on the air: its bytes, as they come, and what is recorded of them.
+ghost use Rattle.std.specs.Prelude.{◌≡◌, ◌≢◌, ◌⊎◌, ◌+◌, ◌-◌, ◌≤◌, ◌<◌, ◌++◌, ◌||◌, ℕ, [], Err, IfErr, IfOk, None, Ok, OnErr, OnOk, Option, drop, false, is_some, length, slice_range, true, vec_capacity, vec_len};
+ghost use Rattle.station_sources.specs.Faring.{HasDecoded, look, stopped};
+ghost use Rattle.station_sources.specs.Taking.{HasEndedBy, IsOver, PassesOn, TakesEnd, TakesStep, input_of, loses};
+ghost use Rattle.import_mend.specs.declared.mend.Mend.{Mend as MendOf};
+ghost use Rattle.import_record.specs.Pushing.{IsStepped};
+ghost use Rattle.import_record.specs.Steps.{StopsBy};
+ghost use Rattle.import_record.specs.declared.intake.Taken.{Taken as TakenOf};
+ghost use Rattle.import_record.specs.declared.reading.Step.{Step as StepOf};
+ghost use Rattle.ogg_page.specs.Reading.{page_at};
+ghost use Rattle.ogg_page.specs.declared.fault.PageFault.TheVariants.{Short};
+
+use crate::Memory;
+use feed_run::Runner;
+use import_changes::ChangeOptions;
+use import_mend::Mend;
+use import_record::{ImportRun, RecordFault, Step, Taken};
+use link_chain::StreamState;
+use ogg_command::Command;
+use serve_sources::{Body, Piece};
+use std::alloc::Global;
+use std::io;
+
+/// Who sends the stream that is recorded.
+#[derive(Clone, Copy, Debug, PartialEq, Eq)]
+pub enum Feeder {
+    /// The caller's input.
+    Input,
+    /// The connection with this key.
+    Peer(usize),
+    /// A connection that was closed.
+    Gone,
+}
+
+impl Feeder {
+    /// Whether it is this one.
+    pub fn is(self, other: Feeder) -> bool
+        ensures yes { result ≡ true → self ≡ other }
+        ensures no { result ≡ false → self ≢ other }
+    {
+        match (self, other) {
+            (Feeder::Input, Feeder::Input) | (Feeder::Gone, Feeder::Gone) => true,
+            (Feeder::Peer(key), Feeder::Peer(other)) => key == other,
+            _ => false,
+        }
+    }
+}
+
+/// How many bytes of a stream are read at once: a page, and as many again.
+const ROOM: usize = 131_072;
+
+/// What was done with a source's bytes.
+#[derive(Clone, Copy, Debug, PartialEq, Eq)]
+pub enum Took {
+    /// Nothing: more bytes must come.
+    Nothing,
+    /// Bytes of its body went on to the pages.
+    Bytes,
+    /// A step was taken of its stream.
+    Stepped(Step),
+    /// The stream has ended at this offset, and so did what was recorded of it. The last bytes that are of no page are
+    /// told.
+    Ended {
+        offset: u64,
+        junk: Option<Mend>,
+        taken: Taken,
+    },
+}
+
+/// A source: its bytes that have come and aren't taken yet, and what the commands of its next pages depend on.
+#[derive(Drop)]
+pub struct OnAir {
+    pub(crate) feeder: Feeder,
+    pub(crate) import: ImportRun,
+    // none if the bytes are the stream's own
+    pub(crate) body: Option<Body>,
+    pending: Vec<u8>,
+    at: usize,
+    // so many bytes at `at` are of the stream
+    pub(crate) decoded: usize,
+    // what is left of `pending` says nothing before more bytes come
+    pub(crate) starved: bool,
+    // no further byte comes
+    pub(crate) ended: bool,
+    // the end of the body was found
+    pub(crate) complete: bool,
+    // there was no memory for bytes that came after those that are pending
+    pub(crate) short: bool,
+    // something that came isn't recorded
+    pub(crate) lost: bool,
+    ghost within: { at + decoded ≤ vec_len pending },
+}
+
+impl OnAir {
+    /// A source of which no byte has come. Its streams are begun as the options ask, under serials that aren't among
+    /// these if they are renumbered.
+    pub fn new(
+        alloc: Global,
+        feeder: Feeder,
+        body: Option<Body>,
+        options: ChangeOptions,
+        serials: &[u32],
+    ) -> Result<OnAir, Memory> {
+        let import = ImportRun::new(alloc, ROOM, options, serials)?;
+        Ok(OnAir {
+            feeder,
+            import,
+            body,
+            pending: Vec::new(alloc),
+            at: 0,
+            decoded: 0,
+            starved: false,
+            ended: false,
+            complete: false,
+            short: false,
+            lost: false,
+        })
+    }
+
+    /// Who sends the stream.
+    pub fn feeder(&self) -> Feeder
+        ensures { result ≡ self.now.feeder }
+    {
+        self.feeder
+    }
+
+    /// Further bytes have come. After `Memory` none of them are kept.
+    pub fn push(&mut self, bytes: &[u8]) -> Result<(), Memory>
+        ensures ok { OnOk result (drop self.new.at self.new.pending.items ≡ drop self.old.at self.old.pending.items ++ bytes.now) }
+        ensures err { OnErr result (drop self.new.at self.new.pending.items ≡ drop self.old.at self.old.pending.items) }
+        ensures full { OnErr result (vec_capacity self.old.pending < vec_len self.old.pending - self.old.at + length bytes.now) }
+        ensures stays { (self.new.feeder ≡ self.old.feeder) × (self.new.short ≡ self.old.short) × (self.new.lost ≡ self.old.lost) × (self.new.complete ≡ self.old.complete) }
+    {
+        drop_front(&mut self.pending, self.at);
+        self.at = 0;
+        self.starved = false;
+        self.pending.extend_from_slice(bytes)
+    }
+
+    /// No further byte comes.
+    pub fn end(&mut self)
+        ensures { self.new ≡ record self.old { ended = true } }
+    {
+        self.ended = true;
+    }
+
+    /// No further byte comes that can be kept. What was kept is taken, and then the source is given up.
+    pub fn break_off(&mut self)
+        ensures { self.new ≡ record self.old { ended = true; short = true } }
+    {
+        self.ended = true;
+        self.short = true;
+    }
+
+    /// No further byte comes, and nobody waits for an answer.
+    pub fn lose_feeder(&mut self) {
+        self.feeder = Feeder::Gone;
+        self.ended = true;
+    }
+
+    /// Takes the next page, or the next bytes of the body, or the end.
+    pub fn step<T: Runner>(&mut self, runner: &mut T) -> Result<Took, RecordFault>
+        requires uncounted { (one : T) → T.counted one ≡ 0 }
+
+        // What a step takes of the stream is what import_record takes of it.
+        ensures steps { (before : T.State) (step : StepOf) → T.is_in before runner.old → result ≡ Ok (Took.Stepped step)
+            → (after : T.State) × T.is_in after runner.new
+            × TakesStep T.answers (IsOver self.old.ended self.old.starved self.old.decoded) step self.old.import self.new.import before after }
+        ensures ends { (before : T.State) (offset : ℕ) (junk : Option MendOf) (taken : TakenOf) → T.is_in before runner.old
+            → result ≡ Ok (Took.Ended offset junk taken) → (after : T.State) × T.is_in after runner.new
+            × TakesEnd T.answers (IsOver self.old.ended self.old.starved self.old.decoded) offset junk taken self.old.import self.new.import before after }
+        ensures bytes { result ≡ Ok Took.Bytes → (runner.new ≡ runner.old) × (((self.old.decoded ≡ 0) × (self.new.import ≡ self.old.import)
+            × HasDecoded (drop self.old.at self.old.pending.items)
+            (look self.old.body self.old.at self.old.decoded self.old.starved self.old.ended self.old.complete)
+            (look self.new.body self.new.at self.new.decoded self.new.starved self.new.ended self.new.complete)
+            × ((self.new.pending ≡ self.old.pending) ⊎ ((self.new.pending.items ≡ []) × (self.new.starved ≡ true) × (self.new.ended ≡ true))))
+            ⊎ ((count : ℕ) × PassesOn (slice_range self.old.pending.items self.old.at (self.old.at + self.old.decoded)) count self.old.import self.new.import
+            × (look self.new.body self.new.at self.new.decoded self.new.starved self.new.ended self.new.complete
+            ≡ look self.old.body (self.old.at + count) (self.old.decoded - count) self.old.starved self.old.ended self.old.complete)
+            × (self.new.pending ≡ self.old.pending))) }
+        ensures stays { result ≡ Ok Took.Bytes
+            → (self.new.feeder ≡ self.old.feeder) × (self.new.short ≡ self.old.short) × (self.new.lost ≡ self.old.lost) }
+        ensures nothing { result ≡ Ok Took.Nothing → (runner.new ≡ runner.old) × (self.new ≡ self.old) }
+        ensures stops { (before : T.State) → T.is_in before runner.old → IfErr result (λ fault. (after : T.State) × T.is_in after runner.new
+            × StopsBy T.answers fault before after None None) }
+
+        // What is known of the source, and what is known by its end.
+        ensures kept { (step : StepOf) → result ≡ Ok (Took.Stepped step)
+            → (look self.new.body self.new.at self.new.decoded self.new.starved self.new.ended self.new.complete
+            ≡ look self.old.body self.old.at self.old.decoded self.old.starved self.old.ended self.old.complete)
+            × (self.new.pending ≡ self.old.pending) × (self.new.short ≡ self.old.short) × (self.new.feeder ≡ self.old.feeder)
+            × (self.new.lost ≡ (loses step || self.old.lost)) }
+        ensures lost { (offset : ℕ) (junk : Option MendOf) (taken : TakenOf) → result ≡ Ok (Took.Ended offset junk taken)
+            → self.new.lost ≡ (is_some taken.answered.refused || self.old.lost) }
+        ensures same { (offset : ℕ) (junk : Option MendOf) (taken : TakenOf) → result ≡ Ok (Took.Ended offset junk taken)
+            → (self.new.feeder ≡ self.old.feeder) × (self.new.body ≡ self.old.body) × (self.new.complete ≡ self.old.complete) }
+        ensures err { OnErr result ((self.new.feeder ≡ self.old.feeder) × (self.new.body ≡ self.old.body)) }
+    {
+        if !self.import.waits() {
+            return self.take_page(runner);
+        }
+        if self.decoded > 0 {
+            return self.pass_on();
+        }
+        if !self.starved {
+            self.decode();
+            return Ok(Took::Bytes);
+        }
+        if self.short {
+            return Err(RecordFault::Memory);
+        }
+        if self.ended {
+            return self.take_page(runner);
+        }
+        Ok(Took::Nothing)
+    }
+
+    /// The commands with which the stream goes on in a file that was opened again, whose last link has these streams, and
+    /// all of whose streams have these serials: none if its link is open there.
+    pub fn resume(
+        &mut self,
+        streams: &[StreamState],
+        serials: &[u32],
+    ) -> Result<Vec<Command>, Memory>
+        ensures { self.new ≡ record self.old { import = self.new.import } }
+    {
+        self.import.resume(streams, serials)
+    }
+
+    /// Finds the next bytes of the stream among those that have come.
+    fn decode(&mut self)
+        requires { self.old.decoded ≡ 0 }
+        ensures noted { HasDecoded (drop self.old.at self.old.pending.items)
+            (look self.old.body self.old.at self.old.decoded self.old.starved self.old.ended self.old.complete)
+            (look self.new.body self.new.at self.new.decoded self.new.starved self.new.ended self.new.complete) }
+        ensures kept { (self.new.pending ≡ self.old.pending) ⊎ ((self.new.pending.items ≡ []) × (self.new.starved ≡ true) × (self.new.ended ≡ true)) }
+        ensures stays { (self.new.lost ≡ self.old.lost) × (self.new.short ≡ self.old.short) × (self.new.feeder ≡ self.old.feeder)
+            × (self.new.import ≡ self.old.import) }
+    {
+        let bytes = &self.pending[self.at..];
+        let Some(body) = &mut self.body else {
+            self.decoded = bytes.len();
+            self.starved = bytes.is_empty();
+            return;
+        };
+        match body.next(bytes) {
+            Ok(Piece::Data { start, end }) => {
+                self.at += start;
+                self.decoded = end - start;
+            }
+            Ok(Piece::More { used }) => {
+                self.at += used;
+                self.starved = true;
+            }
+            Ok(Piece::End { .. }) => {
+                self.complete = true;
+                self.stop();
+            }
+            Err(_) => self.stop(),
+        }
+    }
+
+    /// What follows is no part of the stream.
+    fn stop(&mut self)
+        requires { self.old.decoded ≡ 0 }
+        ensures stopped { look self.new.body self.new.at self.new.decoded self.new.starved self.new.ended self.new.complete
+            ≡ stopped (look self.old.body self.old.at self.old.decoded self.old.starved self.old.ended self.old.complete) }
+        ensures none { self.new.pending.items ≡ [] }
+        ensures stays { (self.new.lost ≡ self.old.lost) × (self.new.short ≡ self.old.short) × (self.new.feeder ≡ self.old.feeder)
+            × (self.new.import ≡ self.old.import) }
+    {
+        self.pending.clear();
+        self.at = 0;
+        self.starved = true;
+        self.ended = true;
+    }
+
+    /// Passes decoded bytes on to the pages.
+    fn pass_on(&mut self) -> Result<Took, RecordFault>
+        requires waits { page_at self.old.import.pages.unread ≡ Err Short }
+        requires some { 0 < self.old.decoded }
+        ensures passes { IfOk result (λ took. (took ≡ Took.Bytes) × ((count : ℕ)
+            × PassesOn (slice_range self.old.pending.items self.old.at (self.old.at + self.old.decoded)) count self.old.import self.new.import
+            × (look self.new.body self.new.at self.new.decoded self.new.starved self.new.ended self.new.complete
+            ≡ look self.old.body (self.old.at + count) (self.old.decoded - count) self.old.starved self.old.ended self.old.complete)
+            × (self.new.pending ≡ self.old.pending))) }
+        ensures fault { OnErr result (result ≡ Err RecordFault.Read) }
+        ensures stays { (self.new.feeder ≡ self.old.feeder) × (self.new.body ≡ self.old.body) × (self.new.short ≡ self.old.short)
+            × (self.new.lost ≡ self.old.lost) }
+    {
+        let mut bytes = &self.pending[self.at..self.at + self.decoded];
+        match self.import.read_once(&mut bytes) {
+            Ok(count) => {
+                self.at += count;
+                self.decoded -= count;
+                Ok(Took::Bytes)
+            }
+            Err(_) => Err(RecordFault::Read),
+        }
+    }
+
+    /// Takes the next page that is whole, or passes over what isn't one, or ends the stream.
+    fn take_page<T: Runner>(&mut self, runner: &mut T) -> Result<Took, RecordFault>
+        requires uncounted { (one : T) → T.counted one ≡ 0 }
+        ensures steps { (before : T.State) (step : StepOf) → T.is_in before runner.old → result ≡ Ok (Took.Stepped step)
+            → (after : T.State) × T.is_in after runner.new
+            × IsStepped T.answers [] step self.new.import.pages.lent (input_of self.old.import) (input_of self.new.import) before after }
+        ensures ends { (before : T.State) (offset : ℕ) (junk : Option MendOf) (taken : TakenOf) → T.is_in before runner.old
+            → result ≡ Ok (Took.Ended offset junk taken) → (after : T.State) × T.is_in after runner.new
+            × HasEndedBy T.answers offset junk taken self.old.import self.new.import before after }
+        ensures stops { (before : T.State) → T.is_in before runner.old → IfErr result (λ fault. (after : T.State) × T.is_in after runner.new
+            × StopsBy T.answers fault before after None None) }
+        ensures other { (result ≢ Ok Took.Bytes) × (result ≢ Ok Took.Nothing) }
+        ensures lost { (offset : ℕ) (junk : Option MendOf) (taken : TakenOf) → result ≡ Ok (Took.Ended offset junk taken)
+            → self.new.lost ≡ (is_some taken.answered.refused || self.old.lost) }
+        ensures noted { (step : StepOf) → result ≡ Ok (Took.Stepped step) → self.new.lost ≡ (loses step || self.old.lost) }
+        ensures stays { (self.new.feeder ≡ self.old.feeder) × (self.new.body ≡ self.old.body) × (self.new.complete ≡ self.old.complete) }
+        ensures kept { (look self.new.body self.new.at self.new.decoded self.new.starved self.new.ended self.new.complete
+            ≡ look self.old.body self.old.at self.old.decoded self.old.starved self.old.ended self.old.complete)
+            × (self.new.pending ≡ self.old.pending) × (self.new.short ≡ self.old.short) }
+    {
+        match self.import.step(runner, &mut io::empty(), &mut io::sink()) {
+            Ok(Step::Ended { junk }) => {
+                let offset = self.import.offset();
+                let taken = self.import.finish(runner, &mut io::sink())?;
+                self.note(&taken);
+                Ok(Took::Ended {
+                    offset,
+                    junk,
+                    taken,
+                })
+            }
+            Ok(step) => {
+                if let Step::Page { taken, .. } = &step {
+                    self.note(taken);
+                }
+                Ok(Took::Stepped(step))
+            }
+            Err(fault) => Err(fault),
+        }
+    }
+}
+
+/// Drops this many bytes at the front.
+fn drop_front(bytes: &mut Vec<u8>, count: usize)
+    requires { count ≤ vec_len bytes.old }
+    ensures items { bytes.new.items ≡ drop count bytes.old.items }
+    ensures capacity { vec_capacity bytes.old ≤ vec_capacity bytes.new }
+{
+    let length = bytes.len();
+    bytes.copy_within(count..length, 0);
+    bytes.truncate(length - count);
+}

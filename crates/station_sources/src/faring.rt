@@ -1,0 +1,76 @@
+//! How a source that is on the air fares.
+ghost use Rattle.std.specs.Prelude.{◌≡◌, ◌⊎◌, false, length, true};
+ghost use Rattle.station_sources.specs.Air.{HoldsMore, IsShort, IsStarved, noted, outcome_of, parting_answer, wants_answer};
+
+use crate::air::OnAir;
+use import_record::Taken;
+use serve_sources::Outcome;
+
+impl OnAir {
+    /// Whether the peer waits for an answer once its body has ended.
+    pub fn wants_answer(&self) -> bool
+        ensures { result ≡ wants_answer self.now.body }
+    {
+        match &self.body {
+            Some(body) => body.awaits_answer(),
+            None => false,
+        }
+    }
+
+    /// What became of what has come, once the stream has ended.
+    pub fn outcome(&self) -> Outcome
+        ensures { result ≡ outcome_of self.now.lost self.now.complete self.now.body }
+    {
+        match &self.body {
+            _ if self.lost => Outcome::Lost,
+            Some(body) if body.is_framed() && !self.complete => Outcome::Broken,
+            _ => Outcome::Whole,
+        }
+    }
+
+    /// Further bytes have come. Without memory for them the source is given up, once what came before is taken.
+    pub fn take(&mut self, bytes: &[u8])
+        ensures { HoldsMore bytes.now self.old self.new ⊎ IsShort (length bytes.now) self.old self.new }
+    {
+        if self.push(bytes).is_err() {
+            self.break_off();
+        }
+    }
+
+    /// What the peer is answered once its body has ended, if it waits for that. Something of it may be lost.
+    pub fn answer(&self, lost: bool) -> Option<Outcome>
+        ensures { result ≡ parting_answer lost self.now }
+    {
+        if !self.wants_answer() {
+            return None;
+        }
+        if lost {
+            return Some(Outcome::Lost);
+        }
+        Some(self.outcome())
+    }
+
+    /// Whether nothing can be done before further bytes come.
+    pub fn is_hungry(&self) -> bool
+        ensures yes { result ≡ true → IsStarved self.now }
+        ensures no { result ≡ false → ¬ (IsStarved self.now) }
+    {
+        !self.ended && self.starved && self.decoded == 0 && self.import.waits()
+    }
+
+    /// Something that came isn't recorded.
+    pub fn lose(&mut self)
+        ensures { self.new ≡ record self.old { lost = true } }
+    {
+        self.lost = true;
+    }
+
+    /// A page was taken, or the end. Packets that were refused are lost.
+    pub(crate) fn note(&mut self, taken: &Taken)
+        ensures { self.new ≡ noted taken.now self.old }
+    {
+        if taken.answered.refused.is_some() {
+            self.lost = true;
+        }
+    }
+}

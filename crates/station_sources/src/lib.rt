@@ -1,0 +1,21 @@
+//! The sources of a station: what one that is on the air has sent, what is recorded of it, and what is counted of all.
+//!
+//! An `OnAir` is a source whose bytes come piece by piece, as they are or in a body of HTTP. Its `step` finds the next
+//! bytes of the stream among those that have come, passes them on, or takes the next page of them, whose commands any
+//! `Runner` runs; at the end it ends what is open. What was lost of the source is noted, and `answer` says what its peer
+//! is told. No byte is taken of it while it isn't hungry.
+//!
+//! Nothing here knows of a file, of connections or of a clock. `Counts` has what a station has done so far, in numbers.
+//!
+//! Start at `specs/Air.antt`, and go on to `specs/Faring.antt`, which says what is found among the bytes, and
+//! `specs/Taking.antt`, which says it of the stream in the words of import_record.
+#![tactic(auto)]
+
+mod air;
+mod counting;
+mod faring;
+
+pub use air::{Feeder, OnAir, Took};
+pub use counting::{Counts, MendCounts, counted};
+pub use import_record::{Step, Taken};
+pub use std::alloc::AllocError as Memory;
