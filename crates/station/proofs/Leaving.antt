@@ -1,10 +1,7 @@
 -- A source that leaves the air, and of which something is lost.
-use Rattle.std.proofs.Common.{◌≡◌, ◌≢◌, ◌⊎◌, ◌||◌, ℕ, Bool, true, Option, Some, None, if◌then◌else◌, sym, ◌∙◌, ap, subst, inl, inr}
+use Rattle.std.proofs.Common.{◌≡◌, ◌≢◌, ◌⊎◌, ◌||◌, Bool, true, Option, Some, None, if◌then◌else◌, sym, ◌∙◌, ap, subst, inl, inr}
 use Rattle.gate_file.specs.declared.fault.OpenFault.{OpenFault}
-use Rattle.import_mend.specs.declared.mend.Mend.{Mend}
 use Rattle.import_record.specs.declared.fault.RecordFault.{RecordFault}
-use Rattle.import_record.specs.declared.intake.Taken.{Taken}
-use Rattle.import_record.specs.declared.reading.Step.{Step}
 use Rattle.serve_clients.specs.Client.{ClientState}
 use Rattle.serve_clients.specs.declared.client.Stage.TheVariants.{Cut, Ending, Waiting}
 use Rattle.serve_sources.specs.declared.body.Body.{Body}
@@ -13,9 +10,8 @@ use Rattle.serve_sources.specs.declared.outcome.Outcome.TheVariants.{Lost}
 use Rattle.station_sources.specs.Air.{outcome_of, parting_answer, wants_answer}
 use Rattle.station.specs.Parting.{HasParted}
 use Rattle.station_sources.specs.declared.air.OnAir.{OnAir}
-use Rattle.station_sources.specs.declared.air.Took.TheVariants.{Ended as TookEnd}
 use Rattle.station.specs.declared.stepping.Done.{Done}
-use Rattle.station.specs.declared.stepping.Done.TheVariants.{Ended, Failed, GivenUp, Lost as LostFile, Reopened, Stepped}
+use Rattle.station.specs.declared.stepping.Done.TheVariants.{Failed, GivenUp, Lost as LostFile, Reopened}
 
 pub same_air : (one other : OnAir) → Some one ≡ Some other → one ≡ other
 same_air one other e = cc
@@ -72,11 +68,3 @@ same_answer failed one other bodies losses ends =
     ap (λ (body : Option Body). if wants_answer body then Some (outcome_of (failed || one.lost) one.complete body) else None) bodies
     ∙ ap (λ (lost : Bool). if wants_answer other.body then Some (outcome_of (failed || lost) one.complete other.body) else None) losses
     ∙ ap (λ (complete : Bool). if wants_answer other.body then Some (outcome_of (failed || other.lost) complete other.body) else None) ends
-
--- ---- what a step took is what is told
-pub same_step : (one other : Step) → Stepped one ≡ Stepped other → one ≡ other
-same_step one other e = cc
-
-pub same_ended : (offset other : ℕ) (junk more : Option Mend) (taken last : Taken) → Ended offset junk taken ≡ Ended other more last
-    → TookEnd offset junk taken ≡ TookEnd other more last
-same_ended offset other junk more taken last e = cc

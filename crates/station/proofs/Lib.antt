@@ -1,4 +1,5 @@
 mod Found
 mod Hearing
 mod Leaving
+mod Reopening
 mod Turned

@@ -1,16 +1,31 @@
--- What is counted of what a step has done. Ours.
-use Rattle.std.specs.Prelude.{Bool, false, true}
+-- What a step of a station has done, of the source that had the air and in numbers. Ours.
+use Rattle.std.specs.Prelude.{◌≡◌, ⊤, ℕ, Bool, false, true, Option, Some, List}
+use Rattle.disk_model.specs.Image.{DiskState}
+use Rattle.import_mend.specs.declared.mend.Mend.{Mend}
+use Rattle.import_record.specs.declared.intake.Taken.{Taken}
+use Rattle.import_record.specs.declared.reading.ImportRun.{ImportRun}
+use Rattle.import_record.specs.declared.reading.Step.{Step}
+use Rattle.serve_clients.specs.Client.{ClientState}
+use Rattle.serve_hub.specs.Running.{Answers, IsIn, Progress}
+use Rattle.slab.specs.Slab.{Slab}
+use Rattle.station_hub.specs.declared.live_hub.LiveHub.{LiveHub}
+use Rattle.station_sources.specs.Air.{GoesOn, HasAllTaken, KeepsBytes, noted, parting_answer}
 use Rattle.station_sources.specs.Counting.{counted, with_mend, with_step, with_taken}
+use Rattle.station_sources.specs.Taking.{TakesEnd, TakesStep}
+use Rattle.station_sources.specs.declared.air.OnAir.{OnAir}
 use Rattle.station_sources.specs.declared.counting.Counts.{Counts}
+use Rattle.station.specs.Parting.{FeederParts}
 use Rattle.station.specs.declared.stepping.Done.{Done}
-use Rattle.station.specs.declared.stepping.Done.TheVariants.{Ended, Failed, GivenUp, Lost, Reopened, Stepped}
+use Rattle.station.specs.declared.stepping.Done.TheVariants.{Bytes, Ended, Failed, GivenUp, Lost, Reopened, Stepped}
 
+-- ---- in numbers
 abbrev pub with_done : Done → Counts → Counts
 with_done (Stepped step) counts = with_step step counts
 with_done (Ended offset junk taken) counts = with_taken taken (with_mend junk counts)
 with_done Reopened counts = record counts { reopenings = counted counts.reopenings 1 }
 with_done done counts = counts
 
+-- ---- of the file
 -- the file was opened again, or couldn't be
 abbrev pub reopens : Done → Bool
 reopens Reopened = true
@@ -18,3 +33,47 @@ reopens (Lost fault) = true
 reopens Failed = true
 reopens (GivenUp fault) = true
 reopens done = false
+
+-- ---- of the source that had the air
+module _ {D : Type 0} (is_honest : D → Type 0) (state : D → DiskState) (moment : D → ℕ) (images_since : D → ℕ → List ℕ → Type 0) (failures : D → ℕ) where
+  -- A step was taken of its stream, as import_record takes it, and it still has the air.
+  pub record HasStepped (step : Step) (air : OnAir) (now : Option OnAir) (new : LiveHub D) (before : Progress D) : Type 0 where
+    pub source : OnAir
+    pub after : Progress D
+    pub on_air : now ≡ Some source
+    pub keeps : KeepsBytes step air source
+    pub reached : IsIn is_honest state after new.hub
+    pub takes : TakesStep (Answers is_honest state moment images_since failures) (HasAllTaken air) step air.import source.import before after
+
+  -- The end of its stream was found, and what was open of it was ended.
+  pub record HasEnded (offset : ℕ) (junk : Option Mend) (taken : Taken) (air : OnAir) (before : Progress D) : Type 0 where
+    pub run : ImportRun
+    pub after : Progress D
+    pub takes : TakesEnd (Answers is_honest state moment images_since failures) (HasAllTaken air) offset junk taken air.import run before after
+
+  -- Bytes were looked for among those that have come, or came to its stream. Nothing was recorded.
+  pub record HasPassedOn (air : OnAir) (now : Option OnAir) (old new : LiveHub D) : Type 0 where
+    pub source : OnAir
+    pub on_air : now ≡ Some source
+    pub goes_on : GoesOn air source
+    pub same : new ≡ old
+
+  -- What was taken of the source, by what the step has done: what is recorded of it is what import_record says of its
+  -- bytes.
+  abbrev pub TakesFromSource : Done → OnAir → Option OnAir → LiveHub D → LiveHub D → Type 0
+  TakesFromSource (Stepped step) air now old new = (before : Progress D) → IsIn is_honest state before old.hub → HasStepped step air now new before
+  TakesFromSource (Ended offset junk taken) air now old new =
+      (before : Progress D) → IsIn is_honest state before old.hub → HasEnded offset junk taken air before
+  TakesFromSource Bytes air now old new = HasPassedOn air now old new
+  TakesFromSource done air now old new = ⊤
+
+-- It goes on in the file that was opened again, and that something of it may be lost is noted.
+abbrev pub GoesOnWithLoss : OnAir → Option OnAir → Type 0
+GoesOnWithLoss air now = (after : OnAir) × (now ≡ Some after) × (after ≡ record air { import = after.import; lost = true })
+
+-- If the source has left the air, its connection gets its last bytes. Something of the source may be lost if it was given
+-- up, or if the disk has failed by then.
+abbrev pub PartsBy : Done → Bool → OnAir → Slab ClientState → Slab ClientState → Type 0
+PartsBy (Ended offset junk taken) failed air old new = FeederParts (parting_answer failed (noted taken air)) air old new
+PartsBy (GivenUp fault) failed air old new = FeederParts (parting_answer true air) air old new
+PartsBy done failed air old new = ⊤

@@ -1,24 +1,18 @@
 //! What is recorded, step by step.
-ghost use Rattle.std.specs.Prelude.{◌≡◌, ◌≢◌, ◌⊎◌, ◌||◌, ℕ, None, Option, Some, length, true};
+ghost use Rattle.std.specs.Prelude.{◌≡◌, ◌≢◌, ◌⊎◌, ◌||◌, None, Some, length, true};
 ghost use Rattle.station_hub.specs.Waking.{woken_at};
 ghost use Rattle.slab.specs.Slab.{get};
 ghost use Rattle.serve_clients.specs.Client.{ClientState};
 ghost use Rattle.serve_clients.specs.Clients.{OthersStay};
 ghost use Rattle.serve_clients.specs.declared.client.Stage.TheVariants.{Feeding as FeedingOf};
 ghost use Rattle.gate_file.specs.declared.fault.OpenFault.{OpenFault as OpenFaultOf};
-ghost use Rattle.import_mend.specs.declared.mend.Mend.{Mend as MendOf};
 ghost use Rattle.import_record.specs.declared.fault.RecordFault.{RecordFault as RecordFaultOf};
-ghost use Rattle.import_record.specs.declared.intake.Taken.{Taken as TakenOf};
-ghost use Rattle.import_record.specs.declared.reading.ImportRun.{ImportRun as ImportRunOf};
-ghost use Rattle.import_record.specs.declared.reading.Step.{Step as StepOf};
 ghost use Rattle.serve_hub.specs.Parts.{failed_in};
-ghost use Rattle.serve_hub.specs.Running.{Answers, IsIn, Progress};
-ghost use Rattle.station_sources.specs.Air.{GoesOn, HasAllTaken, KeepsBytes, noted, parting_answer};
-ghost use Rattle.station.specs.Parting.{HasParted};
+ghost use Rattle.station_sources.specs.Air.{parting_answer};
+ghost use Rattle.station.specs.Parting.{FeederParts, HasParted};
 ghost use Rattle.station_sources.specs.declared.air.OnAir.{OnAir as OnAirOf};
 ghost use Rattle.station_hub.specs.Patience.{until_due};
-ghost use Rattle.station.specs.Stepping.{reopens, with_done};
-ghost use Rattle.station_sources.specs.Taking.{TakesEnd, TakesStep};
+ghost use Rattle.station.specs.Stepping.{GoesOnWithLoss, PartsBy, TakesFromSource, reopens, with_done};
 ghost use Rattle.serve_hub.specs.Showing.{Shows};
 ghost use Rattle.serve_machine.specs.Hub.{HubState};
 
@@ -68,21 +62,11 @@ impl<D: Disk + Drop> Station<D> {
     /// before. Call it until it has done `Nothing`.
     pub fn step(&mut self, now: u64) -> Done
         // What is recorded of a source is what import_record says of its bytes.
-        ensures stepped { (air : OnAirOf) (before : Progress D) (step : StepOf) → self.old.air ≡ Some air
-            → IsIn D.is_honest D.state before self.old.live.hub → result ≡ Done.Stepped step
-            → (new : OnAirOf) × (after : Progress D) × (self.new.air ≡ Some new) × KeepsBytes step air new
-            × IsIn D.is_honest D.state after self.new.live.hub
-            × TakesStep (Answers D.is_honest D.state D.moment D.images_since D.failures) (HasAllTaken air) step air.import new.import before after }
-        ensures ended { (air : OnAirOf) (before : Progress D) (offset : ℕ) (junk : Option MendOf) (taken : TakenOf) → self.old.air ≡ Some air
-            → IsIn D.is_honest D.state before self.old.live.hub → result ≡ Done.Ended offset junk taken
-            → (run : ImportRunOf) × (after : Progress D)
-            × TakesEnd (Answers D.is_honest D.state D.moment D.images_since D.failures) (HasAllTaken air) offset junk taken air.import run before after }
-        ensures bytes { (air : OnAirOf) → self.old.air ≡ Some air → result ≡ Done.Bytes
-            → (new : OnAirOf) × (self.new.air ≡ Some new) × GoesOn air new × (self.new.live ≡ self.old.live) }
+        ensures takes { (air : OnAirOf) → self.old.air ≡ Some air
+            → TakesFromSource D.is_honest D.state D.moment D.images_since D.failures result air self.new.air self.old.live self.new.live }
         // A fault of the disk comes before anything of the source that follows, and is noted.
         ensures failed { failed_in self.old.live.hub.file ≡ true → reopens result ≡ true }
-        ensures noted { (air : OnAirOf) → self.old.air ≡ Some air → result ≡ Done.Reopened
-            → (after : OnAirOf) × (self.new.air ≡ Some after) × (after ≡ record air { import = after.import; lost = true }) }
+        ensures noted { (air : OnAirOf) → self.old.air ≡ Some air → result ≡ Done.Reopened → GoesOnWithLoss air self.new.air }
         // If more is committed, listeners are woken now, or it is remembered that they are to be.
         ensures wakes { (before after : HubState) → Shows D.is_honest D.state self.old.live.hub before → Shows D.is_honest D.state self.new.live.hub after
             → length before.committed ≢ length after.committed → (self.new.waking ≡ woken_at now) ⊎ (self.new.waking.unheard ≡ true) }
@@ -115,28 +99,12 @@ impl<D: Disk + Drop> Station<D> {
 
     /// Does what is next to be done.
     fn step_once(&mut self, now: u64) -> Done
-        ensures stepped { (air : OnAirOf) (before : Progress D) (step : StepOf) → self.old.air ≡ Some air
-            → IsIn D.is_honest D.state before self.old.live.hub → result ≡ Done.Stepped step
-            → (new : OnAirOf) × (after : Progress D) × (self.new.air ≡ Some new) × KeepsBytes step air new
-            × IsIn D.is_honest D.state after self.new.live.hub
-            × TakesStep (Answers D.is_honest D.state D.moment D.images_since D.failures) (HasAllTaken air) step air.import new.import before after }
-        ensures ended { (air : OnAirOf) (before : Progress D) (offset : ℕ) (junk : Option MendOf) (taken : TakenOf) → self.old.air ≡ Some air
-            → IsIn D.is_honest D.state before self.old.live.hub → result ≡ Done.Ended offset junk taken
-            → (run : ImportRunOf) × (after : Progress D)
-            × TakesEnd (Answers D.is_honest D.state D.moment D.images_since D.failures) (HasAllTaken air) offset junk taken air.import run before after }
-        ensures bytes { (air : OnAirOf) → self.old.air ≡ Some air → result ≡ Done.Bytes
-            → (new : OnAirOf) × (self.new.air ≡ Some new) × GoesOn air new × (self.new.live ≡ self.old.live) }
-        ensures parts { (air : OnAirOf) (key : ℕ) (client : ClientState) (offset : ℕ) (junk : Option MendOf) (taken : TakenOf)
-            → self.old.air ≡ Some air → air.feeder ≡ Feeder.Peer key → get self.old.clients.slots key ≡ Some client → client.stage ≡ FeedingOf
-            → result ≡ Done.Ended offset junk taken → (after : ClientState) × (get self.new.clients.slots key ≡ Some after)
-            × HasParted (parting_answer (failed_in self.new.live.hub.file) (noted taken air)) client after }
-        ensures given_up { (air : OnAirOf) (key : ℕ) (client : ClientState) (fault : RecordFaultOf)
-            → self.old.air ≡ Some air → air.feeder ≡ Feeder.Peer key → get self.old.clients.slots key ≡ Some client → client.stage ≡ FeedingOf
-            → result ≡ Done.GivenUp fault → (after : ClientState) × (get self.new.clients.slots key ≡ Some after)
-            × HasParted (parting_answer true air) client after }
+        ensures takes { (air : OnAirOf) → self.old.air ≡ Some air
+            → TakesFromSource D.is_honest D.state D.moment D.images_since D.failures result air self.new.air self.old.live self.new.live }
+        ensures parts { (air : OnAirOf) → self.old.air ≡ Some air
+            → PartsBy result (failed_in self.new.live.hub.file) air self.old.clients.slots self.new.clients.slots }
         ensures failed { failed_in self.old.live.hub.file ≡ true → reopens result ≡ true }
-        ensures noted { (air : OnAirOf) → self.old.air ≡ Some air → result ≡ Done.Reopened
-            → (after : OnAirOf) × (self.new.air ≡ Some after) × (after ≡ record air { import = after.import; lost = true }) }
+        ensures noted { (air : OnAirOf) → self.old.air ≡ Some air → result ≡ Done.Reopened → GoesOnWithLoss air self.new.air }
     {
         if self.live.hub().is_failed() {
             return self.reopen(now);
@@ -154,25 +122,10 @@ impl<D: Disk + Drop> Station<D> {
 
     /// Takes a step of the source, if there is one.
     fn step_air(&mut self, now: u64) -> Done
-        ensures stepped { (air : OnAirOf) (before : Progress D) (step : StepOf) → self.old.air ≡ Some air
-            → IsIn D.is_honest D.state before self.old.live.hub → result ≡ Done.Stepped step
-            → (new : OnAirOf) × (after : Progress D) × (self.new.air ≡ Some new) × KeepsBytes step air new
-            × IsIn D.is_honest D.state after self.new.live.hub
-            × TakesStep (Answers D.is_honest D.state D.moment D.images_since D.failures) (HasAllTaken air) step air.import new.import before after }
-        ensures ended { (air : OnAirOf) (before : Progress D) (offset : ℕ) (junk : Option MendOf) (taken : TakenOf) → self.old.air ≡ Some air
-            → IsIn D.is_honest D.state before self.old.live.hub → result ≡ Done.Ended offset junk taken
-            → (run : ImportRunOf) × (after : Progress D)
-            × TakesEnd (Answers D.is_honest D.state D.moment D.images_since D.failures) (HasAllTaken air) offset junk taken air.import run before after }
-        ensures bytes { (air : OnAirOf) → self.old.air ≡ Some air → result ≡ Done.Bytes
-            → (new : OnAirOf) × (self.new.air ≡ Some new) × GoesOn air new × (self.new.live ≡ self.old.live) }
-        ensures parts { (air : OnAirOf) (key : ℕ) (client : ClientState) (offset : ℕ) (junk : Option MendOf) (taken : TakenOf)
-            → self.old.air ≡ Some air → air.feeder ≡ Feeder.Peer key → get self.old.clients.slots key ≡ Some client → client.stage ≡ FeedingOf
-            → result ≡ Done.Ended offset junk taken → (after : ClientState) × (get self.new.clients.slots key ≡ Some after)
-            × HasParted (parting_answer (failed_in self.new.live.hub.file) (noted taken air)) client after }
-        ensures given_up { (air : OnAirOf) (key : ℕ) (client : ClientState) (fault : RecordFaultOf)
-            → self.old.air ≡ Some air → air.feeder ≡ Feeder.Peer key → get self.old.clients.slots key ≡ Some client → client.stage ≡ FeedingOf
-            → result ≡ Done.GivenUp fault → (after : ClientState) × (get self.new.clients.slots key ≡ Some after)
-            × HasParted (parting_answer true air) client after }
+        ensures takes { (air : OnAirOf) → self.old.air ≡ Some air
+            → TakesFromSource D.is_honest D.state D.moment D.images_since D.failures result air self.new.air self.old.live self.new.live }
+        ensures parts { (air : OnAirOf) → self.old.air ≡ Some air
+            → PartsBy result (failed_in self.new.live.hub.file) air self.old.clients.slots self.new.clients.slots }
         ensures goes_on { result ≢ Done.Reopened }
     {
         let Some(air) = &mut self.air else {
@@ -206,10 +159,8 @@ impl<D: Disk + Drop> Station<D> {
     /// Nobody is on the air any more. What is open is ended, what waits is committed, and the peer is answered if it
     /// waits for that. If the source was given up, or the disk fails now, something of it may be lost.
     fn leave_the_air(&mut self, given_up: bool, now: u64)
-        ensures parts { (air : OnAirOf) (key : ℕ) (client : ClientState) → self.old.air ≡ Some air → air.feeder ≡ Feeder.Peer key
-            → get self.old.clients.slots key ≡ Some client → client.stage ≡ FeedingOf
-            → (after : ClientState) × (get self.new.clients.slots key ≡ Some after)
-            × HasParted (parting_answer (given_up || failed_in self.new.live.hub.file) air) client after }
+        ensures parts { (air : OnAirOf) → self.old.air ≡ Some air
+            → FeederParts (parting_answer (given_up || failed_in self.new.live.hub.file) air) air self.old.clients.slots self.new.clients.slots }
     {
         let Some(air) = self.air.take() else {
             return;
@@ -230,9 +181,7 @@ impl<D: Disk + Drop> Station<D> {
 
     /// A source has left the air. If a connection sent it, that gets its last bytes.
     fn answer_feeder(&mut self, air: &OnAir, lost: bool)
-        ensures parts { (key : ℕ) (client : ClientState) → air.now.feeder ≡ Feeder.Peer key → get self.old.clients.slots key ≡ Some client
-            → client.stage ≡ FeedingOf → (after : ClientState) × (get self.new.clients.slots key ≡ Some after)
-            × HasParted (parting_answer lost air.now) client after }
+        ensures parts { FeederParts (parting_answer lost air.now) air.now self.old.clients.slots self.new.clients.slots }
         ensures live { self.new.live ≡ self.old.live }
         ensures air { self.new.air ≡ self.old.air }
     {
@@ -270,11 +219,9 @@ impl<D: Disk + Drop> Station<D> {
 
     /// Opens the file again, if anything was kept since that was done before.
     fn reopen(&mut self, now: u64) -> Done
-        ensures noted { (air : OnAirOf) → self.old.air ≡ Some air → result ≡ Done.Reopened
-            → (after : OnAirOf) × (self.new.air ≡ Some after) × (after ≡ record air { import = after.import; lost = true }) }
-        ensures parts { (air : OnAirOf) (key : ℕ) (client : ClientState) (fault : RecordFaultOf) → self.old.air ≡ Some air → air.feeder ≡ Feeder.Peer key
-            → get self.old.clients.slots key ≡ Some client → client.stage ≡ FeedingOf → result ≡ Done.GivenUp fault
-            → (after : ClientState) × (get self.new.clients.slots key ≡ Some after) × HasParted (parting_answer true air) client after }
+        ensures noted { (air : OnAirOf) → self.old.air ≡ Some air → result ≡ Done.Reopened → GoesOnWithLoss air self.new.air }
+        ensures parts { (air : OnAirOf) (fault : RecordFaultOf) → self.old.air ≡ Some air → result ≡ Done.GivenUp fault
+            → FeederParts (parting_answer true air) air self.old.clients.slots self.new.clients.slots }
         ensures waits { result ≡ Done.Failed → self.new ≡ self.old }
         ensures lost { (fault : OpenFaultOf) → result ≡ Done.Lost fault → (self.new.air ≡ self.old.air) × (self.new.clients ≡ self.old.clients) }
         ensures reopens { reopens result ≡ true }
@@ -292,11 +239,9 @@ impl<D: Disk + Drop> Station<D> {
 
     /// What is on the air goes on in the file that was opened again. What waited may be lost.
     fn resume(&mut self, now: u64) -> Done
-        ensures noted { (air : OnAirOf) → self.old.air ≡ Some air → result ≡ Done.Reopened
-            → (after : OnAirOf) × (self.new.air ≡ Some after) × (after ≡ record air { import = after.import; lost = true }) }
-        ensures parts { (air : OnAirOf) (key : ℕ) (client : ClientState) → self.old.air ≡ Some air → air.feeder ≡ Feeder.Peer key
-            → get self.old.clients.slots key ≡ Some client → client.stage ≡ FeedingOf → result ≢ Done.Reopened
-            → (after : ClientState) × (get self.new.clients.slots key ≡ Some after) × HasParted (parting_answer true air) client after }
+        ensures noted { (air : OnAirOf) → self.old.air ≡ Some air → result ≡ Done.Reopened → GoesOnWithLoss air self.new.air }
+        ensures parts { (air : OnAirOf) → self.old.air ≡ Some air → result ≢ Done.Reopened
+            → FeederParts (parting_answer true air) air self.old.clients.slots self.new.clients.slots }
         ensures none { self.old.air ≡ None → (result ≡ Done.Reopened) × (self.new ≡ self.old) }
         ensures reopens { reopens result ≡ true }
         ensures becomes { (result ≡ Done.Reopened) ⊎ ((fault : RecordFaultOf) × (result ≡ Done.GivenUp fault)) }

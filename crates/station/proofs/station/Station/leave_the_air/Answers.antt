@@ -9,7 +9,7 @@ use Rattle.station.proofs.station.Station.leave_the_air.Goals as goal
 
 pub returns : goal.returns
 returns g c = record {
-  parts = λ air key client is feeder found feeding.
+  parts = λ air is key client feeder found feeding.
       let same : c.in-Some.air ≡ air = same_air c.in-Some.air air (c.in-Some.ensures.value ∙ is) in
       let still : get c.end_open.new.self.clients.slots key ≡ Some client = ap (λ s. get s.clients.slots key) c.end_open.ensures ∙ found in
       let (after, left, parted) = c.answer_feeder.ensures.parts key client (ap (λ (one : OnAir). one.feeder) same ∙ feeder) still feeding in

@@ -4,17 +4,17 @@ use Rattle.station_sources.specs.declared.air.OnAir.{OnAir}
 use Rattle.station.proofs.station.Station.resume.Goals as goal
 
 pub returns-in-Err-clause-parts : goal.returns-in-Err-clause-parts
-returns-in-Err-clause-parts g c air key client is feeder found feeding apart =
+returns-in-Err-clause-parts g c air is apart key client feeder found feeding =
     let now = c.resume.new.self in
     let same = resumed c.in-Some.air c.lose.new.self now air (same_air c.in-Some.air air (sym c.in-Some.is ∙ is)) c.lose.ensures c.resume.ensures in
-    let (after, left, parted) = c.leave_the_air.ensures.parts now key client refl (ap (λ (one : OnAir). one.feeder) same ∙ feeder) found feeding in
+    let (after, left, parted) = c.leave_the_air.ensures.parts now refl key client (ap (λ (one : OnAir). one.feeder) same ∙ feeder) found feeding in
     (after, left, lost_answer now air client after (ap (λ (one : OnAir). one.body) same) parted)
 
 pub returns-in-Err-resumed-clause-parts : goal.returns-in-Err-resumed-clause-parts
-returns-in-Err-resumed-clause-parts g c air key client is feeder found feeding apart =
+returns-in-Err-resumed-clause-parts g c air is apart key client feeder found feeding =
     let now = c.resume.new.self in
     let same = resumed c.in-Some.air c.lose.new.self now air (same_air c.in-Some.air air (sym c.in-Some.is ∙ is)) c.lose.ensures c.resume.ensures in
-    let (after, left, parted) = c.leave_the_air-in-Err-resumed.ensures.parts now key client refl (ap (λ (one : OnAir). one.feeder) same ∙ feeder) found feeding in
+    let (after, left, parted) = c.leave_the_air-in-Err-resumed.ensures.parts now refl key client (ap (λ (one : OnAir). one.feeder) same ∙ feeder) found feeding in
     (after, left, lost_answer now air client after (ap (λ (one : OnAir). one.body) same) parted)
 
 pub returns-in-Ok-resumed-clause-noted : goal.returns-in-Ok-resumed-clause-noted

@@ -1,10 +1,12 @@
-use Rattle.std.proofs.Common.{sym, ◌∙◌, ap, subst}
-use Rattle.serve_hub.specs.Running.{IsIn}
+use Rattle.std.proofs.Common.{Option, sym, ◌∙◌, ap, subst}
+use Rattle.station_hub.specs.declared.live_hub.LiveHub.{LiveHub}
+use Rattle.station_sources.specs.declared.air.OnAir.{OnAir}
+use Rattle.station.specs.Stepping.{GoesOnWithLoss, TakesFromSource}
 use Rattle.station.proofs.station.Station.step.Goals as goal
 use Rattle.station.proofs.station.Station.step.Goals.{then-end, else-end}
 
-pub returns-clause-stepped : goal.returns-clause-stepped
-returns-clause-stepped g c air before step is is_in told =
+pub returns-clause-takes : goal.returns-clause-takes
+returns-clause-takes g c air is =
     let air_is = ap (λ s. s.air) c.wake_feeder.ensures ∙ c.wake_listeners.ensures.air
     ∙ elim c.if-end.branch [
       | then-end w ↦ ap (λ s. s.air) w.self-is ∙ ap (λ s. s.air) c.count.ensures
@@ -15,23 +17,9 @@ returns-clause-stepped g c air before step is is_in told =
       | then-end w ↦ ap (λ s. s.live) w.self-is ∙ ap (λ s. s.live) c.count.ensures
       | else-end w ↦ ap (λ s. s.live) w.self-is ∙ ap (λ s. s.live) c.count.ensures
     ] in
-    let (new, after, now, kept, in_after, takes) = c.step_once-done.ensures.stepped air before step is is_in told in
-    (new, after, air_is ∙ now, kept, subst (λ live. IsIn g.D.Disk.is_honest g.D.Disk.state after live.hub) (sym live_is) in_after, takes)
-
-pub returns-clause-bytes : goal.returns-clause-bytes
-returns-clause-bytes g c air is told =
-    let air_is = ap (λ s. s.air) c.wake_feeder.ensures ∙ c.wake_listeners.ensures.air
-    ∙ elim c.if-end.branch [
-      | then-end w ↦ ap (λ s. s.air) w.self-is ∙ ap (λ s. s.air) c.count.ensures
-      | else-end w ↦ ap (λ s. s.air) w.self-is ∙ ap (λ s. s.air) c.count.ensures
-    ] in
-    let live_is = ap (λ s. s.live) c.wake_feeder.ensures ∙ c.wake_listeners.ensures.live
-    ∙ elim c.if-end.branch [
-      | then-end w ↦ ap (λ s. s.live) w.self-is ∙ ap (λ s. s.live) c.count.ensures
-      | else-end w ↦ ap (λ s. s.live) w.self-is ∙ ap (λ s. s.live) c.count.ensures
-    ] in
-    let (new, now, goes, stays) = c.step_once-done.ensures.bytes air is told in
-    (new, air_is ∙ now, goes, live_is ∙ stays)
+    subst (λ (now : Option OnAir). TakesFromSource g.D.Disk.is_honest g.D.Disk.state g.D.Disk.moment g.D.Disk.images_since g.D.Disk.failures c.step_once-done.result air now c.args.self.now.live c.wake_feeder.new.self.live) (sym air_is)
+    (subst (λ (live : LiveHub _). TakesFromSource g.D.Disk.is_honest g.D.Disk.state g.D.Disk.moment g.D.Disk.images_since g.D.Disk.failures c.step_once-done.result air c.step_once-done.new.self.air c.args.self.now.live live) (sym live_is)
+    (c.step_once-done.ensures.takes air is))
 
 pub returns-clause-noted : goal.returns-clause-noted
 returns-clause-noted g c air is told =
@@ -40,5 +28,4 @@ returns-clause-noted g c air is told =
       | then-end w ↦ ap (λ s. s.air) w.self-is ∙ ap (λ s. s.air) c.count.ensures
       | else-end w ↦ ap (λ s. s.air) w.self-is ∙ ap (λ s. s.air) c.count.ensures
     ] in
-    let (after, now, same) = c.step_once-done.ensures.noted air is told in
-    (after, air_is ∙ now, same)
+    subst (GoesOnWithLoss air) (sym air_is) (c.step_once-done.ensures.noted air is told)

@@ -1,71 +1,74 @@
 use Rattle.std.proofs.Common.{◌≡◌, Option, Result, Ok, refl, sym, ◌∙◌, ap, subst}
 use Rattle.import_record.specs.declared.fault.RecordFault.{RecordFault}
-use Rattle.import_record.specs.declared.reading.Step.{Step}
 use Rattle.serve_hub.specs.Parts.{failed_in}
 use Rattle.serve_hub.specs.Running.{Answers}
 use Rattle.serve_sources.specs.declared.outcome.Outcome.{Outcome}
 use Rattle.station_sources.specs.Air.{GoesOn, HasAllTaken, KeepsBytes, noted}
-use Rattle.station.specs.Parting.{HasParted}
 use Rattle.station_sources.specs.Taking.{TakesEnd, TakesStep}
 use Rattle.station_sources.specs.declared.air.OnAir.{OnAir}
 use Rattle.station_sources.specs.declared.air.Took.{Took}
-use Rattle.station_sources.specs.declared.air.Took.TheVariants.{Stepped}
-use Rattle.station.proofs.Leaving.{lost_answer, same_air, same_answer, same_ended, same_step}
+use Rattle.station.specs.Parting.{HasParted}
+use Rattle.station.proofs.Leaving.{lost_answer, same_air, same_answer}
 use Rattle.station.proofs.station.Station.step_air.Goals as goal
 
 abbrev took : Took → Result Took RecordFault
 took one = Ok one
 
-pub returns-in-Ok-Bytes-clause-bytes : goal.returns-in-Ok-Bytes-clause-bytes
-returns-in-Ok-Bytes-clause-bytes g c air is told =
+pub returns-in-Ok-Bytes-clause-takes : goal.returns-in-Ok-Bytes-clause-takes
+returns-in-Ok-Bytes-clause-takes g c air is =
     let same : c.in-Some.air ≡ air = same_air c.in-Some.air air (sym c.in-Some.is ∙ is) in
     let (stays, goes) = c.step.ensures.bytes (c.in-Ok-Bytes.is ∙ ap took c.in-Ok-Bytes.field-0-is) in
-    (c.step.new.self, refl, subst (λ (one : OnAir). GoesOn one c.step.new.self) same goes, stays)
+    record { source = c.step.new.self; on_air = refl; goes_on = subst (λ (one : OnAir). GoesOn one c.step.new.self) same goes; same = stays }
 
-pub returns-in-Ok-Stepped-clause-stepped : goal.returns-in-Ok-Stepped-clause-stepped
-returns-in-Ok-Stepped-clause-stepped g c air before step is is_in told =
+pub returns-in-Ok-Stepped-clause-takes : goal.returns-in-Ok-Stepped-clause-takes
+returns-in-Ok-Stepped-clause-takes g c air is before is_in =
     let same : c.in-Some.air ≡ air = same_air c.in-Some.air air (sym c.in-Some.is ∙ is) in
     let new = c.step.new.self in
-    let stepped = c.in-Ok-Stepped.is ∙ ap took (c.in-Ok-Stepped.field-0-is ∙ ap (λ (one : Step). Stepped one) (same_step c.in-Ok-Stepped.step step told)) in
-    let (after, in_after, takes) = c.step.ensures.steps before step is_in stepped in
-    let (seen, pending, short, feeder, lost) = c.step.ensures.kept step stepped in (
-      new,
-      after,
-      refl,
-      subst (λ (one : OnAir). KeepsBytes step one new) same (record { seen = seen; pending = pending; feeder = feeder; short = short; lost = lost }),
-      in_after,
-      subst (λ (one : OnAir). TakesStep (Answers g.D.Disk.is_honest g.D.Disk.state g.D.Disk.moment g.D.Disk.images_since g.D.Disk.failures) (HasAllTaken one) step one.import new.import before after) same takes,
-    )
+    let stepped = c.in-Ok-Stepped.is ∙ ap took c.in-Ok-Stepped.field-0-is in
+    let (after, in_after, takes) = c.step.ensures.steps before c.in-Ok-Stepped.step is_in stepped in
+    let (seen, pending, short, feeder, lost) = c.step.ensures.kept c.in-Ok-Stepped.step stepped in
+    record {
+      source = new;
+      after = after;
+      on_air = refl;
+      keeps = subst (λ (one : OnAir). KeepsBytes c.in-Ok-Stepped.step one new) same (record { seen = seen; pending = pending; feeder = feeder; short = short; lost = lost });
+      reached = in_after;
+      takes = subst (λ (one : OnAir). TakesStep (Answers g.D.Disk.is_honest g.D.Disk.state g.D.Disk.moment g.D.Disk.images_since g.D.Disk.failures) (HasAllTaken one) c.in-Ok-Stepped.step one.import new.import before after) same takes;
+    }
 
-pub returns-in-Ok-Ended-clause-ended : goal.returns-in-Ok-Ended-clause-ended
-returns-in-Ok-Ended-clause-ended g c air before offset junk taken is is_in told =
+pub returns-in-Ok-Ended-clause-takes : goal.returns-in-Ok-Ended-clause-takes
+returns-in-Ok-Ended-clause-takes g c air is before is_in =
     let same : c.in-Some.air ≡ air = same_air c.in-Some.air air (sym c.in-Some.is ∙ is) in
     let new = c.step.new.self in
-    let (after, in_after, ends) = c.step.ensures.ends before offset junk taken is_in
-    (c.in-Ok-Ended.is ∙ ap took (c.in-Ok-Ended.field-0-is ∙ same_ended c.in-Ok-Ended.offset offset c.in-Ok-Ended.junk junk c.in-Ok-Ended.taken taken told)) in (
-      new.import,
-      after,
-      subst (λ (one : OnAir). TakesEnd (Answers g.D.Disk.is_honest g.D.Disk.state g.D.Disk.moment g.D.Disk.images_since g.D.Disk.failures) (HasAllTaken one) offset junk taken one.import new.import before after) same ends,
-    )
+    let offset = c.in-Ok-Ended.offset in
+    let junk = c.in-Ok-Ended.junk in
+    let taken = c.in-Ok-Ended.taken in
+    let (after, in_after, ends) = c.step.ensures.ends before offset junk taken is_in (c.in-Ok-Ended.is ∙ ap took c.in-Ok-Ended.field-0-is) in
+    record {
+      run = new.import;
+      after = after;
+      takes = subst (λ (one : OnAir). TakesEnd (Answers g.D.Disk.is_honest g.D.Disk.state g.D.Disk.moment g.D.Disk.images_since g.D.Disk.failures) (HasAllTaken one) offset junk taken one.import new.import before after) same ends;
+    }
 
 pub returns-in-Ok-Ended-clause-parts : goal.returns-in-Ok-Ended-clause-parts
-returns-in-Ok-Ended-clause-parts g c air key client offset junk taken is feeder found feeding told =
+returns-in-Ok-Ended-clause-parts g c air is key client feeder found feeding =
     let same : c.in-Some.air ≡ air = same_air c.in-Some.air air (sym c.in-Some.is ∙ is) in
     let new = c.step.new.self in
-    let ended = c.in-Ok-Ended.is ∙ ap took (c.in-Ok-Ended.field-0-is ∙ same_ended c.in-Ok-Ended.offset offset c.in-Ok-Ended.junk junk c.in-Ok-Ended.taken taken told) in
-    let stays = c.step.ensures.same offset junk taken ended in
-    let (after, left, parted) = c.leave_the_air.ensures.parts new key client refl (stays.0 ∙ ap (λ (one : OnAir). one.feeder) same ∙ feeder) found feeding in (
+    let taken = c.in-Ok-Ended.taken in
+    let ended = c.in-Ok-Ended.is ∙ ap took c.in-Ok-Ended.field-0-is in
+    let stays = c.step.ensures.same c.in-Ok-Ended.offset c.in-Ok-Ended.junk taken ended in
+    let (after, left, parted) = c.leave_the_air.ensures.parts new refl key client (stays.0 ∙ ap (λ (one : OnAir). one.feeder) same ∙ feeder) found feeding in (
       after,
       left,
       subst (λ (answer : Option Outcome). HasParted answer client after)
           (same_answer (failed_in c.leave_the_air.new.self.live.hub.file) new (noted taken air) (stays.1 ∙ ap (λ (one : OnAir). one.body) same)
-          (c.step.ensures.lost offset junk taken ended ∙ ap (λ (one : OnAir). (noted taken one).lost) same) (stays.2 ∙ ap (λ (one : OnAir). one.complete) same)) parted,
+          (c.step.ensures.lost c.in-Ok-Ended.offset c.in-Ok-Ended.junk taken ended ∙ ap (λ (one : OnAir). (noted taken one).lost) same) (stays.2 ∙ ap (λ (one : OnAir). one.complete) same)) parted,
     )
 
-pub returns-in-Err-clause-given_up : goal.returns-in-Err-clause-given_up
-returns-in-Err-clause-given_up g c air key client fault is feeder found feeding told =
+pub returns-in-Err-clause-parts : goal.returns-in-Err-clause-parts
+returns-in-Err-clause-parts g c air is key client feeder found feeding =
     let same : c.in-Some.air ≡ air = same_air c.in-Some.air air (sym c.in-Some.is ∙ is) in
     let new = c.step.new.self in
     let stays = c.in-Err.ensures.err in
-    let (after, left, parted) = c.leave_the_air-in-Err.ensures.parts new key client refl (stays.0 ∙ ap (λ (one : OnAir). one.feeder) same ∙ feeder) found feeding in
+    let (after, left, parted) = c.leave_the_air-in-Err.ensures.parts new refl key client (stays.0 ∙ ap (λ (one : OnAir). one.feeder) same ∙ feeder) found feeding in
     (after, left, lost_answer new air client after (stays.1 ∙ ap (λ (one : OnAir). one.body) same) parted)
