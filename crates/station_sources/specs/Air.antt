@@ -48,11 +48,13 @@ parting_answer lost air = if wants_answer air.body then Some (outcome_of (lost |
 abbrev pub noted : Taken → OnAir → OnAir
 noted taken air = record air { lost = is_some taken.answered.refused || air.lost }
 
--- What has come of the source and isn't taken yet is followed by these bytes. Whether there was no memory for earlier
--- ones is known as before.
-abbrev pub HoldsMore : List ℕ → OnAir → OnAir → Type 0
-HoldsMore bytes old new =
-    (drop new.at new.pending.items ≡ drop old.at old.pending.items ++ bytes) × (new.short ≡ old.short)
+-- What has come of the source and isn't taken yet is followed by these bytes, and nothing else is another: neither its
+-- stream nor its body, nor what was noted of want of memory.
+pub record HoldsMore (bytes : List ℕ) (old new : OnAir) : Type 0 where
+  pub kept : drop new.at new.pending.items ≡ drop old.at old.pending.items ++ bytes
+  pub short : new.short ≡ old.short
+  pub import : new.import ≡ old.import
+  pub body : new.body ≡ old.body
 
 -- There was no room for this many bytes, which is noted, and no further byte comes. What came before them is kept.
 pub record IsShort (count : ℕ) (old new : OnAir) : Type 0 where

@@ -2,3 +2,4 @@ pub mod Counting
 pub mod Air
 pub mod Faring
 pub mod Taking
+pub mod Importing

@@ -1,5 +1,5 @@
 -- What is taken of the stream of a source, as import_record takes it. Ours.
-use Rattle.std.specs.Prelude.{◌≡◌, ◌⊎◌, ◌<◌, ℕ, Bool, true, false, Option, None, is_some, List, [], take}
+use Rattle.std.specs.Prelude.{◌≡◌, ◌⊎◌, ◌<◌, ◌≤◌, ℕ, Bool, true, false, Option, None, is_some, List, [], length, take}
 use Rattle.feed_records.specs.declared.item.Record.{Record}
 use Rattle.feed_replies.specs.declared.reply.Reply.{Reply}
 use Rattle.import_mend.specs.declared.mend.Mend.{Mend}
@@ -17,6 +17,7 @@ input_of run = record { pages = run.pages; intake = state_of run.intake }
 -- The first so many of these bytes, at least one, came to the stream.
 pub record PassesOn (bytes : List ℕ) (count : ℕ) (old new : ImportRun) : Type 0 where
   pub some : 0 < count
+  pub within : count ≤ length bytes
   pub comes : Comes (take count bytes) (input_of old) (input_of new)
   pub junk : new.junk ≡ old.junk
 

@@ -130,6 +130,7 @@ impl OnAir {
         ensures err { OnErr result (drop self.new.at self.new.pending.items ≡ drop self.old.at self.old.pending.items) }
         ensures full { OnErr result (vec_capacity self.old.pending < vec_len self.old.pending - self.old.at + length bytes.now) }
         ensures stays { (self.new.feeder ≡ self.old.feeder) × (self.new.short ≡ self.old.short) × (self.new.lost ≡ self.old.lost) × (self.new.complete ≡ self.old.complete) }
+        ensures same { (self.new.import ≡ self.old.import) × (self.new.body ≡ self.old.body) }
     {
         drop_front(&mut self.pending, self.at);
         self.at = 0;

@@ -8,14 +8,17 @@
 //! Nothing here knows of a file, of connections or of a clock. `Counts` has what a station has done so far, in numbers.
 //!
 //! Start at `specs/Air.antt`, and go on to `specs/Faring.antt`, which says what is found among the bytes, and
-//! `specs/Taking.antt`, which says it of the stream in the words of import_record.
+//! `specs/Taking.antt`, which says it of the stream in the words of import_record. `src/laws.rt` says what all calls add
+//! up to.
 #![tactic(auto)]
 
 mod air;
 mod counting;
 mod faring;
+mod laws;
 
 pub use air::{Feeder, OnAir, Took};
 pub use counting::{Counts, MendCounts, counted};
 pub use import_record::{Step, Taken};
+pub use laws::sources_are_imported;
 pub use std::alloc::AllocError as Memory;

@@ -1,4 +1,4 @@
-use Rattle.std.proofs.Common.{◌≡◌, ◌+◌, ℕ, List, take, slice_range, Some, refl, ◌∙◌, ap, arith}
+use Rattle.std.proofs.Common.{◌≡◌, ◌+◌, ℕ, List, length, take, slice_range, Some, refl, ◌∙◌, ap, arith, length-append}
 use Rattle.station_sources.proofs.Passing.{gives_some, holds_some, is_front}
 use Rattle.station_sources.proofs.air.OnAir.pass_on.Goals as goal
 
@@ -14,6 +14,13 @@ returns-in-Ok-clause-passes c =
         c.in-Ok.count,
         record {
           some = gives_some bytes reads.taken left c.in-Ok.count some reads.consumed reads.counted reads.at_end;
+          within = omega (
+            arith,
+            reads.counted,
+            ap length reads.consumed,
+            length-append reads.taken left,
+            ap (λ (items : List ℕ). length (slice_range items air.at (air.at + air.decoded))) c.deref.ensures.value,
+          );
           comes = record {
             from = Some bytes;
             left = Some left;
