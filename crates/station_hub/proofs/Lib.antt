@@ -1,1 +1,3 @@
+mod Marked
 mod Owed
+mod Tracked

@@ -1,5 +1,7 @@
 pub mod Giving
 pub mod Asking
 pub mod Places
+pub mod Marking
+pub mod Tracking
 pub mod Patience
 pub mod Waking

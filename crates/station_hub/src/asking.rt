@@ -1,14 +1,20 @@
 //! What a connection asks for.
-ghost use Rattle.std.specs.Prelude.{◌≡◌, ◌⊎◌, ◌++◌, Result};
+ghost use Rattle.std.specs.Prelude.{◌≡◌, ◌⊎◌, ◌++◌, Some, IfOk, Result};
+ghost use Rattle.serve_live.specs.Boundaries.{place_to_join};
+ghost use Rattle.serve_live.specs.Listening.{ListenerState};
+ghost use Rattle.serve_clients.specs.declared.client.Stage.TheVariants.{Hearing as HearingOf};
 ghost use Rattle.serve_hub.specs.Images.{IfFile, Reads};
 ghost use Rattle.serve_hub.specs.Showing.{Shows};
 ghost use Rattle.serve_machine.specs.Calls.{Steps};
-ghost use Rattle.serve_machine.specs.Hub.{Receive};
+ghost use Rattle.serve_machine.specs.Hub.{HubState, Receive};
 ghost use Rattle.serve_machine.specs.declared.answers.Progress.{Progress as ProgressOf};
 ghost use Rattle.serve_machine.specs.declared.fault.HubFault.{HubFault as HubFaultOf};
 ghost use Rattle.station_hub.specs.Asking.{IsConnected, stage_after};
+ghost use Rattle.station_hub.specs.Marking.{Start};
+ghost use Rattle.station_hub.specs.Tracking.{JoinsAt, Tracks};
 ghost use Rattle.serve_clients.specs.Client.{cut, with_stage};
 
+use crate::laws::listeners_join_committed_links;
 use crate::live_hub::LiveHub;
 use disk_model::Disk;
 use serve_clients::{Client, Stage};
@@ -64,6 +70,9 @@ impl<D: Disk + Drop> LiveHub<D> {
     /// A listener: it joins what is recorded, or waits until a link begins. If only the head of the answer is asked for, it
     /// gets that. Without memory it is cut, and after a fault of the file.
     pub fn listen(&mut self, client: &mut Client, head: bool)
+        ensures joins { (start : Start) (machine : HubState) → Shows D.is_honest D.state self.old.hub machine → Tracks start machine self.old.places
+            → client.new.stage ≡ HearingOf → (listener : ListenerState) × (client.new.listener ≡ Some listener)
+            × JoinsAt (place_to_join self.old.places.boundaries) machine.committed listener }
         ensures disk { (self.new.hub.file ≡ self.old.hub.file)
             ⊎ IfFile (Reads D.is_honest D.state D.moment D.images_since D.failures) self.old.hub.file self.new.hub.file }
         ensures places { self.new.places ≡ self.old.places }
@@ -87,10 +96,13 @@ impl<D: Disk + Drop> LiveHub<D> {
 
     /// A listener that joins where it may.
     fn join(&mut self) -> Result<Listener, HubFault>
+        ensures joins { (start : Start) (machine : HubState) → Shows D.is_honest D.state self.old.hub machine → Tracks start machine self.old.places
+            → IfOk result (λ listener. JoinsAt (place_to_join self.old.places.boundaries) machine.committed listener) }
         ensures disk { (self.new.hub.file ≡ self.old.hub.file)
             ⊎ IfFile (Reads D.is_honest D.state D.moment D.images_since D.failures) self.old.hub.file self.new.hub.file }
         ensures places { self.new.places ≡ self.old.places }
     {
+        listeners_join_committed_links();
         match self.place() {
             Some(place) => self.hub.join(place),
             None => Ok(self.hub.wait()),

@@ -84,16 +84,19 @@ impl<D: Disk + Drop> LiveHub<D> {
         ensures again { client.old.unsent ≢ [] → (self.new.hub ≡ self.old.hub) × (client.new ≡ client.old)
             × (take result buffer.new ≡ take (length buffer.old) client.old.unsent) }
         ensures pulls { (id : ℕ) → client.old.unsent ≡ [] → client.old.stage ≡ SendingOf → client.old.session ≡ Some id
-            → (answer : Result GivenOf HubFaultOf) × Steps (Shows D.is_honest D.state) self.old.hub self.new.hub (λ after. Pull id (length buffer.old) answer)
+            → (answer : Result GivenOf HubFaultOf)
+            × Steps (Shows D.is_honest D.state) self.old.hub self.new.hub (λ after. Pull id (length buffer.old) answer)
             × HasPulled answer client.old result buffer.new client.new }
         ensures hears { (machine : HubState) (moment : Moment) (given : List ℕ) (listener : ListenerState)
             → client.old.unsent ≡ [] → client.old.stage ≡ HearingOf
-            → Shows D.is_honest D.state self.old.hub machine → client.old.listener ≡ Some listener → (hearing : IsHearing moment machine.committed listener given)
+            → Shows D.is_honest D.state self.old.hub machine → client.old.listener ≡ Some listener
+            → (hearing : IsHearing moment machine.committed listener given)
             → HasHeard moment machine.committed given hearing.rest (length buffer.old) client.old result buffer.new client.new }
         ensures keeps { client.old.stage ≡ HearingOf → KeepsMachine D.is_honest D.state self.old.hub self.new.hub }
         ensures nothing { client.old.unsent ≡ [] → client.old.stage ≢ SendingOf → client.old.stage ≢ HearingOf
             → (result ≡ 0) × (self.new.hub ≡ self.old.hub) × (client.new ≡ client.old) }
-        ensures disk { (self.new.hub.file ≡ self.old.hub.file) ⊎ IfFile (Reads D.is_honest D.state D.moment D.images_since D.failures) self.old.hub.file self.new.hub.file }
+        ensures disk { (self.new.hub.file ≡ self.old.hub.file)
+            ⊎ IfFile (Reads D.is_honest D.state D.moment D.images_since D.failures) self.old.hub.file self.new.hub.file }
         ensures within { result ≤ length buffer.new }
         ensures places { self.new.places ≡ self.old.places }
     {

@@ -7,7 +7,8 @@
 //! `is_due` says when what waits is committed, and `Waking` when those who hear what is recorded are woken for it.
 //!
 //! Start at `specs/Giving.antt`, which says what a connection is given and owed, and at `specs/Places.antt`, which says
-//! where listeners may join. `src/laws.rt` has the law of what is owed.
+//! where listeners may join; `specs/Tracking.antt` says that these are places of what is committed. `src/laws.rt` has the
+//! laws.
 #![tactic(auto)]
 
 mod asking;
@@ -19,7 +20,7 @@ mod places;
 mod waking;
 
 pub use asking::ask;
-pub use laws::connections_are_owed_their_responses;
+pub use laws::{connections_are_owed_their_responses, listeners_join_committed_links};
 pub use live_hub::LiveHub;
 pub use patience::{is_due, until_due};
 pub use waking::Waking;

@@ -1,21 +1,29 @@
 //! A hub, and where listeners may join what it records.
-ghost use Rattle.std.specs.Prelude.{◌≡◌, ⊤, ℕ, OnErr, Result};
+ghost use Rattle.std.specs.Prelude.{◌≡◌, ◌++◌, ⊤, ℕ, Bool, List, [], None, IfOk, OnErr, Result, length};
+ghost use Rattle.std.specs.Io.KnownBytes.{Appends};
+ghost use Rattle.ogg_page.specs.Output.{WritesPart};
+ghost use Rattle.feed_records.specs.declared.item.Record.{Record as RecordOf};
 ghost use Rattle.chain_rules.specs.Decision.{is_begin};
+ghost use Rattle.feed_replies.specs.declared.reply.Reply.{Reply as ReplyOf};
 ghost use Rattle.feed_replies.specs.declared.reply.Reply.TheVariants.{Held as HeldOf};
 ghost use Rattle.serve_hub.specs.Parts.{OnlySessions};
 ghost use Rattle.serve_hub.specs.Showing.{Shows};
-ghost use Rattle.serve_live.specs.Boundaries.{place_to_join};
+ghost use Rattle.serve_live.specs.Boundaries.{no_link, place_to_join};
 ghost use Rattle.serve_machine.specs.Calls.{Steps, found_by};
-ghost use Rattle.serve_machine.specs.Hub.{Close, Reopen};
+ghost use Rattle.serve_machine.specs.Hub.{Close, HubState, Reopen};
 ghost use Rattle.serve_machine.specs.declared.fault.HubFault.{HubFault as HubFaultOf};
+ghost use Rattle.station_hub.specs.Places.{answered_by, committed_to, reopened_to};
+ghost use Rattle.station_hub.specs.Tracking.{IsOpenIn, IsTold, KeepsPlaces};
+ghost use Rattle.station_hub.specs.declared.places.Answered.{Answered as AnsweredOf};
 
+use crate::laws::listeners_join_committed_links;
 use crate::places::{Answered, Places};
 use disk_model::Disk;
 use feed_replies::Reply;
 use feed_run::Runner;
 use gate_file::OpenFault;
 use link_chain::{StreamState, is_open};
-use ogg_command::Command;
+use ogg_command::{Command, command_is_in_range};
 use ogg_page::WriteFault;
 use serve_hub::Hub;
 use serve_live::JoinPlace;
@@ -33,8 +41,11 @@ pub struct LiveHub<D: Disk> {
 }
 
 impl<D: Disk + Drop> LiveHub<D> {
-    /// No link is recorded.
-    pub fn new(alloc: Global, hub: Hub<D>) -> Result<LiveHub<D>, Memory> {
+    /// Nobody joins before a link begins.
+    pub fn new(alloc: Global, hub: Hub<D>) -> Result<LiveHub<D>, Memory>
+        ensures hub { IfOk result (λ live. live.hub ≡ hub) }
+        ensures places { IfOk result (λ live. live.places ≡ record { boundaries = no_link; begun = None }) }
+    {
         Ok(LiveHub {
             hub,
             places: Places::new(alloc)?,
@@ -76,7 +87,9 @@ impl<D: Disk + Drop> LiveHub<D> {
     pub fn reopen(&mut self) -> Result<(), OpenFault>
         ensures step { Steps (Shows D.is_honest D.state) self.old.hub self.new.hub (λ after. Reopen (found_by result after)) }
         ensures same { OnErr result (self.new.places ≡ self.old.places) }
+        ensures keeps { KeepsPlaces (Shows D.is_honest D.state) self.old.hub self.old.places self.new.hub self.new.places }
     {
+        listeners_join_committed_links();
         let end = self.hub.end();
         match self.hub.reopen() {
             Ok(()) => {
@@ -106,6 +119,10 @@ impl<D: Disk + Drop> LiveHub<D> {
     fn answered(&mut self, command: &Command, before: u64, reply: Reply)
         ensures hub { self.new.hub ≡ self.old.hub }
         ensures waits { (count : ℕ) → reply ≡ HeldOf count → self.new.places.boundaries ≡ self.old.places.boundaries }
+        // What is told of the command is what the hub has.
+        ensures told { (old machine : HubState) → Shows D.is_honest D.state self.old.hub machine
+            → (old.in_doubt ≡ None → before ≡ length (old.committed ++ old.held))
+            → (answered : AnsweredOf) × IsTold command.now old machine answered × (self.new.places ≡ answered_by reply answered self.old.places) }
     {
         self.places.answered(
             reply,
@@ -121,7 +138,9 @@ impl<D: Disk + Drop> LiveHub<D> {
 
     /// All that waited was committed.
     fn committed(&mut self)
-        ensures { self.new.hub ≡ self.old.hub }
+        ensures hub { self.new.hub ≡ self.old.hub }
+        ensures told { (machine : HubState) → Shows D.is_honest D.state self.old.hub machine → (going : Bool) × IsOpenIn machine going
+            × (self.new.places ≡ committed_to (length machine.committed) going self.old.places) }
     {
         let open = is_open(self.hub.streams());
         self.places.committed(self.hub.end(), open);
@@ -129,7 +148,9 @@ impl<D: Disk + Drop> LiveHub<D> {
 
     /// The file was opened again, which had `end` committed bytes before.
     fn reopened(&mut self, end: u64)
-        ensures { self.new.hub ≡ self.old.hub }
+        ensures hub { self.new.hub ≡ self.old.hub }
+        ensures told { (machine : HubState) → Shows D.is_honest D.state self.old.hub machine → (going : Bool) × IsOpenIn machine going
+            × (self.new.places ≡ reopened_to end (length machine.committed) going self.old.places) }
     {
         let open = is_open(self.hub.streams());
         self.places.reopened(end, self.hub.end(), open);
@@ -169,7 +190,19 @@ impl<D: Disk + Drop> Runner for LiveHub<D> {
         &mut self,
         command: &Command,
         pages: &mut P,
-    ) -> Result<Reply, WriteFault> {
+    ) -> Result<Reply, WriteFault>
+        ensures ok { (before : Progress D) → IsIn D.is_honest D.state before self.old.hub
+            → IfOk result (λ reply. (own : List ℕ) × (after : Progress D)
+            × Answers D.is_honest D.state D.moment D.images_since D.failures before (RecordOf.Command command.now) reply own after
+            × IsIn D.is_honest D.state after self.new.hub × Appends (P.contents pages.old) (P.contents pages.new) own) }
+        ensures err { (before : Progress D) → IsIn D.is_honest D.state before self.old.hub
+            → OnErr result ((reply : ReplyOf) × (own : List ℕ) × (after : Progress D)
+            × Answers D.is_honest D.state D.moment D.images_since D.failures before (RecordOf.Command command.now) reply own after
+            × IsIn D.is_honest D.state before self.new.hub × WritesPart (P.contents pages.old) (P.contents pages.new) own) }
+        ensures keeps { KeepsPlaces (Shows D.is_honest D.state) self.old.hub self.old.places self.new.hub self.new.places }
+    {
+        listeners_join_committed_links();
+        command_is_in_range(command);
         let length = self.hub.length();
         match self.hub.run_command(command, pages) {
             Ok(reply) => {
@@ -180,7 +213,13 @@ impl<D: Disk + Drop> Runner for LiveHub<D> {
         }
     }
 
-    fn run_flush(&mut self) -> Reply {
+    fn run_flush(&mut self) -> Reply
+        ensures answers { (before : Progress D) → IsIn D.is_honest D.state before self.old.hub → (after : Progress D)
+            × Answers D.is_honest D.state D.moment D.images_since D.failures before RecordOf.Flush result [] after
+            × IsIn D.is_honest D.state after self.new.hub }
+        ensures keeps { KeepsPlaces (Shows D.is_honest D.state) self.old.hub self.old.places self.new.hub self.new.places }
+    {
+        listeners_join_committed_links();
         let reply = self.hub.run_flush();
         if let Reply::Kept(_) = reply {
             self.committed();

@@ -1,0 +1,22 @@
+use Rattle.std.proofs.Common.{◌≡◌, Option, Some, Result, Ok, Err, IfOk, [], refl, sym, ◌∙◌, subst, inl}
+use Rattle.serve_live.specs.Boundaries.{place_to_join}
+use Rattle.serve_live.specs.Hearing.{IsHearing}
+use Rattle.serve_live.specs.Listening.{ListenerState}
+use Rattle.serve_live.specs.declared.listener.JoinPlace.{JoinPlace}
+use Rattle.station_hub.specs.Tracking.{JoinsAt}
+use Rattle.station_hub.proofs.live_hub.LiveHub.join.Goals as goal
+
+if_ok : {T E : Type 0} (P Q : T → Type 0) → ((x : T) → P x → Q x) → (result : Result T E) → IfOk result P → IfOk result Q
+if_ok P Q f (Ok x) holds = f x holds
+if_ok P Q f (Err e) holds = tt
+
+pub returns-in-Some-clause-joins : goal.returns-in-Some-clause-joins
+returns-in-Some-clause-joins g c start machine shows tracks =
+    let places = c.args.self.now.places in
+    let found : place_to_join places.boundaries ≡ Some c.in-Some.place = sym c.place.ensures ∙ c.in-Some.is in
+    let (links, are_links) = shows.linked machine.committed (inl refl) in
+    let (moment, is_place) = c.listeners_join_committed_links.ensures.joins start machine places c.in-Some.place links tracks found are_links in
+    if_ok (λ (listener : ListenerState). IsHearing moment machine.committed listener [])
+    (λ (listener : ListenerState). JoinsAt (place_to_join places.boundaries) machine.committed listener)
+    (λ listener hearing. subst (λ (place : Option JoinPlace). JoinsAt place machine.committed listener) (sym found) (links, moment, are_links, is_place, hearing))
+    c.join.result (c.join.ensures.joins machine links moment shows are_links is_place)
