@@ -1,9 +1,11 @@
 // Runs the feed on standard input by libogg: what `kudzuturret mux` and `kudzuturret record` do, without their rules. It
 // trusts its input, so each command is kept. Without words it writes the pages to standard output, and a reply for each
-// command to standard error. With words it records into FILE, MOST commands to a commit, by the calls of the system that
-// `record` makes, and writes the replies to standard output.
+// command to standard error. With `quiet` it writes the pages of many commands at once, and no replies. With two words it
+// records into FILE, MOST commands to a commit, by the calls of the system that `record` makes, and writes the replies to
+// standard output.
 //
 //     cc -O2 -o mux_libogg mux_libogg.c -logg && ./mux_libogg < FEED > PAGES
+//     ./mux_libogg quiet < FEED > PAGES
 //     ./mux_libogg FILE MOST < FEED > REPLIES
 #include <fcntl.h>
 #include <inttypes.h>
@@ -14,7 +16,7 @@
 #include <string.h>
 #include <unistd.h>
 
-enum { MOST_STREAMS = 64, MOST_PAYLOAD = 33554432 };
+enum { MOST_STREAMS = 64, MOST_PAYLOAD = 33554432, TOGETHER = 65536 };
 
 static struct { uint32_t serial; ogg_int64_t position; ogg_stream_state state; } streams[MOST_STREAMS];
 static int count;
@@ -150,6 +152,16 @@ static void reply_kept(uint64_t kept) {
     if (printf("kept %" PRIu64 " %" PRIu64 "\n", kept, (uint64_t)committed) < 0 || fflush(stdout)) fail("replying failed");
 }
 
+// Writes the pages that were made to standard output.
+static void write_pages(void) {
+    for (size_t done = 0; done < length;) {
+        ssize_t took = write(1, pages + done, length - done);
+        if (took <= 0) fail("writing failed");
+        done += took;
+    }
+    length = 0;
+}
+
 int main(int words, char **word) {
     unsigned char head[5], *payload = malloc(MOST_PAYLOAD);
     static char buffer[65536], lines[16384];
@@ -158,6 +170,7 @@ int main(int words, char **word) {
     setvbuf(stdin, buffer, _IOFBF, sizeof buffer);
     setvbuf(stdout, lines, _IOFBF, sizeof lines);
     if (!payload) fail("no memory");
+    int quiet = words == 2 && strcmp(word[1], "quiet") == 0;
     if (words == 3) {
         most = strtoull(word[2], NULL, 10);
         file = open(word[1], O_CREAT | O_RDWR, 0666);
@@ -167,12 +180,16 @@ int main(int words, char **word) {
         const unsigned char *at = head + 1;
         uint32_t size = number(&at, 4);
         if (size > MOST_PAYLOAD || fread(payload, 1, size, stdin) != size) fail("a bad record");
-        length = 0;
+        if (file >= 0) length = 0;
         switch (head[0]) {
         case 1: begin(payload); break;
         case 2: put_entries(payload); break;
         case 3: end(payload); break;
         default: fail("a bad kind");
+        }
+        if (quiet) {
+            if (length >= TOGETHER) write_pages();
+            continue;
         }
         held++;
         if (file >= 0 && held < most) {
@@ -186,16 +203,12 @@ int main(int words, char **word) {
             reply_kept(kept);
             continue;
         }
-        // One write for a command, as ours.
-        for (size_t done = 0; done < length;) {
-            ssize_t took = write(1, pages + done, length - done);
-            if (took <= 0) fail("writing failed");
-            done += took;
-        }
         end_of_file += length;
+        write_pages();
         int bytes = snprintf(line, sizeof line, "kept %" PRIu64 " %" PRIu64 "\n", kept, end_of_file);
         if (write(2, line, bytes) != bytes) fail("replying failed");
     }
+    if (quiet) write_pages();
     if (held) {
         commit();
         kept += held;

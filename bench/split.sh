@@ -1,7 +1,8 @@
 #!/usr/bin/env bash
 # Measures `links` and `split` over a file of 1 GB, in large and in small pages, and a program over libogg's sync layer
-# that does the same. Then it measures the same link out of a file of many links, and `salvage` over sound and over
-# random bytes, beside a plain search for the capture pattern. CPU seconds (user and system) are the best of three runs
+# that does the same; and how long it takes to open such a file for recording, which reads all of its pages, beside the
+# program that lists its links. Then it measures the same link out of a file of many links, and `salvage` over sound and
+# over random bytes, beside a plain search for the capture pattern. CPU seconds (user and system) are the best of three runs
 # that take turns, and the most memory that each had is printed. Not part of the tests.
 #
 #     apt-get install libogg-dev && bench/split.sh [BYTES]      none: 1000000000
@@ -46,11 +47,15 @@ competitor='libogg, sync layer'
 same() { cmp "$work/ours" "$work/theirs" || status=1; }
 
 printf '%-42s %8s %10s %10s %7s %10s %10s\n' work MB 'ours, s' 'theirs, s' ratio 'ours, kB' 'theirs, kB'
-for packet in 100 65024; do
+for packet in 100 4000 65024; do
     "$work/pages_made" "$bytes" "$packet" >"$work/file"
     cat "$work/file" >/dev/null
     both "links_packets_of_${packet}_bytes" "$work/file" links "$work/file" -- "$work/split_libogg" links
     same
+    cp "$work/file" "$work/opened"
+    both "archive_of_nothing,_behind_packets_of_${packet}_bytes" "$work/file" archive "$work/opened" -- "$work/split_libogg" links
+    rm "$work/opened"
+    [ "$packet" != 4000 ] || continue
     both "split_packets_of_${packet}_bytes" "$work/file" split "$work/file" 0 -- "$work/split_libogg" split
     same
     both "split_a_stream_in_packets_of_${packet}_bytes" "$work/file" split "$work/file" 0 1 -- "$work/split_libogg" split
