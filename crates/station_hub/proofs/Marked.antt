@@ -1,12 +1,13 @@
 -- Boundaries of a link that is recorded.
-use Rattle.std.proofs.Common.{◌≡◌, ◌≢◌, ◌⊎◌, ℕ, ◌+◌, ◌-◌, ◌<◌, Bool, true, false, Option, Some, None, IsOk, Result, Ok, Err, List, [], ◌∷◌, ◌++◌, length, drop, zero, suc, refl, sym, ◌∙◌, ap, subst, inl, inr, append_assoc, append-nil, if◌then◌else◌, arith}
+use Rattle.std.proofs.Common.{◌≡◌, ◌⊎◌, ℕ, ◌-◌, ◌<◌, Bool, true, false, Option, Some, None, IsOk, List, [], ◌∷◌, ◌++◌, length, drop, zero, suc, refl, sym, ◌∙◌, ap, subst, inl, inr, append_assoc, append-nil, if◌then◌else◌, arith}
 use Rattle.std.specs.Prelude.{nat_le, nat_lt, not}
 use Rattle.std.specs.List.{AllByRecursion}
 use Rattle.std.proofs.lemmas.Bool.{cases_Bool, cond-false, cond-true}
 use Rattle.std.proofs.lemmas.Bool.Decides.{nat_tests}
 use Rattle.ogg_page.specs.Page.{Page}
 use Rattle.link_chain.specs.ChainState.{ChainState, chain_state_of, is_open}
-use Rattle.link_chain.specs.Laws.Grow.{all_both, all_weaker}
+use Rattle.link_chain.specs.Laws.Grow.{all_weaker}
+use Rattle.ogg_page.specs.Laws.PageBytes.{all_both}
 use Rattle.link_chain.specs.Links.{AreLinks}
 use Rattle.link_chain.specs.Recording.{HoldsLinks, Recording}
 use Rattle.link_chain.specs.Rules.{Rule, first_broken}
@@ -27,7 +28,7 @@ use Rattle.serve_live.specs.Live.{Moment}
 use Rattle.serve_live.specs.Places.{IsPlaceIn}
 use Rattle.serve_live.specs.declared.listener.JoinPlace.{JoinPlace}
 use Rattle.station_hub.specs.Marking.{AreBoundaries, ArePlaces, BegunIn, IsBegun, IsBoundary, LastLink, Records, Start, bytes_by, links_by}
-use Rattle.station_hub.specs.Places.{PlacesState, answered_by, committed_to, doubted, gone_to, noted, place_of, reopened_to, while_open}
+use Rattle.station_hub.specs.Places.{PlacesState, answered_by, committed_to, doubted, gone_to, noted, place_of, reopened_to}
 use Rattle.station_hub.specs.declared.places.Answered.{Answered}
 use Rattle.station_hub.specs.declared.places.BeginPlace.{BeginPlace}
 

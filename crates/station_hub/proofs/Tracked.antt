@@ -1,18 +1,17 @@
 -- A hub's machine, and the places of its listeners.
-use Rattle.std.proofs.Common.{◌≡◌, ◌≢◌, ◌⊎◌, ℕ, ◌+◌, ◌<◌, ◌≤◌, Bool, true, false, Option, Some, None, IsOk, Result, Ok, Err, List, [], ◌∷◌, ◌++◌, length, refl, sym, ◌∙◌, ap, subst, inl, inr, append_assoc, append-nil, length-append, if◌then◌else◌, arith}
+use Rattle.std.proofs.Common.{◌≡◌, ℕ, ◌≤◌, Bool, true, false, Option, Some, None, IsOk, Result, Ok, Err, List, [], ◌∷◌, ◌++◌, length, refl, sym, ◌∙◌, ap, subst, inl, inr, append_assoc, append-nil, length-append, arith}
 use Rattle.std.specs.Prelude.{nat_lt, not, ◌||◌, is_some}
-use Rattle.std.specs.List.{AllByRecursion}
 use Rattle.std.proofs.lemmas.Bool.{cond-false}
 use Rattle.std.proofs.lemmas.Bool.Decides.{leb_tells, nat_tests}
 use Rattle.ogg_page.specs.Page.{Page}
-use Rattle.link_chain.specs.ChainState.{chain_state_of, is_open}
-use Rattle.link_chain.specs.Laws.Grow.{all_both}
+use Rattle.link_chain.specs.ChainState.{chain_state_of}
+use Rattle.ogg_page.specs.Laws.PageBytes.{all_both}
 use Rattle.link_chain.specs.Links.{AreLinks}
 use Rattle.ogg_command.specs.Command.{IsCommand}
 use Rattle.ogg_command.specs.declared.command.Command.{Command}
 use Rattle.ogg_command.specs.declared.refusal.Refusal.{Refusal}
 use Rattle.ogg_command.specs.declared.refusal.Refusal.TheVariants.{Failed as FailedOf, Memory as NoRoom, Disk}
-use Rattle.chain_rules.specs.Commands.{AreKept, bytes_of_commands, links_behind}
+use Rattle.chain_rules.specs.Commands.{AreKept, links_behind}
 use Rattle.chain_rules.specs.Decision.{decision, is_begin}
 use Rattle.chain_rules.specs.Encoding.{command_bytes, links_after}
 use Rattle.feed_replies.specs.declared.reply.Kept.{Kept}
