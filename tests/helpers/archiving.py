@@ -2,7 +2,7 @@
 """Streams for the tests of `archive`, and kills of an encoder and of the program.
 
 `archiving.py long` writes one long stream to standard output. `archiving.py encode SEED` writes a stream as a live
-encoder does, page by page with pauses, until it is killed. `archiving.py kills PROGRAM FOLDER COUNT` runs an encoder
+encoder does, page by page with pauses, until it is killed; a line on standard error says that it has begun. `archiving.py kills PROGRAM FOLDER COUNT` runs an encoder
 into `archive` again and again over one growing file, each time killing the encoder, the program or both, and checks
 after each run what the file holds. `archiving.py fails PROGRAM LIBRARY FOLDER` has each device call fail in turn, and
 `archiving.py refuses PROGRAM LIBRARY FOLDER` each request for memory, by the libraries of failing.c and refusing.c.
@@ -11,6 +11,7 @@ all but one group of their commands is kept then.
 """
 import os
 import random
+import select
 import struct
 import subprocess
 import sys
@@ -37,9 +38,11 @@ def stream(seed, count):
 def encode(seed):
     out = sys.stdout.buffer
     rng = random.Random(seed)
-    for one in stream(seed, 1 << 30):
+    for number, one in enumerate(stream(seed, 1 << 30)):
         out.write(one)
         out.flush()
+        if number == 0:
+            os.write(2, b"begun\n")
         time.sleep(rng.choice([0, 0, 0.001]))
 
 
@@ -102,12 +105,16 @@ def kills(program, folder, count):
     wrong = runs = 0
     before, end_before = b"", 0
     for seed in range(1, count + 1):
-        encoder = subprocess.Popen([sys.executable, __file__, "encode", str(seed)], stdout=subprocess.PIPE)
+        words = [sys.executable, __file__, "encode", str(seed)]
+        encoder = subprocess.Popen(words, stdout=subprocess.PIPE, stderr=subprocess.PIPE)
         archive = subprocess.Popen(
             [program, "archive", path], stdin=encoder.stdout, stdout=subprocess.DEVNULL, stderr=subprocess.PIPE
         )
         encoder.stdout.close()
-        time.sleep(rng.uniform(0.02, 0.15))
+        # One in eight is killed at any moment of its start.
+        if seed % 8:
+            select.select([encoder.stderr], [], [], 20)
+        time.sleep(rng.uniform(0, 0.13))
         victims = rng.choice([[encoder], [archive], [encoder, archive], [archive, encoder]])
         for victim in victims:
             victim.kill()
@@ -120,7 +127,7 @@ def kills(program, folder, count):
             print(f"run {seed}: status {archive.returncode}, {told[-200:]}")
             wrong += 1
         encoder.kill()
-        encoder.wait()
+        encoder.communicate()
         data = open(path, "rb").read() if os.path.exists(path) else b""
         met = list(faults(data, before, end_before))
         for fault in met[:3]:
