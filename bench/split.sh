@@ -29,7 +29,7 @@ both() {
     : >"$work/ours.s"
     : >"$work/theirs.s"
     for _ in 1 2 3; do
-        "$work/measured" "$work/ours" /dev/null "$program" "${ours[@]}" >>"$work/ours.s"
+        "$work/measured" "$work/ours" /dev/null "$program" "${ours[@]}" >>"$work/ours.s" 2>"$work/told"
         "$work/measured" "$work/theirs" "$file" "${theirs[@]}" >>"$work/theirs.s"
     done
     local least_ours least_theirs what
