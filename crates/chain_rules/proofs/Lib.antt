@@ -22,4 +22,5 @@ pub mod Held
 pub mod Longer
 pub mod TakenExamples
 pub mod OwnSerials
+pub mod Planned
 pub mod Adding

@@ -14,7 +14,7 @@ use Rattle.chain_rules.proofs.Kept.{size_is_own}
 use Rattle.chain_rules.proofs.PutState.{put_state}
 
 -- the same, of a command
-abbrev HasTime : Command → Type 0
+abbrev pub HasTime : Command → Type 0
 HasTime (BeginOf begin) = HasText begin.skeleton
 HasTime (PutOf put) = ⊤
 HasTime (EndOf serial) = ⊤

@@ -25,7 +25,7 @@ use Rattle.chain_rules.proofs.LastPage.{end_position}
 use Rattle.command_pages.specs.Laws.Runs.{some_values}
 use Rattle.link_chain.specs.Laws.StateBehind.{state_behind}
 use Rattle.chain_rules.proofs.RunState.{run_own, run_unmarked, run_state}
-use Rattle.link_chain.specs.Followed.{moved_by}
+use Rattle.link_chain.specs.Followed.{moved_on, moved_by}
 
 -- ---- streams that are looked up after a change
 pub looked_up : (serial : ℕ) (change : StreamState → StreamState) → ((s : StreamState) → (change s).serial ≡ s.serial) → (streams : List StreamState) (other : ℕ) →
@@ -138,53 +138,40 @@ each_ready streams serial sequence position (run ∷ runs) h = (
   each_ready streams serial sequence position runs h.1,
 )
 
--- the chain with these streams, and with pages that are no stream's first; it is longer by this size
-abbrev pub grown : ChainState → List StreamState → ℕ → ChainState
-grown chain streams size = record chain { streams = streams; has_data = true; length_of = chain.length_of + size }
+-- the chain goes on by the pages of the runs
+abbrev GoesOn : List (List Entry) → List (List Page) → Type 0
+GoesOn runs links =
+    let chain : ChainState = chain_state_of links in
+    chain_state_of (with_pages links (pages_of_runs chain.streams runs)) ≡ moved_on chain (fold with_run chain.streams runs) (size_of_pages (pages_of_runs chain.streams runs))
+
+-- by the first run, and then by the others, as links do that have pages which are no stream's first
+behind_first : (run : List Entry) (runs : List (List Entry)) (links : List (List Page)) → links ≢ [] → AllByRecursion (IsReadyRun (chain_state_of links).streams) (run ∷ runs) →
+    ((links' : List (List Page)) → links' ≢ [] → (chain_state_of links').has_data ≡ true → AllByRecursion (IsReadyRun (chain_state_of links').streams) runs → GoesOn runs links') →
+    GoesOn (run ∷ runs) links
+behind_first run runs links some h others =
+    let chain : ChainState = chain_state_of links in
+    let pages : List Page = pages_behind chain.streams run in
+    let links' : List (List Page) = with_pages links pages in
+    let first : chain_state_of links' ≡ moved_on chain (with_run chain.streams run) (size_of_pages pages) = behind_run links run some h.0 in
+    let streams : (chain_state_of links').streams ≡ with_run chain.streams run = ap (λ (c : ChainState). c.streams) first in
+    let later = others links' (with_some links pages some) (ap (λ (c : ChainState). c.has_data) first)
+    (subst (λ (l : List StreamState). AllByRecursion (IsReadyRun l) runs) (sym streams)
+    (each_ready chain.streams (run_serial run) (next_in chain.streams (run_serial run) + length pages) (run_position run) runs h.1)) in
+    let rest : List Page = pages_of_runs (with_run chain.streams run) runs in
+    ap chain_state_of (with_both links pages rest ∙ ap (λ (l : List StreamState). with_pages links' (pages_of_runs l runs)) (sym streams))
+    ∙ later
+    ∙ ap (λ (c : ChainState). moved_on c (fold with_run c.streams runs) (size_of_pages (pages_of_runs c.streams runs))) first
+    ∙ ap (λ n. record chain { streams = fold with_run (with_run chain.streams run) runs; has_data = true; length_of = n })
+    (let e : chain.length_of + size_of_pages pages + size_of_pages rest ≡ chain.length_of + size_of_pages (pages ++ rest) = omega (arith, sum_by-append page_size pages rest) in e)
 
 behind_later : (runs : List (List Entry)) (links : List (List Page)) → links ≢ [] → (chain_state_of links).has_data ≡ true → AllByRecursion (IsReadyRun (chain_state_of links).streams) runs →
-    let chain : ChainState = chain_state_of links in
-    chain_state_of (with_pages links (pages_of_runs chain.streams runs)) ≡ grown chain (fold with_run chain.streams runs) (size_of_pages (pages_of_runs chain.streams runs))
+    GoesOn runs links
 behind_later [] links some has h =
     let chain : ChainState = chain_state_of links in
     ap chain_state_of (with_none links)
     ∙ ap (λ b. record chain { has_data = b }) has
     ∙ ap (λ n. record chain { has_data = true; length_of = n }) (let e : chain.length_of ≡ chain.length_of + 0 = omega arith in e)
-behind_later (run ∷ runs) links some has h =
-    let chain : ChainState = chain_state_of links in
-    let pages : List Page = pages_behind chain.streams run in
-    let links' : List (List Page) = with_pages links pages in
-    let first : chain_state_of links' ≡ grown chain (with_run chain.streams run) (size_of_pages pages) = behind_run links run some h.0 in
-    let streams : (chain_state_of links').streams ≡ with_run chain.streams run = ap (λ (c : ChainState). c.streams) first in
-    let later = behind_later runs links' (with_some links pages some) (ap (λ (c : ChainState). c.has_data) first)
-    (subst (λ (l : List StreamState). AllByRecursion (IsReadyRun l) runs) (sym streams)
-    (each_ready chain.streams (run_serial run) (next_in chain.streams (run_serial run) + length pages) (run_position run) runs h.1)) in
-    let rest : List Page = pages_of_runs (with_run chain.streams run) runs in
-    ap chain_state_of (with_both links pages rest ∙ ap (λ (l : List StreamState). with_pages links' (pages_of_runs l runs)) (sym streams))
-    ∙ later
-    ∙ ap (λ (c : ChainState). grown c (fold with_run c.streams runs) (size_of_pages (pages_of_runs c.streams runs))) first
-    ∙ ap (λ n. record chain { streams = fold with_run (with_run chain.streams run) runs; has_data = true; length_of = n })
-    (let e : chain.length_of + size_of_pages pages + size_of_pages rest ≡ chain.length_of + size_of_pages (pages ++ rest) = omega (arith, sum_by-append page_size pages rest) in e)
-
-behind_runs : (run : List Entry) (runs : List (List Entry)) (links : List (List Page)) → links ≢ [] → AllByRecursion (IsReadyRun (chain_state_of links).streams) (run ∷ runs) →
-    let chain : ChainState = chain_state_of links in
-    chain_state_of (with_pages links (pages_of_runs chain.streams (run ∷ runs)))
-    ≡ grown chain (fold with_run chain.streams (run ∷ runs)) (size_of_pages (pages_of_runs chain.streams (run ∷ runs)))
-behind_runs run runs links some h =
-    let chain : ChainState = chain_state_of links in
-    let pages : List Page = pages_behind chain.streams run in
-    let links' : List (List Page) = with_pages links pages in
-    let first : chain_state_of links' ≡ grown chain (with_run chain.streams run) (size_of_pages pages) = behind_run links run some h.0 in
-    let streams : (chain_state_of links').streams ≡ with_run chain.streams run = ap (λ (c : ChainState). c.streams) first in
-    let later = behind_later runs links' (with_some links pages some) (ap (λ (c : ChainState). c.has_data) first)
-    (subst (λ (l : List StreamState). AllByRecursion (IsReadyRun l) runs) (sym streams)
-    (each_ready chain.streams (run_serial run) (next_in chain.streams (run_serial run) + length pages) (run_position run) runs h.1)) in
-    let rest : List Page = pages_of_runs (with_run chain.streams run) runs in
-    ap chain_state_of (with_both links pages rest ∙ ap (λ (l : List StreamState). with_pages links' (pages_of_runs l runs)) (sym streams))
-    ∙ later
-    ∙ ap (λ (c : ChainState). grown c (fold with_run c.streams runs) (size_of_pages (pages_of_runs c.streams runs))) first
-    ∙ ap (λ n. record chain { streams = fold with_run (with_run chain.streams run) runs; has_data = true; length_of = n })
-    (let e : chain.length_of + size_of_pages pages + size_of_pages rest ≡ chain.length_of + size_of_pages (pages ++ rest) = omega (arith, sum_by-append page_size pages rest) in e)
+behind_later (run ∷ runs) links some has h = behind_first run runs links some h (λ links' some' has' h'. behind_later runs links' some' has' h')
 
 some_runs : (entries : List Entry) → 0 < length entries → runs_of entries ≢ []
 some_runs [] some = absurd (omega arith)
@@ -199,16 +186,14 @@ some_runs (entry ∷ entries) some = not_nil entry (runs_of entries)
         either true = λ e. cc
         either false = λ e. cc
 
-behind_all : (runs : List (List Entry)) (links : List (List Page)) → runs ≢ [] → links ≢ [] → AllByRecursion (IsReadyRun (chain_state_of links).streams) runs →
-    let chain : ChainState = chain_state_of links in
-    chain_state_of (with_pages links (pages_of_runs chain.streams runs)) ≡ grown chain (fold with_run chain.streams runs) (size_of_pages (pages_of_runs chain.streams runs))
+behind_all : (runs : List (List Entry)) (links : List (List Page)) → runs ≢ [] → links ≢ [] → AllByRecursion (IsReadyRun (chain_state_of links).streams) runs → GoesOn runs links
 behind_all [] links many some h = absurd (many refl)
-behind_all (run ∷ runs) links many some h = behind_runs run runs links some h
+behind_all (run ∷ runs) links many some h = behind_first run runs links some h (behind_later runs)
 
 -- ---- a put that is kept
 pub put_state : (links : List (List Page)) (put : Put) (size : ℕ) → decision (chain_state_of links) (PutOf put) ≡ Ok size →
     let chain : ChainState = chain_state_of links in
-    chain_state_of (links_after links (PutOf put)) ≡ grown chain (fold with_run chain.streams (runs_of put.entries)) (size_of_pages (pages_of_runs chain.streams (runs_of put.entries)))
+    chain_state_of (links_after links (PutOf put)) ≡ moved_on chain (fold with_run chain.streams (runs_of put.entries)) (size_of_pages (pages_of_runs chain.streams (runs_of put.entries)))
 unfolding pages_of_command
 put_state links put size e =
     let chain : ChainState = chain_state_of links in

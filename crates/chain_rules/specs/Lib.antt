@@ -10,6 +10,7 @@ pub mod Limits
 pub use Rattle.link_chain.specs.Size
 pub mod Decision
 pub mod Begun
+pub mod Plan
 pub use Rattle.link_chain.specs.Serials
 pub mod Shape
 pub use Rattle.link_chain.specs.Taking

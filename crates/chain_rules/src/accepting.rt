@@ -1,5 +1,5 @@
 //! What a command that is kept changes of the last link's streams.
-ghost use Rattle.std.specs.Prelude.{◌≡◌, ◌≤◌, ◌<◌, ◌+◌, ◌++◌, ◌^◌, ℕ, [], false, length, map, sum_by, take, vec_len, vec_capacity};
+ghost use Rattle.std.specs.Prelude.{◌≡◌, ◌≤◌, ◌<◌, ◌+◌, ◌++◌, ◌^◌, ℕ, [], false, IfSome, length, map, sum_by, take, vec_len, vec_capacity};
 ghost use Rattle.std.specs.List.{list_any, fold};
 ghost use Rattle.chain_rules.specs.Begun.{new_state, skeleton_state, skeleton_serial, states_of, has_other_headers, has_more_pages};
 ghost use Rattle.chain_rules.specs.Encoding.{runs_of, pages_of_runs, with_run};
@@ -8,7 +8,7 @@ ghost use Rattle.link_chain.specs.Followed.{moved_on};
 ghost use Rattle.arrayvec.specs.ArrayVec.{array_vec_len};
 ghost use Rattle.link_chain.specs.Size.{size_of_pages};
 ghost use Rattle.command_pages.specs.Fits.{header_bytes, has_many_headers, PutFits};
-ghost use Rattle.command_pages.specs.Limits.{longest_batch, longest_put, most_headers, most_streams};
+ghost use Rattle.command_pages.specs.Limits.{longest_batch, most_headers, most_streams};
 ghost use Rattle.ogg_command.specs.declared.command.NewStream.{NewStream as StreamOf};
 
 use arrayvec::ArrayVec;
@@ -16,17 +16,6 @@ use command_pages::{FEW_STREAMS, size_of_runs, split_headers};
 use link_chain::{Chain, MOST_STREAMS, StreamState};
 use ogg_command::{NewStream, Put, SkeletonHead};
 use packetiser::pages_of_run;
-
-/// Counts the packets of a put in, and returns the size of its pages in bytes.
-pub fn add_runs(streams: &mut [StreamState], put: &Put) -> u64
-    requires distinct { HaveOwnSerials streams.old }
-    requires fits { PutFits streams.old put.now.entries }
-    ensures after { streams.new ≡ fold with_run streams.old (runs_of put.now.entries) }
-    ensures size { result ≡ size_of_pages (pages_of_runs streams.old (runs_of put.now.entries)) }
-    ensures small { result ≤ longest_put }
-{
-    size_of_runs(streams, put.entries.as_slice()).unwrap()
-}
 
 /// Moves a chain on after a put.
 pub fn add_put(chain: &mut Chain, put: &Put)
@@ -56,7 +45,7 @@ fn add_by(copy: &mut [StreamState], chain: &mut Chain, put: &Put)
     let streams = chain.streams();
     let (copy, _) = copy.split_at_mut(streams.len());
     copy.copy_from_slice(streams);
-    let size = add_runs(copy, put);
+    let size = size_of_runs(copy, put.entries.as_slice()).unwrap();
     chain.go_on(copy, size);
 }
 
@@ -125,7 +114,8 @@ fn begun(stream: &NewStream) -> StreamState
 
 /// Whether a new link has pages that are no stream's first.
 pub fn has_more_pages(skeleton: Option<SkeletonHead>, streams: &[NewStream]) -> bool
-    ensures { result ≡ has_more_pages skeleton streams.now }
+    ensures value { result ≡ has_more_pages skeleton streams.now }
+    ensures time { IfSome skeleton (λ head. length head.utc ≡ 20) }
 {
     match skeleton {
         None => have_other_headers(streams),

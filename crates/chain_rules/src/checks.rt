@@ -1,13 +1,15 @@
 //! Whether a command is refused, and why, or else its size.
-ghost use Rattle.std.specs.Prelude.{◌≡◌, ◌≤◌, ◌<◌, ◌+◌, ◌++◌, ◌^◌, sum_by, Option, Some, None, Ok, Err, IfSome, false, length, nat_lt, not};
-ghost use Rattle.std.specs.List.{list_any};
+ghost use Rattle.std.specs.Prelude.{◌≡◌, ◌≤◌, ◌<◌, ◌+◌, ◌++◌, ◌^◌, sum_by, Option, Some, None, Ok, Err, IfSome, IfOk, false, length, take, nat_lt, not};
+ghost use Rattle.std.specs.List.{list_any, fold};
 ghost use Rattle.std.specs.Option.{option_map_or};
 ghost use Rattle.link_chain.specs.Places.{HaveOwnSerials};
+ghost use Rattle.link_chain.specs.Progress.{next_in};
 ghost use Rattle.link_chain.specs.Rules.{first_broken};
 ghost use Rattle.link_chain.specs.ChainState.{ChainState};
 ghost use Rattle.ogg_command.specs.declared.command.Entry.{Entry as EntryOf};
 ghost use Rattle.chain_rules.specs.Decision.{decision, put_rules, begin_rules, room_rules, entries_rules, size_of};
 ghost use Rattle.chain_rules.specs.Decision.{answer, has_many_parts, has_long_message};
+ghost use Rattle.chain_rules.specs.Encoding.{runs_of, with_run};
 ghost use Rattle.chain_rules.specs.Limits.{longest_batch, most_entries, most_streams};
 
 use crate::begin::{broken_by_parts, has_many_parts, is_long_begin};
@@ -21,7 +23,9 @@ use ogg_command::{Begin, Command, Entry, Put, Refusal};
 #[tactic(auto, unfolding(crate::specs::Decision::decision, command_pages::specs::Encoding::pages_of_command))]
 pub fn check_end(streams: &[StreamState], bytes: u64, serial: u32) -> Result<u64, Refusal>
     requires { bytes < 2 ^ 63 }
-    ensures { (chain : ChainState) → chain.streams ≡ streams.now → chain.length_of ≡ bytes → result ≡ decision chain (Command.End serial) }
+    ensures decides { (chain : ChainState) → chain.streams ≡ streams.now → chain.length_of ≡ bytes
+        → result ≡ decision chain (Command.End serial) }
+    ensures numbered { IfOk result (λ _. next_in streams.now serial < 2 ^ 32) }
 {
     if !is_open(streams) {
         return Err(Refusal::NoLink);
@@ -80,8 +84,9 @@ fn room_for_put(streams: &mut [StreamState], bytes: u64, put: &Put) -> Result<u6
     requires distinct { HaveOwnSerials streams.old }
     requires few { length put.now.entries ≤ most_entries }
     requires counted { bytes < 2 ^ 63 }
-    ensures { (chain : ChainState) → chain.streams ≡ streams.old → chain.length_of ≡ bytes
+    ensures decides { (chain : ChainState) → chain.streams ≡ streams.old → chain.length_of ≡ bytes
         → result ≡ answer (size_of chain (Command.Put put.now)) (first_broken (room_rules chain (Command.Put put.now))) }
+    ensures after { IfOk result (λ _. streams.new ≡ fold with_run streams.old (runs_of put.now.entries)) }
 {
     let entries = put.entries.as_slice();
     if is_long_batch(entries) {
@@ -96,23 +101,22 @@ fn room_for_put(streams: &mut [StreamState], bytes: u64, put: &Put) -> Result<u6
     Ok(size)
 }
 
-/// The entries of a put, and the room for it, with room for a copy of the streams.
+/// The entries of a put, and the room for it, in a copy of the streams, which is moved on to the end of the put.
 fn check_by(
     copy: &mut [StreamState],
     streams: &[StreamState],
     bytes: u64,
     put: &Put,
 ) -> Result<u64, Refusal>
-    requires streams { length streams.now ≤ length copy.old }
+    requires copied { copy.old ≡ streams.now }
     requires distinct { HaveOwnSerials streams.now }
     requires few { length put.now.entries ≤ most_entries }
     requires counted { bytes < 2 ^ 63 }
-    ensures { (chain : ChainState) → chain.streams ≡ streams.now → chain.length_of ≡ bytes
+    ensures decides { (chain : ChainState) → chain.streams ≡ streams.now → chain.length_of ≡ bytes
         → result ≡ answer (size_of chain (Command.Put put.now))
         (first_broken (entries_rules chain.streams put.now.entries ++ room_rules chain (Command.Put put.now))) }
+    ensures after { IfOk result (λ _. copy.new ≡ fold with_run streams.now (runs_of put.now.entries)) }
 {
-    let (copy, _) = copy.split_at_mut(streams.len());
-    copy.copy_from_slice(streams);
     if let Some(refusal) = broken_by_entries(copy, put.entries.as_slice()) {
         return Err(refusal);
     }
@@ -120,23 +124,43 @@ fn check_by(
     room_for_put(copy, bytes, put)
 }
 
-/// A put.
+/// A put, with room for a copy of the streams. If the put isn't refused, the copy is moved on to its end.
+pub fn decide_put(
+    room: &mut [StreamState],
+    streams: &[StreamState],
+    bytes: u64,
+    put: &Put,
+) -> Result<u64, Refusal>
+    requires streams { length streams.now ≤ length room.old }
+    requires distinct { HaveOwnSerials streams.now }
+    requires counted { bytes < 2 ^ 63 }
+    ensures decides { (chain : ChainState) → chain.streams ≡ streams.now → chain.length_of ≡ bytes
+        → result ≡ decision chain (Command.Put put.now) }
+    ensures after { IfOk result (λ _. take (length streams.now) room.new
+        ≡ fold with_run streams.now (runs_of put.now.entries)) }
+{
+    if let Some(refusal) = broken_by_put(streams, put.entries.as_slice()) {
+        return Err(refusal);
+    }
+    let (copy, _) = room.split_at_mut(streams.len());
+    copy.copy_from_slice(streams);
+    check_by(copy, streams, bytes, put)
+}
+
+/// A put, of which nothing is planned.
 pub fn check_put(streams: &[StreamState], bytes: u64, put: &Put) -> Result<u64, Refusal>
     requires streams { length streams.now ≤ most_streams }
     requires distinct { HaveOwnSerials streams.now }
     requires counted { bytes < 2 ^ 63 }
     ensures { (chain : ChainState) → chain.streams ≡ streams.now → chain.length_of ≡ bytes → result ≡ decision chain (Command.Put put.now) }
 {
-    if let Some(refusal) = broken_by_put(streams, put.entries.as_slice()) {
-        return Err(refusal);
-    }
     // Room is cleared before it is filled, so that a link of few streams takes little.
     if streams.len() <= FEW_STREAMS {
-        let mut copy = [StreamState::NOBODY; FEW_STREAMS];
-        check_by(&mut copy, streams, bytes, put)
+        let mut room = [StreamState::NOBODY; FEW_STREAMS];
+        decide_put(&mut room, streams, bytes, put)
     } else {
-        let mut copy = [StreamState::NOBODY; MOST_STREAMS];
-        check_by(&mut copy, streams, bytes, put)
+        let mut room = [StreamState::NOBODY; MOST_STREAMS];
+        decide_put(&mut room, streams, bytes, put)
     }
 }
 

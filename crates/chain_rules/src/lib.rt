@@ -3,7 +3,9 @@
 //! A command begins a link of logical streams, puts packets, or ends a stream. `Shape` stands for
 //! the chain so far. `check` says why a command is refused, or how long its pages are; `lay`
 //! appends these pages; `prepare` makes the room, and then `accept` adds the command and takes no
-//! memory. A refusal changes nothing, and no call reads the file. `take_page` takes pages that were
+//! memory. A caller that does all of this keeps a `Plan`, so that a command is decided once: `plan`
+//! checks a command and plans what the chain is after it, and `accept_plan` adds the command by its
+//! plan. A refusal changes nothing, and no call reads the file. `take_page` takes pages that were
 //! read, one by one, and `unfinished` says whether they leave a packet unfinished.
 //!
 //! Start at `specs/Links.antt` of link_chain, which says what a link and a chain are, at
@@ -17,6 +19,7 @@ mod checks;
 mod entries;
 mod laws;
 mod limits;
+mod plan;
 mod shape;
 
 pub use command_pages::CommandPages;
@@ -30,4 +33,5 @@ pub use link_chain::{
 };
 pub use ogg_command::{Begin, Command, Entry, Listed, NewStream, Put, Refusal, SkeletonHead};
 pub use ogg_page::Memory;
+pub use plan::Plan;
 pub use shape::Shape;

@@ -6,6 +6,7 @@ use crate::Memory;
 use crate::accepting::{add_put, has_more_pages, streams_of};
 use crate::begin::stream_count;
 use crate::checks::{check_begin, check_end, check_put};
+use crate::plan::Plan;
 use command_pages::{CommandPages, lay_command, size_of_begin};
 use link_chain::{Chain, ChainFault, Serials, StreamState};
 use ogg_command::{Begin, Command, Put, Refusal};
@@ -31,6 +32,7 @@ impl Shape {
     ghost use Rattle.link_chain.specs.ChainState.{ChainState, chain_state_of, is_open};
     ghost use Rattle.chain_rules.specs.Decision.{decision};
     ghost use Rattle.chain_rules.specs.Limits.{longest_file};
+    ghost use Rattle.chain_rules.specs.Plan.{IsPlanOf, chain_by};
     ghost use Rattle.chain_rules.specs.Shape.{HasRoom};
     ghost use Rattle.chain_rules.specs.Encoding.{command_bytes, links_after, pages_of_command};
     ghost use Rattle.link_chain.specs.Taking.{fault_of_page, links_with, unfinished_stream, HasRoomFor};
@@ -106,6 +108,65 @@ impl Shape {
         }
     }
 
+    /// Decides a command as `check` does, and plans what the chain is after it, for `accept_plan`. After a refusal the
+    /// plan may be anything.
+    pub fn plan(&self, command: &Command, plan: &mut Plan) -> Result<u64, Refusal>
+        ensures decides { result ≡ decision self.now.chain command.now }
+        ensures fits { IfOk result (λ size. self.now.chain.length_of + size < longest_file) }
+        ensures planned { IfOk result (λ _. IsPlanOf self.now.chain command.now plan.new) }
+    {
+        self.decide_by(command, plan)
+    }
+
+    fn decide_by(&self, command: &Command, plan: &mut Plan) -> Result<u64, Refusal>
+        ensures decides { result ≡ decision self.now.chain command.now }
+        ensures planned { IfOk result (λ _. IsPlanOf self.now.chain command.now plan.new) }
+    {
+        match command {
+            Command::Begin(begin) => self.plan_begin(begin, plan),
+            Command::Put(put) => self.plan_put(put, plan),
+            Command::End(serial) => self.plan_end(*serial, plan),
+        }
+    }
+
+    fn plan_begin(&self, begin: &Begin, plan: &mut Plan) -> Result<u64, Refusal>
+        ensures decides { result ≡ decision self.now.chain (Command.Begin begin.now) }
+        ensures planned { IfOk result (λ _. IsPlanOf self.now.chain (Command.Begin begin.now) plan.new) }
+    {
+        let size = match check_begin(
+            self.chain.streams(),
+            self.chain.serials(),
+            self.chain.links(),
+            self.chain.len(),
+            begin,
+        ) {
+            Ok(size) => size,
+            Err(refusal) => return Err(refusal),
+        };
+        let streams = streams_of(begin.skeleton, begin.streams.as_slice());
+        plan.set(streams.as_slice(), size);
+        Ok(size)
+    }
+
+    fn plan_put(&self, put: &Put, plan: &mut Plan) -> Result<u64, Refusal>
+        ensures decides { result ≡ decision self.now.chain (Command.Put put.now) }
+        ensures planned { IfOk result (λ _. IsPlanOf self.now.chain (Command.Put put.now) plan.new) }
+    {
+        plan.put(self.chain.streams(), self.chain.len(), put)
+    }
+
+    fn plan_end(&self, serial: u32, plan: &mut Plan) -> Result<u64, Refusal>
+        ensures decides { result ≡ decision self.now.chain (Command.End serial) }
+        ensures planned { IfOk result (λ _. IsPlanOf self.now.chain (Command.End serial) plan.new) }
+    {
+        let size = match check_end(self.chain.streams(), self.chain.len(), serial) {
+            Ok(size) => size,
+            Err(refusal) => return Err(refusal),
+        };
+        plan.end(self.chain.streams(), serial, size);
+        Ok(size)
+    }
+
     /// Appends the pages of a command that `check` takes. After `Memory` the vector is unchanged.
     pub fn lay(&self, command: &Command, out: &mut Vec<u8>) -> Result<(), Memory>
         requires { IsOk (decision self.now.chain command.now) }
@@ -156,6 +217,36 @@ impl Shape {
         }
     }
 
+    /// Adds a command to the chain by its plan, and decides nothing again. It takes no memory: `prepare` has made the
+    /// room.
+    pub fn accept_plan(&mut self, command: &Command, plan: &Plan)
+        requires planned { IsPlanOf self.old.chain command.now plan.now }
+        requires room { HasRoom self.old command.now }
+        ensures links { (links : List (List PageValue)) → self.old.chain ≡ chain_state_of links
+            → self.new.chain ≡ chain_state_of (links_after links command.now) }
+        ensures grows { (links : List (List PageValue)) (size : ℕ) → self.old.chain ≡ chain_state_of links
+            → decision self.old.chain command.now ≡ Ok size → self.new.chain.length_of ≡ self.old.chain.length_of + size }
+    {
+        match command {
+            Command::Begin(begin) => self.add_link(begin, plan.streams(), plan.size()),
+            Command::Put(_) => self.chain.go_on(plan.streams(), plan.size()),
+            Command::End(_) => self.chain.go_on(plan.streams(), plan.size()),
+        }
+    }
+
+    /// Adds a new link, after which there are these streams; its pages have this size.
+    fn add_link(&mut self, begin: &Begin, streams: &[StreamState], size: u64)
+        requires planned { IsPlanOf self.old.chain (Command.Begin begin.now)
+            (record { streams = streams.now; size = size }) }
+        requires room { HasRoom self.old (Command.Begin begin.now) }
+        ensures after { self.new.chain ≡ chain_by self.old.chain (Command.Begin begin.now)
+            (record { streams = streams.now; size = size }) }
+        ensures time { IfSome begin.now.skeleton (λ head. length head.utc ≡ 20) }
+    {
+        let has_data = has_more_pages(begin.skeleton, begin.streams.as_slice());
+        self.chain.add_link(streams, has_data, size);
+    }
+
     fn accept_end(&mut self, serial: u32)
         requires { IsOk (decision self.old.chain (Command.End serial)) }
         ensures { (links : List (List PageValue)) → self.old.chain ≡ chain_state_of links
@@ -182,8 +273,7 @@ impl Shape {
         let new = begin.streams.as_slice();
         let size = size_of_begin(begin.skeleton, new);
         let streams = streams_of(begin.skeleton, new);
-        let has_data = has_more_pages(begin.skeleton, new);
-        self.chain.add_link(streams.as_slice(), has_data, size);
+        self.add_link(begin, streams.as_slice(), size);
     }
 
     /// Takes a page that was read into the chain, or reports why it may not follow: the first fault in this order. A
