@@ -3,6 +3,7 @@ use Rattle.std.proofs.Common.{◌≡◌, ℕ, ◌+◌, List, [], ◌++◌, inl, 
 use Rattle.link_chain.specs.ChainState.{ChainState, chain_state_of}
 use Rattle.chain_rules.specs.Decision.{decision}
 use Rattle.chain_rules.specs.Encoding.{command_bytes, links_after}
+use Rattle.chain_rules.specs.Plan.{PlanState, IsPlanOf}
 use Rattle.ogg_command.specs.declared.command.Command.{Command}
 use Rattle.ogg_command.specs.declared.refusal.Refusal.{Refusal}
 use Rattle.ogg_command.specs.declared.refusal.Refusal.TheVariants.{Memory}
@@ -37,6 +38,10 @@ reached_after new count before command same after = record { chain_is = after; c
 -- a refusal leaves all as it was
 pub reached_still : (old new : ChainState) (count : ℕ) (before : Progress) → HasReached old count before → new ≡ old → HasReached new count before
 reached_still old new count before reached same = subst (λ (s : ChainState). HasReached s count before) (sym same) reached
+
+-- a plan is that of the same chain
+pub still_planned : (old new : ChainState) (command : Command) (plan : PlanState) → IsPlanOf old command plan → new ≡ old → IsPlanOf new command plan
+still_planned old new command plan planned same = subst (λ (s : ChainState). IsPlanOf s command plan) (sym same) planned
 
 pub is_refused : (chain : ChainState) (count : ℕ) (before : Progress) (command : Command) (refusal : Refusal) → HasReached chain count before
     → decision chain command ≡ Err refusal → Answers before command (Refused refusal) [] before

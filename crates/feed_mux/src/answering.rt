@@ -8,7 +8,7 @@ ghost use Rattle.feed_replies.specs.declared.reply.Reply.{Reply as ReplyOf};
 ghost use Rattle.feed_mux.specs.Progress.{Progress, Answers};
 ghost use Rattle.feed_mux.specs.Reached.{HasReached};
 
-use chain_rules::{Command, Refusal, Shape, refusals_are_of_the_table};
+use chain_rules::{Command, Plan, Refusal, Shape, refusals_are_of_the_table};
 use feed_replies::{Kept, Reply};
 use ogg_page::{WriteFault, write_whole};
 use std::io::Write;
@@ -16,11 +16,12 @@ use std::io::Write;
 /// Writes the pages of a command, adds it to the chain, counts it, and returns the reply. A refusal writes nothing and
 /// leaves the chain and the count as they are. A fault leaves them too, and then not all of the pages were
 /// written, but a part from their front.
-/// `bytes` is room for the pages, used again for each command.
+/// `plan` and `bytes` are room for the command's plan and its pages, used again for each command.
 pub fn answer<P: Write>(
     shape: &mut Shape,
     count: &mut u64,
     command: &Command,
+    plan: &mut Plan,
     bytes: &mut Vec<u8>,
     pages: &mut P,
 ) -> Result<Reply, WriteFault>
@@ -38,7 +39,7 @@ pub fn answer<P: Write>(
         → vec_capacity bytes.old < length (command_bytes shape.old.chain command.now) }
 {
     refusals_are_of_the_table();
-    match shape.check(command) {
+    match shape.plan(command, plan) {
         Ok(_) => {}
         Err(refusal) => return Ok(Reply::Refused(refusal)),
     }
@@ -55,7 +56,7 @@ pub fn answer<P: Write>(
         Ok(()) => {}
         Err(fault) => return Err(fault),
     }
-    shape.accept(command);
+    shape.accept_plan(command, plan);
     *count += 1;
     Ok(Reply::Kept(Kept {
         count: *count,

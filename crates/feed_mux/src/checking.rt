@@ -6,7 +6,7 @@ ghost use Rattle.feed_mux.specs.Checking.{ChecksRecord};
 ghost use Rattle.feed_mux.specs.Progress.{Progress, Answers, at_start, end_of, nothing_held};
 ghost use Rattle.feed_mux.specs.Reached.{HasReached};
 
-use chain_rules::{Command, Refusal, Shape, refusals_are_of_the_table};
+use chain_rules::{Command, Plan, Refusal, Shape, refusals_are_of_the_table};
 use feed_replies::{Kept, Reply, RunFault, Tally};
 use feed_run::{Ahead, Replies, Runner, Unknown, run_feed_for};
 use ogg_page::WriteFault;
@@ -14,8 +14,9 @@ use std::alloc::Global;
 use std::io::{self, Read, Sink, Write};
 
 /// Adds a command to the chain, counts it, and returns the reply. A refusal leaves the chain and the count as they
-/// are. No page is made: `Shape::check` finds how long the command's pages would be.
-fn check_command(shape: &mut Shape, count: &mut u64, command: &Command) -> Reply
+/// are. No page is made: `Shape::plan` finds how long the command's pages would be. `plan` is room, used again for each
+/// command.
+fn check_command(shape: &mut Shape, count: &mut u64, command: &Command, plan: &mut Plan) -> Reply
     requires { count.old < 2 ^ 63 }
     ensures reply { (before : Progress) → HasReached shape.old.chain count.old before →
         (own : List ℕ) × (behind : Progress) × Answers before command.now result own behind
@@ -26,7 +27,7 @@ fn check_command(shape: &mut Shape, count: &mut u64, command: &Command) -> Reply
     ensures full { result ≡ Reply.Refused Refusal.Memory → HasRoom shape.old command.now → ⊥ }
 {
     refusals_are_of_the_table();
-    match shape.check(command) {
+    match shape.plan(command, plan) {
         Ok(_) => {}
         Err(refusal) => return Reply::Refused(refusal),
     }
@@ -34,7 +35,7 @@ fn check_command(shape: &mut Shape, count: &mut u64, command: &Command) -> Reply
         Ok(()) => {}
         Err(_) => return Reply::Refused(Refusal::Memory),
     }
-    shape.accept(command);
+    shape.accept_plan(command, plan);
     *count += 1;
     Reply::Kept(Kept {
         count: *count,
@@ -47,6 +48,8 @@ fn check_command(shape: &mut Shape, count: &mut u64, command: &Command) -> Reply
 pub struct Checker {
     shape: Shape,
     count: u64,
+    // what one command makes of the chain
+    plan: Plan,
 }
 
 impl Checker {
@@ -58,6 +61,7 @@ impl Checker {
         Checker {
             shape: Shape::new(alloc),
             count: 0,
+            plan: Plan::new(),
         }
     }
 }
@@ -76,7 +80,7 @@ impl Runner for Checker {
     ghost counted = { λ checker. checker.count };
 
     fn run_command<P: Write>(&mut self, command: &Command, _: &mut P) -> Result<Reply, WriteFault> {
-        Ok(check_command(&mut self.shape, &mut self.count, command))
+        Ok(check_command(&mut self.shape, &mut self.count, command, &mut self.plan))
     }
 
     fn run_flush(&mut self) -> Reply {

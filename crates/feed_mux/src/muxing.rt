@@ -5,7 +5,7 @@ ghost use Rattle.feed_mux.specs.Progress.{Progress, AnswersRecord, at_start, end
 ghost use Rattle.feed_mux.specs.Reached.{HasReached};
 
 use crate::answering::answer;
-use chain_rules::{Command, Shape};
+use chain_rules::{Command, Plan, Shape};
 use feed_replies::{Kept, Reply, RunFault, Tally};
 use feed_run::{Ahead, Replies, Runner, Unknown, run_feed_for};
 use ogg_page::WriteFault;
@@ -17,7 +17,8 @@ use std::io::{Read, Write};
 pub struct Multiplexer {
     shape: Shape,
     count: u64,
-    // the pages of one command
+    // what one command makes of the chain, and its pages
+    plan: Plan,
     bytes: Vec<u8>,
 }
 
@@ -30,6 +31,7 @@ impl Multiplexer {
         Multiplexer {
             shape: Shape::new(alloc),
             count: 0,
+            plan: Plan::new(),
             bytes: Vec::new(alloc),
         }
     }
@@ -57,6 +59,7 @@ impl Runner for Multiplexer {
             &mut self.shape,
             &mut self.count,
             command,
+            &mut self.plan,
             &mut self.bytes,
             pages,
         )

@@ -8,7 +8,7 @@ use Rattle.ogg_command.specs.Refusal.{code_of}
 use Rattle.ogg_command.specs.declared.refusal.Refusal.{Refusal}
 use Rattle.ogg_command.specs.declared.refusal.Refusal.TheVariants.{Memory}
 use Rattle.feed_mux.specs.Progress.{with_command}
-use Rattle.feed_mux.proofs.Kept.{is_kept, kept_reply, only_appended, reached_after, reached_still}
+use Rattle.feed_mux.proofs.Kept.{is_kept, kept_reply, only_appended, reached_after, reached_still, still_planned}
 use Rattle.feed_mux.proofs.answering.answer.Goals as goal
 
 pub returns-in-Err-clause-full : goal.returns-in-Err-clause-full
@@ -45,12 +45,15 @@ returns-clause-ok g c = λ before reached.
     ∙ ap (λ (s : ChainState). command_bytes s command) c.prepare.ensures.chain in
     let decided : decision c.prepare.new.self.chain command ≡ Ok size = ap (λ (s : ChainState). decision s command) c.prepare.ensures.chain ∙ sym c.in-Ok.ensures.decides in
     let grown : c.len.result ≡ chain.length_of + size =
-    c.len.ensures ∙ c.accept.ensures.grows before.links size (c.prepare.ensures.chain ∙ reached.chain_is) decided
+    c.len.ensures ∙ c.accept_plan.ensures.grows before.links size (c.prepare.ensures.chain ∙ reached.chain_is) decided
     ∙ ap (λ (s : ChainState). s.length_of + size) c.prepare.ensures.chain in (
       own,
       with_command before command,
       is_kept chain c.args.count.now before command size c.len.result reached (sym c.in-Ok.ensures.decides) grown,
-      reached_after c.accept.new.self.chain c.args.count.now before command reached.count_is
-          (c.accept.ensures.links before.links (c.prepare.ensures.chain ∙ reached.chain_is)),
+      reached_after c.accept_plan.new.self.chain c.args.count.now before command reached.count_is
+          (c.accept_plan.ensures.links before.links (c.prepare.ensures.chain ∙ reached.chain_is)),
       subst (λ l. Appends (g.P.Write.contents c.args.pages.now) (g.P.Write.contents c.write_whole.new.writer) l) text c.in-Ok-write_whole.ensures.ok,
     )
+
+pub accept_plan-requires-clause-planned : goal.accept_plan-requires-clause-planned
+accept_plan-requires-clause-planned g c = still_planned c.args.shape.now.chain _ c.args.command.now _ c.in-Ok.ensures.planned c.prepare.ensures.chain
