@@ -113,7 +113,7 @@ impl<D: Disk> Recorder<D> {
         if self.file.is_failed() {
             return Err(Refusal::Failed);
         }
-        let size = match self.shape.check(command) {
+        let size = match self.shape.plan(command, &mut self.plan) {
             Ok(size) => size,
             Err(refusal) => return Err(refusal),
         };
@@ -133,7 +133,7 @@ impl<D: Disk> Recorder<D> {
             }
         }
         if self.held + 1 < u64::from(self.most) {
-            self.shape.accept(command);
+            self.shape.accept_plan(command, &self.plan);
             self.held += 1;
             return Ok(Outcome::Held(self.kept + self.held));
         }
@@ -144,7 +144,7 @@ impl<D: Disk> Recorder<D> {
                 return Err(Refusal::Disk);
             }
         }
-        self.shape.accept(command);
+        self.shape.accept_plan(command, &self.plan);
         self.kept += self.held + 1;
         self.held = 0;
         Ok(Outcome::Kept(Kept {

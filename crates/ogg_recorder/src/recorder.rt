@@ -21,7 +21,7 @@ ghost use Rattle.ogg_recorder.specs.Recorder.{RecorderState, IsRecorder, IsIn, r
 
 use crate::opening::{FoundChain, find_chain};
 use crate::staging::SmallPage;
-use chain_rules::{Serials, Shape, StreamState};
+use chain_rules::{Plan, Serials, Shape, StreamState};
 use disk_model::{Disk, DiskFault};
 use gate_file::{GateFile, OpenFault};
 use history::disks_stand_in_their_world;
@@ -35,6 +35,8 @@ use std::marker::Model;
 pub struct Recorder<D: Disk> {
     pub(crate) file: GateFile<D>,
     pub(crate) shape: Shape,
+    // room for what one command makes of the chain
+    pub(crate) plan: Plan,
     // room for one page
     pub(crate) buffer: PageBuffer,
     // room for a small page and the byte after it
@@ -121,6 +123,7 @@ impl<D: Disk> Recorder<D> {
             Ok(file) => Ok(Recorder {
                 file,
                 shape,
+                plan: Plan::new(),
                 buffer,
                 small,
                 tail,

@@ -15,32 +15,35 @@ use Rattle.ogg_recorder.proofs.recorder.Recorder.command.Goals as goal
 
 pub returns-in-Err-clause-faulted : goal.returns-in-Err-clause-faulted
 returns-in-Err-clause-faulted g c = λ is.
-    let few = (c.refusals_are_of_the_table.ensures c.self.inside.shape.chain c.args.command.now c.in-Err.refusal (sym c.check.ensures.decides ∙ c.in-Err.is)).1 in
+    let few = (c.refusals_are_of_the_table.ensures c.self.inside.shape.chain c.args.command.now c.in-Err.refusal (sym c.plan.ensures.decides ∙ c.in-Err.is)).1 in
     absurd (not_disk c.in-Err.refusal few is)
 
 pub returns-in-Err-clause-step : goal.returns-in-Err-clause-step
-returns-in-Err-clause-step g c = λ first w is_in honest.
+returns-in-Err-clause-step g c =
     let d = g.D.Disk in
-    let few = (c.refusals_are_of_the_table.ensures c.self.inside.shape.chain c.args.command.now c.in-Err.refusal (sym c.check.ensures.decides ∙ c.in-Err.is)).1 in
-    step_refused d.is_honest d.state d.moment d.images_since first w c.args.self.now c.in-Err.refusal _ c.args.command.now few is_in honest
+    let in_ = c.self.inside in
+    let few = (c.refusals_are_of_the_table.ensures in_.shape.chain c.args.command.now c.in-Err.refusal (sym c.plan.ensures.decides ∙ c.in-Err.is)).1 in
+    rw (← c.self.view_is)
+    (λ first w is_in honest. step_refused d.is_honest d.state d.moment d.images_since first w (recorder_state in_.file in_.shape.chain in_.tail in_.kept in_.held in_.most)
+    c.in-Err.refusal _ c.args.command.now few is_in honest)
 
 pub returns-in-Err-clause-cause : goal.returns-in-Err-clause-cause
 returns-in-Err-clause-cause g c = λ e.
-    let few = (c.refusals_are_of_the_table.ensures c.self.inside.shape.chain c.args.command.now c.in-Err.refusal (sym c.check.ensures.decides ∙ c.in-Err.is)).1 in
+    let few = (c.refusals_are_of_the_table.ensures c.self.inside.shape.chain c.args.command.now c.in-Err.refusal (sym c.plan.ensures.decides ∙ c.in-Err.is)).1 in
     absurd (not_disk c.in-Err.refusal few (same_refusal c.in-Err.refusal _ e))
 
 pub returns-in-Err-clause-memory : goal.returns-in-Err-clause-memory
 returns-in-Err-clause-memory g c = λ _ e.
-    let few = (c.refusals_are_of_the_table.ensures c.self.inside.shape.chain c.args.command.now c.in-Err.refusal (sym c.check.ensures.decides ∙ c.in-Err.is)).1 in
+    let few = (c.refusals_are_of_the_table.ensures c.self.inside.shape.chain c.args.command.now c.in-Err.refusal (sym c.plan.ensures.decides ∙ c.in-Err.is)).1 in
     absurd (not_memory c.in-Err.refusal few (same_refusal c.in-Err.refusal _ e))
 
 pub stage_command-requires-clause-are : goal.stage_command-requires-clause-are
 stage_command-requires-clause-are g c =
-    command_pages c.command_adds_pages.ensures.pages c.self.inside.shape.chain c.args.command.now c.in-Ok.size c.self.invariant.chain c.command_is_in_range.ensures (sym c.check.ensures.decides ∙ c.in-Ok.is)
+    command_pages c.command_adds_pages.ensures.pages c.self.inside.shape.chain c.args.command.now c.in-Ok.size c.self.invariant.chain c.command_is_in_range.ensures (sym c.plan.ensures.decides ∙ c.in-Ok.is)
 
 pub stage_command-requires-clause-some : goal.stage_command-requires-clause-some
 stage_command-requires-clause-some g c =
-    command_some c.command_adds_pages.ensures.some c.self.inside.shape.chain c.args.command.now c.in-Ok.size c.self.invariant.chain c.command_is_in_range.ensures (sym c.check.ensures.decides ∙ c.in-Ok.is)
+    command_some c.command_adds_pages.ensures.some c.self.inside.shape.chain c.args.command.now c.in-Ok.size c.self.invariant.chain c.command_is_in_range.ensures (sym c.plan.ensures.decides ∙ c.in-Ok.is)
 
 pub stage_command-requires-clause-images : goal.stage_command-requires-clause-images
 stage_command-requires-clause-images g c = c.self.invariant.images (sym c.is_failed.ensures ∙ c.if-is_failed.false)
@@ -50,7 +53,7 @@ returns-in-Err-Disk-clause-step g c =
     let d = g.D.Disk in
     let in_ = c.self.inside in
     let good = sym c.is_failed.ensures ∙ c.if-is_failed.false in
-    let kept = sym c.check.ensures.decides ∙ c.in-Ok.is in
+    let kept = sym c.plan.ensures.decides ∙ c.in-Ok.is in
     rw (← c.self.view_is)
     (λ first w is_in honest. faulted_staging d.is_honest d.state d.moment d.images_since first w (recorder_state in_.file in_.shape.chain in_.tail in_.kept in_.held in_.most) c.command_adds_its_packets.ensures.links
     c.args.command.now c.in-Ok.size is_in good honest (c.self.invariant.all good honest) c.command_is_in_range.ensures kept c.stage_command.new.file (c.stage_command.ensures.honest.0 honest) c.stage_command.new.shape.chain
@@ -65,14 +68,14 @@ invariant_of-self-then-self-from g c =
     let size = c.in-Ok.size in
     let old = recorder_state in_.file chain in_.tail in_.kept in_.held in_.most in
     let good = sym c.is_failed.ensures ∙ c.if-is_failed.false in
-    let kept = sym c.check.ensures.decides ∙ c.in-Ok.is in
+    let kept = sym c.plan.ensures.decides ∙ c.in-Ok.is in
     let same = c.stage_command.ensures.chain in
     let file = c.stage_command.new.file in
     let whole = c.self.invariant.chain.1 in
-    is_waiting d.is_honest d.state old file c.accept.new.self.chain command size c.self.invariant good c.command_adds_its_packets.ensures.links c.command_adds_pages.ensures.some
+    is_waiting d.is_honest d.state old file c.accept_plan.new.self.chain command size c.self.invariant good c.command_adds_its_packets.ensures.links c.command_adds_pages.ensures.some
     (c.command_adds_its_packets.ensures.size chain command size kept) c.command_is_in_range.ensures kept c.in-Ok.ensures.fits
-    (λ links is. c.accept.ensures.links links (same ∙ is))
-    (c.accept.ensures.grows whole.links size (same ∙ whole.chain_is) (ap (λ (s : ChainState). decision s command) same ∙ kept) ∙ ap (λ (s : ChainState). s.length_of + size) same)
+    (λ links is. c.accept_plan.ensures.links links (same ∙ is))
+    (c.accept_plan.ensures.grows whole.links size (same ∙ whole.chain_is) (ap (λ (s : ChainState). decision s command) same ∙ kept) ∙ ap (λ (s : ChainState). s.length_of + size) same)
     c.in-Ok-stage_command.ensures.good c.stage_command.ensures.honest.1
     (λ now. let honest = c.stage_command.ensures.honest.1 now in
     subst (λ (l : List ℕ). EachImage (d.state file.disk) (CommitsTo l)) (sym (c.stage_command.ensures.front honest))
@@ -87,11 +90,11 @@ returns-then-self-from-clause-step g c =
     let chain = in_.shape.chain in
     let command = c.args.command.now in
     let good = sym c.is_failed.ensures ∙ c.if-is_failed.false in
-    let kept = sym c.check.ensures.decides ∙ c.in-Ok.is in
+    let kept = sym c.plan.ensures.decides ∙ c.in-Ok.is in
     let file = c.stage_command.new.file in
     rw (← c.self.view_is)
     (λ first w is_in honest. held_step d.is_honest d.state d.moment d.images_since first w (recorder_state in_.file chain in_.tail in_.kept in_.held in_.most) c.command_adds_its_packets.ensures.links
-    command c.in-Ok.size is_in good honest (c.self.invariant.all good honest) c.command_is_in_range.ensures kept file (c.stage_command.ensures.honest.0 honest) c.accept.new.self.chain
+    command c.in-Ok.size is_in good honest (c.self.invariant.all good honest) c.command_is_in_range.ensures kept file (c.stage_command.ensures.honest.0 honest) c.accept_plan.new.self.chain
     c.in-Ok-stage_command.ensures.good (c.stage_command.ensures.front honest)
     (c.in-Ok-stage_command.ensures.staged honest) (c.in-Ok-stage_command.ensures.any_moment honest))
 
@@ -114,7 +117,7 @@ returns-in-Err-commit-clause-step g c =
     let chain = in_.shape.chain in
     let command = c.args.command.now in
     let good = sym c.is_failed.ensures ∙ c.if-is_failed.false in
-    let kept = sym c.check.ensures.decides ∙ c.in-Ok.is in
+    let kept = sym c.plan.ensures.decides ∙ c.in-Ok.is in
     let mid = c.stage_command.new.file in
     let file = c.commit.new.self in
     rw (← c.self.view_is)
@@ -138,16 +141,16 @@ invariant_of-self-2 g c =
     let size = c.in-Ok.size in
     let old = recorder_state in_.file chain in_.tail in_.kept in_.held in_.most in
     let good = sym c.is_failed.ensures ∙ c.if-is_failed.false in
-    let kept = sym c.check.ensures.decides ∙ c.in-Ok.is in
+    let kept = sym c.plan.ensures.decides ∙ c.in-Ok.is in
     let same = c.stage_command.ensures.chain in
     let mid = c.stage_command.new.file in
     let file = c.commit.new.self in
     let whole = c.self.invariant.chain.1 in
     let before : d.is_honest file.disk → d.is_honest in_.file.disk = λ now. c.stage_command.ensures.honest.1 (c.commit.ensures.honest.1 now) in
-    is_kept d.is_honest d.state old file c.accept-2.new.self.chain command size c.self.invariant good c.command_adds_its_packets.ensures.links c.command_adds_pages.ensures.some
+    is_kept d.is_honest d.state old file c.accept_plan-2.new.self.chain command size c.self.invariant good c.command_adds_its_packets.ensures.links c.command_adds_pages.ensures.some
     (c.command_adds_its_packets.ensures.size chain command size kept) c.command_is_in_range.ensures kept c.in-Ok.ensures.fits
-    (λ links is. c.accept-2.ensures.links links (same ∙ is))
-    (c.accept-2.ensures.grows whole.links size (same ∙ whole.chain_is) (ap (λ (s : ChainState). decision s command) same ∙ kept) ∙ ap (λ (s : ChainState). s.length_of + size) same)
+    (λ links is. c.accept_plan-2.ensures.links links (same ∙ is))
+    (c.accept_plan-2.ensures.grows whole.links size (same ∙ whole.chain_is) (ap (λ (s : ChainState). decision s command) same ∙ kept) ∙ ap (λ (s : ChainState). s.length_of + size) same)
     (not_failed file.failed (λ bad. never (c.in-Ok-commit.ensures.failed.0 bad))) before
     (λ now. let here = c.commit.ensures.honest.1 now in
     subst (λ (l : List ℕ). EachImage (d.state file.disk) (CommitsTo l)) (sym (c.in-Ok-commit.ensures.grown here)) (c.in-Ok-commit.ensures.only here))
@@ -176,7 +179,7 @@ returns-clause-step g c =
     let chain = in_.shape.chain in
     let command = c.args.command.now in
     let good = sym c.is_failed.ensures ∙ c.if-is_failed.false in
-    let kept = sym c.check.ensures.decides ∙ c.in-Ok.is in
+    let kept = sym c.plan.ensures.decides ∙ c.in-Ok.is in
     let mid = c.stage_command.new.file in
     let file = c.commit.new.self in
     rw (← c.self.view_is)
@@ -185,7 +188,7 @@ returns-clause-step g c =
     let more = c.in-Ok-stage_command.ensures.staged honest in
     let grown : committed d.state mid ++ staged_bytes d.state mid ≡ committed d.state in_.file ++ (staged_bytes d.state in_.file ++ command_bytes chain command) = (λ i. c.stage_command.ensures.front honest i ++ more i) in
     kept_step d.is_honest d.state d.moment d.images_since first w (recorder_state in_.file chain in_.tail in_.kept in_.held in_.most) c.command_adds_its_packets.ensures.links
-    command c.in-Ok.size is_in good honest (c.self.invariant.all good honest) c.command_is_in_range.ensures kept file (c.commit.ensures.honest.0 here) c.accept-2.new.self.chain
+    command c.in-Ok.size is_in good honest (c.self.invariant.all good honest) c.command_is_in_range.ensures kept file (c.commit.ensures.honest.0 here) c.accept_plan-2.new.self.chain
     (not_failed file.failed (λ bad. never (c.in-Ok-commit.ensures.failed.0 bad))) c.in-Ok-commit.ensures.none
     (c.in-Ok-commit.ensures.grown here ∙ grown)
     (staged_then d.moment d.images_since in_.file.disk mid.disk file.disk (committed d.state in_.file) (staged_bytes d.state in_.file ++ command_bytes chain command)
