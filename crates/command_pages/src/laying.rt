@@ -71,6 +71,9 @@ fn lay_put(streams: &[StreamState], entries: &[Entry], out: &mut Vec<u8>) -> Res
     ensures full { OnErr result (vec_capacity out.old < vec_len out.old + size_of_pages (pages_of_runs streams.now (runs_of entries.now))) }
     ensures capacity { vec_capacity out.old ≤ vec_capacity out.new }
 {
+    if entries.len() == 1 {
+        return lay_one(streams, entries, out);
+    }
     // The array is cleared before it is filled, so a link of few streams has a small one.
     if streams.len() <= FEW_STREAMS {
         let mut copy = [StreamState::NOBODY; FEW_STREAMS];
@@ -78,6 +81,23 @@ fn lay_put(streams: &[StreamState], entries: &[Entry], out: &mut Vec<u8>) -> Res
     } else {
         let mut copy = [StreamState::NOBODY; MOST_STREAMS];
         lay_by(&mut copy, streams, entries, out)
+    }
+}
+
+/// Appends the pages of a put of one packet, after which no stream is looked for. After `Memory` the vector is unchanged.
+fn lay_one(streams: &[StreamState], entries: &[Entry], out: &mut Vec<u8>) -> Result<(), Memory>
+    requires one { length entries.now ≡ 1 }
+    requires distinct { HaveOwnSerials streams.now }
+    requires fits { PutFits streams.now entries.now }
+    ensures ok { OnOk result (out.new.items ≡ out.old.items ++ bytes_of_pages (pages_of_runs streams.now (runs_of entries.now))) }
+    ensures err { OnErr result (out.new.items ≡ out.old.items) }
+    ensures full { OnErr result (vec_capacity out.old < vec_len out.old + size_of_pages (pages_of_runs streams.now (runs_of entries.now))) }
+    ensures capacity { vec_capacity out.old ≤ vec_capacity out.new }
+{
+    let front = front_run(streams, 0, entries);
+    match lay_run(front.serial, front.next as u32, 0, front.run, out) {
+        Ok(_) => Ok(()),
+        Err(memory) => Err(memory),
     }
 }
 
