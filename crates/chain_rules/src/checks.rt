@@ -101,22 +101,26 @@ fn room_for_put(streams: &mut [StreamState], bytes: u64, put: &Put) -> Result<u6
     Ok(size)
 }
 
-/// The entries of a put, and the room for it, in a copy of the streams, which is moved on to the end of the put.
+/// The entries of a put, and the room for it, with room for a copy of the streams. If the put isn't refused, the copy
+/// is moved on to its end.
 fn check_by(
-    copy: &mut [StreamState],
+    room: &mut [StreamState],
     streams: &[StreamState],
     bytes: u64,
     put: &Put,
 ) -> Result<u64, Refusal>
-    requires copied { copy.old ≡ streams.now }
+    requires streams { length streams.now ≤ length room.old }
     requires distinct { HaveOwnSerials streams.now }
     requires few { length put.now.entries ≤ most_entries }
     requires counted { bytes < 2 ^ 63 }
     ensures decides { (chain : ChainState) → chain.streams ≡ streams.now → chain.length_of ≡ bytes
         → result ≡ answer (size_of chain (Command.Put put.now))
         (first_broken (entries_rules chain.streams put.now.entries ++ room_rules chain (Command.Put put.now))) }
-    ensures after { IfOk result (λ _. copy.new ≡ fold with_run streams.now (runs_of put.now.entries)) }
+    ensures after { IfOk result (λ _. take (length streams.now) room.new
+        ≡ fold with_run streams.now (runs_of put.now.entries)) }
 {
+    let (copy, _) = room.split_at_mut(streams.len());
+    copy.copy_from_slice(streams);
     if let Some(refusal) = broken_by_entries(copy, put.entries.as_slice()) {
         return Err(refusal);
     }
@@ -142,9 +146,7 @@ pub fn decide_put(
     if let Some(refusal) = broken_by_put(streams, put.entries.as_slice()) {
         return Err(refusal);
     }
-    let (copy, _) = room.split_at_mut(streams.len());
-    copy.copy_from_slice(streams);
-    check_by(copy, streams, bytes, put)
+    check_by(room, streams, bytes, put)
 }
 
 /// A put, of which nothing is planned.
@@ -152,15 +154,19 @@ pub fn check_put(streams: &[StreamState], bytes: u64, put: &Put) -> Result<u64, 
     requires streams { length streams.now ≤ most_streams }
     requires distinct { HaveOwnSerials streams.now }
     requires counted { bytes < 2 ^ 63 }
-    ensures { (chain : ChainState) → chain.streams ≡ streams.now → chain.length_of ≡ bytes → result ≡ decision chain (Command.Put put.now) }
+    ensures { (chain : ChainState) → chain.streams ≡ streams.now → chain.length_of ≡ bytes
+        → result ≡ decision chain (Command.Put put.now) }
 {
+    if let Some(refusal) = broken_by_put(streams, put.entries.as_slice()) {
+        return Err(refusal);
+    }
     // Room is cleared before it is filled, so that a link of few streams takes little.
     if streams.len() <= FEW_STREAMS {
         let mut room = [StreamState::NOBODY; FEW_STREAMS];
-        decide_put(&mut room, streams, bytes, put)
+        check_by(&mut room, streams, bytes, put)
     } else {
         let mut room = [StreamState::NOBODY; MOST_STREAMS];
-        decide_put(&mut room, streams, bytes, put)
+        check_by(&mut room, streams, bytes, put)
     }
 }
 

@@ -23,15 +23,15 @@ returns-in-Some-clause-decides c = λ chain s b.
     let entries : List Entry = c.args.put.now.entries in
     sym (ap (answer (size_of chain command))
     (settles (entries_rules chain.streams entries) (room_rules chain command) c.in-Some.refusal
-    (of_entries chain c.args.copy.now c.as_slice.result.now entries (Some c.in-Some.refusal)
-    (s ∙ sym c.requires.copied) c.as_slice.ensures c.in-Some.ensures)))
+    (of_entries chain c.copy_from_slice.new.self c.as_slice.result.now entries (Some c.in-Some.refusal)
+    (s ∙ sym c.copy_from_slice.ensures.after) c.as_slice.ensures c.in-Some.ensures)))
 
 pub returns-clause-decides : goal.returns-clause-decides
 returns-clause-decides c = λ chain s b.
     let command : Command = PutOf c.args.put.now in
     let entries : List Entry = c.args.put.now.entries in
-    c.room_for_put.ensures.decides chain (s ∙ sym c.copy_from_slice.ensures.after) b
+    c.room_for_put.ensures.decides chain (s ∙ sym c.copy_from_slice-2.ensures.after) b
     ∙ sym (ap (answer (size_of chain command))
     (passes (entries_rules chain.streams entries) (room_rules chain command)
-    (of_entries chain c.args.copy.now c.as_slice.result.now entries None
-    (s ∙ sym c.requires.copied) c.as_slice.ensures c.in_default.ensures)))
+    (of_entries chain c.copy_from_slice.new.self c.as_slice.result.now entries None
+    (s ∙ sym c.copy_from_slice.ensures.after) c.as_slice.ensures c.in_default.ensures)))
