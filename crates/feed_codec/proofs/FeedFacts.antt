@@ -1,6 +1,6 @@
 -- What reading a record says of the reader's bytes.
 use Rattle.std.proofs.Common.{◌≡◌, ◌≢◌, ℕ, ◌+◌, ◌<◌, ◌≤◌, List, [], ◌∷◌, ◌++◌, ◌⊎◌, inl, inr, length, refl, sym, ap, ◌∙◌, subst, arith, append_assoc, append-nil, length-append, Bool, Option, None, Some, true, false}
-use Rattle.std.specs.Prelude.{nat_lt, IfNone}
+use Rattle.std.specs.Prelude.{nat_lt, Result, Ok, Err, IfErr}
 use Rattle.std.proofs.lemmas.Bool.{lt-ltb, le-ltb}
 use Rattle.std.specs.Io.KnownBytes.{Consumes, Keeps, IsAtEnd}
 use Rattle.std.proofs.KnownBytes.{Consumes-nil, Consumes-trans}
@@ -15,7 +15,7 @@ use Rattle.feed_records.specs.declared.item.Item.TheVariants.{Announcement, Reco
 use Rattle.feed_records.specs.Record.{HasItem, announcement, item_bytes, kind_in, most_payload, payload_in}
 use Rattle.feed_codec.specs.RecordKind.{number_of}
 use Rattle.feed_codec.specs.Room.{FeedRoom, LacksRoomFor}
-use Rattle.feed_codec.specs.Feed.{GivesEnd, HasFaultAt, HasItemFault, TakesItemPart, head_fault, is_kind, payload_length}
+use Rattle.feed_codec.specs.Feed.{GivesEnd, HasFaultAt, HasItemFault, TakesItemPart, TakesWhereMemoryEnds, head_fault, is_kind, payload_length}
 use Rattle.feed_codec.specs.Reading.{HasHeadFault, IsHead, IsShort, head_bytes}
 use Rattle.feed_codec.specs.Payload.{IsItem, IsPayload}
 use Rattle.feed_codec.specs.declared.head.Head.{Head}
@@ -189,12 +189,15 @@ later_room was now first v old new grows entries packets (inl (head, long, fine,
 later_room was now first v old new grows entries packets (inr (item, held, lacks, c)) =
     inr (item, held, subst (λ rooms. LacksRoomFor was.entries rooms item) packets (subst (λ n. LacksRoomFor n now.packets item) entries lacks), c)
 
+pub memory_behind_announcement : (was now : FeedRoom) (before left behind : Option (List ℕ)) (r : Result (Option RecordOf) FeedFault) → Consumes before left announcement
+    → was.payload ≤ now.payload → now.entries ≡ was.entries → now.packets ≡ was.packets
+    → IfErr r (λ fault. fault ≡ Memory → TakesItemPart now false Two left behind)
+    → IfErr r (λ fault. fault ≡ Memory → TakesWhereMemoryEnds was None before behind)
+memory_behind_announcement was now before left behind (Ok found) read grows entries packets full = tt
+memory_behind_announcement was now before left behind (Err fault) read grows entries packets full =
+    λ memory. inr (left, read, later_room was now false Two left behind grows entries packets (full memory))
+
 -- ---- the end
 
 pub end_here : (before behind : Option (List ℕ)) → IsAtEnd before × Keeps before behind → GivesEnd None before behind
 end_here before behind (end, kept) = record { version = One; left = before; read = Consumes-nil before; end = end; kept = kept }
-
-pub end_behind_announcement : (before left behind : Option (List ℕ)) (found : Option RecordOf) → Consumes before left announcement → IfNone found (IsAtEnd left × Keeps left behind)
-    → IfNone found (GivesEnd None before behind)
-end_behind_announcement before left behind None read (end, kept) = record { version = Two; left = left; read = read; end = end; kept = kept }
-end_behind_announcement before left behind (Some given) read end = tt

@@ -143,10 +143,7 @@ fn next_record<R: Read>(
 {
     match *version {
         None => first_record(alloc, spare, payload, version, reader),
-        Some(known) => match later_record(alloc, spare, payload, known, reader) {
-            Ok(found) => Ok(found),
-            Err(fault) => Err(fault),
-        },
+        Some(known) => later_record(alloc, spare, payload, known, reader),
     }
 }
 
@@ -177,10 +174,7 @@ fn first_record<R: Read>(
         }
         Ok(Some(Item::Announcement)) => {
             *version = Some(Version::Two);
-            match later_record(alloc, spare, payload, Version::Two, reader) {
-                Ok(found) => Ok(found),
-                Err(fault) => Err(fault),
-            }
+            later_record(alloc, spare, payload, Version::Two, reader)
         }
         Ok(None) => Ok(None),
         Err(fault) => Err(fault),
@@ -268,10 +262,7 @@ fn next_head<R: Read>(first: bool, reader: &mut R) -> Result<Option<Head>, FeedF
     let mut bytes = [0u8; HEAD];
     match fill(reader, &mut bytes, HEAD) {
         Ok(0) => Ok(None),
-        Ok(HEAD) => match head_of(first, &bytes) {
-            Ok(head) => Ok(Some(head)),
-            Err(fault) => Err(fault),
-        },
+        Ok(HEAD) => Ok(Some(head_of(first, &bytes)?)),
         Ok(_) => Err(FeedFault::Truncated),
         Err(fault) => Err(fault),
     }
