@@ -84,10 +84,7 @@ impl Changes {
             name_all(&self.given, names, stay, self.low)
         } else {
             // Nothing is avoided, so each is named by its own serial.
-            match name_all(&Serials::new(self.alloc), names, stay, 0) {
-                Ok(low) => Ok(low),
-                Err(refused) => Err(refused),
-            }
+            name_all(&Serials::new(self.alloc), names, stay, 0)
         }
     }
 
