@@ -11,7 +11,8 @@ use Rattle.feed_run.specs.Counting.{Counted, IsTally}
 use Rattle.feed_run.specs.Run.{Outcome, RunState, Streams, answer_at, ClosesOne, EndsBy, EndsOne, HasRun, Leaves, RunsOne, RunsTo, RunsWhole, Steps, StopsBy, StopsOne, most_records}
 use Rattle.feed_run.proofs.Kept.{counted_on}
 use Rattle.feed_run.specs.Laws.InTurn.{as_many}
-use Rattle.feed_run.proofs.Turns.{has_run_on, nothing_run}
+use Rattle.feed_run.specs.Laws.ReadOn.{none_run}
+use Rattle.feed_run.proofs.Turns.{has_run_on}
 
 module _ {S : Type 0} (answers : S → Record → Reply → List ℕ → S → Type 0) where
   -- it goes on: these records were run
@@ -42,7 +43,7 @@ module _ {S : Type 0} (answers : S → Record → Reply → List ℕ → S → T
       inl record {
         records = [];
         replies = [];
-        has_run = subst (λ known. HasRun answers start start known [] [] before before) (sym (ap (λ (s : RunState). s.version) is)) (nothing_run answers start before);
+        has_run = subst (λ known. HasRun answers start start known [] [] before before) (sym (ap (λ (s : RunState). s.version) is)) (none_run answers start before);
         many = ap (λ (s : RunState). s.records) is;
         few = omega arith;
         counted = subst (λ (s : RunState). Counted s.counts [] []) (sym is) (record { commands = refl; kept = refl; waiting = refl });

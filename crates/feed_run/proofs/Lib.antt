@@ -2,7 +2,6 @@ pub mod Bounds
 pub mod States
 mod Sent
 mod Staying
-pub mod ReadOn
 pub mod Kept
 pub mod Turns
 pub mod Ending

@@ -1,5 +1,5 @@
 -- What is out of lines that wait.
-use Rattle.std.proofs.Common.{◌≡◌, ◌<◌, ◌≤◌, ◌+◌, ◌++◌, ◌∙◌, ℕ, List, [], Option, Some, None, sym, ap, subst, arith, take, drop, length, append_assoc, length-append, length-drop}
+use Rattle.std.proofs.Common.{◌≡◌, ◌<◌, ◌++◌, ◌∙◌, ℕ, List, Option, Some, None, sym, ap, subst, arith, take, drop, length, append_assoc, length-append, length-drop}
 use Rattle.std.proofs.KnownBytes.{Appends-nil, Appends-trans, Keeps-trans}
 use Rattle.std.proofs.Math.Seq.{take-length}
 use Rattle.std.proofs.lemmas.List.{append_cancel_left, take-append-le}
