@@ -1,17 +1,16 @@
 -- What a run of calls lends is what is found.
-use Rattle.std.proofs.Common.{◌≡◌, ◌≢◌, ℕ, ◌+◌, ◌<◌, ◌^◌, List, [], ◌∷◌, ◌++◌, length, refl, sym, ◌∙◌, ap, subst, arith, append_assoc, append-nil, length-append, Option, Some, None, Result, Ok, Err}
+use Rattle.std.proofs.Common.{◌≡◌, ◌≢◌, ℕ, ◌+◌, ◌<◌, ◌^◌, List, [], ◌∷◌, ◌++◌, length, refl, sym, ◌∙◌, ap, arith, append_assoc, length-append, Option, Some, None, Result, Ok, Err}
 use Rattle.std.specs.Io.KnownBytes.{Consumes}
 use Rattle.ogg_page.specs.Page.{Page as PageValue, page_bytes, page_size}
 use Rattle.ogg_page.specs.Pages.{FoundPage, found_in}
 use Rattle.ogg_page.specs.PagesLaws.{found-nothing, found-fault, found-page}
-use Rattle.ogg_page.specs.Reading.{page_at}
 use Rattle.ogg_page.specs.Window.{LentAt, found}
 use Rattle.ogg_page.specs.Laws.ReadAgain.{length-page_bytes}
 use Rattle.ogg_page.specs.declared.fault.PageFault.{PageFault}
-use Rattle.ogg_page.specs.declared.fault.PageFault.TheVariants.{Short, Pattern, Version, Checksum}
 use Rattle.import_pages.specs.declared.fault.PageReaderFault.{PageReaderFault}
 use Rattle.import_pages.specs.declared.fault.PageReaderFault.TheVariants.{Page, Read}
-use Rattle.import_pages.specs.Reader.{AreAll, Gives, GivesPage, IsFaultOf, IsRun, ReaderState}
+use Rattle.import_pages.specs.Laws.{joined, page_given, whole_fault}
+use Rattle.import_pages.specs.Reader.{AreAll, Gives, GivesPage, IsRun, ReaderState}
 
 abbrev page_found : ℕ → PageValue → FoundPage
 page_found offset page = Ok (offset, page)
@@ -19,19 +18,9 @@ page_found offset page = Ok (offset, page)
 abbrev fault_found : ℕ → PageFault → FoundPage
 fault_found offset fault = Err (offset, fault)
 
--- what is wrong with the bytes that were read is wrong with all
-whole_fault : (bytes rest : List ℕ) (fault : PageFault) → IsFaultOf bytes (Some rest) fault → page_at (bytes ++ rest) ≡ Err fault
-whole_fault bytes rest Short is = ap (λ l. page_at (bytes ++ l)) (is.short refl) ∙ ap page_at (append-nil bytes) ∙ is.read
-whole_fault bytes rest Pattern is = is.definite (λ e. cc) rest
-whole_fault bytes rest Version is = is.definite (λ e. cc) rest
-whole_fault bytes rest Checksum is = is.definite (λ e. cc) rest
-
 longer_is_some : (bytes rest : List ℕ) → bytes ≢ [] → bytes ++ rest ≢ []
 longer_is_some [] rest some = absurd (some refl)
 longer_is_some (x ∷ bytes) rest some = λ e. cc
-
-joined : (unread bytes taken rest : List ℕ) → bytes ≡ taken ++ rest → unread ++ bytes ≡ (unread ++ taken) ++ rest
-joined unread bytes taken rest is = ap (λ l. unread ++ l) is ∙ sym (append_assoc unread taken rest)
 
 -- the end of a run
 end_given : (unread bytes taken : List ℕ) (left : Option (List ℕ)) (offset : ℕ) (end : Result (Unit {0}) PageReaderFault) (lent : Option LentAt) (last : ReaderState) →
@@ -75,10 +64,6 @@ more all rest lent others (Ok done) offset first are = first ∙ ap (λ l. found
 more all rest lent others (Err Read) offset first are = (are.0, first ∙ ap (λ l. found lent ∷ l) are.1)
 more all rest lent others (Err (Page fault)) offset first are = first ∙ ap (λ l. found lent ∷ l) are
 
-page_of_call : (bytes : List ℕ) (left : Option (List ℕ)) (offset : ℕ) (lent : LentAt) (given : Option LentAt) (new : ReaderState) → given ≡ Some lent →
-    Gives bytes left offset (Ok tt) given new → GivesPage bytes offset lent new
-page_of_call bytes left offset lent given new same gives = subst (λ g. Gives bytes left offset (Ok tt) g new) same gives
-
 pub all_given : (lent : List LentAt) (state : ReaderState) (bytes : List ℕ) (end : Result (Unit {0}) PageReaderFault) (last : ReaderState) →
     state.offset + length (state.unread ++ bytes) < 2 ^ 64 → IsRun state (Some bytes) lent end last → AreAll (found_in state.offset (state.unread ++ bytes)) lent end last.offset
 all_given [] state bytes end last fits (left, step, none) =
@@ -87,6 +72,6 @@ all_given (lent ∷ others) state bytes end last fits (new, None, step, same, ru
 all_given (lent ∷ others) state bytes end last fits (new, Some rest, step, same, run) =
     let given : PageGiven state bytes rest lent new =
     one_given state bytes step.taken rest lent new fits step.consumed
-    (page_of_call (state.unread ++ step.taken) (Some rest) state.offset lent new.lent new same step.gives) in
+    (page_given (state.unread ++ step.taken) (Some rest) state.offset lent new.lent new same step.gives) in
     more (found_in state.offset (state.unread ++ bytes)) (found_in new.offset (new.unread ++ rest)) lent others end last.offset given.all
     (all_given others new rest end last given.fits run)

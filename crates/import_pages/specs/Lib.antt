@@ -1,3 +1,4 @@
+pub mod Laws
 pub mod PageReaderFault
 pub mod Reader
 pub mod Room
