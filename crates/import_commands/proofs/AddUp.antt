@@ -1,13 +1,13 @@
 -- The commands of links add up to what the links hold.
-use Rattle.std.proofs.Common.{◌≡◌, ℕ, zero, suc, ◌+◌, ◌-◌, ◌/◌, ◌%◌, ◌<◌, Bool, true, false, cond, List, [], ◌∷◌, ◌++◌, length, map, take, drop, replicate, refl, sym, ◌∙◌, ap, subst, arith, append_assoc, append-nil, eq-eqb, inl, inr, None, fold, take_all, drop-drop}
-use Rattle.std.specs.Prelude.{nat_eq, nat_lt, ◌||◌}
+use Rattle.std.proofs.Common.{◌≡◌, ℕ, zero, suc, ◌+◌, ◌-◌, Bool, true, false, cond, List, [], ◌∷◌, ◌++◌, length, map, take, drop, refl, sym, ◌∙◌, ap, subst, arith, append_assoc, append-nil, eq-eqb, inl, inr, None, fold, take_all, drop-drop}
+use Rattle.std.specs.Prelude.{nat_eq, ◌||◌}
 use Rattle.std.specs.List.{AllByRecursion, AllZip, IsDistinct, flat_map, list_any}
 use Rattle.std.proofs.lemmas.List.Concat.{flat_map-append}
-use Rattle.std.proofs.lemmas.List.Sums.{fold-append, sum_by-append, sum_by-cons}
+use Rattle.std.proofs.lemmas.List.Sums.{fold-append}
 use Rattle.std.proofs.lemmas.List.Elements.{filter-append}
-use Rattle.std.proofs.lemmas.Bool.{ne_eqb, lt-ltb, cases_Bool, cases_eq, cond-true, cond-false}
+use Rattle.std.proofs.lemmas.Bool.{ne_eqb, cases_Bool, cases_eq, cond-true, cond-false}
 use Rattle.ogg_page.specs.Page.{Page}
-use Rattle.ogg_page.specs.Lacing.{lace, lacing_of}
+use Rattle.ogg_page.specs.Lacing.{lace}
 use Rattle.ogg_page.specs.LogicalStream.{joined_lacing, is_last}
 use Rattle.packetiser.specs.Run.{packets_ended}
 use Rattle.link_chain.specs.Links.{IsLink, AreLinks, pages_with, serials_of, has_ended}
@@ -15,6 +15,7 @@ use Rattle.chain_rules.specs.Recording.{Stream, Recording, HoldsStream, HoldsLin
 use Rattle.ogg_command.specs.declared.command.Command.TheVariants.{End as EndOf}
 use Rattle.ogg_command.specs.declared.command.Entry.{Entry}
 use Rattle.link_chain.specs.Laws.Grow.{ended_both, all_weaker}
+use Rattle.import_commands.specs.Laws.{after_put, ended_app, ended_packets}
 use Rattle.import_commands.specs.Commands.{packets_of, ended_in, page_packets, entry_of, put_of, end_of, page_commands, pages_commands, new_stream, link_commands, commands_of}
 use Rattle.std.proofs.Math.Bool.{or-false}
 use Rattle.link_chain.specs.Laws.LastLink.{last_changed}
@@ -72,25 +73,6 @@ next_packets h a n packets =
     ap (λ l. take (a + (h - a)) packets ++ l) (dropped_take (h - a) n (drop a packets) ∙ ap (take (n - (h - a))) (drop-drop (h - a) a packets))
     ∙ taken_on (a + (h - a)) (n - (h - a)) packets
     ∙ ap (λ m. take m packets) (sum_is h a n)
-
--- ---- how many packets end
-pub ended_app : (xs ys : List ℕ) → packets_ended (xs ++ ys) ≡ packets_ended xs + packets_ended ys
-ended_app xs ys = sum_by-append (λ value. cond (nat_lt value 255) 1 0) xs ys
-
-pub ended_full : (n : ℕ) → packets_ended (replicate n 255) ≡ 0
-ended_full zero = refl
-ended_full (suc n) = ended_full n
-
-ended_value : (value : ℕ) → value < 255 → packets_ended (value ∷ []) ≡ 1
-ended_value value h = sum_by-cons (λ v. cond (nat_lt v 255) 1 0) value [] ∙ ap (λ b. let n : ℕ = cond b 1 0 in n + 0) (lt-ltb value 255 h)
-
-ended_lace : (n : ℕ) → packets_ended (lacing_of n) ≡ 1
-unfolding lacing_of
-ended_lace n = ended_app (replicate (n / 255) 255) (n % 255 ∷ []) ∙ omega (arith, ended_full (n / 255), ended_value (n % 255) (omega arith))
-
-pub ended_packets : (packets : List (List ℕ)) → packets_ended (flat_map lace packets) ≡ length packets
-ended_packets [] = refl
-ended_packets (packet ∷ packets) = ended_app (lace packet) (flat_map lace packets) ∙ omega (arith, ended_lace (length packet), ended_packets packets)
 
 ended_held : (pages : List Page) (serial : ℕ) (stream : Stream) → HoldsStream pages serial stream → ended_in pages serial ≡ length stream.packets
 ended_held pages serial stream h =
@@ -237,11 +219,6 @@ one_page headers streams before page stream found =
     no_more n = omega arith
 
 -- ---- the last link
-after_put : (recording : Recording) (streams : List Stream) (entries : List Entry) →
-    after (recording ++ streams ∷ []) (put_of entries) ≡ recording ++ fold with_packet streams entries ∷ []
-after_put recording streams [] = refl
-after_put recording streams (entry ∷ entries) = last_changed (λ link. fold with_packet link (entry ∷ entries)) recording streams
-
 after_end : (recording : Recording) (f : Stream → Stream) (streams : List Stream) (page : Page) →
     after (recording ++ map f streams ∷ []) (end_of page) ≡ recording ++ map (λ s. end_by page (f s)) streams ∷ []
 after_end recording f streams page = by_case (is_last page)

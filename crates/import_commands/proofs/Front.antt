@@ -6,7 +6,7 @@ use Rattle.ogg_page.specs.Page.{Page}
 use Rattle.ogg_page.specs.Lacing.{lace, lacing_of}
 use Rattle.ogg_page.specs.LogicalStream.{HoldsPackets, joined_lacing, joined_bodies}
 use Rattle.packetiser.specs.Run.{packets_ended}
-use Rattle.import_commands.proofs.AddUp.{ended_app, ended_full, ended_packets}
+use Rattle.import_commands.specs.Laws.{ended_app, ended_full, ended_packets}
 use Rattle.link_chain.specs.Laws.Fronts.{parts_of}
 use Rattle.ogg_page.specs.StreamLaws.{same_lacing}
 

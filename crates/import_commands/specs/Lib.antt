@@ -1,3 +1,4 @@
 pub mod Codecs
 pub mod Commands
 pub mod Headers
+pub mod Laws
