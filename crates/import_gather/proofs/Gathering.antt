@@ -21,7 +21,8 @@ use Rattle.ogg_command.specs.declared.command.Command.{Command}
 use Rattle.import_gather.specs.Kept.{KeptLink, has_kept, no_link, waits}
 use Rattle.import_gather.specs.Giving.{Follows, TakesOn, begun_if, begin_if, with_first}
 use Rattle.import_gather.specs.Gathered.{Gathered, HoldsSoFar, HasGathered, CanGoOn, before_last}
-use Rattle.import_gather.proofs.Others.{absent_all, has_from}
+use Rattle.import_gather.specs.Laws.{has_from}
+use Rattle.import_gather.proofs.Others.{absent_all}
 use Rattle.import_gather.proofs.Steps.{before_with, before_new}
 use Rattle.import_gather.proofs.Onward.{state, holds_alike, as_state, follows_on, joins_on, no_pages_yet, gives_on}
 use Rattle.import_gather.proofs.Whole.{closed_where_ended, closed_where_held, whole_held}

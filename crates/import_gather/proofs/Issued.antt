@@ -7,8 +7,8 @@ use Rattle.std.proofs.lemmas.List.Sums.{fold-append}
 use Rattle.ogg_page.specs.Page.{Page}
 use Rattle.ogg_page.specs.LogicalStream.{is_last}
 use Rattle.ogg_command.specs.declared.command.Command.TheVariants.{End as EndOf}
-use Rattle.ogg_command.specs.declared.command.Entry.{Entry}
 use Rattle.chain_rules.specs.Recording.{Stream, Recording, with_packet, with_end, add, after, begun}
+use Rattle.import_commands.specs.Laws.{after_put}
 use Rattle.import_commands.specs.Commands.{entry_of, put_of, end_of}
 use Rattle.import_gather.specs.Kept.{KeptStream, KeptLink}
 use Rattle.import_gather.specs.Giving.{new_stream, link_begin}
@@ -79,10 +79,6 @@ folded page (packet ∷ packets) streams =
     ∙ map-same (λ s. grows page packets false (grows page (packet ∷ []) false s)) (grows page (packet ∷ packets) false) (λ s. grows_twice page (packet ∷ []) packets false false s) streams
 
 -- ---- the last link
-after_put : (done : Recording) (streams : List Stream) (entries : List Entry) → after (done ++ streams ∷ []) (put_of entries) ≡ done ++ fold with_packet streams entries ∷ []
-after_put done streams [] = refl
-after_put done streams (entry ∷ entries) = last_changed (λ link. fold with_packet link (entry ∷ entries)) done streams
-
 after_end : (done : Recording) (streams : List Stream) (page : Page) (packets : List (List ℕ)) →
     after (done ++ map (grows page packets false) streams ∷ []) (end_of page) ≡ done ++ map (grows page packets (is_last page)) streams ∷ []
 after_end done streams page packets = by_case (is_last page)

@@ -2,7 +2,7 @@
 use Rattle.std.proofs.Common.{◌≡◌, ℕ, Bool, true, false, cond, List, [], ◌∷◌, ◌++◌, length, map, drop, refl, sym, ◌∙◌, ap, subst, append-nil, inl, inr, arith, ◌<◌}
 use Rattle.std.specs.Prelude.{nat_eq, not, ◌&&◌, ◌||◌}
 use Rattle.std.specs.List.{AllByRecursion, AllZip, IsDistinct}
-use Rattle.std.proofs.lemmas.Bool.{cases_Bool, ne_eqb, false≢true, or_parts}
+use Rattle.std.proofs.lemmas.Bool.{cases_Bool, false≢true, or_parts}
 use Rattle.std.proofs.lemmas.List.{map-append}
 use Rattle.std.proofs.lemmas.List.Sums.{fold-append}
 use Rattle.ogg_page.specs.Page.{Page, IsPage}
@@ -19,23 +19,17 @@ use Rattle.import_gather.specs.Headers.{lacking}
 use Rattle.import_gather.specs.Kept.{KeptStream, KeptLink, TakenBy, has_some, is_ready, waits, no_link, entered, ends_by}
 use Rattle.import_gather.specs.Giving.{Follows, bare, begun_link, begun_if, begin_if, begins_now, link_begin, marked, page_end, with_first}
 use Rattle.import_gather.specs.Gathered.{Gathered, KeepsUp, AreWanted, Waits, HoldsSoFar, held_back}
-use Rattle.import_gather.proofs.Others.{serials, Others, apart, zip_push, zip_weaker, zip_all, map_each}
+use Rattle.import_gather.specs.Laws.{nothing_in, serials, some_is}
+use Rattle.import_gather.proofs.Others.{Others, apart, zip_push, zip_weaker, zip_all, map_each}
 use Rattle.import_gather.proofs.Issued.{stream_of, grows, begun_as, after_page, after_begin}
 use Rattle.import_gather.proofs.Pages.{keeps_other, keeps_bare}
 use Rattle.import_gather.proofs.First.{keeps_first, begun_by, one_wanted}
 use Rattle.import_gather.proofs.Steps.{Taken, taken_last, taken_serials, taken_wanted, Marks, marks, begun_same, kept_same, ends_more}
 use Rattle.link_chain.specs.Laws.StateBehind.{map-map}
 
-some_is : {A : Type 0} (x : A) (list : List A) → has_some (x ∷ list) ≡ true
-some_is x list = ap not (ne_eqb (length (x ∷ list)) 0 (λ e. absurd (omega (arith, e))))
-
 has_more : {A : Type 0} (front : List A) (x : A) (back : List A) → has_some (front ++ x ∷ back) ≡ true
 has_more [] x back = some_is x back
 has_more (y ∷ front) x back = some_is y (front ++ x ∷ back)
-
-pub nothing_in : {A : Type 0} (list : List A) → has_some list ≡ false → list ≡ []
-nothing_in [] e = refl
-nothing_in (x ∷ list) e = absurd (false≢true (sym e ∙ some_is x list))
 
 and_true : (a b : Bool) → a ≡ false → (not a && b) ≡ b
 and_true true b e = cc

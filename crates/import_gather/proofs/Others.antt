@@ -1,12 +1,10 @@
 -- The page's stream among others, which have distinct serials.
-use Rattle.std.proofs.Common.{◌≡◌, ℕ, Bool, true, false, List, [], ◌∷◌, ◌++◌, map, refl, sym, ◌∙◌, ap, inl, inr}
+use Rattle.std.proofs.Common.{◌≡◌, ℕ, Bool, true, false, List, [], ◌∷◌, ◌++◌, map, refl, sym, ◌∙◌, ap}
 use Rattle.std.specs.Prelude.{nat_eq, ◌||◌}
 use Rattle.std.specs.List.{AllByRecursion, AllZip, IsDistinct, list_any}
-use Rattle.std.proofs.lemmas.Bool.{ne_eqb, eqb-false, eq-eqb, cases_eq}
-use Rattle.import_gather.specs.Kept.{KeptStream, has_kept}
-
-abbrev pub serials : List KeptStream → List ℕ
-serials streams = map (λ (stream : KeptStream). stream.serial) streams
+use Rattle.std.proofs.lemmas.Bool.{ne_eqb, eqb-false}
+use Rattle.import_gather.specs.Kept.{KeptStream}
+use Rattle.import_gather.specs.Laws.{serials}
 
 -- none of them has the serial
 abbrev pub Others : ℕ → List KeptStream → Type 0
@@ -40,17 +38,6 @@ absent_all serial (k ∷ streams) e =
     or_no : (a b : Bool) → (a || b) ≡ false → (a ≡ false) × (b ≡ false)
     or_no true b e = cc
     or_no false b e = (refl, e)
-
--- a stream that is there
-pub has_from : (serial : ℕ) (streams : List KeptStream) → list_any (nat_eq serial) (serials streams) ≡ true → has_kept serial streams ≡ true
-has_from serial [] e = e
-has_from serial (k ∷ streams) e =
-    elim (cases_eq k.serial serial) [
-      | inl same ↦ ap (λ b. b || has_kept serial streams) (eq-eqb k.serial serial same)
-      | inr other ↦
-          ap (λ b. b || has_kept serial streams) (ne_eqb k.serial serial other)
-          ∙ has_from serial streams (sym (ap (λ b. b || list_any (nat_eq serial) (serials streams)) (ne_eqb serial k.serial (λ f. other (sym f)))) ∙ e)
-    ]
 
 -- ---- what is known of each, with one stream changed
 module _ (serial : ℕ) (old new : KeptStream) where

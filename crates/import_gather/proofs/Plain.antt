@@ -4,6 +4,7 @@ use Rattle.std.specs.Prelude.{nat_eq}
 use Rattle.std.specs.List.{AllByRecursion, list_any}
 use Rattle.std.proofs.lemmas.Bool.{cases_Bool}
 use Rattle.ogg_page.specs.Page.{Page}
+use Rattle.ogg_page.specs.Laws.PageBytes.{all_both}
 use Rattle.ogg_page.specs.LogicalStream.{is_first, is_last}
 use Rattle.link_chain.specs.Links.{has_stream}
 use Rattle.link_chain.specs.ChainState.{ChainState, chain_state_of, last_link, is_open}
@@ -18,11 +19,7 @@ use Rattle.import_commands.specs.Commands.{entry_of, put_of, end_of}
 use Rattle.import_gather.specs.Kept.{KeptLink, has_kept, waits}
 use Rattle.import_gather.specs.Giving.{Follows, IsPlain, TakesOn, begin_if, begins_now, begun_if, page_end}
 use Rattle.import_gather.specs.Gathered.{Gathered, HasGathered}
-use Rattle.import_gather.proofs.Others.{has_from}
-
-both : (xs ys : List Command) → AllByRecursion IsPlain xs → AllByRecursion IsPlain ys → AllByRecursion IsPlain (xs ++ ys)
-both [] ys a b = b
-both (x ∷ xs) ys (p, a) b = (p, both xs ys a b)
+use Rattle.import_gather.specs.Laws.{has_from}
 
 plain_ends : (ends : List ℕ) → AllByRecursion IsPlain (map (λ serial. EndOf serial) ends)
 plain_ends [] = tt
@@ -48,8 +45,8 @@ plain_follows page old new more f =
     let link : KeptLink = record old { streams = f.streams } in
     let begins : Bool = begins_now link f.later in
     subst (AllByRecursion IsPlain) (sym f.passed.commands)
-    (both (begin_if begins link) (put_of (map (entry_of page) f.later) ++ page_end page (begun_if begins link)) (plain_begin begins link)
-    (both (put_of (map (entry_of page) f.later)) (page_end page (begun_if begins link)) (plain_put (map (entry_of page) f.later))
+    (all_both IsPlain (begin_if begins link) (put_of (map (entry_of page) f.later) ++ page_end page (begun_if begins link)) (plain_begin begins link)
+    (all_both IsPlain (put_of (map (entry_of page) f.later)) (page_end page (begun_if begins link)) (plain_put (map (entry_of page) f.later))
     (plain_page_end page (begun_if begins link))))
 
 pub plain_page : (links : List (List Page)) (g : Gathered) (given : List Command) (page : Page) (new : KeptLink) (more : List Command) →

@@ -13,7 +13,8 @@ use Rattle.chain_rules.specs.Recording.{Stream}
 use Rattle.import_gather.specs.Headers.{lacking}
 use Rattle.import_gather.specs.Kept.{KeptStream, KeptLink, TakenBy, ends_by, room_of}
 use Rattle.import_gather.specs.Gathered.{KeepsUp, AreWanted, before_last, held_back}
-use Rattle.import_gather.proofs.Others.{serials, Others, map_step, all_step, zip_step, zip_all}
+use Rattle.import_gather.specs.Laws.{serials}
+use Rattle.import_gather.proofs.Others.{Others, map_step, all_step, zip_step, zip_all}
 use Rattle.import_gather.proofs.Issued.{stream_of, grows, grows_own, grows_other, begun_as}
 use Rattle.import_gather.proofs.Pages.{keeps_grown, keeps_beside}
 use Rattle.std.proofs.Math.Bool.{or-false}

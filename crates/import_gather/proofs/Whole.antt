@@ -1,5 +1,5 @@
 -- If nothing waits and no packet is unfinished, the commands hold all links.
-use Rattle.std.proofs.Common.{◌≡◌, ◌≢◌, ℕ, ◌<◌, Bool, true, false, cond, List, [], ◌∷◌, ◌++◌, length, map, refl, sym, ◌∙◌, ap, subst, arith, inl, inr}
+use Rattle.std.proofs.Common.{◌≡◌, ◌≢◌, ℕ, ◌<◌, Bool, true, false, cond, List, [], ◌∷◌, ◌++◌, length, map, sym, ◌∙◌, ap, subst, arith, inl, inr}
 use Rattle.std.specs.Prelude.{not, ◌&&◌, IsTrue}
 use Rattle.std.specs.List.{AllByRecursion, AllZip, filter}
 use Rattle.std.proofs.lemmas.Bool.{cases_Bool, cond-true, false≢true}
@@ -15,10 +15,11 @@ use Rattle.chain_rules.specs.Recording.{after}
 use Rattle.ogg_command.specs.declared.command.Command.{Command}
 use Rattle.import_gather.specs.Kept.{KeptStream, KeptLink, has_some, waits}
 use Rattle.import_gather.specs.Gathered.{KeepsUp, HoldsSoFar, before_last}
-use Rattle.import_gather.proofs.Others.{serials, zip_push, zip_weaker, zip_all}
+use Rattle.import_gather.proofs.Others.{zip_push, zip_weaker, zip_all}
 use Rattle.import_gather.proofs.Pages.{keeps_whole}
 use Rattle.import_gather.proofs.Steps.{and_its_last}
-use Rattle.import_gather.proofs.Onward.{state, nothing_in}
+use Rattle.import_gather.specs.Laws.{none_kept, nothing_in, serials}
+use Rattle.import_gather.proofs.Onward.{state}
 use Rattle.link_chain.specs.Laws.LeftWhole.{IsClosed, closed_by_end}
 
 -- ---- a stream that has ended
@@ -48,10 +49,6 @@ no_serials (p ∷ firsts) others some marked e =
   where
     apart' : {x : ℕ} {l : List ℕ} → x ∷ l ≡ [] → ⊥
     apart' e = cc
-
-none_kept : (streams : List KeptStream) → serials streams ≡ [] → streams ≡ []
-none_kept [] e = refl
-none_kept (k ∷ streams) e = cc
 
 closed_streams : (pages : List Page) (streams : List KeptStream) → AllByRecursion (IsClosed pages) (serials streams) → AllByRecursion (λ (k : KeptStream). IsClosed pages k.serial) streams
 closed_streams pages [] h = tt

@@ -4,5 +4,6 @@ pub mod Gathered
 pub mod Giving
 pub mod Headers
 pub mod Kept
+pub mod Laws
 pub mod Limits
 pub mod Refusals
