@@ -21,9 +21,9 @@ use Rattle.chain_rules.specs.Recording.{Stream}
 use Rattle.ogg_command.specs.declared.command.Command.{Command}
 use Rattle.import_gather.specs.Gathered.{AreWanted, Gathered, HasGathered, HoldsSoFar, KeepsUp, Waits, before_last, held_back, without_packet}
 use Rattle.import_gather.specs.Kept.{KeptStream, is_ready, is_waiting, kept_bytes, rest_of, size_of_rest, without_rest}
+use Rattle.import_gather.specs.Laws.{serials}
 use Rattle.import_mend.specs.Cut.{cut_back, cut_before, cut_links, cut_pages}
 use Rattle.import_mend.proofs.Alike.{Alike, AreAlike, any_alike, ended_alike, itself, link_alike, number_alike, position_alike, serials_alike, with_alike}
-use Rattle.import_mend.proofs.Kepts.{serials}
 use Rattle.import_mend.proofs.Cuts.{before_alike, before_is_page, cut_closed, cut_fits, cut_holds, less_bodies, less_lacing}
 
 -- ---- the pages of the last link

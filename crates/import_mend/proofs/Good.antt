@@ -1,27 +1,20 @@
 -- The pages that are found are the good pages of the input.
-use Rattle.std.proofs.Common.{◌≡◌, ℕ, zero, suc, ◌+◌, ◌-◌, ◌^◌, ◌≤◌, ◌<◌, List, [], ◌∷◌, ◌++◌, length, drop, Option, Some, None, Ok, Err, refl, sym, ◌∙◌, ap, subst, arith, inl, inr, append_assoc, append-nil, length-append, length-drop}
+use Rattle.std.proofs.Common.{◌≡◌, ℕ, zero, suc, ◌+◌, ◌-◌, ◌^◌, ◌≤◌, ◌<◌, List, [], ◌∷◌, ◌++◌, length, drop, Option, Some, None, Ok, refl, sym, ◌∙◌, ap, subst, arith, inl, inr, append_assoc, length-append, length-drop}
 use Rattle.std.specs.Prelude.{nat_lt, slice_index, sum}
 use Rattle.std.proofs.lemmas.Bool.{cases_Bool, ltb-true, ltb-false}
 use Rattle.std.proofs.lemmas.List.{drop-append-le, drop-drop, get_or-drop, get_or_append_left}
 use Rattle.std.proofs.lemmas.List.Sums.{sum_by-cons}
 use Rattle.ogg_page.specs.Page.{Page, IsPage, page_bytes, page_size}
 use Rattle.ogg_page.specs.PageLaws.{length-page_bytes, one_page, page_begins}
-use Rattle.ogg_page.specs.Reading.{page_at}
 use Rattle.ogg_page.specs.ReadingLaws.{fault_is_no_page}
 use Rattle.ogg_page.specs.Window.{LentAt}
 use Rattle.ogg_page.specs.declared.fault.PageFault.{PageFault}
-use Rattle.ogg_page.specs.declared.fault.PageFault.TheVariants.{Short, Pattern, Version, Checksum}
-use Rattle.import_pages.specs.Reader.{Gives, GivesEnd, GivesFault, GivesPage, HasAdvanced, IsFaultOf, IsPassed, ReaderState}
+use Rattle.import_pages.specs.Laws.{end_given, joined, page_given, whole_fault}
+use Rattle.import_pages.specs.Reader.{GivesEnd, GivesFault, GivesPage, HasAdvanced, IsFaultOf, IsPassed, ReaderState}
 use Rattle.import_pages.specs.declared.fault.PageReaderFault.TheVariants.{Page as PageOf}
 use Rattle.import_mend.specs.Found.{AreGoodPages, FindsNext, FindsPages, HoldsNone, NoneBefore, PassesAll, PassesOne, StandsAt}
 
 -- ---- a place at which no page begins
-whole_fault : (bytes rest : List ℕ) (fault : PageFault) → IsFaultOf bytes (Some rest) fault → page_at (bytes ++ rest) ≡ Err fault
-whole_fault bytes rest Short is = ap (λ l. page_at (bytes ++ l)) (is.short refl) ∙ ap page_at (append-nil bytes) ∙ is.read
-whole_fault bytes rest Pattern is = is.definite (λ e. cc) rest
-whole_fault bytes rest Version is = is.definite (λ e. cc) rest
-whole_fault bytes rest Checksum is = is.definite (λ e. cc) rest
-
 begins_there : (bytes : List ℕ) (place : ℕ) (page : Page) → StandsAt bytes place page → slice_index bytes place ≡ 0x4F
 begins_there bytes place page s =
     let (next, more, begins) = page_begins page in
@@ -44,9 +37,6 @@ record Remains (old : ReaderState) (bytes : List ℕ) (count : ℕ) (new : Reade
   inside : count ≤ length bytes
   none : NoneBefore bytes count
   offset : old.offset + count < 2 ^ 64 → new.offset ≡ old.offset + count
-
-joined : (unread bytes taken rest : List ℕ) → bytes ≡ taken ++ rest → unread ++ bytes ≡ (unread ++ taken) ++ rest
-joined unread bytes taken rest is = ap (λ l. unread ++ l) is ∙ sym (append_assoc unread taken rest)
 
 one_remains : (old : ReaderState) (xs : List ℕ) (count : ℕ) (new : ReaderState) (left : Option (List ℕ)) → PassesOne old (Some xs) count new left → Remains old (old.unread ++ xs) count new left
 one_remains old xs count new None p = absurd p.found.consumed
@@ -118,13 +108,6 @@ pub record NextGood (old : ReaderState) (bytes : List ℕ) (lent : LentAt) (new 
   pub offset : lent.0 ≡ old.offset + place
   pub behind : new.offset ≡ lent.0 + page_size lent.1
   pub small : new.offset + length (new.unread ++ rest) < 2 ^ 64 - 1
-
-page_given : (bytes : List ℕ) (left : Option (List ℕ)) (offset : ℕ) (lent : LentAt) (given : Option LentAt) (new : ReaderState) → given ≡ Some lent → Gives bytes left offset (Ok tt) given new →
-    GivesPage bytes offset lent new
-page_given bytes left offset lent given new same gives = subst (λ g. Gives bytes left offset (Ok tt) g new) same gives
-
-end_given : (bytes : List ℕ) (left : Option (List ℕ)) (offset : ℕ) (given : Option LentAt) (new : ReaderState) → given ≡ None → Gives bytes left offset (Ok tt) given new → GivesEnd bytes left offset new
-end_given bytes left offset given new same gives = subst (λ g. Gives bytes left offset (Ok tt) g new) same gives
 
 page_next : (old passed : ReaderState) (bytes r : List ℕ) (count : ℕ) (lent : LentAt) (new : ReaderState) (left : Option (List ℕ)) → old.offset + length bytes < 2 ^ 64 - 1
     → passed.unread ++ r ≡ drop count bytes → count ≤ length bytes → NoneBefore bytes count → (old.offset + count < 2 ^ 64 → passed.offset ≡ old.offset + count)

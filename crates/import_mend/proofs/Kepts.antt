@@ -1,7 +1,7 @@
 -- What is kept of the streams of a link, after a page of one of them.
 use Rattle.std.proofs.Common.{◌≡◌, ◌⊎◌, ℕ, Bool, true, false, cond, List, [], ◌∷◌, ◌++◌, map, take, drop, Some, None, refl, sym, ◌∙◌, ap, subst, inl, inr, take-append-drop}
-use Rattle.std.specs.Prelude.{nat_eq, ◌||◌}
-use Rattle.std.specs.List.{AllByRecursion, IsDistinct, list_any}
+use Rattle.std.specs.Prelude.{nat_eq}
+use Rattle.std.specs.List.{AllByRecursion, IsDistinct}
 use Rattle.std.proofs.lemmas.Bool.{cases_Bool, cases_eq, cond-true, cond-false, eq-eqb, ne_eqb, eqb-false}
 use Rattle.ogg_page.specs.Page.{Page}
 use Rattle.ogg_page.specs.LogicalStream.{is_last}
@@ -15,13 +15,11 @@ use Rattle.ogg_command.specs.declared.command.Entry.{Entry}
 use Rattle.ogg_command.specs.declared.command.NewStream.{NewStream}
 use Rattle.import_commands.specs.Commands.{entry_of, put_of}
 use Rattle.import_gather.specs.Giving.{Follows, bare, begin_if, begins_now, begun_if, link_begin, marked, new_stream, page_end}
-use Rattle.import_gather.specs.Kept.{KeptLink, KeptStream, TakenBy, TakesPage, ends_by, has_kept, rest_of, room_of, without_rest}
+use Rattle.import_gather.specs.Kept.{KeptLink, KeptStream, TakenBy, TakesPage, ends_by, rest_of, room_of, without_rest}
+use Rattle.import_gather.specs.Laws.{serials}
 use Rattle.import_mend.specs.Origin.{CommandFrom, ComesFrom, HeaderFrom, KeptFrom}
 use Rattle.import_mend.proofs.Runs.{comes_more}
 use Rattle.ogg_page.specs.Laws.PageBytes.{all_both}
-
-abbrev pub serials : List KeptStream → List ℕ
-serials streams = map (λ (k : KeptStream). k.serial) streams
 
 -- ---- by more pages nothing is lost
 pub header_more : (seen more : List Page) (serial : ℕ) (header : List ℕ) → HeaderFrom seen serial header → HeaderFrom (seen ++ more) serial header
@@ -83,17 +81,6 @@ rest_dropped serial other (k ∷ streams) ne =
       | inr other' ↦
           (let is : without_rest serial k ≡ k = cond-false (nat_eq k.serial serial) (record k { rest = [] }) k (ne_eqb k.serial serial other') in
           ap (λ (x : KeptStream). rest_of other (x ∷ map (without_rest serial) streams)) is ∙ ap (λ l. cond (nat_eq k.serial other) k.rest l) (rest_dropped serial other streams ne))
-    ]
-
--- a stream that is there is kept
-pub is_kept : (serial : ℕ) (streams : List KeptStream) → list_any (nat_eq serial) (serials streams) ≡ true → has_kept serial streams ≡ true
-is_kept serial [] e = e
-is_kept serial (k ∷ streams) e =
-    elim (cases_eq k.serial serial) [
-      | inl same ↦ ap (λ b. b || has_kept serial streams) (eq-eqb k.serial serial same)
-      | inr other ↦
-          ap (λ b. b || has_kept serial streams) (ne_eqb k.serial serial other)
-          ∙ is_kept serial streams (sym (ap (λ b. b || list_any (nat_eq serial) (serials streams)) (ne_eqb serial k.serial (λ f. other (sym f)))) ∙ e)
     ]
 
 -- ---- the chain's stream

@@ -21,6 +21,7 @@ use Rattle.import_gather.specs.Cutting.{CutsInto}
 use Rattle.import_gather.specs.Gathered.{Gathered, HasGathered}
 use Rattle.import_gather.specs.Giving.{Follows}
 use Rattle.import_gather.specs.Kept.{KeptStream, has_kept, is_too_long, rest_of}
+use Rattle.import_gather.specs.Laws.{has_from, serials}
 use Rattle.import_mend.specs.Gives.{GathersLeft, Mending}
 use Rattle.import_mend.specs.Losses.{lost_at, lost_in, place_in, with_lost, with_lost_at}
 use Rattle.import_mend.specs.Mended.{behind_rest, ends_some, front_values, is_cut, is_joined, mended, without_values}
@@ -35,7 +36,7 @@ use Rattle.import_mend.proofs.Dropped.{HoldsRest, absent_pages, find_rest, pages
 use Rattle.import_mend.proofs.Fits.{broken_known, broken_stream, found_changed, four_parts, no_rest, broken_count, some_same}
 use Rattle.import_mend.proofs.Held.{broken_goes_on, rest_size}
 use Rattle.import_mend.proofs.Kept.{either_has, left_has, mended_first, mended_last, mended_serial}
-use Rattle.import_mend.proofs.Kepts.{FollowsFrom, command_more, follows_from, is_kept, kept_more, other_found, rest_after, rest_before, rest_dropped, serials, without_from}
+use Rattle.import_mend.proofs.Kepts.{FollowsFrom, command_more, follows_from, kept_more, other_found, rest_after, rest_before, rest_dropped, without_from}
 use Rattle.import_mend.proofs.Lacings.{whole_closed}
 use Rattle.import_mend.proofs.Lost.{lost_other, lost_own, same_place}
 use Rattle.import_mend.proofs.Parts.{CutHas, PageHas, cut_has, fresh_has, goes_on_has}
@@ -74,7 +75,7 @@ is_known links g given serial stream h known =
     let some : links ≢ [] = λ e. false≢true (sym (ap (λ l. has_stream (last_link l) serial) e) ∙ there.0) in
     record {
       is = some_same (sym found ∙ there.1);
-      kept = is_kept serial g.link.streams (ap (list_any (nat_eq serial)) h.so_far.order ∙ there.0);
+      kept = has_from serial g.link.streams (ap (list_any (nat_eq serial)) h.so_far.order ∙ there.0);
       distinct = subst (λ l. IsDistinct nat_eq l) (sym h.so_far.order) (last_is_link links h.are.each some).distinct;
     }
 

@@ -192,9 +192,6 @@ pub record PageHas (seen : List Page) (page : Page) (packets : List (List ℕ)) 
   pub comes : AllByRecursion (ComesFrom seen page.serial page.position) packets
   pub rest : is_last page ≡ false → RestFrom seen page.serial (page.sequence + 1) left
 
-number_of : (run : List Page) (page : Page) → number_behind (run ++ page ∷ []) ≡ page.sequence + 1
-number_of run page = number_push run page
-
 -- what stands in the run from there on is cut into these packets
 has_packets : (seen : List Page) (before : List Page) (page : Page) (packets : List (List ℕ)) (segments later : ℕ) (values bytes back back_bytes left : List ℕ)
     → BeginsIn seen page.serial (before ++ page ∷ []) values bytes ((flat_map lace packets ++ replicate later 255) ++ back) ((concat packets ++ left) ++ back_bytes)
@@ -219,7 +216,7 @@ has_packets seen before page packets segments later values bytes back back_bytes
             (subst (λ l. BeginsIn seen page.serial run (values ++ flat_map lace packets) (bytes ++ concat packets) tv l) (ap (λ l. left ++ l) (none more).1 ∙ append-nil left)
             (behind_all seen page.serial run packets values bytes tv tb grouped));
         some = not_none before;
-        number = number_of before page;
+        number = number_push before page;
         size = size;
       };
     }
@@ -338,7 +335,7 @@ cut_has seen page number segments packets left is continued size cuts =
                 (subst (λ l. BeginsIn s page.serial run (front ++ flat_map lace packets) (front_bytes ++ concat packets) tv l) (ap (λ l. left ++ l) (none more).1 ∙ append-nil left)
                 (behind_all s page.serial run packets front front_bytes tv tb grouped));
             some = λ e. cc;
-            number = number_of [] page;
+            number = number_push [] page;
             size = size;
           };
         }

@@ -3,6 +3,7 @@ use Rattle.std.proofs.Common.{◌≡◌, ℕ, Bool, List, [], ◌∷◌, ◌++�
 use Rattle.std.specs.List.{AllByRecursion}
 use Rattle.std.proofs.lemmas.Bool.{cases_Bool}
 use Rattle.ogg_page.specs.Page.{Page}
+use Rattle.ogg_page.specs.Laws.PageBytes.{all_both}
 use Rattle.ogg_page.specs.LogicalStream.{is_first}
 use Rattle.ogg_page.specs.Window.{LentAt}
 use Rattle.link_chain.specs.declared.stream_state.StreamState.{StreamState}
@@ -22,10 +23,6 @@ use Rattle.import_mend.specs.declared.ways.Way.{Way}
 use Rattle.import_mend.specs.declared.ways.Way.TheVariants.{Take, Restart, Stranger, Repeated, Misshapen, Full}
 use Rattle.import_mend.proofs.Held.{becomes, broken_goes_on, dropped_goes_on, each_ended, known_later}
 
-both : (xs ys : List Command) → AllByRecursion IsPlain xs → AllByRecursion IsPlain ys → AllByRecursion IsPlain (xs ++ ys)
-both [] ys a b = b
-both (x ∷ xs) ys (p, a) b = (p, both xs ys a b)
-
 none : (more : List Command) → more ≡ [] → AllByRecursion IsPlain more
 none more is = subst (AllByRecursion IsPlain) (sym is) tt
 
@@ -35,7 +32,7 @@ plain_each (stream ∷ streams) links old new given more (next, own, others, one
     let dropped : HasMended (cut_links stream.serial links) (without_packet stream.serial old) given = dropped_goes_on stream.serial links old given h in
     let ended : HasMended (links_with (cut_links stream.serial links) (end_page stream.next_sequence stream)) next (given ++ own) = one.gathers.goes_on (cut_links stream.serial links) given dropped.0 dropped.1 in
     subst (AllByRecursion IsPlain) (sym all)
-    (both own others (one.gathers.plain (cut_links stream.serial links) given dropped.0)
+    (all_both IsPlain own others (one.gathers.plain (cut_links stream.serial links) given dropped.0)
     (plain_each streams (links_with (cut_links stream.serial links) (end_page stream.next_sequence stream)) next new (given ++ own) others each ended))
 
 plain_one : (way : Way) (offset lost : ℕ) (page : Page) (old new : Mending) (mend : Option Mend) (given more : List Command) (links : List (List Page)) → way_of old.gathered.chain lost page ≡ way →
@@ -56,7 +53,7 @@ plain_one Restart offset lost page old new mend given more links way g h =
           let ended : List (List Page) = links_ended (open_streams old.gathered.chain) links in
           let closed : HasMended ended again.closed (given ++ again.ends) = each_ended (open_streams old.gathered.chain) links old.gathered again.closed given again.ends again.each h in
           subst (AllByRecursion IsPlain) (sym again.all)
-          (both again.ends again.own (plain_each (open_streams old.gathered.chain) links old.gathered again.closed given again.ends again.each h)
+          (all_both IsPlain again.ends again.own (plain_each (open_streams old.gathered.chain) links old.gathered again.closed given again.ends again.each h)
           (again.begins.plain ended (given ++ again.ends) closed.0)))
       | inr f ↦ (let e : EndsStreams old.gathered new.gathered more = f.1 in plain_each e.ended links old.gathered new.gathered given more e.each h)
     ]
@@ -71,12 +68,12 @@ all_plain [] old new mends before given links t h = none given t.2
 all_plain (lent ∷ later) old new mends before given links (next, mend, own, others, rest, one, all, told, is) h =
     let (middle, _, held) = becomes (way_of old.gathered.chain (lost_of old lent.1) lent.1) lent.0 (lost_of old lent.1) lent.1 old next mend before own links refl one.1 h in
     subst (AllByRecursion IsPlain) (sym is)
-    (both own rest (plain_one (way_of old.gathered.chain (lost_of old lent.1) lent.1) lent.0 (lost_of old lent.1) lent.1 old next mend before own links refl one.1 h)
+    (all_both IsPlain own rest (plain_one (way_of old.gathered.chain (lost_of old lent.1) lent.1) lent.0 (lost_of old lent.1) lent.1 old next mend before own links refl one.1 h)
     (all_plain later next new others (before ++ own) rest middle all held))
 
 pub end_plain : ((link : KeptLink) → AllByRecursion IsPlain (begin_if (waits link) link)) → (links : List (List Page)) (old new : Gathered) (given more : List Command)
     → GivesEnd old new more → HasMended links old given → AllByRecursion IsPlain more
 end_plain begun links old new given more e h =
     subst (AllByRecursion IsPlain) (sym e.all)
-    (both e.ends e.rest (plain_each e.each.ended links old e.closed given e.ends e.each.each h)
+    (all_both IsPlain e.ends e.rest (plain_each e.each.ended links old e.closed given e.ends e.each.each h)
     (subst (AllByRecursion IsPlain) (sym e.waited.commands) (begun e.closed.link)))

@@ -21,7 +21,8 @@ use Rattle.ogg_command.specs.declared.command.Command.{Command}
 use Rattle.import_gather.specs.Cutting.{CutsInto}
 use Rattle.import_gather.specs.Gathered.{Gathered, without_packet}
 use Rattle.import_gather.specs.Giving.{Follows, TakesOn}
-use Rattle.import_gather.specs.Kept.{KeptLink, KeptStream, entered as kept_entered, rest_of, waits}
+use Rattle.import_gather.specs.Kept.{KeptLink, entered as kept_entered, rest_of, waits}
+use Rattle.import_gather.specs.Laws.{none_kept}
 use Rattle.import_mend.specs.Cut.{cut_links}
 use Rattle.import_mend.specs.Gives.{BeginsAgain, EndsEach, EndsOne, EndsStreams, Gives, GivesEnd, Mending, mending, open_streams}
 use Rattle.import_mend.specs.Losses.{lost_at, lost_in, with_new}
@@ -301,10 +302,6 @@ all_from (lent ∷ later) seen old new mends before given links are h o (next, m
     (subst (λ (l : List Command). AllFrom ((seen ++ lent.1 ∷ []) ++ pages_of later) new l) (append_assoc before own rest ∙ ap (λ l. before ++ l) (sym is))
     (all_from later (seen ++ lent.1 ∷ []) next new others (before ++ own) rest middle are.1 held from all))
 
-nothing_kept : (streams : List KeptStream) → map (λ (k : KeptStream). k.serial) streams ≡ [] → streams ≡ []
-nothing_kept [] e = refl
-nothing_kept (k ∷ streams) e = cc
-
 start_origin : (start : Mending) → IsStart start → Origin [] start []
 start_origin start s =
     let chain : start.gathered.chain ≡ chain_state_of [] = s.gathered.chain in
@@ -315,7 +312,7 @@ start_origin start s =
       few = omega (arith, ap (λ (c : ChainState). length c.streams) chain);
       whole = λ _ serial stream known. absurd (none serial stream known);
       rests = λ serial stream known unended unfinished. absurd (none serial stream known);
-      headers = subst (AllByRecursion (KeptFrom [])) (sym (nothing_kept start.gathered.link.streams s.gathered.so_far.order)) tt;
+      headers = subst (AllByRecursion (KeptFrom [])) (sym (none_kept start.gathered.link.streams s.gathered.so_far.order)) tt;
       commands = tt;
     }
   where

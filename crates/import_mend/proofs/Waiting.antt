@@ -1,5 +1,5 @@
 -- What comes out of a stream by a page, and what waits on.
-use Rattle.std.proofs.Common.{◌≡◌, ℕ, Bool, true, false, cond, List, [], ◌∷◌, ◌++◌, length, map, take, refl, sym, ◌∙◌, ap, subst, arith, inl, inr, append_assoc, append-nil, take-append-drop}
+use Rattle.std.proofs.Common.{◌≡◌, ℕ, Bool, true, false, cond, List, [], ◌∷◌, ◌++◌, map, take, refl, sym, ◌∙◌, ap, subst, inl, inr, append_assoc, append-nil, take-append-drop}
 use Rattle.std.specs.Prelude.{nat_eq, not, ◌||◌, ◌&&◌}
 use Rattle.std.specs.List.{AllByRecursion, IsDistinct, filter}
 use Rattle.std.proofs.lemmas.Bool.{cases_Bool, cond-true, cond-false, eq-eqb, ne_eqb, eqb-false, false≢true}
@@ -11,8 +11,9 @@ use Rattle.ogg_command.specs.declared.command.Entry.{Entry}
 use Rattle.import_commands.specs.Commands.{entry_of, put_of}
 use Rattle.import_gather.specs.Giving.{Follows, bare, begin_if, begins_now, begun_if, marked, new_stream, page_end}
 use Rattle.import_gather.specs.Kept.{KeptLink, KeptStream, TakenBy, ends_by, has_some, is_ready, room_of, without_rest}
+use Rattle.import_gather.specs.Laws.{nothing_in, serials}
 use Rattle.import_mend.specs.Runs.{ArePut, ComeOut, entries_in, headers_in, is_of, packets_in, waiting_in}
-use Rattle.import_mend.proofs.Kepts.{serials, serials_there}
+use Rattle.import_mend.proofs.Kepts.{serials_there}
 
 abbrev pub packet_in : Entry → List ℕ
 packet_in entry = entry.packet
@@ -258,12 +259,9 @@ passed_by serial page old new more f =
     is_begun false = refl
 
 -- if the link doesn't begin, all packets are kept as headers, or it has begun
-none_later : {A : Type 0} (l : List A) → has_some l ≡ false → l ≡ []
-none_later [] e = refl
-none_later (x ∷ l) e = absurd (false≢true (sym e ∙ ap not (ne_eqb (length (x ∷ l)) 0 (λ f. omega (arith, f)))))
 
 kept_back : (link : KeptLink) (later : List (List ℕ)) → begins_now link later ≡ false → link.begun ≡ false → later ≡ []
-kept_back link later still waits = none_later later (first (has_some later) (sym (ap (λ b. not b && (has_some later || is_ready link.streams)) waits) ∙ still))
+kept_back link later still waits = nothing_in later (first (has_some later) (sym (ap (λ b. not b && (has_some later || is_ready link.streams)) waits) ∙ still))
   where
     first : (b : Bool) → (true && (b || is_ready link.streams)) ≡ false → b ≡ false
     first true e = absurd (false≢true (sym e))

@@ -19,6 +19,7 @@ use Rattle.import_commands.specs.Commands.{entry_of}
 use Rattle.import_gather.specs.Gathered.{Gathered, HasGathered, without_packet}
 use Rattle.import_gather.specs.Giving.{Follows, TakesOn, begin_if}
 use Rattle.import_gather.specs.Kept.{KeptLink, KeptStream, entered, has_some, waits}
+use Rattle.import_gather.specs.Laws.{none_kept, serials}
 use Rattle.import_mend.specs.Cut.{cut_links}
 use Rattle.import_mend.specs.Gives.{BeginsAgain, EndsEach, EndsOne, EndsStreams, Gives, GivesEnd, Mending, open_streams}
 use Rattle.import_mend.specs.Mended.{end_page}
@@ -32,7 +33,7 @@ use Rattle.import_mend.specs.declared.ways.Way.TheVariants.{Take, Restart, Stran
 use Rattle.import_mend.proofs.ComesOut.{Later, LeftOut, any_out, later_page}
 use Rattle.import_mend.proofs.Fits.{broken_known, no_rest}
 use Rattle.import_mend.proofs.Held.{becomes, dropped_goes_on}
-use Rattle.import_mend.proofs.Kepts.{rest_before, serials}
+use Rattle.import_mend.proofs.Kepts.{rest_before}
 use Rattle.import_mend.proofs.Origins.{Known, is_known}
 use Rattle.import_mend.proofs.Parts.{no_packets}
 use Rattle.import_mend.proofs.Taken.{first_fits, restarts_first}
@@ -234,12 +235,8 @@ end_passes serial old new before more links h e bare =
     ∙ sym (packets_app serial e.ends e.rest) ∙ ap (packets_in serial) (sym e.all)
 
 -- ---- a stream's first page
-nothing_kept : (streams : List KeptStream) → serials streams ≡ [] → streams ≡ []
-nothing_kept [] e = refl
-nothing_kept (k ∷ streams) e = cc
-
 pub start_bare : (serial : ℕ) (start : Mending) → IsStart start → IsBare serial start.gathered.link
-start_bare serial start begins = λ _. ap (waiting_in serial) (nothing_kept start.gathered.link.streams begins.gathered.so_far.order)
+start_bare serial start begins = λ _. ap (waiting_in serial) (none_kept start.gathered.link.streams begins.gathered.so_far.order)
 
 pub always_bare : (serial : ℕ) (pages : List LentAt) (start new : Mending) (mends : List (Option Mend)) (given : List Command) → IsStart start → TakesPages pages start new mends given
     → IsBare serial new.gathered.link

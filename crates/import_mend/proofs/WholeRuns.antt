@@ -1,18 +1,16 @@
 -- The packets that are whole in a run of pages, page by page.
-use Rattle.std.proofs.Common.{◌≡◌, ◌≢◌, ℕ, zero, suc, ◌+◌, ◌/◌, ◌%◌, ◌<◌, cond, List, [], ◌∷◌, ◌++◌, length, map, replicate, sum, refl, sym, ◌∙◌, ap, subst, arith, append_assoc, append-nil}
-use Rattle.std.specs.Prelude.{nat_lt}
+use Rattle.std.proofs.Common.{◌≡◌, ◌≢◌, ℕ, zero, suc, ◌+◌, List, [], ◌∷◌, ◌++◌, length, map, replicate, sum, refl, sym, ◌∙◌, ap, subst, arith, append_assoc, append-nil}
 use Rattle.std.specs.List.{AllByRecursion, concat, flat_map}
-use Rattle.std.proofs.lemmas.Bool.{lt-ltb}
 use Rattle.std.proofs.lemmas.List.{append_cancel_left, replicate-append-replicate}
 use Rattle.std.proofs.lemmas.List.Concat.{flat_map-append}
-use Rattle.std.proofs.lemmas.List.Sums.{sum_by-append, sum_by-cons}
 use Rattle.ogg_page.specs.Page.{Page}
-use Rattle.ogg_page.specs.Lacing.{lace, lacing_of}
+use Rattle.ogg_page.specs.Lacing.{lace}
 use Rattle.ogg_page.specs.Laws.Prefixes.{same_fronts}
 use Rattle.ogg_page.specs.StreamLaws.{same_lacing}
 use Rattle.ogg_page.specs.LogicalStream.{joined_bodies, joined_lacing}
 use Rattle.packetiser.specs.Run.{packets_ended}
 use Rattle.ogg_command.specs.declared.command.Entry.{Entry}
+use Rattle.import_commands.specs.Laws.{ended_app, ended_full, ended_packets}
 use Rattle.import_commands.specs.Commands.{entry_of}
 use Rattle.import_gather.specs.Cutting.{CutsInto}
 use Rattle.import_mend.specs.Runs.{HoldWhole, positions_of, values_before}
@@ -22,25 +20,6 @@ laced entries = flat_map (λ (e : Entry). lace e.packet) entries
 
 abbrev pub bytes_in : List Entry → List ℕ
 bytes_in entries = flat_map (λ (e : Entry). e.packet) entries
-
--- ---- how many packets end
-ended_app : (xs ys : List ℕ) → packets_ended (xs ++ ys) ≡ packets_ended xs + packets_ended ys
-ended_app xs ys = sum_by-append (λ value. cond (nat_lt value 255) 1 0) xs ys
-
-ended_full : (n : ℕ) → packets_ended (replicate n 255) ≡ 0
-ended_full zero = refl
-ended_full (suc n) = ended_full n
-
-ended_value : (value : ℕ) → value < 255 → packets_ended (value ∷ []) ≡ 1
-ended_value value h = sum_by-cons (λ v. cond (nat_lt v 255) 1 0) value [] ∙ ap (λ b. let n : ℕ = cond b 1 0 in n + 0) (lt-ltb value 255 h)
-
-ended_lace : (n : ℕ) → packets_ended (lacing_of n) ≡ 1
-unfolding lacing_of
-ended_lace n = ended_app (replicate (n / 255) 255) (n % 255 ∷ []) ∙ omega (arith, ended_full (n / 255), ended_value (n % 255) (omega arith))
-
-ended_packets : (packets : List (List ℕ)) → packets_ended (flat_map lace packets) ≡ length packets
-ended_packets [] = refl
-ended_packets (packet ∷ packets) = ended_app (lace packet) (flat_map lace packets) ∙ omega (arith, ended_lace (length packet), ended_packets packets)
 
 -- ---- packets as the entries of a page
 laced_entries : (page : Page) (packets : List (List ℕ)) → laced (map (entry_of page) packets) ≡ flat_map lace packets
