@@ -3,6 +3,7 @@ use Rattle.std.proofs.Common.{◌≡◌, ℕ, Bool, true, false, Option, Some, N
 use Rattle.std.specs.Io.KnownBytes.{Appends, Consumes}
 use Rattle.std.proofs.KnownBytes.{Consumes-nil}
 use Rattle.ogg_page.specs.Output.{WritesPrefix}
+use Rattle.ogg_page.specs.Laws.PageBytes.{all_both}
 use Rattle.ogg_page.specs.Page.{Page as PageValue}
 use Rattle.link_chain.specs.Links.{AreLinks}
 use Rattle.link_chain.specs.Taking.{unfinished_stream}
@@ -23,7 +24,7 @@ use Rattle.import_feed.specs.declared.made.Made.{Made}
 use Rattle.import_feed.specs.declared.maker.Maker.{Maker}
 use Rattle.import_feed.specs.declared.fault.MakingFault.{MakingFault}
 use Rattle.import_feed.specs.declared.fault.MakingFault.TheVariants.{Page, Chain, PacketTooLong, Unfinished, TooLong, Read, Limit, Write, Memory}
-use Rattle.import_feed.proofs.Lists.{both, later_of}
+use Rattle.import_feed.proofs.Lists.{later_of}
 use Rattle.import_feed.proofs.Turns.{not_given, prefix_written, written_more}
 use Rattle.import_changes.specs.declared.options.ChangeOptions.{ChangeOptions}
 
@@ -32,7 +33,7 @@ pub all_given : (options : ChangeOptions) (before now0 now1 : Option (List ℕ))
     HasGiven options before now0 links old.gatherer given → (rest : GivesRest old new now0 now1) → HasGiven options before now1 links new.gatherer (given ++ rest.more)
 all_given options before now0 now1 old new links given was rest = record {
   gathers = rest.gathers options links given was.gathers;
-  fits = both Fits given rest.more was.fits rest.fits;
+  fits = all_both Fits given rest.more was.fits rest.fits;
   written = written_more before now0 now1 given rest.more was.written rest.written;
 }
 

@@ -3,6 +3,7 @@ use Rattle.std.proofs.Common.{◌≡◌, ℕ, zero, suc, ◌+◌, ◌<◌, List,
 use Rattle.std.specs.List.{AllByRecursion, flat_map}
 use Rattle.std.proofs.lemmas.List.{take_more}
 use Rattle.std.proofs.lemmas.List.Concat.{flat_map-append}
+use Rattle.ogg_page.specs.Laws.PageBytes.{all_both}
 
 -- one item more
 more_is : {X : Type 0} (xs : List X) (i : ℕ) (x : X) → i < length xs → x ≡ get_or xs i x → take (i + 1) xs ≡ take i xs ++ x ∷ []
@@ -12,13 +13,9 @@ pub flat_map-more : {X : Type 0} (f : X → List ℕ) (xs : List X) (i : ℕ) (x
 flat_map-more f xs i x h is =
     ap (flat_map f) (more_is xs i x h is) ∙ flat_map-append f (take i xs) (x ∷ []) ∙ ap (λ l. flat_map f (take i xs) ++ l) (append-nil (f x))
 
-pub both : {X : Type 0} (P : X → Type 0) (xs ys : List X) → AllByRecursion P xs → AllByRecursion P ys → AllByRecursion P (xs ++ ys)
-both P [] ys all others = others
-both P (x ∷ xs) ys all others = (all.0, both P xs ys all.1 others)
-
 pub all_more : {X : Type 0} (P : X → Type 0) (xs : List X) (i : ℕ) (x : X) → i < length xs → x ≡ get_or xs i x → AllByRecursion P (take i xs) → P x →
     AllByRecursion P (take (i + 1) xs)
-all_more P xs i x h is all one = subst (AllByRecursion P) (sym (more_is xs i x h is)) (both P (take i xs) (x ∷ []) all (one, tt))
+all_more P xs i x h is all one = subst (AllByRecursion P) (sym (more_is xs i x h is)) (all_both P (take i xs) (x ∷ []) all (one, tt))
 
 -- each item of all
 pub each_of : {X : Type 0} (P : X → Type 0) (xs : List X) (i : ℕ) (x : X) → i < length xs → x ≡ get_or xs i x → AllByRecursion P xs → P x

@@ -5,6 +5,7 @@ use Rattle.std.specs.List.{AllByRecursion, filter, flat_map}
 use Rattle.std.specs.Io.KnownBytes.{Appends}
 use Rattle.std.proofs.lemmas.List.Concat.{flat_map-append}
 use Rattle.ogg_page.specs.Output.{WritesPrefix}
+use Rattle.ogg_page.specs.Laws.PageBytes.{all_both}
 use Rattle.ogg_command.specs.declared.command.Command.{Command}
 use Rattle.import_gather.specs.Gathered.{Gathered}
 use Rattle.import_mend.specs.Gives.{GivesEnd, Mending as Mended, mend_at_end}
@@ -25,7 +26,7 @@ use Rattle.import_feed.specs.declared.made.Made.{Made}
 use Rattle.import_feed.specs.declared.mending.Mending.{Mending}
 use Rattle.import_feed.specs.declared.fault.MakingFault.{MakingFault}
 use Rattle.import_feed.specs.declared.fault.MakingFault.TheVariants.{Page, Chain, PacketTooLong, Unfinished, TooLong, Read, Limit, Write, Memory}
-use Rattle.import_feed.proofs.Lists.{both, later_of}
+use Rattle.import_feed.proofs.Lists.{later_of}
 use Rattle.import_feed.proofs.Plain.{EndsArePlain, PagesArePlain, PagesHaveLinks, end_plain, steps_plain}
 use Rattle.import_feed.proofs.Turns.{none_prefix, not_given, prefix_written, whole_prefix, written_more}
 
@@ -145,7 +146,7 @@ turn_mended tells options before now0 now1 unaware aware0 aware1 old mid after n
               (subst (λ (q : ChangeState). HasChanged q (commands_of steps ++ commands) (given ++ more)) (sym changes)
               (changed_on tells options before now0 unaware aware0 old.import old mid.changes after.changes steps given commands more has t.changes g.changed plain));
           asked = ap (λ (q : ChangeState). q.options) changes ∙ g.options ∙ ap (λ (q : ChangeState). q.options) t.changes ∙ has.asked;
-          fits = both Fits given more has.fits g.fits;
+          fits = all_both Fits given more has.fits g.fits;
           written = written_more before now0 now1 given more has.written g.written;
           pages = pages;
           counted = omega (arith, count, g.counted, ap (λ (m : Made). m.commands) t.made, has.counted, length-append given more);
@@ -285,7 +286,7 @@ closes_well tells options before now0 now1 unaware aware0 aware1 last old mid ne
           changed = changed_on tells options before now0 unaware aware0 last old mid.changes new.changes still.steps still.given commands g.more has changes g.changed plain;
           asked = g.options ∙ ap (λ (q : ChangeState). q.options) changes ∙ has.asked;
         };
-        fits = both Fits still.given g.more has.fits g.fits;
+        fits = all_both Fits still.given g.more has.fits g.fits;
         written = written_more before now0 now1 still.given g.more has.written g.written;
       };
       steps_are = refl;

@@ -7,6 +7,7 @@ use Rattle.std.proofs.Math.Seq.{take-append-add}
 use Rattle.std.proofs.lemmas.List.{take_all}
 use Rattle.std.proofs.lemmas.List.Concat.{flat_map-append}
 use Rattle.ogg_page.specs.Output.{WritesPrefix}
+use Rattle.ogg_page.specs.Laws.PageBytes.{all_both}
 use Rattle.ogg_page.specs.Page.{Page as PageValue, page_bytes, page_size}
 use Rattle.ogg_page.specs.Laws.ReadAgain.{length-page_bytes}
 use Rattle.link_chain.specs.Links.{AreLinks, flattened, with_pages}
@@ -22,7 +23,7 @@ use Rattle.import_feed.specs.Turn.{EndsAt, Gives, GivesNoFurther, GoesOn, HasMad
 use Rattle.import_feed.specs.declared.maker.Maker.{Maker}
 use Rattle.import_feed.specs.declared.fault.MakingFault.{MakingFault}
 use Rattle.import_feed.specs.declared.fault.MakingFault.TheVariants.{Page, Chain, PacketTooLong, Unfinished, TooLong, Read, Limit, Write, Memory}
-use Rattle.import_feed.proofs.Lists.{both, later_of}
+use Rattle.import_feed.proofs.Lists.{later_of}
 use Rattle.import_changes.specs.declared.options.ChangeOptions.{ChangeOptions}
 
 -- ---- bytes read and written
@@ -160,7 +161,7 @@ turn_made options from left0 left1 before now0 now1 old mid after links given wa
         taken = subst (λ r. HasTaken from left1 (links_with links t.page) r.offset r.unread) (sym g.pages) on.taken;
         all = record {
           gathers = subst (λ (q : Sourced). HasSourced options (links_with links t.page) q (given ++ more)) (sym g.gatherer) gathered.0;
-          fits = both Fits given more was.all.fits (subst (AllByRecursion Fits) commands g.fits);
+          fits = all_both Fits given more was.all.fits (subst (AllByRecursion Fits) commands g.fits);
           written = written_more before now0 now1 given more was.all.written (subst (λ (l : List Command). Appends now0 now1 (records_of l)) commands g.written);
         };
         goes = subst GoesFurther (sym g.gatherer) gathered.1;
