@@ -42,9 +42,12 @@ pub named_more : (names more : List (ℕ × ℕ)) (serials : List ℕ) → AreNa
 named_more names more [] all = tt
 named_more names more (serial ∷ serials) (is, all) = (keyed_more serial names more is, named_more names more serials all)
 
+pub all_joined : {X : Type 0} (P : X → Type 0) (xs ys : List X) → AllByRecursion P xs → AllByRecursion P ys → AllByRecursion P (xs ++ ys)
+all_joined P [] ys all more = more
+all_joined P (x ∷ xs) ys (p, all) more = (p, all_joined P xs ys all more)
+
 pub all_push : {X : Type 0} (P : X → Type 0) (xs : List X) (x : X) → AllByRecursion P xs → P x → AllByRecursion P (xs ++ x ∷ [])
-all_push P [] x all p = (p, tt)
-all_push P (y ∷ xs) x (q, all) p = (q, all_push P xs x all p)
+all_push P xs x all p = all_joined P xs (x ∷ []) all (p, tt)
 
 pub eq_swaps : (x y : ℕ) → nat_eq x y ≡ nat_eq y x
 eq_swaps x y = grind (arith, common_steps)

@@ -14,15 +14,11 @@ use Rattle.import_changes.specs.Options.{is_none_with}
 use Rattle.import_changes.specs.Renumbered.{IsRenumberedStream, avoided, serials}
 use Rattle.import_changes.specs.Links.{ChangedFrom, IsBefore, IsChangedLink, the_others, those}
 use Rattle.import_changes.specs.Changed.{AreDistinctInLinks, ChangeState, HasChangedBeside, HaveTheirOwn, IsNotOf}
-use Rattle.import_changes.proofs.Names.{eq_swaps}
+use Rattle.import_changes.proofs.Names.{all_joined, eq_swaps}
 use Rattle.import_changes.proofs.Links.{followed_changed}
 use Rattle.import_changes.proofs.Steps.{by_of}
 
 -- ---- lists of serials
-all_joined : {X : Type 0} (P : X → Type 0) (xs ys : List X) → AllByRecursion P xs → AllByRecursion P ys → AllByRecursion P (xs ++ ys)
-all_joined P [] ys all more = more
-all_joined P (x ∷ xs) ys (p, all) more = (p, all_joined P xs ys all more)
-
 -- a serial that isn't among the first is none of the parts
 not_of_front : (front more serials : List ℕ) → AllByRecursion (IsNotOf (front ++ more)) serials → AllByRecursion (IsNotOf front) serials
 not_of_front front more [] all = tt
