@@ -1,17 +1,11 @@
-use Rattle.std.proofs.Common.{sym, subst}
-use Rattle.std.specs.Prelude.{MatchOption}
-use Rattle.feed_records.specs.Record.{fields_bytes}
-use Rattle.feed_codec.specs.Payload.{Begins, BeginsNone, AreFields}
 use Rattle.feed_codec.proofs.PayloadFacts.{fields_short, fields_split}
 use Rattle.feed_codec.proofs.payload.skip_fields.Goals as goal
 
 pub returns-then-bytes-lt-COUNT : goal.returns-then-bytes-lt-COUNT
-returns-then-bytes-lt-COUNT c =
-    subst (λ v. BeginsNone (AreFields v) (fields_bytes v) c.args.bytes.now) (sym c.in-Two.is) (fields_short c.args.bytes.now c.if-bytes-lt-COUNT.true)
+returns-then-bytes-lt-COUNT c = rw c.in-Two.is (fields_short c.args.bytes.now c.if-bytes-lt-COUNT.true)
 
 pub returns-else-bytes-lt-COUNT : goal.returns-else-bytes-lt-COUNT
 returns-else-bytes-lt-COUNT c =
-    subst (λ v. MatchOption c.skip_each_field.result (BeginsNone (AreFields v) (fields_bytes v) c.args.bytes.now) (λ rest. Begins (AreFields v) (fields_bytes v) c.args.bytes.now rest.now))
-    (sym c.in-Two.is)
+    rw c.in-Two.is
     (fields_split c.skip_each_field.result c.args.bytes.now c.take_u16-count.result.1.now c.take_u16-count.result.0 c.take_u16-count.ensures.fits c.take_u16-count.ensures.value
     c.skip_each_field.ensures)
