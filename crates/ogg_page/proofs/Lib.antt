@@ -3,3 +3,4 @@ pub mod Room
 pub mod Step
 pub mod InRoom
 pub mod Flags
+pub mod Walking

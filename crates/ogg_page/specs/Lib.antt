@@ -21,3 +21,5 @@ pub mod WindowFault
 pub mod LentPage
 pub mod Room
 pub mod PageInWork
+pub mod Visiting
+pub mod VisitingLaws

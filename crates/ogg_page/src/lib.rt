@@ -6,7 +6,7 @@
 //! in one way at most. Their checksum is that of `page_checksum`, which is handed on.
 //!
 //! A file may be larger than memory: a `Window` over a `PageSource` lends its pages one at a time, out
-//! of the room of one `PageBuffer`.
+//! of the room of one `PageBuffer`. `walk` shows them to a `PageVisitor`, which may end the walk.
 //!
 //! The formats of the crates above are numbers too, the lowest byte first: `specs/Numbers.antt` spells
 //! them, and `take_u8` to `take_fraction` take them off the front of bytes.
@@ -31,6 +31,7 @@ mod placing;
 mod reading;
 mod sizes;
 mod source;
+mod visiting;
 mod window;
 mod writing;
 
@@ -51,5 +52,6 @@ pub use reading::{read_page, split_known_page, split_page};
 pub use sizes::{FIXED_SIZE, FULL_VALUE, LONGEST_PAGE, MOST_VALUES, SEGMENT};
 pub use source::{PageSource, Whole};
 pub use std::alloc::AllocError as Memory;
+pub use visiting::{PageVisitor, Visit, walk};
 pub use window::Window;
 pub use writing::{close_page, open_page, write_page};
