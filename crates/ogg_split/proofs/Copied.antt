@@ -1,20 +1,17 @@
 -- Pages are copied one after the other.
-use Rattle.std.proofs.Common.{◌≡◌, ◌≢◌, ◌≤◌, ℕ, ◌+◌, Bool, true, false, nat_eq, Option, Err, Result, List, ◌⊎◌, inl, inr, ◌<◌, [], ◌∷◌, ◌++◌, length, refl, sym, ◌∙◌, ap, subst, arith, append_assoc, append-nil, length-append}
+use Rattle.std.proofs.Common.{◌≡◌, ◌≢◌, ◌≤◌, ℕ, ◌+◌, Bool, true, false, nat_eq, Option, Err, List, [], ◌∷◌, ◌++◌, length, refl, sym, ◌∙◌, ap, subst, arith, append_assoc, append-nil, length-append}
 use Rattle.std.specs.Prelude.{if◌then◌else◌}
-use Rattle.std.specs.List.{AllByRecursion}
+use Rattle.std.specs.List.{AllByRecursion, flat_map}
 use Rattle.std.specs.Io.KnownBytes.{Appends}
 use Rattle.std.proofs.KnownBytes.{Appends-nil, Appends-trans}
 use Rattle.ogg_page.specs.Output.{WritesPrefix}
 use Rattle.ogg_page.specs.OutputLaws.{prefix_on}
-use Rattle.ogg_page.specs.Page.{Page, IsPage, page_bytes, bytes_of_pages}
+use Rattle.ogg_page.specs.Page.{Page, IsPage, page_bytes, page_size, bytes_of_pages}
+use Rattle.ogg_page.specs.PageLaws.{length-page_bytes}
 use Rattle.ogg_page.specs.PagesLaws.{Follows, follows, no_pages}
 use Rattle.ogg_page.specs.Reading.{page_at}
 use Rattle.ogg_page.specs.ReadingLaws.{fault_is_no_page}
 use Rattle.ogg_page.specs.declared.fault.PageFault.{PageFault}
-use Rattle.ogg_page.specs.declared.fault.WindowFault.{WindowFault}
-use Rattle.ogg_page.specs.declared.fault.WindowFault.TheVariants.{Source, Page as PageAt}
-use Rattle.ogg_page.specs.Pages.{PagesLeft}
-use Rattle.ogg_page.specs.Window.{LentAt, NextLent}
 use Rattle.link_chain.specs.Links.{pages_with}
 use Rattle.ogg_split.specs.Copying.{stream_bytes}
 
@@ -72,12 +69,7 @@ cut_within serial pages left rest old mid now count page w is split wrote =
     (w.whole ∙ ap (λ (l : List Page). w.written ++ bytes_of_pages (pages_with serial l)) f.is ∙ ap (λ (l : List ℕ). w.written ++ l) (stream_first serial page f.more))
     w.appended wrote
 
--- no page follows
-pub cut : (serial : ℕ) (pages : List Page) (left : List ℕ) (old now : Option (List ℕ)) (count : ℕ) → InWork serial pages left old now count
-    → WritesPrefix old now (bytes_of_pages (pages_with serial pages))
-cut serial pages left old now count w =
-    prefix_on old now now (bytes_of_pages (pages_with serial pages)) w.written [] (bytes_of_pages (pages_with serial w.more)) w.whole w.appended (0, omega arith, Appends-nil now)
-
+-- no page is left
 pub finished : (serial : ℕ) (pages : List Page) (left : List ℕ) (old now : Option (List ℕ)) (count : ℕ) → InWork serial pages left old now count → left ≡ []
     → (count ≡ length (bytes_of_pages (pages_with serial pages))) × Appends old now (bytes_of_pages (pages_with serial pages))
 finished serial pages left old now count w none =
@@ -94,15 +86,14 @@ no_fault serial pages left old now count fault w some read = stuck w.more w.are_
     stuck [] are is = some is
     stuck (p ∷ ps) are is = fault_is_no_page left fault read p (bytes_of_pages ps) are.0 is
 
--- ---- a window's fault
--- over joined pages a window's fault is that of the source
-pub source_only : (result : Result (Option LentAt) WindowFault) (fault : WindowFault) (serial : ℕ) (pages : List Page) (left right : PagesLeft)
-    (old now : Option (List ℕ)) (count : ℕ) (C : Type 0) → result ≡ Err fault → InWork serial pages left.bytes old now count → NextLent left (Err fault) right
-    → (result ≡ Err Source → C) → C
-source_only result Source serial pages left right old now count C is w next cause = cause is
-source_only result (PageAt offset fault) serial pages left right old now count C is w next cause =
-    absurd (no_fault serial pages left.bytes old now count fault w next.1 next.2)
+-- ---- the text of a stream
+pub stream_text : (serial : ℕ) (pages : List Page) → bytes_of_pages (pages_with serial pages) ≡ flat_map (stream_bytes serial) pages
+stream_text serial [] = refl
+stream_text serial (page ∷ pages) = stream_first serial page pages ∙ ap (λ (l : List ℕ). stream_bytes serial page ++ l) (stream_text serial pages)
 
-pub later_cause : (first before now top : ℕ) → first ≤ before → (before < now) ⊎ (now ≡ top) → (first < now) ⊎ (now ≡ top)
-later_cause first before now top le (inl rose) = inl (omega arith)
-later_cause first before now top le (inr at) = inr at
+part_fits : (b : Bool) (page : List ℕ) → length (if b then page else []) ≤ length page
+part_fits true page = omega arith
+part_fits false page = omega arith
+
+pub stream_fits : (serial : ℕ) (page : Page) → length (stream_bytes serial page) ≤ page_size page
+stream_fits serial page = omega (arith, part_fits (nat_eq page.serial serial) (page_bytes page), length-page_bytes page)

@@ -7,7 +7,7 @@ ghost use Rattle.link_chain.specs.Links.{pages_with};
 ghost use Rattle.ogg_split.specs.Copying.{IsCopy, IsThere, stream_bytes};
 
 use crate::fault::SplitFault;
-use ogg_page::{Page, PageSource, Window, split_page, write_whole};
+use ogg_page::{Page, PageSource, PageVisitor, Visit, Window, split_page, walk, write_whole};
 use std::io::Write;
 
 /// Writes those of the pages that have the serial. The bytes are joined pages.
@@ -53,17 +53,40 @@ pub fn copy_lent<S: PageSource, W: Write>(
     ensures source { KeepsSource S.bytes S.is_honest S.size S.only_reads window.old.source window.new.source }
     ensures there { IsThere result }
 {
-    let mut count = 0;
-    'pages: loop {
-        match window.advance() {
-            Ok(()) => match window.lent() {
-                Some((_, page)) => match copy_page(&page, serial, out) {
-                    Ok(size) => count += size,
-                    Err(fault) => return Err(fault),
-                },
-                None => return Ok(count),
-            },
-            Err(_) => return Err(SplitFault::Source),
+    let mut copier = Copier {
+        serial,
+        out,
+        count: 0,
+    };
+    match walk(window, &mut copier) {
+        Ok(visit) => match visit {
+            Visit::GoesOn => Ok(copier.count),
+            Visit::Ends => Err(SplitFault::Write),
+        },
+        Err(_) => Err(SplitFault::Source),
+    }
+}
+
+/// Writes those of the pages it is shown that have the serial, up to the first that isn't written as a whole.
+#[derive(Drop)]
+struct Copier<'a, W: Write> {
+    serial: u32,
+    out: &'a mut W,
+    count: u64,
+}
+
+impl<'a, W: Write> PageVisitor for Copier<'a, W> {
+    ghost use Rattle.ogg_split.specs.Copying.{CopiesPart, stream_bytes};
+
+    ghost sees = { CopiesPart W.contents (λ c. c.out) (λ c. c.count) (λ c. stream_bytes c.serial) };
+
+    fn see(&mut self, _: u64, page: &Page<'_>) -> Visit {
+        match copy_page(page, self.serial, self.out) {
+            Ok(size) => {
+                self.count = self.count.saturating_add(size);
+                Visit::GoesOn
+            }
+            Err(_) => Visit::Ends,
         }
     }
 }
