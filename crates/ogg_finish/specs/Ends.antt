@@ -1,7 +1,11 @@
 -- What is kept of a link's streams while its pages are read, in turn. Ours.
-use Rattle.std.specs.Prelude.{ℕ, ◌||◌, false, nat_eq, if◌then◌else◌, Option, None, List, [], ◌∷◌, map}
+use Rattle.std.specs.Prelude.{◌≡◌, ℕ, ◌||◌, false, nat_eq, if◌then◌else◌, Option, None, List, [], ◌∷◌, map}
+use Rattle.std.specs.Borrow.{MutBor}
 use Rattle.std.specs.List.{flat_map, fold}
-use Rattle.ogg_page.specs.Page.{Page}
+use Rattle.ogg_page.specs.Page.{Page, bytes_of_pages}
+use Rattle.ogg_page.specs.Window.{LentAt}
+use Rattle.ogg_page.specs.declared.visiting.Visit.{Visit}
+use Rattle.ogg_page.specs.declared.visiting.Visit.TheVariants.{GoesOn}
 use Rattle.ogg_page.specs.LogicalStream.{is_last}
 use Rattle.link_index.specs.declared.info.StreamInfo.{StreamInfo}
 use Rattle.ogg_finish.specs.declared.stream_end.Mark.{Mark}
@@ -31,3 +35,13 @@ mark_for (end ∷ ends) serial =
 -- the pages, finished by what is known of their streams
 abbrev pub finished_by : List StreamEnd → List Page → List Page
 finished_by ends pages = flat_map (λ page. finished_page (mark_for ends page.serial) page) pages
+
+-- what the finished link has of a page
+abbrev pub finished_part : List StreamEnd → Page → List ℕ
+finished_part ends page = bytes_of_pages (finished_page (mark_for ends page.serial) page)
+
+-- a visitor that notes the ends of streams behind a reference: what it sees
+pub record NotesPage {V : Type 0} (ends : V → MutBor (List StreamEnd)) (old : V) (at : LentAt) (visit : Visit) (new : V) : Type 0 where
+  pub goes_on : visit ≡ GoesOn
+  pub same : (ends new).ghost_name ≡ (ends old).ghost_name
+  pub noted : (ends new).now ≡ map (after_page at.1) (ends old).now

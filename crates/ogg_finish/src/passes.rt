@@ -9,7 +9,7 @@ ghost use Rattle.ogg_finish.specs.Ends.{ends_after, finished_by};
 use crate::fault::FinishFault;
 use crate::stream_end::{StreamEnd, mark_for, note_page};
 use crate::writing::write_page;
-use ogg_page::{PageBuffer, PageSource, Window};
+use ogg_page::{Page, PageBuffer, PageSource, PageVisitor, Visit, Window, walk};
 use std::io::Write;
 
 /// Reads all of the window's pages, and notes the ends of streams.
@@ -28,14 +28,27 @@ pub fn find_ends<S: PageSource>(
     ensures later { S.failures window.old.source ≤ S.failures window.new.source }
     ensures source { KeepsSource S.bytes S.is_honest S.size S.only_reads window.old.source window.new.source }
 {
-    'pages: loop {
-        match window.advance() {
-            Ok(()) => match window.lent() {
-                Some((_, page)) => note_page(ends, &page),
-                None => return Ok(()),
-            },
-            Err(_) => return Err(FinishFault::Source),
-        }
+    let mut noting = Noting { ends };
+    match walk(window, &mut noting) {
+        Ok(_) => Ok(()),
+        Err(_) => Err(FinishFault::Source),
+    }
+}
+
+/// Notes the ends of streams from the pages it is shown.
+#[derive(Drop)]
+struct Noting<'a> {
+    ends: &'a mut [StreamEnd],
+}
+
+impl<'a> PageVisitor for Noting<'a> {
+    ghost use Rattle.ogg_finish.specs.Ends.{NotesPage};
+
+    ghost sees = { NotesPage (λ n. n.ends) };
+
+    fn see(&mut self, _: u64, page: &Page<'_>) -> Visit {
+        note_page(self.ends, page);
+        Visit::GoesOn
     }
 }
 
@@ -59,22 +72,48 @@ pub fn write_finished<S: PageSource, W: Write>(
     ensures later { S.failures window.old.source ≤ S.failures window.new.source }
     ensures source { KeepsSource S.bytes S.is_honest S.size S.only_reads window.old.source window.new.source }
 {
-    let mut count = 0;
-    'pages: loop {
-        match window.advance() {
-            Ok(()) => match window.lent() {
-                Some((_, page)) => match write_page(
-                    &page,
-                    mark_for(ends, page.serial()),
-                    buffer,
-                    out,
-                ) {
-                    Ok(size) => count += size,
-                    Err(fault) => return Err(fault),
-                },
-                None => return Ok(count),
-            },
-            Err(_) => return Err(FinishFault::Source),
+    let mut finisher = Finisher {
+        ends,
+        buffer,
+        out,
+        count: 0,
+    };
+    match walk(window, &mut finisher) {
+        Ok(visit) => match visit {
+            Visit::GoesOn => Ok(finisher.count),
+            Visit::Ends => Err(FinishFault::Write),
+        },
+        Err(_) => Err(FinishFault::Source),
+    }
+}
+
+/// Writes the pages it is shown as they are in the finished link, up to the first that isn't written as a whole.
+#[derive(Drop)]
+struct Finisher<'a, W: Write> {
+    ends: &'a [StreamEnd],
+    buffer: &'a mut PageBuffer,
+    out: &'a mut W,
+    count: u64,
+}
+
+impl<'a, W: Write> PageVisitor for Finisher<'a, W> {
+    ghost use Rattle.ogg_split.specs.Copying.{CopiesPart};
+    ghost use Rattle.ogg_finish.specs.Ends.{finished_part};
+
+    ghost sees = { CopiesPart W.contents (λ f. f.out) (λ f. f.count) (λ f. finished_part f.ends.now) };
+
+    fn see(&mut self, _: u64, page: &Page<'_>) -> Visit {
+        match write_page(
+            page,
+            mark_for(self.ends, page.serial()),
+            self.buffer,
+            self.out,
+        ) {
+            Ok(size) => {
+                self.count = self.count.saturating_add(size);
+                Visit::GoesOn
+            }
+            Err(_) => Visit::Ends,
         }
     }
 }
