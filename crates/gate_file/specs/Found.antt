@@ -8,7 +8,8 @@ use Rattle.ogg_page.specs.Window.{LentAt}
 use Rattle.ogg_page.specs.declared.fault.PageFault.{PageFault}
 use Rattle.gate_file.specs.Commit.{capture, IsTail}
 use Rattle.gate_file.specs.Gate.{EndsAt}
-use Rattle.gate_file.specs.Visiting.{AreSeen}
+use Rattle.ogg_page.specs.declared.visiting.Visit.{Visit}
+use Rattle.gate_file.specs.Visiting.{AreShown}
 
 -- the disk, the end of its committed bytes, how many bytes follow, and whether the first of these is closed
 pub record FoundState (D : Type 0) : Type 0 where
@@ -51,8 +52,8 @@ pub record IsDamagedAt (contents : List ℕ) (offset : ℕ) (fault : PageFault) 
   pub no_tail : IsTail rest → ⊥
   pub told : page_at rest ≡ Err fault
 
--- the visitor was shown the pages of these bytes, one after the other
-pub record HasSeen {V : Type 0} (sees : V → LentAt → V → Type 0) (old new : V) (bytes : List ℕ) : Type 0 where
+-- the visitor was shown the pages of these bytes, one after the other, up to the one at which it ended
+pub record HasSeen {V : Type 0} (sees : V → LentAt → Visit → V → Type 0) (old new : V) (bytes : List ℕ) : Type 0 where
   pub pages : List PageValue
   pub joined : bytes ≡ bytes_of_pages pages
-  pub seen : AreSeen sees old 0 pages new
+  pub shown : AreShown sees old 0 pages new

@@ -1,5 +1,5 @@
--- What a walk over pages passes, and what the visitor has seen.
-use Rattle.std.specs.Prelude.{◌≡◌, ◌≢◌, ℕ, ◌+◌, Result, Ok, Err, List, [], ◌∷◌, ◌++◌, length, ⊤}
+-- What a pass over all pages of a file passes, and what the visitor has seen.
+use Rattle.std.specs.Prelude.{◌≡◌, ◌≢◌, ◌⊎◌, ℕ, ◌+◌, Result, Ok, Err, List, [], ◌∷◌, ◌++◌, length, ⊤}
 use Rattle.std.specs.List.{AllByRecursion}
 use Rattle.ogg_page.specs.Page.{Page as PageValue, IsPage, page_size, bytes_of_pages}
 use Rattle.ogg_page.specs.Reading.{page_at}
@@ -7,11 +7,14 @@ use Rattle.ogg_page.specs.Pages.{PagesLeft}
 use Rattle.ogg_page.specs.Window.{LentAt}
 use Rattle.ogg_page.specs.declared.fault.WindowFault.{WindowFault}
 use Rattle.ogg_page.specs.declared.fault.WindowFault.TheVariants.{Source, Page}
+use Rattle.ogg_page.specs.declared.visiting.Visit.{Visit}
+use Rattle.ogg_page.specs.declared.visiting.Visit.TheVariants.{GoesOn, Ends}
 
--- these pages were shown, one after the other, the first of them at this offset
-abbrev pub AreSeen : {V : Type 0} → (V → LentAt → V → Type 0) → V → ℕ → List PageValue → V → Type 0
-AreSeen sees old offset [] new = new ≡ old
-AreSeen sees old offset (page ∷ pages) new = (mid : _) × sees old (offset, page) mid × AreSeen sees mid (offset + page_size page) pages new
+-- these pages were shown up to the one at which the visitor ended, one after the other, the first of them at this offset
+abbrev pub AreShown : {V : Type 0} → (V → LentAt → Visit → V → Type 0) → V → ℕ → List PageValue → V → Type 0
+AreShown sees old offset [] new = new ≡ old
+AreShown sees old offset (page ∷ pages) new =
+    sees old (offset, page) Ends new ⊎ ((mid : _) × sees old (offset, page) GoesOn mid × AreShown sees mid (offset + page_size page) pages new)
 
 -- why no page follows: no byte is left, or no page begins there, or the source failed and nothing is known
 abbrev pub IsEnd : List ℕ → ℕ → Result (Unit {0}) WindowFault → Type 0
@@ -19,7 +22,7 @@ IsEnd rest offset (Ok done) = rest ≡ []
 IsEnd rest offset (Err Source) = ⊤
 IsEnd rest offset (Err (Page place fault)) = (place ≡ offset) × (rest ≢ []) × (page_at rest ≡ Err fault)
 
--- these pages stand in front, and then the walk ended with this result
+-- these pages stand in front, and then the pass ended with this result
 pub record EndsAfter (pages : List PageValue) (left : PagesLeft) (result : Result (Unit {0}) WindowFault) : Type 0 where
   pub rest : List ℕ
   pub are_pages : AllByRecursion IsPage pages
@@ -27,11 +30,11 @@ pub record EndsAfter (pages : List PageValue) (left : PagesLeft) (result : Resul
   pub ended : IsEnd rest (left.offset + length (bytes_of_pages pages)) result
 
 -- the pages in front were passed and shown
-pub record HasPassed {V : Type 0} (sees : V → LentAt → V → Type 0) (old new : V) (left : PagesLeft) (result : Result (Unit {0}) WindowFault) : Type 0 where
+pub record HasPassed {V : Type 0} (sees : V → LentAt → Visit → V → Type 0) (old new : V) (left : PagesLeft) (result : Result (Unit {0}) WindowFault) : Type 0 where
   pub pages : List PageValue
   pub ends : EndsAfter pages left result
-  pub seen : AreSeen sees old left.offset pages new
+  pub shown : AreShown sees old left.offset pages new
 
--- a walk over all of these bytes
+-- a pass over all of these bytes
 abbrev pub all_of : List ℕ → PagesLeft
 all_of bytes = record { offset = 0; bytes = bytes }

@@ -12,7 +12,7 @@ ghost use Rattle.gate_file.specs.Found.{HasEnd, HasSeen, IsDamagedAt, found_byte
 
 use crate::source::DiskSource;
 use crate::steps::{CAPTURE, settle};
-use crate::visiting::{Nobody, walk};
+use crate::visiting::{Nobody, pass_all};
 use crate::{FindFault, Found, GateFile, Memory, OpenFault, PageVisitor};
 use disk_model::{Disk, DiskFault};
 use ogg_page::{PageBuffer, Window, WindowFault};
@@ -53,7 +53,8 @@ impl<D: Disk> GateFile<D> {
     }
 
     /// Finds the end of the committed bytes, as `find` does, and shows each page to the visitor as it passes, in the
-    /// same pass. The buffer is given back. Before it returns the fault `Page` every page has passed.
+    /// same pass, up to the page at which the visitor ends. The buffer is given back. Before it returns the fault
+    /// `Page` every page has passed.
     pub fn find_with<V: PageVisitor>(
         disk: D,
         buffer: PageBuffer,
@@ -84,7 +85,7 @@ impl<D: Disk> GateFile<D> {
             Err(DiskFault) => return Err((FindFault::Disk, disk)),
         };
         let mut window = Window::new(DiskSource::of(disk, size), buffer, 0, size);
-        let walked = walk(&mut window, visitor);
+        let walked = pass_all(&mut window, visitor);
         let (source, buffer) = window.into_parts();
         let mut disk = source.into_disk();
         match end_of(&mut disk, size, walked) {

@@ -24,5 +24,4 @@ pub use found::Found;
 pub use laws::{
     committed_bytes_are_unique, damaged_bytes_commit_to_nothing, pages_commit_to_themselves,
 };
-pub use ogg_page::Memory;
-pub use visiting::PageVisitor;
+pub use ogg_page::{Memory, PageVisitor};

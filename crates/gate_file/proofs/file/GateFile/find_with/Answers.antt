@@ -14,9 +14,9 @@ returns-in-Err-end_of-clause-any_moment_err g c = λ honest.
     let first = c.measure.new.disk in
     let src = ap (λ w. w.source) c.new-window.ensures ∙ c.of.ensures in
     let from : c.new-window.result.source.disk ≡ first = ap (λ s. s.disk) src in
-    let to : c.walk-walked.new.window.source.disk ≡ c.into_disk-disk.result = ap (λ s. s.disk) (sym c.into_parts-source.ensures.source) ∙ sym c.into_disk-disk.ensures in
+    let to : c.pass_all-walked.new.window.source.disk ≡ c.into_disk-disk.result = ap (λ s. s.disk) (sym c.into_parts-source.ensures.source) ∙ sym c.into_disk-disk.ensures in
     let walked = subst (λ x. OnlyReads d.is_honest d.state d.moment d.images_since first x) to
-    (subst (λ x. OnlyReads d.is_honest d.state d.moment d.images_since x c.walk-walked.new.window.source.disk) from c.walk-walked.ensures.source.only) in
+    (subst (λ x. OnlyReads d.is_honest d.state d.moment d.images_since x c.pass_all-walked.new.window.source.disk) from c.pass_all-walked.ensures.source.only) in
     let reads = reads_then d.is_honest d.state d.moment d.images_since _ _ _ walked c.end_of.ensures.reads in
     let ok = c.in-Ok.ensures.ok honest in
     let still = c.measure.ensures.honest.0 honest in
@@ -29,9 +29,9 @@ returns-in-Ok-end_of-clause-any_moment g c = λ honest.
     let first = c.measure.new.disk in
     let src = ap (λ w. w.source) c.new-window.ensures ∙ c.of.ensures in
     let from : c.new-window.result.source.disk ≡ first = ap (λ s. s.disk) src in
-    let to : c.walk-walked.new.window.source.disk ≡ c.into_disk-disk.result = ap (λ s. s.disk) (sym c.into_parts-source.ensures.source) ∙ sym c.into_disk-disk.ensures in
+    let to : c.pass_all-walked.new.window.source.disk ≡ c.into_disk-disk.result = ap (λ s. s.disk) (sym c.into_parts-source.ensures.source) ∙ sym c.into_disk-disk.ensures in
     let walked = subst (λ x. OnlyReads d.is_honest d.state d.moment d.images_since first x) to
-    (subst (λ x. OnlyReads d.is_honest d.state d.moment d.images_since x c.walk-walked.new.window.source.disk) from c.walk-walked.ensures.source.only) in
+    (subst (λ x. OnlyReads d.is_honest d.state d.moment d.images_since x c.pass_all-walked.new.window.source.disk) from c.pass_all-walked.ensures.source.only) in
     let reads = reads_then d.is_honest d.state d.moment d.images_since _ _ _ walked c.end_of.ensures.reads in
     let ok = c.in-Ok.ensures.ok honest in
     let still = c.measure.ensures.honest.0 honest in
@@ -46,9 +46,9 @@ returns-in-Ok-end_of-clause-seen g c = λ honest.
     let size = c.in-Ok.size in
     let src = ap (λ w. w.source) c.new-window.ensures ∙ c.of.ensures in
     let from : c.new-window.result.source.disk ≡ first = ap (λ s. s.disk) src in
-    let to : c.walk-walked.new.window.source.disk ≡ c.into_disk-disk.result = ap (λ s. s.disk) (sym c.into_parts-source.ensures.source) ∙ sym c.into_disk-disk.ensures in
+    let to : c.pass_all-walked.new.window.source.disk ≡ c.into_disk-disk.result = ap (λ s. s.disk) (sym c.into_parts-source.ensures.source) ∙ sym c.into_disk-disk.ensures in
     let walked = subst (λ x. OnlyReads d.is_honest d.state d.moment d.images_since first x) to
-    (subst (λ x. OnlyReads d.is_honest d.state d.moment d.images_since x c.walk-walked.new.window.source.disk) from c.walk-walked.ensures.source.only) in
+    (subst (λ x. OnlyReads d.is_honest d.state d.moment d.images_since x c.pass_all-walked.new.window.source.disk) from c.pass_all-walked.ensures.source.only) in
     let ok = c.in-Ok.ensures.ok honest in
     let still = c.measure.ensures.honest.0 honest in
     let long : length (d.state first).contents ≡ size = ap length ok.1 ∙ ok.2 in
@@ -56,9 +56,9 @@ returns-in-Ok-end_of-clause-seen g c = λ honest.
     let left : left_of (λ s. (d.state s.disk).contents) c.new-window.result ≡ all_of (d.state c.into_disk-disk.result).contents =
     ap (left_of (λ s. (d.state s.disk).contents)) c.new-window.ensures ∙ (λ i. left_of (λ s. (d.state s.disk).contents) (window (c.of.ensures i) 0 size))
     ∙ ap all_of (whole_left (d.state first).contents size long) ∙ ap (λ (s : DiskState). all_of s.contents) (sym (walked.same still)) in
-    let passed = subst (λ l. HasPassed g.V.PageVisitor.sees c.args.visitor.now c.walk-walked.new.visitor l c.walk-walked.result) left (c.walk-walked.ensures.passed sure) in
+    let passed = subst (λ l. HasPassed g.V.PageVisitor.sees c.args.visitor.now c.pass_all-walked.new.visitor l c.pass_all-walked.result) left (c.pass_all-walked.ensures.passed sure) in
     record {
       pages = passed.pages;
       joined = ap (found_bytes d.state) c.at.ensures ∙ c.in-Ok-end_of.ensures.pages (walked.honest.0 still) passed.pages passed.ends;
-      seen = passed.seen;
+      shown = passed.shown;
     }
