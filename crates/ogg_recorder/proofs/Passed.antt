@@ -13,7 +13,7 @@ use Rattle.link_chain.specs.declared.chain_fault.ChainFault.TheVariants.{Sequenc
 use Rattle.link_chain.specs.Taking.{AreTaken}
 use Rattle.ogg_recorder.specs.Recovery.{Links}
 use Rattle.ogg_recorder.specs.Taking.{TakerState, Sees, IsBrokenAt, open_fault}
-use Rattle.ogg_recorder.proofs.Walked.{HasWalked, has_walked, seen_pages}
+use Rattle.ogg_recorder.proofs.Walked.{shown_all, HasWalked, has_walked, seen_pages}
 
 -- all pages of the bytes have passed
 pub record HavePassed (bytes : List ℕ) (new : TakerState) : Type 0 where
@@ -28,8 +28,9 @@ from_walk pages new walked are = record {
 
 pub have_passed : (old new : TakerState) (bytes : List ℕ) → old.chain.chain ≡ chain_state_of [] → old.broken ≡ None → length bytes < 2 ^ 63 → HasSeen Sees old new bytes → HavePassed bytes new
 have_passed old new bytes is none short seen =
-    let are = seen_pages old new 0 seen.pages seen.seen in
-    let walked = has_walked [] [] old new 0 seen.pages seen.pages refl are refl is none refl (ap (λ chain. chain.length_of) is) (omega (arith, short, ap length seen.joined)) seen.seen in
+    let all = shown_all old new 0 seen.pages seen.shown in
+    let are = seen_pages old new 0 seen.pages all in
+    let walked = has_walked [] [] old new 0 seen.pages seen.pages refl are refl is none refl (ap (λ chain. chain.length_of) is) (omega (arith, short, ap length seen.joined)) all in
     subst (λ (l : List ℕ). HavePassed l new) (sym seen.joined)
     (from_walk seen.pages new walked (λ links taken. (in_turn seen.pages links are).0 taken))
 

@@ -3,7 +3,10 @@ use Rattle.std.proofs.Common.{◌≡◌, ◌⊎◌, inl, inr, ⊎_elim, ℕ, ◌
 use Rattle.std.specs.List.{AllByRecursion}
 use Rattle.ogg_page.specs.Page.{Page, IsPage, page_bytes, page_size, bytes_of_pages}
 use Rattle.ogg_page.specs.PageLaws.{bytes_both, length-page_bytes}
-use Rattle.gate_file.specs.Visiting.{AreSeen}
+use Rattle.ogg_page.specs.Visiting.{AreSeen}
+use Rattle.ogg_page.specs.declared.visiting.Visit.{Visit}
+use Rattle.ogg_page.specs.declared.visiting.Visit.TheVariants.{GoesOn, Ends}
+use Rattle.gate_file.specs.Visiting.{AreShown}
 use Rattle.link_chain.specs.ChainState.{ChainState, chain_state_of}
 use Rattle.link_chain.specs.Taking.{AreTaken, fault_of_page, links_with}
 use Rattle.link_chain.specs.declared.chain_fault.ChainFault.{ChainFault}
@@ -11,6 +14,15 @@ use Rattle.link_chain.specs.declared.chain_fault.ChainFault.TheVariants.{Memory}
 use Rattle.ogg_recorder.specs.Recovery.{Links}
 use Rattle.ogg_recorder.specs.Taking.{TakerState, Sees, IsBrokenAt}
 use Rattle.ogg_recorder.proofs.Taken.{taken_one_more, follows_links}
+
+not_ended : (let ends : Visit = Ends in ends) ≡ GoesOn → ⊥
+not_ended e = cc
+
+-- the taker ends at no page
+pub shown_all : (old new : TakerState) (offset : ℕ) (pages : List Page) → AreShown Sees old offset pages new → AreSeen Sees old offset pages new
+shown_all old new offset [] shown = shown
+shown_all old new offset (page ∷ pages) (inl one) = absurd (not_ended one.goes_on)
+shown_all old new offset (page ∷ pages) (inr (mid, one, more)) = (mid, one, shown_all mid new (offset + page_size page) pages more)
 
 pub seen_pages : (old new : TakerState) (offset : ℕ) (pages : List Page) → AreSeen Sees old offset pages new → AllByRecursion IsPage pages
 seen_pages old new offset [] seen = tt

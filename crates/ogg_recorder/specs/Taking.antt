@@ -3,6 +3,8 @@ use Rattle.std.specs.Prelude.{◌≡◌, ◌⊎◌, ℕ, ◌+◌, ◌<◌, ◌^�
 use Rattle.std.specs.List.{AllByRecursion}
 use Rattle.ogg_page.specs.Page.{Page, IsPage, page_size, bytes_of_pages}
 use Rattle.ogg_page.specs.Window.{LentAt}
+use Rattle.ogg_page.specs.declared.visiting.Visit.{Visit}
+use Rattle.ogg_page.specs.declared.visiting.Visit.TheVariants.{GoesOn}
 use Rattle.gate_file.specs.declared.fault.OpenFault.{OpenFault}
 use Rattle.gate_file.specs.declared.fault.OpenFault.TheVariants.{Memory as NoMemory, Chain}
 use Rattle.link_chain.specs.ChainState.{ChainState, chain_state_of}
@@ -52,8 +54,9 @@ IsTaken old (offset, page) new =
     ⊎ ((fault : ChainFault) × (new.broken ≡ Some (offset, fault)) × ((fault_of_page old page ≡ Some fault) ⊎ (fault ≡ Memory)))
 
 -- The taker is shown a page, while the pages aren't longer than a file can be. After a page that wasn't taken no page
--- is taken.
-pub record Sees (old : TakerState) (lent : LentAt) (new : TakerState) : Type 0 where
+-- is taken, but it goes on.
+pub record Sees (old : TakerState) (lent : LentAt) (visit : Visit) (new : TakerState) : Type 0 where
+  pub goes_on : visit ≡ GoesOn
   pub is_page : IsPage lent.1
   pub stays : IsSome old.broken → new ≡ old
   pub takes : old.broken ≡ None → old.chain.chain.length_of + page_size lent.1 < 2 ^ 63 → IsTaken old.chain.chain lent new

@@ -11,7 +11,7 @@ ghost use Rattle.ogg_recorder.specs.Taking.{HasTaken, HoldsChain, IsWholeChain, 
 use chain_rules::Shape;
 use gate_file::{OpenFault, PageVisitor};
 use link_chain::{Chain, ChainFault, links_left_whole_hold_a_recording, pages_in_turn_are_links};
-use ogg_page::Page;
+use ogg_page::{Page, Visit};
 use std::alloc::Global;
 use std::marker::Model;
 
@@ -101,18 +101,19 @@ impl PageVisitor for PageTaker {
 
     ghost sees = { Sees };
 
-    fn see(&mut self, offset: u64, page: &Page<'_>) {
+    fn see(&mut self, offset: u64, page: &Page<'_>) -> Visit {
         let size = page.whole().len() as u64;
         if self.broken.is_some() {
-            return;
+            return Visit::GoesOn;
         }
         // No honest disk is so long, and of another nothing is known.
         if size >= LENGTHS - self.chain.len() {
-            return;
+            return Visit::GoesOn;
         }
         match take_next(&mut self.chain, page) {
             Ok(()) => {}
             Err(fault) => self.broken = Some((offset, fault)),
         }
+        Visit::GoesOn
     }
 }

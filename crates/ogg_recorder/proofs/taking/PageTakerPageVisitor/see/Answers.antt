@@ -6,6 +6,7 @@ pub returns-then-size-len : goal.returns-then-size-len
 returns-then-size-len c =
     rw (← c.self.view_is)
     (record {
+      goes_on = refl;
       is_page = c.whole.ensures.is_page;
       stays = λ some. refl;
       takes = λ none room. absurd (omega (arith, c.if-size-len.true, c.len.ensures.value, room, ap length c.whole.ensures.bytes, length-page_bytes c.args.page.now));
