@@ -6,7 +6,7 @@ use fault_lines::Fault;
 use gate_file::{Found, GateFile, OpenFault, PageVisitor};
 use link_chain::ChainFault;
 use link_index::{Index, IndexFault};
-use ogg_page::{Page, PageBuffer};
+use ogg_page::{Page, PageBuffer, Visit};
 use std::alloc::Global;
 
 /// A file has fewer bytes than this.
@@ -20,23 +20,24 @@ struct Indexer {
 }
 
 impl PageVisitor for Indexer {
-    ghost sees = { λ _ _ _. ⊤ };
+    ghost sees = { λ _ _ _ _. ⊤ };
 
-    fn see(&mut self, offset: u64, page: &Page<'_>) {
+    fn see(&mut self, offset: u64, page: &Page<'_>) -> Visit {
         if self.fault.is_some() {
-            return;
+            return Visit::GoesOn;
         }
         // No honest disk has such a length, and of another disk nothing is known.
         let size = page.whole().len() as u64;
         let left = LENGTHS.saturating_sub(self.index.end());
         if size >= left {
-            return;
+            return Visit::GoesOn;
         }
         match self.index.add_page(page) {
             Ok(()) => {}
             Err(ChainFault::Memory) => self.fault = Some(IndexFault::Memory),
             Err(fault) => self.fault = Some(IndexFault::Chain(offset, fault)),
         }
+        Visit::GoesOn
     }
 }
 
