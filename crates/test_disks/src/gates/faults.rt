@@ -5,7 +5,7 @@ use super::tools::{Named, Part, Step, are_made, ends, joined, opened, overlaid};
 use crate::fused::{Fuse, fused};
 use disk_model::FuseDisk;
 use gate_file::{GateFile, OpenFault, PageVisitor};
-use ogg_page::{Page, PageBuffer, PageFault};
+use ogg_page::{Page, PageBuffer, PageFault, Visit};
 use std::alloc::Global;
 use std::test::Fail;
 
@@ -62,13 +62,14 @@ struct Count {
 }
 
 impl PageVisitor for Count {
-    ghost sees = { λ old lent new. Unit {0} };
+    ghost sees = { λ old lent visit new. Unit {0} };
 
-    fn see(&mut self, offset: u64, page: &Page<'_>) {
+    fn see(&mut self, offset: u64, page: &Page<'_>) -> Visit {
         if page.serial() == 1 {
             self.pages = self.pages.saturating_add(1);
         }
         self.offsets = self.offsets.saturating_add(offset);
+        Visit::GoesOn
     }
 }
 
