@@ -4,7 +4,7 @@ ghost use Rattle.std.specs.Io.KnownBytes.{Appends};
 ghost use Rattle.std.specs.List.{flat_map};
 ghost use Rattle.ogg_page.specs.Output.{WritesPrefix};
 ghost use Rattle.ogg_page.specs.Page.{Page as PageValue, bytes_of_pages};
-ghost use Rattle.ogg_page.specs.Window.{KeepsSource};
+ghost use Rattle.ogg_page.specs.Window.{KeepsSource, HasFailed};
 ghost use Rattle.ogg_split.specs.Asked.{AreIndexed};
 ghost use Rattle.ogg_split.specs.Copying.{IsCopy};
 ghost use Rattle.ogg_finish.specs.Ends.{ends_after, finished_by, without_pages};
@@ -44,7 +44,7 @@ pub fn finish_link<S: PageSource, W: Write>(
     ensures nothing { result ≡ Err FinishFault.NoLink → Appends (W.contents out.old) (W.contents out.new) [] }
     ensures cause { (links : List (List PageValue)) → S.is_honest window.old.source
         → AreIndexed links index.now (S.bytes window.old.source) → result ≡ Err FinishFault.Source
-        → (S.failures window.old.source < S.failures window.new.source) ⊎ (S.failures window.new.source ≡ 2 ^ 64 - 1) }
+        → HasFailed (S.failures window.old.source) (S.failures window.new.source) }
 
     // What the call leaves of the source.
     ensures later { S.failures window.old.source ≤ S.failures window.new.source }
@@ -80,7 +80,7 @@ pub fn finish_file<S: PageSource, W: Write>(
     ensures there { result ≢ Err FinishFault.NoLink }
     ensures cause { (links : List (List PageValue)) → S.is_honest window.old.source
         → AreIndexed links index.now (S.bytes window.old.source) → result ≡ Err FinishFault.Source
-        → (S.failures window.old.source < S.failures window.new.source) ⊎ (S.failures window.new.source ≡ 2 ^ 64 - 1) }
+        → HasFailed (S.failures window.old.source) (S.failures window.new.source) }
 
     // What the call leaves of the source.
     ensures later { S.failures window.old.source ≤ S.failures window.new.source }
@@ -108,7 +108,7 @@ fn find_link_ends<S: PageSource>(
         → IfOk result (λ ends. ends.items ≡ ends_after pages (map without_pages streams.now)) }
     ensures cause { (links : List (List PageValue)) → S.is_honest window.old.source
         → AreIndexed links index.now (S.bytes window.old.source) → length streams.now ≤ most_streams → OnErr result
-        ((S.failures window.old.source < S.failures window.new.source) ⊎ (S.failures window.new.source ≡ 2 ^ 64 - 1)) }
+        (HasFailed (S.failures window.old.source) (S.failures window.new.source)) }
     ensures err { IfErr result (λ fault. fault ≡ FinishFault.Source) }
     ensures later { S.failures window.old.source ≤ S.failures window.new.source }
     ensures source { KeepsSource S.bytes S.is_honest S.size S.only_reads window.old.source window.new.source }
@@ -143,7 +143,7 @@ fn write_link<S: PageSource, W: Write>(
     ensures there { result ≢ Err FinishFault.NoLink }
     ensures cause { (links : List (List PageValue)) → S.is_honest window.old.source
         → AreIndexed links index.now (S.bytes window.old.source) → result ≡ Err FinishFault.Source
-        → (S.failures window.old.source < S.failures window.new.source) ⊎ (S.failures window.new.source ≡ 2 ^ 64 - 1) }
+        → HasFailed (S.failures window.old.source) (S.failures window.new.source) }
     ensures later { S.failures window.old.source ≤ S.failures window.new.source }
     ensures source { KeepsSource S.bytes S.is_honest S.size S.only_reads window.old.source window.new.source }
 {

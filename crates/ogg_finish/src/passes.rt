@@ -2,7 +2,7 @@
 ghost use Rattle.std.specs.Prelude.{◌≡◌, ◌≢◌, ◌⊎◌, ◌≤◌, ◌<◌, ◌^◌, ◌-◌, List, None, Err, IfErr, OnOk, OnErr};
 ghost use Rattle.std.specs.List.{AllByRecursion};
 ghost use Rattle.ogg_page.specs.Page.{Page as PageValue, IsPage, bytes_of_pages};
-ghost use Rattle.ogg_page.specs.Window.{KeepsSource, left_of};
+ghost use Rattle.ogg_page.specs.Window.{KeepsSource, left_of, HasFailed};
 ghost use Rattle.ogg_split.specs.Copying.{IsCopy};
 ghost use Rattle.ogg_finish.specs.Ends.{ends_after, finished_by};
 
@@ -23,7 +23,7 @@ pub fn find_ends<S: PageSource>(
         → (left_of S.bytes window.old).bytes ≡ bytes_of_pages pages → OnOk result (ends.new ≡ ends_after pages ends.old) }
     ensures cause { (pages : List PageValue) → S.is_honest window.old.source → AllByRecursion IsPage pages
         → (left_of S.bytes window.old).bytes ≡ bytes_of_pages pages → OnErr result
-        ((S.failures window.old.source < S.failures window.new.source) ⊎ (S.failures window.new.source ≡ 2 ^ 64 - 1)) }
+        (HasFailed (S.failures window.old.source) (S.failures window.new.source)) }
     ensures err { IfErr result (λ fault. fault ≡ FinishFault.Source) }
     ensures later { S.failures window.old.source ≤ S.failures window.new.source }
     ensures source { KeepsSource S.bytes S.is_honest S.size S.only_reads window.old.source window.new.source }
@@ -67,7 +67,7 @@ pub fn write_finished<S: PageSource, W: Write>(
         → IsCopy (W.contents out.old) (W.contents out.new) (bytes_of_pages (finished_by ends.now pages)) result }
     ensures cause { (pages : List PageValue) → S.is_honest window.old.source → AllByRecursion IsPage pages
         → (left_of S.bytes window.old).bytes ≡ bytes_of_pages pages → result ≡ Err FinishFault.Source
-        → (S.failures window.old.source < S.failures window.new.source) ⊎ (S.failures window.new.source ≡ 2 ^ 64 - 1) }
+        → HasFailed (S.failures window.old.source) (S.failures window.new.source) }
     ensures there { result ≢ Err FinishFault.NoLink }
     ensures later { S.failures window.old.source ≤ S.failures window.new.source }
     ensures source { KeepsSource S.bytes S.is_honest S.size S.only_reads window.old.source window.new.source }

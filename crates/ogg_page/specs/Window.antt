@@ -39,9 +39,13 @@ NextLent old (Ok (Some lent)) new = NextPage old (Some (Ok lent)) new
 NextLent old (Err Source) new = ⊤
 NextLent old (Err (Page offset fault)) new = (offset ≡ old.offset) × (old.bytes ≢ []) × (page_at old.bytes ≡ Err fault)
 
+-- a failure of the source was counted, or the count stands at the top of a `u64`
+abbrev pub HasFailed : ℕ → ℕ → Type 0
+HasFailed before now = (before < now) ⊎ (now ≡ 2 ^ 64 - 1)
+
 -- a fault of the source has a cause
 abbrev pub HasSourceCause : {T : Type 0} → ℕ → ℕ → Result T WindowFault → Type 0
-HasSourceCause before now result = (before ≤ now) × (result ≡ Err Source → (before < now) ⊎ (now ≡ 2 ^ 64 - 1))
+HasSourceCause before now result = (before ≤ now) × (result ≡ Err Source → HasFailed before now)
 
 -- what a call leaves of its source
 pub record KeepsSource {S : Type 0} (bytes : S → List ℕ) (honest : S → Type 0) (size : S → ℕ) (only_reads : S → S → Type 0)

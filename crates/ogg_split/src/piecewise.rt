@@ -2,7 +2,7 @@
 ghost use Rattle.std.specs.Prelude.{◌≡◌, ◌⊎◌, ◌≤◌, ◌<◌, ◌^◌, ◌+◌, ◌-◌, OnOk, OnErr, Err, length, take, drop};
 ghost use Rattle.std.specs.Io.KnownBytes.{Appends};
 ghost use Rattle.ogg_page.specs.Output.{WritesPrefix};
-ghost use Rattle.ogg_page.specs.Window.{KeepsSource};
+ghost use Rattle.ogg_page.specs.Window.{KeepsSource, HasFailed};
 ghost use Rattle.ogg_split.specs.Copying.{IsCopy, IsThere};
 
 use crate::fault::SplitFault;
@@ -24,7 +24,7 @@ pub fn copy_bytes_of<S: PageSource, W: Write>(
     ensures copied { S.is_honest source.old
         → IsCopy (W.contents out.old) (W.contents out.new) (take count (drop from (S.bytes source.old))) result }
     ensures cause { result ≡ Err SplitFault.Source
-        → (S.failures source.old < S.failures source.new) ⊎ (S.failures source.new ≡ 2 ^ 64 - 1) }
+        → HasFailed (S.failures source.old) (S.failures source.new) }
     ensures later { S.failures source.old ≤ S.failures source.new }
     ensures source { KeepsSource S.bytes S.is_honest S.size S.only_reads source.old source.new }
     ensures there { IsThere result }
@@ -54,7 +54,7 @@ fn copy_piece<S: PageSource, W: Write>(
     ensures err { OnErr result (S.is_honest source.old
         → WritesPrefix (W.contents out.old) (W.contents out.new) (take (length piece.old) (drop at (S.bytes source.old)))) }
     ensures cause { result ≡ Err SplitFault.Source
-        → (S.failures source.old < S.failures source.new) ⊎ (S.failures source.new ≡ 2 ^ 64 - 1) }
+        → HasFailed (S.failures source.old) (S.failures source.new) }
     ensures later { S.failures source.old ≤ S.failures source.new }
     ensures source { KeepsSource S.bytes S.is_honest S.size S.only_reads source.old source.new }
     ensures there { IsThere result }

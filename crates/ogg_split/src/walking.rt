@@ -2,7 +2,7 @@
 ghost use Rattle.std.specs.Prelude.{◌≡◌, ◌≢◌, ◌⊎◌, ◌≤◌, ◌<◌, ◌^◌, ◌-◌, List, None, Err, IfOk, OnErr, length};
 ghost use Rattle.std.specs.List.{AllByRecursion};
 ghost use Rattle.ogg_page.specs.Page.{Page as PageValue, IsPage, bytes_of_pages, page_size};
-ghost use Rattle.ogg_page.specs.Window.{KeepsSource, left_of};
+ghost use Rattle.ogg_page.specs.Window.{KeepsSource, left_of, HasFailed};
 ghost use Rattle.link_chain.specs.Links.{pages_with};
 ghost use Rattle.ogg_split.specs.Copying.{IsCopy, IsThere, stream_bytes};
 
@@ -48,7 +48,7 @@ pub fn copy_lent<S: PageSource, W: Write>(
         → IsCopy (W.contents out.old) (W.contents out.new) (bytes_of_pages (pages_with serial pages)) result }
     ensures cause { (pages : List PageValue) → S.is_honest window.old.source → AllByRecursion IsPage pages
         → (left_of S.bytes window.old).bytes ≡ bytes_of_pages pages → result ≡ Err SplitFault.Source
-        → (S.failures window.old.source < S.failures window.new.source) ⊎ (S.failures window.new.source ≡ 2 ^ 64 - 1) }
+        → HasFailed (S.failures window.old.source) (S.failures window.new.source) }
     ensures later { S.failures window.old.source ≤ S.failures window.new.source }
     ensures source { KeepsSource S.bytes S.is_honest S.size S.only_reads window.old.source window.new.source }
     ensures there { IsThere result }

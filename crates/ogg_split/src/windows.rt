@@ -5,7 +5,7 @@ ghost use Rattle.std.specs.Io.KnownBytes.{Appends};
 ghost use Rattle.std.specs.List.{AllByRecursion};
 ghost use Rattle.ogg_page.specs.Page.{Page as PageValue, IsPage, bytes_of_pages};
 ghost use Rattle.ogg_page.specs.Pages.{found_in};
-ghost use Rattle.ogg_page.specs.Window.{KeepsSource, left_of};
+ghost use Rattle.ogg_page.specs.Window.{KeepsSource, left_of, HasFailed};
 ghost use Rattle.link_chain.specs.Links.{pages_with};
 ghost use Rattle.link_index.specs.Index.{LinkEntry};
 ghost use Rattle.packet_view.specs.Packets.{packets_of};
@@ -47,7 +47,7 @@ pub fn copy_link_from<S: PageSource, W: Write>(
     ensures nothing { result ≡ Err SplitFault.NoLink → Appends (W.contents out.old) (W.contents out.new) [] }
     ensures cause { (links : List (List PageValue)) → S.is_honest window.old.source
         → AreIndexed links index.now (S.bytes window.old.source) → result ≡ Err SplitFault.Source
-        → (S.failures window.old.source < S.failures window.new.source) ⊎ (S.failures window.new.source ≡ 2 ^ 64 - 1) }
+        → HasFailed (S.failures window.old.source) (S.failures window.new.source) }
 
     // What the call leaves of the source.
     ensures later { S.failures window.old.source ≤ S.failures window.new.source }
@@ -79,7 +79,7 @@ pub fn copy_stream_from<S: PageSource, W: Write>(
         → Appends (W.contents out.old) (W.contents out.new) [] }
     ensures cause { (links : List (List PageValue)) → S.is_honest window.old.source
         → AreIndexed links index.now (S.bytes window.old.source) → result ≡ Err SplitFault.Source
-        → (S.failures window.old.source < S.failures window.new.source) ⊎ (S.failures window.new.source ≡ 2 ^ 64 - 1) }
+        → HasFailed (S.failures window.old.source) (S.failures window.new.source) }
 
     // What the call leaves of the source.
     ensures later { S.failures window.old.source ≤ S.failures window.new.source }
@@ -188,7 +188,7 @@ fn copy_whole<S: PageSource, W: Write>(
         → IsCopy (W.contents out.old) (W.contents out.new) (bytes_of_pages pages) result }
     ensures cause { (pages : List PageValue) → S.is_honest window.old.source → StandsIn (S.bytes window.old.source) link pages
         → result ≡ Err SplitFault.Source
-        → (S.failures window.old.source < S.failures window.new.source) ⊎ (S.failures window.new.source ≡ 2 ^ 64 - 1) }
+        → HasFailed (S.failures window.old.source) (S.failures window.new.source) }
     ensures later { S.failures window.old.source ≤ S.failures window.new.source }
     ensures source { KeepsSource S.bytes S.is_honest S.size S.only_reads window.old.source window.new.source }
     ensures there { IsThere result }
@@ -210,7 +210,7 @@ fn copy_stream_of<S: PageSource, W: Write>(
         → IsCopy (W.contents out.old) (W.contents out.new) (bytes_of_pages (pages_with serial pages)) result }
     ensures cause { (pages : List PageValue) → S.is_honest window.old.source → StandsIn (S.bytes window.old.source) link pages
         → result ≡ Err SplitFault.Source
-        → (S.failures window.old.source < S.failures window.new.source) ⊎ (S.failures window.new.source ≡ 2 ^ 64 - 1) }
+        → HasFailed (S.failures window.old.source) (S.failures window.new.source) }
     ensures later { S.failures window.old.source ≤ S.failures window.new.source }
     ensures source { KeepsSource S.bytes S.is_honest S.size S.only_reads window.old.source window.new.source }
     ensures there { IsThere result }

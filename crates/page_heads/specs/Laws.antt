@@ -4,7 +4,7 @@ use Rattle.std.proofs.lemmas.List.{take-append-le, drop-append-le}
 use Rattle.std.proofs.Math.Seq.{take-append_seam, take-append-add}
 use Rattle.ogg_page.specs.Page.{Page, page_bytes}
 use Rattle.ogg_page.specs.Head.{Stands}
-use Rattle.page_heads.specs.Failures.{HasFailed}
+use Rattle.ogg_page.specs.Window.{HasFailed}
 
 -- a part of a page lies in the page
 pub part_of_page : (bytes : List ℕ) (page : Page) (place skip n : ℕ) → Stands (drop place bytes) page → skip + n ≤ length (page_bytes page)

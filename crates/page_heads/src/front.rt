@@ -2,9 +2,8 @@
 ghost use Rattle.std.specs.Prelude.{◌≡◌, ◌+◌, ◌*◌, ◌^◌, ◌<◌, ◌≤◌, ℕ, List, Some, length, sum, take, drop, IfOk, IsErr};
 ghost use Rattle.ogg_page.specs.Page.{Page};
 ghost use Rattle.ogg_page.specs.Sizes.{most_values, full_value};
-ghost use Rattle.ogg_page.specs.Window.{KeepsSource};
+ghost use Rattle.ogg_page.specs.Window.{KeepsSource, HasFailed};
 ghost use Rattle.ogg_page.specs.Head.{Stands, head_size};
-ghost use Rattle.page_heads.specs.Failures.{HasFailed};
 ghost use Rattle.page_heads.specs.Fronts.{IsFrontOf, facts_of};
 ghost use Rattle.page_heads.specs.declared.front.PageFacts.{PageFacts as FactsOf};
 

@@ -1,6 +1,6 @@
 -- What a listener has still to hear of what is committed. Ours.
 use Rattle.std.specs.Prelude.{◌≡◌, ℕ, ◌+◌, ◌<◌, ◌≤◌, List, [], ◌∷◌, ◌++◌, length, take, drop, min}
-pub use Rattle.page_heads.specs.Failures.{HasFailed}
+pub use Rattle.ogg_page.specs.Window.{HasFailed}
 use Rattle.std.specs.List.{AllByRecursion}
 use Rattle.ogg_page.specs.Page.{Page, IsPage, page_size, bytes_of_pages}
 use Rattle.serve_live.specs.Heard.{heard_after}

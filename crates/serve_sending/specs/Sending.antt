@@ -1,6 +1,6 @@
 -- What is left of a response, as a text and a place in the committed bytes. Ours.
 use Rattle.std.specs.Prelude.{◌≡◌, ◌≢◌, ℕ, Bool, true, ◌==◌, List, [], ◌++◌, length, take, drop, min}
-pub use Rattle.page_heads.specs.Failures.{HasFailed}
+pub use Rattle.ogg_page.specs.Window.{HasFailed}
 use Rattle.serve_machine.specs.Hub.{is_nothing}
 use Rattle.serve_machine.specs.Places.{part_at, LiesIn, IsStreamRest, stream_rest}
 use Rattle.serve_machine.specs.declared.answers.Pulled.{Pulled}
