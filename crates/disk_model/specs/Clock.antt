@@ -28,51 +28,13 @@ pub record TimePasses (before now : ℕ) (past since : ℕ → List ℕ → Type
 abbrev pub Elapses : {D : Type 0} → (D → ℕ) → (D → ℕ → List ℕ → Type 0) → D → D → DiskState → Type 0
 Elapses moment images_since old new bound = TimePasses (moment old) (moment new) (images_since old) (images_since new) bound
 
--- every image since the disk was the old one has the property P
-pub record LeavesOnly {D : Type 0} (moment : D → ℕ) (images_since : D → ℕ → List ℕ → Type 0) (old new : D) (P : List ℕ → Type 0) : Type 0 where
-  pub later : moment old ≤ moment new
-  pub each : (image : List ℕ) → images_since new (moment old) image → P image
-  -- for calls that began earlier
-  pub before : (t : ℕ) (image : List ℕ) → t ≤ moment old → images_since new t image → images_since old t image ⊎ P image
-
-module _ {D : Type 0} (moment : D → ℕ) (images_since : D → ℕ → List ℕ → Type 0) where
-  -- before the first call
-  pub started : (old : D) (P : List ℕ → Type 0) → ((image : List ℕ) → images_since old (moment old) image → P image) → LeavesOnly moment images_since old old P
-  started old P here = record { later = omega arith; each = here; before = λ t image le since. inl since }
-
-  -- another call, whose images have P
-  pub goes_on : (old mid new : D) (disk : DiskState) (P : List ℕ → Type 0) → LeavesOnly moment images_since old mid P
-      → Elapses moment images_since mid new disk → ((image : List ℕ) → IsImage disk image → P image)
-      → LeavesOnly moment images_since old new P
-  goes_on old mid new disk P so_far time here = record {
-    later = omega (arith, so_far.later, time.later);
-    each = λ image since. ⊎_elim (so_far.each image) (here image) (time.nothing_else (moment old) image so_far.later since);
-    before = λ t image le since. ⊎_elim (so_far.before t image le) (λ now. inr (here image now)) (time.nothing_else t image (omega (arith, le, so_far.later)) since);
-  }
-
-  -- some calls, and then others
-  pub and_then : (old mid new : D) (P Q R : List ℕ → Type 0) → LeavesOnly moment images_since old mid P → LeavesOnly moment images_since mid new Q
-      → ((image : List ℕ) → P image → R image) → ((image : List ℕ) → Q image → R image) → LeavesOnly moment images_since old new R
-  and_then old mid new P Q R first second p q = record {
-    later = omega (arith, first.later, second.later);
-    each = λ image since. ⊎_elim (λ was. p image (first.each image was)) (q image) (second.before (moment old) image first.later since);
-    before = λ t image le since. ⊎_elim (λ was. ⊎_elim inl (λ is. inr (p image is)) (first.before t image le was)) (λ is. inr (q image is)) (second.before t image (omega (arith, le, first.later)) since);
-  }
-
-  pub weakened : (old new : D) (P R : List ℕ → Type 0) → LeavesOnly moment images_since old new P → ((image : List ℕ) → P image → R image) → LeavesOnly moment images_since old new R
-  weakened old new P R leaves p = record {
-    later = leaves.later;
-    each = λ image since. p image (leaves.each image since);
-    before = λ t image le since. ⊎_elim inl (λ is. inr (p image is)) (leaves.before t image le since);
-  }
-
-  -- two calls, whose images are those of one bound
-  pub time_adds_up : (old mid new : D) (first second bound : DiskState) → Elapses moment images_since old mid first → Elapses moment images_since mid new second
-      → ((image : List ℕ) → IsImage first image → IsImage bound image) → ((image : List ℕ) → IsImage second image → IsImage bound image)
-      → Elapses moment images_since old new bound
-  time_adds_up old mid new first second bound a b in_first in_second = record {
-    later = omega (arith, a.later, b.later);
-    nothing_else = λ t image le since. ⊎_elim (λ was. ⊎_elim inl (λ is. inr (in_first image is)) (a.nothing_else t image le was)) (λ is. inr (in_second image is))
-        (b.nothing_else t image (omega (arith, le, a.later)) since);
-    keeps = λ t image le past. b.keeps t image (omega (arith, le, a.later)) (a.keeps t image le past);
-  }
+-- two calls, whose images are those of one bound
+pub time_adds_up : {D : Type 0} (moment : D → ℕ) (images_since : D → ℕ → List ℕ → Type 0) (old mid new : D) (first second bound : DiskState) → Elapses moment images_since old mid first → Elapses moment images_since mid new second
+    → ((image : List ℕ) → IsImage first image → IsImage bound image) → ((image : List ℕ) → IsImage second image → IsImage bound image)
+    → Elapses moment images_since old new bound
+time_adds_up moment images_since old mid new first second bound a b in_first in_second = record {
+  later = omega (arith, a.later, b.later);
+  nothing_else = λ t image le since. ⊎_elim (λ was. ⊎_elim inl (λ is. inr (in_first image is)) (a.nothing_else t image le was)) (λ is. inr (in_second image is))
+      (b.nothing_else t image (omega (arith, le, a.later)) since);
+  keeps = λ t image le past. b.keeps t image (omega (arith, le, a.later)) (a.keeps t image le past);
+}

@@ -3,8 +3,10 @@ pub mod Clock
 pub mod Fault
 pub mod FileDisk
 pub mod FileMode
+pub mod Frame
 pub mod Fuse
 pub mod FuseDisk
 pub mod Image
+pub mod Leaving
 pub mod MemDisk
 pub mod Torn

@@ -1,5 +1,5 @@
 -- What a `TailDisk` shows.
-use Rattle.disk_model.specs.Image.{DiskState}
+use Rattle.disk_model.specs.declared.disk.Disk.{Ghosts as DiskModel}
 use Rattle.disk_tail.specs.Tail.{Tail, StandsIn}
 
 -- the disk below it, and its tail
@@ -11,5 +11,5 @@ abbrev pub tail_state : {D : Type 0} → D → Tail → TailState D
 tail_state disk tail = record { disk = disk; tail = tail }
 
 -- What always holds: if the disk below is honest, the tail stands in its contents.
-abbrev pub IsRight : {D : Type 0} → (D → Type 0) → (D → DiskState) → TailState D → Type 0
-IsRight is_honest state t = is_honest t.disk → StandsIn (state t.disk).contents t.tail
+abbrev pub IsRight : {D : Type 0} → DiskModel D → TailState D → Type 0
+IsRight model t = model.is_honest t.disk → StandsIn (model.state t.disk).contents t.tail

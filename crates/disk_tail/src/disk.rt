@@ -26,7 +26,7 @@ impl<D: Disk> Model for TailDisk<D> {
 
     ghost view = { λ t. tail_state t.disk t.kept };
 
-    ghost invariant = { λ t. IsRight D.is_honest D.state (tail_state t.disk t.kept) };
+    ghost invariant = { λ t. IsRight D.Disk (tail_state t.disk t.kept) };
 }
 
 impl<D: Disk> TailDisk<D> {

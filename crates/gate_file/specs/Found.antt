@@ -1,5 +1,6 @@
 -- What a `Found` shows.
 use Rattle.std.specs.Prelude.{◌≡◌, ◌≢◌, ℕ, ◌+◌, ◌<◌, ◌^◌, List, length, take, Bool, true, slice_index, Err}
+use Rattle.disk_model.specs.declared.disk.Disk.{Ghosts as DiskModel}
 use Rattle.disk_model.specs.Image.{DiskState, IsSettled}
 use Rattle.ogg_page.specs.Page.{Page as PageValue, bytes_of_pages}
 use Rattle.ogg_page.specs.Reading.{page_at}
@@ -39,9 +40,9 @@ pub record HasEnd (end tail : ℕ) (closed : Bool) (disk : DiskState) : Type 0 w
   pub is_open : IsClosedAt disk.contents end → closed ≡ true
 
 -- what always holds
-pub record IsFound {D : Type 0} (is_honest : D → Type 0) (state : D → DiskState) (found : FoundState D) : Type 0 where
+pub record IsFound {D : Type 0} (model : DiskModel D) (found : FoundState D) : Type 0 where
   pub short : found.end + found.tail < 2 ^ 63
-  pub ends : is_honest found.disk → HasEnd found.end found.tail found.closed (state found.disk)
+  pub ends : model.is_honest found.disk → HasEnd found.end found.tail found.closed (model.state found.disk)
 
 -- Pages end at this offset, and neither a page nor a tail begins there: this is the first thing that is wrong.
 pub record IsDamagedAt (contents : List ℕ) (offset : ℕ) (fault : PageFault) : Type 0 where

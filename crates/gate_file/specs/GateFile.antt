@@ -1,5 +1,6 @@
 -- What a `GateFile` shows.
 use Rattle.std.specs.Prelude.{◌≡◌, ℕ, ◌+◌, ◌<◌, ◌≤◌, ◌^◌, List, length, take, Bool, true, false}
+use Rattle.disk_model.specs.declared.disk.Disk.{Ghosts as DiskModel}
 use Rattle.disk_model.specs.Image.{DiskState}
 use Rattle.gate_file.specs.Gate.{IsStaged, IsStagedWhole, staged_in}
 
@@ -24,9 +25,9 @@ abbrev pub staged_bytes : {D : Type 0} → (D → DiskState) → GateState D →
 staged_bytes state file = staged_in file.end file.staged (state file.disk).contents
 
 -- What always holds. If the disk is honest, the committed bytes stand in front, after a fault too.
-pub record IsKept {D : Type 0} (is_honest : D → Type 0) (state : D → DiskState) (file : GateState D) : Type 0 where
+pub record IsKept {D : Type 0} (model : DiskModel D) (file : GateState D) : Type 0 where
   pub short : file.end + file.staged < 2 ^ 63
   pub some : file.whole ≡ true → 0 < file.staged
-  pub front : is_honest file.disk → file.end ≤ length (state file.disk).contents
-  pub staged : file.failed ≡ false → is_honest file.disk → IsStaged file.end file.staged (state file.disk)
-  pub whole : file.failed ≡ false → file.whole ≡ true → is_honest file.disk → IsStagedWhole file.end file.staged (state file.disk)
+  pub front : model.is_honest file.disk → file.end ≤ length (model.state file.disk).contents
+  pub staged : file.failed ≡ false → model.is_honest file.disk → IsStaged file.end file.staged (model.state file.disk)
+  pub whole : file.failed ≡ false → file.whole ≡ true → model.is_honest file.disk → IsStagedWhole file.end file.staged (model.state file.disk)

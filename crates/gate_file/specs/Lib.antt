@@ -5,5 +5,6 @@ pub mod Found
 pub mod Gate
 pub mod GateFile
 pub mod OpenFault
+pub mod Opening
 pub mod Reading
 pub mod Visiting

@@ -1,5 +1,6 @@
 -- The numbers and names of the reasons not to open a file. They are ours.
-use Rattle.std.specs.Prelude.{◌≡◌, ℕ, List, codes}
+use Rattle.std.specs.Prelude.{◌≡◌, ℕ, List, codes, refl}
+use Rattle.std.proofs.Common.{sym}
 use Rattle.ogg_page.specs.declared.fault.PageFault.{PageFault}
 use Rattle.gate_file.specs.declared.fault.FindFault.{FindFault}
 use Rattle.gate_file.specs.declared.fault.FindFault.TheVariants.{Disk as FindDisk, Page as FindPage}
@@ -28,7 +29,7 @@ fault_of_finding (FindPage offset fault) = Page offset fault
 abbrev pub IsOfFinding : FindFault → OpenFault → Type 0
 IsOfFinding finding fault = fault ≡ fault_of_finding finding
 
-no_page : (offset : ℕ) (fault : PageFault) → Disk ≡ Page offset fault → ⊥
+pub no_page : (offset : ℕ) (fault : PageFault) → Disk ≡ Page offset fault → ⊥
 no_page offset fault e = cc
 
 same_page : (at offset : ℕ) (why fault : PageFault) → Page at why ≡ Page offset fault → (at ≡ offset) × (why ≡ fault)
@@ -40,3 +41,8 @@ told_page FindDisk offset fault e = absurd (no_page offset fault e)
 told_page (FindPage at why) offset fault e =
     let same = same_page at offset why fault e in
     (λ i. FindPage (same.0 i) (same.1 i))
+
+-- It blames the disk if finding did.
+pub told_disk : (finding : FindFault) → fault_of_finding finding ≡ Disk → finding ≡ FindDisk
+told_disk FindDisk e = refl
+told_disk (FindPage offset fault) e = absurd (no_page offset fault (sym e))

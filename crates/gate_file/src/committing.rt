@@ -1,7 +1,7 @@
 //! Pages are committed: the one byte that decides is written once they lie on the disk.
-ghost use Rattle.std.specs.Prelude.{◌≡◌, ◌≢◌, ◌↔◌, ◌+◌, ◌-◌, ◌^◌, ◌<◌, length, take, OnOk};
-ghost use Rattle.disk_model.specs.Clock.{LeavesOnly};
-ghost use Rattle.disk_model.specs.Fault.{HasCause};
+ghost use Rattle.std.specs.Prelude.{◌≡◌, ◌≢◌, ◌↔◌, ◌+◌, ◌-◌, ◌^◌, ◌<◌, length, take, OnOk, IsErr};
+ghost use Rattle.disk_model.specs.Leaving.{LeavesOnly};
+ghost use Rattle.disk_model.specs.Frame.{Frame};
 ghost use Rattle.gate_file.specs.Commit.{CommitsToEither};
 ghost use Rattle.gate_file.specs.Gate.{IsAppend, IsReadyAt, IsStaged, IsStagedWhole, HasGrown, pages_in, staged_in};
 
@@ -18,10 +18,9 @@ pub(crate) fn append_pages<D: Disk>(disk: &mut D, end: u64, bytes: &[u8]) -> Res
     ensures short { OnOk result (end + length bytes.now < 2 ^ 63) }
     ensures front { D.is_honest disk.old
         → take end (D.state disk.new).contents ≡ take end (D.state disk.old).contents }
-    ensures any_moment { D.is_honest disk.old → LeavesOnly D.moment D.images_since disk.old disk.new
+    ensures any_moment { D.is_honest disk.old → LeavesOnly D.Disk disk.old disk.new
         (CommitsToEither (take end (D.state disk.old).contents) (pages_in bytes.now)) }
-    ensures honest { D.is_honest disk.old ↔ D.is_honest disk.new }
-    ensures cause { HasCause (D.failures disk.old) (D.failures disk.new) result }
+    ensures frame { Frame D.Disk disk.old disk.new (IsErr result) }
 {
     // The pages lie on the disk after the closed byte before it is opened.
     write_synced(disk, end + 1, &bytes[1..])?;
@@ -37,11 +36,10 @@ pub(crate) fn commit_staged<D: Disk>(disk: &mut D, end: u64, staged: u64) -> Res
         (staged_in end staged (D.state disk.old).contents) (D.state disk.old) (D.state disk.new)) }
     ensures front { D.is_honest disk.old
         → take end (D.state disk.new).contents ≡ take end (D.state disk.old).contents }
-    ensures any_moment { D.is_honest disk.old → LeavesOnly D.moment D.images_since disk.old disk.new
+    ensures any_moment { D.is_honest disk.old → LeavesOnly D.Disk disk.old disk.new
         (CommitsToEither (take end (D.state disk.old).contents)
         (staged_in end staged (D.state disk.old).contents)) }
-    ensures honest { D.is_honest disk.old ↔ D.is_honest disk.new }
-    ensures cause { HasCause (D.failures disk.old) (D.failures disk.new) result }
+    ensures frame { Frame D.Disk disk.old disk.new (IsErr result) }
 {
     settle(disk)?;
     write_synced(disk, end, &[CAPTURE])

@@ -1,8 +1,9 @@
 //! A file whose committed bytes grow by whole appends.
-ghost use Rattle.std.specs.Prelude.{◌≡◌, ◌≢◌, ◌↔◌, ◌⊎◌, ◌+◌, ◌-◌, ◌^◌, ◌<◌, ◌≤◌, ◌++◌, [], ℕ, length, take, drop, true, false, OnOk, OnErr, IfOk, IfErr, IsErr};
+ghost use Rattle.std.specs.Prelude.{◌≡◌, ◌≢◌, ◌↔◌, ◌⊎◌, ◌+◌, ◌-◌, ◌^◌, ◌<◌, ◌≤◌, ◌++◌, [], ℕ, length, take, drop, true, false, OnOk, OnErr, IfOk, IfErr, IsErr, ⊤};
 ghost use Rattle.disk_model.specs.Image.{IsSettled};
-ghost use Rattle.disk_model.specs.Clock.{LeavesOnly};
+ghost use Rattle.disk_model.specs.Leaving.{LeavesOnly};
 ghost use Rattle.disk_model.specs.Fault.{HasCause};
+ghost use Rattle.disk_model.specs.Frame.{Frame};
 ghost use Rattle.gate_file.specs.Commit.{ArePages, CommitsTo, CommitsToEither};
 ghost use Rattle.gate_file.specs.Gate.{IsAppend, IsReadyAt, EachImage, pages_in};
 ghost use Rattle.gate_file.specs.GateFile.{committed, staged_bytes};
@@ -33,7 +34,7 @@ impl<D: Disk> Model for GateFile<D> {
 
     ghost view = { λ f. gate_state f.disk f.end f.staged f.whole f.failed };
 
-    ghost invariant = { λ f. IsKept D.is_honest D.state (gate_state f.disk f.end f.staged f.whole f.failed) };
+    ghost invariant = { λ f. IsKept D.Disk (gate_state f.disk f.end f.staged f.whole f.failed) };
 }
 
 impl<D: Disk> GateFile<D> {
@@ -96,7 +97,7 @@ impl<D: Disk> GateFile<D> {
         requires { from + length buffer.old ≤ self.old.end }
         ensures read { OnOk result (D.is_honest self.old.disk
             → buffer.new ≡ take (length buffer.old) (drop from (committed D.state self.old))) }
-        ensures reads { OnlyReads D.is_honest D.state D.moment D.images_since self.old.disk self.new.disk }
+        ensures reads { OnlyReads D.Disk self.old.disk self.new.disk }
         ensures same { self.new ≡ gate_state self.new.disk self.old.end self.old.staged self.old.whole self.old.failed }
         ensures cause { HasCause (D.failures self.old.disk) (D.failures self.new.disk) result }
     {
@@ -124,12 +125,11 @@ impl<D: Disk> GateFile<D> {
 
         // Every image since the call began commits to the bytes before, without the pages or with them; in the end
         // with them.
-        ensures any_moment { D.is_honest self.old.disk → LeavesOnly D.moment D.images_since self.old.disk self.new.disk
+        ensures any_moment { D.is_honest self.old.disk → LeavesOnly D.Disk self.old.disk self.new.disk
             (CommitsToEither (committed D.state self.old) (pages_in bytes.now)) }
         ensures only { OnOk result (D.is_honest self.old.disk → EachImage (D.state self.new.disk)
             (CommitsTo (committed D.state self.old ++ pages_in bytes.now))) }
-        ensures honest { D.is_honest self.old.disk ↔ D.is_honest self.new.disk }
-        ensures cause { HasCause (D.failures self.old.disk) (D.failures self.new.disk) result }
+        ensures frame { Frame D.Disk self.old.disk self.new.disk (IsErr result) }
     {
         self.failed = true;
         append_pages(&mut self.disk, self.end, bytes)?;
@@ -154,10 +154,9 @@ impl<D: Disk> GateFile<D> {
         ensures front { D.is_honest self.old.disk → committed D.state self.new ≡ committed D.state self.old }
 
         // Every image since the call began commits to the bytes before.
-        ensures any_moment { D.is_honest self.old.disk → LeavesOnly D.moment D.images_since self.old.disk self.new.disk
+        ensures any_moment { D.is_honest self.old.disk → LeavesOnly D.Disk self.old.disk self.new.disk
             (CommitsTo (committed D.state self.old)) }
-        ensures honest { D.is_honest self.old.disk ↔ D.is_honest self.new.disk }
-        ensures cause { HasCause (D.failures self.old.disk) (D.failures self.new.disk) result }
+        ensures frame { Frame D.Disk self.old.disk self.new.disk (IsErr result) }
     {
         self.failed = true;
         stage_pages(&mut self.disk, self.end, self.staged, pages)?;
@@ -183,10 +182,9 @@ impl<D: Disk> GateFile<D> {
         ensures front { D.is_honest self.old.disk → committed D.state self.new ≡ committed D.state self.old }
 
         // Every image since the call began commits to the bytes before.
-        ensures any_moment { D.is_honest self.old.disk → LeavesOnly D.moment D.images_since self.old.disk self.new.disk
+        ensures any_moment { D.is_honest self.old.disk → LeavesOnly D.Disk self.old.disk self.new.disk
             (CommitsTo (committed D.state self.old)) }
-        ensures honest { D.is_honest self.old.disk ↔ D.is_honest self.new.disk }
-        ensures cause { HasCause (D.failures self.old.disk) (D.failures self.new.disk) result }
+        ensures frame { Frame D.Disk self.old.disk self.new.disk (IsErr result) }
     {
         self.failed = true;
         stage_last_pages(&mut self.disk, self.end, self.staged, bytes)?;
@@ -214,12 +212,11 @@ impl<D: Disk> GateFile<D> {
 
         // Every image since the call began commits to the bytes before, without the staged ones or with them; in
         // the end with them.
-        ensures any_moment { D.is_honest self.old.disk → LeavesOnly D.moment D.images_since self.old.disk self.new.disk
+        ensures any_moment { D.is_honest self.old.disk → LeavesOnly D.Disk self.old.disk self.new.disk
             (CommitsToEither (committed D.state self.old) (staged_bytes D.state self.old)) }
         ensures only { OnOk result (D.is_honest self.old.disk → EachImage (D.state self.new.disk)
             (CommitsTo (committed D.state self.old ++ staged_bytes D.state self.old))) }
-        ensures honest { D.is_honest self.old.disk ↔ D.is_honest self.new.disk }
-        ensures cause { HasCause (D.failures self.old.disk) (D.failures self.new.disk) result }
+        ensures frame { Frame D.Disk self.old.disk self.new.disk (IsErr result) }
     {
         self.failed = true;
         commit_staged(&mut self.disk, self.end, self.staged)?;
@@ -243,14 +240,11 @@ impl<D: Disk> GateFile<D> {
 
         // Every image since the call began commits to the same bytes.
         ensures any_moment { IfOk result (λ disk. D.is_honest self.disk
-            → LeavesOnly D.moment D.images_since self.disk disk (CommitsTo (committed D.state self))) }
+            → LeavesOnly D.Disk self.disk disk (CommitsTo (committed D.state self))) }
         ensures any_moment_err { IfErr result (λ e. D.is_honest self.disk
-            → LeavesOnly D.moment D.images_since self.disk e.1 (CommitsTo (committed D.state self))) }
-        ensures honest { IfOk result (λ disk. D.is_honest self.disk ↔ D.is_honest disk) }
-        ensures honest_err { IfErr result (λ e. D.is_honest self.disk ↔ D.is_honest e.1) }
-        ensures later { IfOk result (λ disk. D.failures self.disk ≤ D.failures disk) }
-        ensures later_err { IfErr result (λ e. D.failures self.disk ≤ D.failures e.1) }
-        ensures cause { IfErr result (λ e. (D.failures self.disk < D.failures e.1) ⊎ (D.failures e.1 ≡ 2 ^ 64 - 1)) }
+            → LeavesOnly D.Disk self.disk e.1 (CommitsTo (committed D.state self))) }
+        ensures frame { IfOk result (λ disk. Frame D.Disk self.disk disk ⊥) }
+        ensures frame_err { IfErr result (λ e. Frame D.Disk self.disk e.1 ⊤) }
     {
         let GateFile { mut disk, end, .. } = self;
         match cut_behind(&mut disk, end) {

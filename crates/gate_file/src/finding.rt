@@ -1,14 +1,16 @@
 //! The end of a file's committed bytes, found by one sync and one pass over its pages.
-ghost use Rattle.std.specs.Prelude.{◌≡◌, ◌≢◌, ◌↔◌, ◌⊎◌, ◌+◌, ◌-◌, ◌^◌, ◌<◌, ◌≤◌, ℕ, length, take, drop, slice_index, OnOk, IfOk, IfErr, IsTrue, List, Err};
+ghost use Rattle.std.specs.Prelude.{◌≡◌, ◌≢◌, ◌↔◌, ◌⊎◌, ◌+◌, ◌-◌, ◌^◌, ◌<◌, ◌≤◌, ℕ, length, take, drop, slice_index, OnOk, IfOk, IfErr, IsTrue, List, Err, IsErr};
 ghost use Rattle.disk_model.specs.Image.{IsImage, IsSettled};
-ghost use Rattle.disk_model.specs.Clock.{LeavesOnly};
-ghost use Rattle.disk_model.specs.Fault.{HasCause};
+ghost use Rattle.disk_model.specs.Leaving.{LeavesOnly};
+ghost use Rattle.disk_model.specs.Fault.{HasCause, Rises};
+ghost use Rattle.disk_model.specs.Frame.{Frame};
 ghost use Rattle.ogg_page.specs.declared.fault.PageFault.{PageFault as PageFaultOf};
 ghost use Rattle.ogg_page.specs.Page.{Page as PageValue, bytes_of_pages};
 ghost use Rattle.ogg_page.specs.declared.fault.WindowFault.TheVariants.{Source as SourceVariant};
 ghost use Rattle.gate_file.specs.Reading.{OnlyReads};
 ghost use Rattle.gate_file.specs.Visiting.{EndsAfter, all_of};
 ghost use Rattle.gate_file.specs.Found.{HasEnd, HasSeen, IsDamagedAt, found_bytes};
+ghost use Rattle.gate_file.specs.Opening.{Opens, GivesBack};
 
 use crate::source::DiskSource;
 use crate::steps::{CAPTURE, settle};
@@ -24,23 +26,14 @@ impl<D: Disk> GateFile<D> {
     pub fn find(alloc: Global, disk: D) -> Result<Found<D>, (OpenFault, D)>
         ensures same { IfOk result (λ found. D.is_honest disk
             → (D.state found.disk).contents ≡ (D.state disk).contents) }
-        ensures damaged { IfErr result (λ e. (offset : ℕ) (fault : PageFaultOf) → e.0 ≡ OpenFault.Page offset fault
-            → D.is_honest disk → IsDamagedAt (D.state disk).contents offset fault × IsSettled (D.state e.1)
-            × ((D.state e.1).contents ≡ (D.state disk).contents)) }
         ensures memory { IfErr result (λ e. e.0 ≡ OpenFault.Memory → e.1 ≡ disk) }
         ensures faults { IfErr result (λ e. (e.0 ≡ OpenFault.Disk) ⊎ ((e.0 ≡ OpenFault.Memory)
             ⊎ ((offset : ℕ) × (fault : PageFaultOf) × (e.0 ≡ OpenFault.Page offset fault)))) }
 
         // Every image since the call began is one of those at its start.
-        ensures any_moment { IfOk result (λ found. D.is_honest disk
-            → LeavesOnly D.moment D.images_since disk found.disk (IsImage (D.state disk))) }
-        ensures any_moment_err { IfErr result (λ e. D.is_honest disk
-            → LeavesOnly D.moment D.images_since disk e.1 (IsImage (D.state disk))) }
-        ensures honest { IfOk result (λ found. D.is_honest disk ↔ D.is_honest found.disk) }
-        ensures honest_err { IfErr result (λ e. D.is_honest disk ↔ D.is_honest e.1) }
-        ensures later { IfOk result (λ found. D.failures disk ≤ D.failures found.disk) }
-        ensures cause { IfErr result (λ e. (D.failures disk ≤ D.failures e.1)
-            × (e.0 ≡ OpenFault.Disk → (D.failures disk < D.failures e.1) ⊎ (D.failures e.1 ≡ 2 ^ 64 - 1))) }
+        ensures opens { IfOk result (λ found. Opens D.Disk (IsImage (D.state disk)) disk found.disk) }
+        ensures gives_back { IfErr result (λ e. GivesBack D.Disk (IsImage (D.state disk)) OpenFault.Disk OpenFault.Page
+            disk e.0 e.1) }
     {
         let buffer = match PageBuffer::new(alloc) {
             Ok(buffer) => buffer,
@@ -64,20 +57,11 @@ impl<D: Disk> GateFile<D> {
             → (D.state found.0.disk).contents ≡ (D.state disk).contents) }
         ensures seen { IfOk result (λ found. D.is_honest disk
             → HasSeen V.sees visitor.old visitor.new (found_bytes D.state found.0)) }
-        ensures damaged { IfErr result (λ e. (offset : ℕ) (fault : PageFaultOf) → e.0 ≡ FindFault.Page offset fault
-            → D.is_honest disk → IsDamagedAt (D.state disk).contents offset fault × IsSettled (D.state e.1)
-            × ((D.state e.1).contents ≡ (D.state disk).contents)) }
         ensures faults { IfErr result (λ e. (e.0 ≡ FindFault.Disk)
             ⊎ ((offset : ℕ) × (fault : PageFaultOf) × (e.0 ≡ FindFault.Page offset fault))) }
-        ensures any_moment { IfOk result (λ found. D.is_honest disk
-            → LeavesOnly D.moment D.images_since disk found.0.disk (IsImage (D.state disk))) }
-        ensures any_moment_err { IfErr result (λ e. D.is_honest disk
-            → LeavesOnly D.moment D.images_since disk e.1 (IsImage (D.state disk))) }
-        ensures honest { IfOk result (λ found. D.is_honest disk ↔ D.is_honest found.0.disk) }
-        ensures honest_err { IfErr result (λ e. D.is_honest disk ↔ D.is_honest e.1) }
-        ensures later { IfOk result (λ found. D.failures disk ≤ D.failures found.0.disk) }
-        ensures cause { IfErr result (λ e. (D.failures disk ≤ D.failures e.1)
-            × (e.0 ≡ FindFault.Disk → (D.failures disk < D.failures e.1) ⊎ (D.failures e.1 ≡ 2 ^ 64 - 1))) }
+        ensures opens { IfOk result (λ found. Opens D.Disk (IsImage (D.state disk)) disk found.0.disk) }
+        ensures gives_back { IfErr result (λ e. GivesBack D.Disk (IsImage (D.state disk)) FindFault.Disk FindFault.Page
+            disk e.0 e.1) }
     {
         let mut disk = disk;
         let size = match measure(&mut disk) {
@@ -101,10 +85,9 @@ fn measure<D: Disk>(disk: &mut D) -> Result<u64, DiskFault>
         × ((D.state disk.new).contents ≡ (D.state disk.old).contents)
         × (length (D.state disk.old).contents ≡ size)) }
     ensures short { IfOk result (λ size. size < 2 ^ 63) }
-    ensures any_moment { D.is_honest disk.old → LeavesOnly D.moment D.images_since disk.old disk.new
+    ensures any_moment { D.is_honest disk.old → LeavesOnly D.Disk disk.old disk.new
         (IsImage (D.state disk.old)) }
-    ensures honest { D.is_honest disk.old ↔ D.is_honest disk.new }
-    ensures cause { HasCause (D.failures disk.old) (D.failures disk.new) result }
+    ensures frame { Frame D.Disk disk.old disk.new (IsErr result) }
 {
     settle(disk)?;
     disk.len()
@@ -128,10 +111,10 @@ fn end_of<D: Disk>(
         → D.is_honest disk.old → IsDamagedAt (D.state disk.old).contents offset fault) }
     ensures faults { IfErr result (λ e. (e ≡ FindFault.Disk)
         ⊎ ((offset : ℕ) × (fault : PageFaultOf) × (e ≡ FindFault.Page offset fault))) }
-    ensures reads { OnlyReads D.is_honest D.state D.moment D.images_since disk.old disk.new }
+    ensures reads { OnlyReads D.Disk disk.old disk.new }
     ensures later { D.failures disk.old ≤ D.failures disk.new }
     ensures cause { IfErr result (λ e. e ≡ FindFault.Disk → (walked ≡ Err SourceVariant)
-        ⊎ ((D.failures disk.old < D.failures disk.new) ⊎ (D.failures disk.new ≡ 2 ^ 64 - 1))) }
+        ⊎ (Rises (D.failures disk.old) (D.failures disk.new))) }
 {
     match walked {
         Ok(()) => Ok((size, false)),
@@ -162,7 +145,7 @@ fn begins_page<D: Disk>(disk: &mut D, at: u64) -> Result<bool, DiskFault>
     requires { D.is_honest disk.old → at < length (D.state disk.old).contents }
     ensures capture { IfOk result (λ is. D.is_honest disk.old
         → IsTrue is ↔ (slice_index (D.state disk.old).contents at ≡ 0x4F)) }
-    ensures reads { OnlyReads D.is_honest D.state D.moment D.images_since disk.old disk.new }
+    ensures reads { OnlyReads D.Disk disk.old disk.new }
     ensures cause { HasCause (D.failures disk.old) (D.failures disk.new) result }
 {
     let mut byte = [0];

@@ -1,7 +1,8 @@
 //! A file whose committed bytes were found.
-ghost use Rattle.std.specs.Prelude.{◌≡◌, ◌↔◌, ◌⊎◌, ◌+◌, ◌-◌, ◌^◌, ◌<◌, ◌≤◌, ℕ, length, take, drop, true, false, OnOk, IfOk, IfErr, IsTrue};
-ghost use Rattle.disk_model.specs.Clock.{LeavesOnly};
+ghost use Rattle.std.specs.Prelude.{◌≡◌, ◌↔◌, ◌⊎◌, ◌+◌, ◌-◌, ◌^◌, ◌<◌, ◌≤◌, ℕ, length, take, drop, true, false, OnOk, IfOk, IfErr, IsTrue, IsErr, ⊤};
+ghost use Rattle.disk_model.specs.Leaving.{LeavesOnly};
 ghost use Rattle.disk_model.specs.Fault.{HasCause};
+ghost use Rattle.disk_model.specs.Frame.{Frame};
 ghost use Rattle.gate_file.specs.Commit.{CommitsTo};
 ghost use Rattle.gate_file.specs.Found.{FoundState, HasEnd, found_bytes, found_state};
 ghost use Rattle.gate_file.specs.Gate.{IsReadyAt};
@@ -30,7 +31,7 @@ impl<D: Disk> Model for Found<D> {
 
     ghost view = { λ f. found_state f.disk f.end f.tail f.closed };
 
-    ghost invariant = { λ f. IsFound D.is_honest D.state (found_state f.disk f.end f.tail f.closed) };
+    ghost invariant = { λ f. IsFound D.Disk (found_state f.disk f.end f.tail f.closed) };
 }
 
 impl<D: Disk> Found<D> {
@@ -78,7 +79,7 @@ impl<D: Disk> Found<D> {
         requires { from + length buffer.old ≤ self.old.end }
         ensures read { OnOk result (D.is_honest self.old.disk
             → buffer.new ≡ take (length buffer.old) (drop from (found_bytes D.state self.old))) }
-        ensures reads { OnlyReads D.is_honest D.state D.moment D.images_since self.old.disk self.new.disk }
+        ensures reads { OnlyReads D.Disk self.old.disk self.new.disk }
         ensures same { self.new ≡ found_state self.new.disk self.old.end self.old.tail self.old.closed }
         ensures cause { HasCause (D.failures self.old.disk) (D.failures self.new.disk) result }
     {
@@ -97,15 +98,12 @@ impl<D: Disk> Found<D> {
 
         // Every image since the call began commits to the bytes that were found.
         ensures any_moment { IfOk result (λ file. D.is_honest self.disk
-            → LeavesOnly D.moment D.images_since self.disk file.disk (CommitsTo (found_bytes D.state self))) }
+            → LeavesOnly D.Disk self.disk file.disk (CommitsTo (found_bytes D.state self))) }
         ensures any_moment_err { IfErr result (λ e. D.is_honest self.disk
-            → LeavesOnly D.moment D.images_since self.disk e.1 (CommitsTo (found_bytes D.state self))) }
-        ensures honest { IfOk result (λ file. D.is_honest self.disk ↔ D.is_honest file.disk) }
-        ensures honest_err { IfErr result (λ e. D.is_honest self.disk ↔ D.is_honest e.1) }
-        ensures later { IfOk result (λ file. D.failures self.disk ≤ D.failures file.disk) }
-        ensures later_err { IfErr result (λ e. D.failures self.disk ≤ D.failures e.1) }
-        ensures cause { IfErr result (λ e. (e.0 ≡ OpenFault.Disk)
-            × ((D.failures self.disk < D.failures e.1) ⊎ (D.failures e.1 ≡ 2 ^ 64 - 1))) }
+            → LeavesOnly D.Disk self.disk e.1 (CommitsTo (found_bytes D.state self))) }
+        ensures fault { IfErr result (λ e. e.0 ≡ OpenFault.Disk) }
+        ensures frame { IfOk result (λ file. Frame D.Disk self.disk file.disk ⊥) }
+        ensures frame_err { IfErr result (λ e. Frame D.Disk self.disk e.1 ⊤) }
     {
         let Found {
             mut disk,
@@ -126,10 +124,9 @@ fn close_behind<D: Disk>(disk: &mut D, end: u64, closed: bool) -> Result<(), Dis
     ensures ready { OnOk result (D.is_honest disk.old → IsReadyAt end (D.state disk.new)) }
     ensures front { D.is_honest disk.old
         → take end (D.state disk.new).contents ≡ take end (D.state disk.old).contents }
-    ensures any_moment { D.is_honest disk.old → LeavesOnly D.moment D.images_since disk.old disk.new
+    ensures any_moment { D.is_honest disk.old → LeavesOnly D.Disk disk.old disk.new
         (CommitsTo (take end (D.state disk.old).contents)) }
-    ensures honest { D.is_honest disk.old ↔ D.is_honest disk.new }
-    ensures cause { HasCause (D.failures disk.old) (D.failures disk.new) result }
+    ensures frame { Frame D.Disk disk.old disk.new (IsErr result) }
 {
     if !closed {
         write_synced(disk, end, &[0])?;
@@ -150,7 +147,7 @@ impl<D: Disk> PageSource for Found<D> {
 
     ghost failures = { λ f. D.failures f.disk };
 
-    ghost only_reads = { λ old new. OnlyReads D.is_honest D.state D.moment D.images_since old.disk new.disk };
+    ghost only_reads = { λ old new. OnlyReads D.Disk old.disk new.disk };
 
     fn end(&self) -> u64 {
         self.end
@@ -165,8 +162,8 @@ impl<D: Disk> PageSource for Found<D> {
 
     ghost fits = { λ f h. h.1 };
 
-    ghost reads_nothing = { λ f. nothing_read D.is_honest D.state D.moment D.images_since f.disk
+    ghost reads_nothing = { λ f. nothing_read _ f.disk
         (λ h image since. (D.laws f.disk h).only_now image since) };
 
-    ghost reads_on = { λ a b c first second. reads_then D.is_honest D.state D.moment D.images_since a.disk b.disk c.disk first second };
+    ghost reads_on = { λ a b c first second. reads_then _ a.disk b.disk c.disk first second };
 }

@@ -1,8 +1,8 @@
 //! A file is cut to its committed bytes.
-ghost use Rattle.std.specs.Prelude.{◌≡◌, ◌↔◌, length, take, OnOk};
+ghost use Rattle.std.specs.Prelude.{◌≡◌, ◌↔◌, length, take, OnOk, IsErr};
 ghost use Rattle.disk_model.specs.Image.{IsSettled};
-ghost use Rattle.disk_model.specs.Clock.{LeavesOnly};
-ghost use Rattle.disk_model.specs.Fault.{HasCause};
+ghost use Rattle.disk_model.specs.Leaving.{LeavesOnly};
+ghost use Rattle.disk_model.specs.Frame.{Frame};
 ghost use Rattle.gate_file.specs.Commit.{CommitsTo};
 ghost use Rattle.gate_file.specs.Gate.{IsReadyAt};
 
@@ -15,10 +15,9 @@ pub(crate) fn cut_behind<D: Disk>(disk: &mut D, end: u64) -> Result<(), DiskFaul
         × ((D.state disk.new).contents ≡ take end (D.state disk.old).contents)) }
     ensures front { D.is_honest disk.old
         → take end (D.state disk.new).contents ≡ take end (D.state disk.old).contents }
-    ensures any_moment { D.is_honest disk.old → LeavesOnly D.moment D.images_since disk.old disk.new
+    ensures any_moment { D.is_honest disk.old → LeavesOnly D.Disk disk.old disk.new
         (CommitsTo (take end (D.state disk.old).contents)) }
-    ensures honest { D.is_honest disk.old ↔ D.is_honest disk.new }
-    ensures cause { HasCause (D.failures disk.old) (D.failures disk.new) result }
+    ensures frame { Frame D.Disk disk.old disk.new (IsErr result) }
 {
     disk.cut(end)?;
     disk.sync()

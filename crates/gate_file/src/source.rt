@@ -54,7 +54,7 @@ impl<D: Disk> PageSource for DiskSource<D> {
 
     ghost failures = { λ s. D.failures s.disk };
 
-    ghost only_reads = { λ old new. OnlyReads D.is_honest D.state D.moment D.images_since old.disk new.disk };
+    ghost only_reads = { λ old new. OnlyReads D.Disk old.disk new.disk };
 
     fn end(&self) -> u64 {
         self.size
@@ -69,8 +69,8 @@ impl<D: Disk> PageSource for DiskSource<D> {
 
     ghost fits = { λ s h. h.1 };
 
-    ghost reads_nothing = { λ s. nothing_read D.is_honest D.state D.moment D.images_since s.disk
+    ghost reads_nothing = { λ s. nothing_read _ s.disk
         (λ h image since. (D.laws s.disk h).only_now image since) };
 
-    ghost reads_on = { λ a b c first second. reads_then D.is_honest D.state D.moment D.images_since a.disk b.disk c.disk first second };
+    ghost reads_on = { λ a b c first second. reads_then _ a.disk b.disk c.disk first second };
 }

@@ -1,7 +1,7 @@
 //! Pages are staged: they lie on the disk after a closed byte, and no stop shows them.
-ghost use Rattle.std.specs.Prelude.{◌≡◌, ◌≢◌, ◌↔◌, ◌+◌, ◌-◌, ◌^◌, ◌<◌, ◌≤◌, ◌++◌, [], length, take, OnOk};
-ghost use Rattle.disk_model.specs.Clock.{LeavesOnly};
-ghost use Rattle.disk_model.specs.Fault.{HasCause};
+ghost use Rattle.std.specs.Prelude.{◌≡◌, ◌≢◌, ◌↔◌, ◌+◌, ◌-◌, ◌^◌, ◌<◌, ◌≤◌, ◌++◌, [], length, take, OnOk, IsErr};
+ghost use Rattle.disk_model.specs.Leaving.{LeavesOnly};
+ghost use Rattle.disk_model.specs.Frame.{Frame};
 ghost use Rattle.gate_file.specs.Commit.{CommitsTo, ArePages};
 ghost use Rattle.gate_file.specs.Gate.{IsAppend, IsStaged, IsStagedWhole, HasStaged, LiesBehind, pages_in, staged_in};
 
@@ -24,10 +24,9 @@ pub(crate) fn stage_pages<D: Disk>(
     ensures short { OnOk result (end + staged + length pages.now < 2 ^ 63) }
     ensures front { D.is_honest disk.old
         → take end (D.state disk.new).contents ≡ take end (D.state disk.old).contents }
-    ensures any_moment { D.is_honest disk.old → LeavesOnly D.moment D.images_since disk.old disk.new
+    ensures any_moment { D.is_honest disk.old → LeavesOnly D.Disk disk.old disk.new
         (CommitsTo (take end (D.state disk.old).contents)) }
-    ensures honest { D.is_honest disk.old ↔ D.is_honest disk.new }
-    ensures cause { HasCause (D.failures disk.old) (D.failures disk.new) result }
+    ensures frame { Frame D.Disk disk.old disk.new (IsErr result) }
 {
     write_next(disk, end, staged, pages)
 }
@@ -49,10 +48,9 @@ pub(crate) fn stage_last_pages<D: Disk>(
     ensures short { OnOk result (end + staged + length bytes.now < 2 ^ 63) }
     ensures front { D.is_honest disk.old
         → take end (D.state disk.new).contents ≡ take end (D.state disk.old).contents }
-    ensures any_moment { D.is_honest disk.old → LeavesOnly D.moment D.images_since disk.old disk.new
+    ensures any_moment { D.is_honest disk.old → LeavesOnly D.Disk disk.old disk.new
         (CommitsTo (take end (D.state disk.old).contents)) }
-    ensures honest { D.is_honest disk.old ↔ D.is_honest disk.new }
-    ensures cause { HasCause (D.failures disk.old) (D.failures disk.new) result }
+    ensures frame { Frame D.Disk disk.old disk.new (IsErr result) }
 {
     write_next(disk, end, staged, bytes)
 }
@@ -68,10 +66,9 @@ fn write_next<D: Disk>(disk: &mut D, end: u64, staged: u64, bytes: &[u8]) -> Res
     ensures short { OnOk result (end + staged + length bytes.now < 2 ^ 63) }
     ensures front { D.is_honest disk.old
         → take end (D.state disk.new).contents ≡ take end (D.state disk.old).contents }
-    ensures any_moment { D.is_honest disk.old → LeavesOnly D.moment D.images_since disk.old disk.new
+    ensures any_moment { D.is_honest disk.old → LeavesOnly D.Disk disk.old disk.new
         (CommitsTo (take end (D.state disk.old).contents)) }
-    ensures honest { D.is_honest disk.old ↔ D.is_honest disk.new }
-    ensures cause { HasCause (D.failures disk.old) (D.failures disk.new) result }
+    ensures frame { Frame D.Disk disk.old disk.new (IsErr result) }
 {
     if staged == 0 {
         write_behind(disk, end + 1, end + 1, &bytes[1..])

@@ -1,9 +1,9 @@
 //! A few device calls in a row.
-ghost use Rattle.std.specs.Prelude.{◌≡◌, ◌↔◌, ◌+◌, ◌^◌, ◌<◌, ◌≤◌, length, take, OnOk, OnErr};
+ghost use Rattle.std.specs.Prelude.{◌≡◌, ◌↔◌, ◌+◌, ◌^◌, ◌<◌, ◌≤◌, length, take, OnOk, OnErr, IsErr};
 ghost use Rattle.disk_model.specs.Image.{IsImage, IsSettled, overwritten};
-ghost use Rattle.disk_model.specs.Clock.{LeavesOnly};
+ghost use Rattle.disk_model.specs.Leaving.{LeavesOnly};
 ghost use Rattle.disk_model.specs.Torn.{IsTorn, KeepsFront};
-ghost use Rattle.disk_model.specs.Fault.{HasCause};
+ghost use Rattle.disk_model.specs.Frame.{Frame};
 
 use disk_model::{Disk, DiskFault};
 
@@ -14,10 +14,9 @@ pub(crate) const CAPTURE: u8 = b'O';
 pub(crate) fn settle<D: Disk>(disk: &mut D) -> Result<(), DiskFault>
     ensures ok { OnOk result (D.is_honest disk.old → IsSettled (D.state disk.new)
         × ((D.state disk.new).contents ≡ (D.state disk.old).contents)) }
-    ensures any_moment { D.is_honest disk.old → LeavesOnly D.moment D.images_since disk.old disk.new
+    ensures any_moment { D.is_honest disk.old → LeavesOnly D.Disk disk.old disk.new
         (IsImage (D.state disk.old)) }
-    ensures honest { D.is_honest disk.old ↔ D.is_honest disk.new }
-    ensures cause { HasCause (D.failures disk.old) (D.failures disk.new) result }
+    ensures frame { Frame D.Disk disk.old disk.new (IsErr result) }
 {
     disk.sync()
 }
@@ -30,10 +29,9 @@ pub(crate) fn write_synced<D: Disk>(disk: &mut D, at: u64, bytes: &[u8]) -> Resu
         × ((D.state disk.new).contents ≡ overwritten (D.state disk.old).contents at bytes.now)) }
     // No disk takes more, honest or not.
     ensures short { OnOk result (at + length bytes.now < 2 ^ 63) }
-    ensures any_moment { D.is_honest disk.old → LeavesOnly D.moment D.images_since disk.old disk.new
+    ensures any_moment { D.is_honest disk.old → LeavesOnly D.Disk disk.old disk.new
         (IsTorn at (length bytes.now) (D.state disk.old).contents) }
-    ensures honest { D.is_honest disk.old ↔ D.is_honest disk.new }
-    ensures cause { HasCause (D.failures disk.old) (D.failures disk.new) result }
+    ensures frame { Frame D.Disk disk.old disk.new (IsErr result) }
 {
     disk.write_at(at, bytes)?;
     disk.sync()
@@ -55,10 +53,9 @@ pub(crate) fn write_behind<D: Disk>(
     ensures keeps { D.is_honest disk.old
         → KeepsFront kept (take kept (D.state disk.old).synced) (D.state disk.new) }
     ensures short { OnOk result (at + length bytes.now < 2 ^ 63) }
-    ensures any_moment { D.is_honest disk.old → LeavesOnly D.moment D.images_since disk.old disk.new
+    ensures any_moment { D.is_honest disk.old → LeavesOnly D.Disk disk.old disk.new
         (λ image. take kept image ≡ take kept (D.state disk.old).synced) }
-    ensures honest { D.is_honest disk.old ↔ D.is_honest disk.new }
-    ensures cause { HasCause (D.failures disk.old) (D.failures disk.new) result }
+    ensures frame { Frame D.Disk disk.old disk.new (IsErr result) }
 {
     disk.write_at(at, bytes)
 }

@@ -2,8 +2,9 @@
 -- `holds bytes state` what they hold.
 use Rattle.std.specs.Prelude.{◌≡◌, ◌⊎◌, ℕ, List, ◌++◌}
 use Rattle.std.proofs.Common.{inl, inr, ⊎_elim, subst}
+use Rattle.disk_model.specs.declared.disk.Disk.{Ghosts as DiskModel}
 use Rattle.disk_model.specs.Image.{DiskState, IsImage}
-use Rattle.disk_model.specs.Clock.{LeavesOnly, weakened, and_then}
+use Rattle.disk_model.specs.Leaving.{LeavesOnly, weakened, and_then}
 use Rattle.history.specs.Showing.{ShowsOne, ShowsOnly, ShowsEither, IsAsBefore, Finds}
 
 -- an image commits to one list of bytes at most
@@ -54,23 +55,23 @@ module _ {S : Type 0} (commits_to : List ℕ → List ℕ → Type 0) (holds : L
     shown = record { bytes = b; commits = was; held = held };
   }
 
-  module _ {D : Type 0} (moment : D → ℕ) (images_since : D → ℕ → List ℕ → Type 0) (old new : D) where
+  module _ {D : Type 0} (model : DiskModel D) (old new : D) where
     -- a staging, a sealing, or a making ready
-    pub lift_same : (b : List ℕ) (s : S) → holds b s → LeavesOnly moment images_since old new (λ image. commits_to image b) → LeavesOnly moment images_since old new (λ image. Recovers commits_to holds image s)
-    lift_same b s held leaves = weakened moment images_since old new _ _ leaves (λ image commits. record { bytes = b; commits = commits; held = held })
+    pub lift_same : (b : List ℕ) (s : S) → holds b s → LeavesOnly model old new (λ image. commits_to image b) → LeavesOnly model old new (λ image. Recovers commits_to holds image s)
+    lift_same b s held leaves = weakened model old new _ _ leaves (λ image commits. record { bytes = b; commits = commits; held = held })
 
     -- a commit of a group's pages
-    pub lift_group : (b pages : List ℕ) (s t : S) → holds b s → holds (b ++ pages) t → LeavesOnly moment images_since old new (CommitsEither commits_to b pages)
-        → LeavesOnly moment images_since old new (ShowsEither (Recovers commits_to holds) s t)
-    lift_group b pages s t before after leaves = weakened moment images_since old new _ _ leaves
+    pub lift_group : (b pages : List ℕ) (s t : S) → holds b s → holds (b ++ pages) t → LeavesOnly model old new (CommitsEither commits_to b pages)
+        → LeavesOnly model old new (ShowsEither (Recovers commits_to holds) s t)
+    lift_group b pages s t before after leaves = weakened model old new _ _ leaves
         (λ image is. ⊎_elim (λ commits. inl (record { bytes = b; commits = commits; held = before })) (λ commits. inr (record { bytes = b ++ pages; commits = commits; held = after })) is)
 
     -- a reading, or an opening up to its sync
-    pub lift_read : (before : DiskState) → LeavesOnly moment images_since old new (IsImage before) → LeavesOnly moment images_since old new (IsAsBefore (Recovers commits_to holds) before)
-    lift_read before leaves = weakened moment images_since old new _ _ leaves (as_before before)
+    pub lift_read : (before : DiskState) → LeavesOnly model old new (IsImage before) → LeavesOnly model old new (IsAsBefore (Recovers commits_to holds) before)
+    lift_read before leaves = weakened model old new _ _ leaves (as_before before)
 
     -- an opening: up to its sync, and then a making ready
     pub lift_opened : CommitsOne commits_to → (mid : D) (before : DiskState) (b source : List ℕ) → IsImage before source → commits_to source b
-        → LeavesOnly moment images_since old mid (IsImage before) → LeavesOnly moment images_since mid new (λ image. commits_to image b) → LeavesOnly moment images_since old new (IsAsBefore (Recovers commits_to holds) before)
+        → LeavesOnly model old mid (IsImage before) → LeavesOnly model mid new (λ image. commits_to image b) → LeavesOnly model old new (IsAsBefore (Recovers commits_to holds) before)
     lift_opened commits_one mid before b source is was found ready =
-        and_then moment images_since old mid new _ _ _ found ready (as_before before) (λ image commits. as_committed commits_one before b source image is was commits)
+        and_then model old mid new _ _ _ found ready (as_before before) (λ image commits. as_committed commits_one before b source image is was commits)

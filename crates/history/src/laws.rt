@@ -2,7 +2,7 @@
 ghost use Rattle.std.specs.Prelude.{◌≡◌, ◌⊎◌, ◌<◌, ◌≤◌, ◌++◌, true, Bool, ℕ, List, length};
 ghost use Rattle.std.specs.List.{fold, AllByRecursion};
 ghost use Rattle.disk_model.specs.Image.{IsImage};
-ghost use Rattle.disk_model.specs.Clock.{LeavesOnly};
+ghost use Rattle.disk_model.specs.Leaving.{LeavesOnly};
 ghost use Rattle.history.specs.Showing.{ShowsOnly, Finds};
 ghost use Rattle.history.specs.World.{World, Call, Opening, Step, Opened, Session, start, happens, run, begun, disk_after, now_in, commands, sessions_of, GroupsUpTo};
 ghost use Rattle.history.specs.Commands.{ShowsFirst};
@@ -19,7 +19,7 @@ pub fn stops_keep_what_was_acknowledged<D: Disk, B: Recordings>()
     // Between two calls.
     ensures at_end { (first : B.State) (disk now : D) (w : World B.Command)
         (steps : List (Step B.Command × D))
-        → IsHistory D.is_honest D.state D.moment D.images_since B.shows B.accepts B.next
+        → IsHistory D.Disk B.shows B.accepts B.next
         first disk steps w now
         → (image : List ℕ) → IsImage (D.state now) image
         → ShowsFirst B.shows B.accepts B.next first steps w image }
@@ -27,24 +27,24 @@ pub fn stops_keep_what_was_acknowledged<D: Disk, B: Recordings>()
     // At each moment of one more call.
     ensures any_moment { (first : B.State) (disk now : D) (w : World B.Command)
         (steps : List (Step B.Command × D))
-        → IsHistory D.is_honest D.state D.moment D.images_since B.shows B.accepts B.next
+        → IsHistory D.Disk B.shows B.accepts B.next
         first disk steps w now
         → (call : Call B.Command) (new : D) → MayBegin B.accepts B.next first w call
-        → Leaves D.state D.moment D.images_since B.shows B.next first w call now new
+        → Leaves D.Disk B.shows B.next first w call now new
         → (image : List ℕ) → D.images_since new (D.moment now) image
         → ShowsFirst B.shows B.accepts B.next first steps (begun w call) image }
 
     // While the recording is open, every image shows only what is acknowledged: nothing that waits.
     ensures while_open { (first : B.State) (disk now : D) (w : World B.Command)
         (steps : List (Step B.Command × D))
-        → IsHistory D.is_honest D.state D.moment D.images_since B.shows B.accepts B.next
+        → IsHistory D.Disk B.shows B.accepts B.next
         first disk steps w now
         → w.is_open ≡ true → ShowsOnly B.shows (D.state now) (now_in B.next first w) }
 
     // What an opening finds is the acknowledged commands, without the group in doubt or with it.
     ensures opening { (first : B.State) (disk now : D) (w : World B.Command)
         (steps : List (Step B.Command × D))
-        → IsHistory D.is_honest D.state D.moment D.images_since B.shows B.accepts B.next
+        → IsHistory D.Disk B.shows B.accepts B.next
         first disk steps w now
         → (new : D) (found : B.State) → Finds B.shows (D.state now) (D.state new) found
         → (found ≡ now_in B.next first w) ⊎ (found ≡ fold B.next first (commands w)) }
@@ -55,21 +55,21 @@ pub fn stops_keep_what_was_acknowledged<D: Disk, B: Recordings>()
 pub fn disks_stand_in_their_world<D: Disk, B: Recordings>()
     ensures any_moment { (first : B.State) (w : World B.Command) (call : Call B.Command) (old new : D)
         → StandsIn B.shows B.next first w (D.state old)
-        → Leaves D.state D.moment D.images_since B.shows B.next first w call old new
+        → Leaves D.Disk B.shows B.next first w call old new
         → (image : List ℕ) → D.images_since new (D.moment old) image
         → ShowsWorld B.shows B.next first (begun w call) image }
     ensures step { (first : B.State) (w : World B.Command) (step : Step B.Command) (old new : D)
         → StandsIn B.shows B.next first w (D.state old)
-        → IsStep D.is_honest D.state D.moment D.images_since B.shows B.accepts B.next
+        → IsStep D.Disk B.shows B.accepts B.next
         first w step old new
         → StandsIn B.shows B.next first (happens w step) (D.state new) }
     // What an opening finds makes it a step.
     ensures opened { (first : B.State) (w : World B.Command) (old new : D) (found : B.State)
         → StandsIn B.shows B.next first w (D.state old)
-        → Leaves D.state D.moment D.images_since B.shows B.next first w Opening old new
+        → Leaves D.Disk B.shows B.next first w Opening old new
         → Finds B.shows (D.state old) (D.state new) found
         → (with_group : Bool) × (found ≡ now_in B.next first (happens w (Opened with_group)))
-        × Meets D.is_honest D.state D.moment D.images_since B.shows B.next
+        × Meets D.Disk B.shows B.next
         first w (Opened with_group) old new }
 {}
 
@@ -91,11 +91,11 @@ pub fn groups_in_doubt_are_short<D: Disk, B: Recordings>()
 pub fn histories_go_on<D: Disk, B: Recordings>()
     ensures steps { (first : B.State) (w : World B.Command) (disk : D)
         (some more : List (Step B.Command × D))
-        → AreSteps D.is_honest D.state D.moment D.images_since B.shows B.accepts B.next
+        → AreSteps D.Disk B.shows B.accepts B.next
         first w disk some
-        → AreSteps D.is_honest D.state D.moment D.images_since B.shows B.accepts B.next
+        → AreSteps D.Disk B.shows B.accepts B.next
         first (run w some) (disk_after disk some) more
-        → AreSteps D.is_honest D.state D.moment D.images_since B.shows B.accepts B.next
+        → AreSteps D.Disk B.shows B.accepts B.next
         first w disk (some ++ more) }
     ensures run { (w : World B.Command) (some more : List (Step B.Command × D))
         → run w (some ++ more) ≡ run (run w some) more }
@@ -107,9 +107,9 @@ pub fn histories_go_on<D: Disk, B: Recordings>()
 pub fn runs_show_first_commands<D: Disk, B: Recordings>()
     ensures { (first : B.State) (w : World B.Command) (disk : D) (steps : List (Step B.Command × D))
         → D.is_honest disk → ShowsOnly B.shows (D.state disk) (now_in B.next first w)
-        → AreSteps D.is_honest D.state D.moment D.images_since B.shows B.accepts B.next
+        → AreSteps D.Disk B.shows B.accepts B.next
         first w disk steps
         → AreCommands steps
-        → LeavesOnly D.moment D.images_since disk (disk_after disk steps)
+        → LeavesOnly D.Disk disk (disk_after disk steps)
         (ShowsSome B.shows B.next first (w.acknowledged ++ w.held ++ accepted steps)) }
 {}

@@ -2,7 +2,7 @@
 ghost use Rattle.std.specs.Prelude.{◌++◌, ℕ, List, take};
 ghost use Rattle.std.specs.List.{fold};
 ghost use Rattle.disk_model.specs.Image.{DiskState, IsImage};
-ghost use Rattle.disk_model.specs.Clock.{LeavesOnly};
+ghost use Rattle.disk_model.specs.Leaving.{LeavesOnly};
 ghost use Rattle.history.specs.Showing.{ShowsOne, ShowsEither, IsAsBefore, Finds};
 ghost use Rattle.history.specs.World.{World, Step, commands};
 ghost use Rattle.history.specs.Commands.{AreAccepted, ShowsFirst};
@@ -31,25 +31,25 @@ pub fn images_show_what_their_bytes_hold<D: Disk, B: Committed>()
     ensures one { ShowsOne (Recovers B.commits_to B.holds) }
     // A staging, a sealing, or a making ready.
     ensures same { (old new : D) (bytes : List ℕ) (state : B.State) → B.holds bytes state
-        → LeavesOnly D.moment D.images_since old new (λ image. B.commits_to image bytes)
-        → LeavesOnly D.moment D.images_since old new
+        → LeavesOnly D.Disk old new (λ image. B.commits_to image bytes)
+        → LeavesOnly D.Disk old new
         (λ image. Recovers B.commits_to B.holds image state) }
     // A commit of a group's pages.
     ensures group { (old new : D) (bytes pages : List ℕ) (now then : B.State)
         → B.holds bytes now → B.holds (bytes ++ pages) then
-        → LeavesOnly D.moment D.images_since old new (CommitsEither B.commits_to bytes pages)
-        → LeavesOnly D.moment D.images_since old new
+        → LeavesOnly D.Disk old new (CommitsEither B.commits_to bytes pages)
+        → LeavesOnly D.Disk old new
         (ShowsEither (Recovers B.commits_to B.holds) now then) }
     // A reading, or an opening up to its sync.
-    ensures read { (old new : D) → LeavesOnly D.moment D.images_since old new (IsImage (D.state old))
-        → LeavesOnly D.moment D.images_since old new
+    ensures read { (old new : D) → LeavesOnly D.Disk old new (IsImage (D.state old))
+        → LeavesOnly D.Disk old new
         (IsAsBefore (Recovers B.commits_to B.holds) (D.state old)) }
     // An opening: up to its sync, and then a making ready.
     ensures opened { (old mid new : D) (bytes source : List ℕ)
         → IsImage (D.state old) source → B.commits_to source bytes
-        → LeavesOnly D.moment D.images_since old mid (IsImage (D.state old))
-        → LeavesOnly D.moment D.images_since mid new (λ image. B.commits_to image bytes)
-        → LeavesOnly D.moment D.images_since old new
+        → LeavesOnly D.Disk old mid (IsImage (D.state old))
+        → LeavesOnly D.Disk mid new (λ image. B.commits_to image bytes)
+        → LeavesOnly D.Disk old new
         (IsAsBefore (Recovers B.commits_to B.holds) (D.state old)) }
     // What it finds.
     ensures finds { (before now : DiskState) (bytes source : List ℕ) (state : B.State)

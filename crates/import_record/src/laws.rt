@@ -51,10 +51,10 @@ pub fn recordings_are_runs_of_mended_commands<T: Runner>()
 /// shows a prefix of these commands, with all that were acknowledged. The file grows by exactly those that are kept.
 pub fn recordings_are_steps_of_their_file<D: Disk>()
     ensures steps { (events : List Event) (old new : IntakeState) (done : Done) (before after : Progress D)
-        → Records (Answers D.is_honest D.state D.moment D.images_since D.failures) events old new done before after
-        → HasSteps D.is_honest D.state D.moment D.images_since before after done.records done.replies }
+        → Records (Answers D.Disk) events old new done before after
+        → HasSteps D.Disk before after done.records done.replies }
     ensures bytes { (events : List Event) (old new : IntakeState) (done : Done) (before after : Progress D)
-        → Records (Answers D.is_honest D.state D.moment D.images_since D.failures) events old new done before after
+        → Records (Answers D.Disk) events old new done before after
         → D.is_honest before.now.file.disk → (links : Links) (waiting : List CommandOf) → HasWaiting D.state links waiting before.now
         → committed D.state after.now ≡ committed D.state before.now ++ bytes_of_commands links (kept_after waiting done.records done.replies) }
 {

@@ -2,6 +2,7 @@
 use Rattle.std.proofs.Common.{◌≡◌, ◌≢◌, ◌⊎◌, ◌↔◌, ⊎_elim, ℕ, zero, suc, ◌+◌, ◌-◌, ◌^◌, ◌<◌, ◌≤◌, Bool, true, false, List, [], ◌∷◌, ◌++◌, refl, sym, ap, ◌∙◌, subst, arith, append_assoc, Result, Ok, Err}
 use Rattle.std.proofs.lemmas.List.{append-nil, append_cancel_left}
 use Rattle.std.specs.Prelude.{IsOk, IfOk, IfErr, OnOk}
+use Rattle.disk_model.specs.declared.disk.Disk.{Ghosts as DiskModel}
 use Rattle.disk_model.specs.Image.{DiskState}
 use Rattle.feed_records.specs.declared.item.Record.{Record}
 use Rattle.feed_records.specs.declared.item.Record.TheVariants.{Command as CommandOf, Flush}
@@ -16,11 +17,11 @@ use Rattle.ogg_command.specs.declared.command.Command.{Command}
 use Rattle.ogg_command.specs.declared.refusal.Refusal.{Refusal}
 use Rattle.ogg_command.specs.declared.refusal.Refusal.TheVariants.{Failed, Memory, Disk}
 use Rattle.history.specs.World.{World, Step, happens, run}
-use Rattle.history.specs.History.{IsStep, AreSteps}
+use Rattle.history.specs.History.{AreSteps}
 use Rattle.ogg_recorder.specs.declared.commanding.Outcome.{Outcome}
 use Rattle.ogg_recorder.specs.declared.commanding.Outcome.TheVariants.{Held as WasHeld, Kept as WasKept}
 use Rattle.ogg_recorder.specs.Recovery.{Links, Shows, Accepts}
-use Rattle.ogg_recorder.specs.Recorder.{RecorderState, IsIn, recorder_state, committed, staged}
+use Rattle.ogg_recorder.specs.Recorder.{RecorderState, IsIn, recorder_state, committed, staged, IsRecorderStep}
 use Rattle.ogg_recorder.specs.Answer.{Tells, kept_by, call_of, command_step, flush_step}
 use Rattle.ogg_recorder.specs.Running.{Progress, progress, Answers, Replies, Writes, AnsweredBy, FlushedBy, FlushBecomes, Becomes, Fails, reply_of, reply_of_flush, steps_of}
 use Rattle.ogg_recorder.proofs.Lasting.{never}
@@ -122,27 +123,27 @@ only_disk (Ok kept) refusals = tt
 only_disk (Err refusal) refusals = ⊎_elim (λ (is, bad). absurd (never bad)) (λ is. is) refusals
 
 -- the record is answered, and the recorder has come further
-abbrev pub ComesTo : {D : Type 0} (is_honest : D → Type 0) (state : D → DiskState) (moment : D → ℕ) (images_since : D → ℕ → List ℕ → Type 0) (failures : D → ℕ)
+abbrev pub ComesTo : {D : Type 0} (model : DiskModel D)
     → Record → Reply → RecorderState D → Progress D → Type 0
-ComesTo {D} is_honest state moment images_since failures given reply new before =
-    (after : Progress D) × Answers is_honest state moment images_since failures before given reply [] after × (after.now ≡ new)
+ComesTo {D} model given reply new before =
+    (after : Progress D) × Answers model before given reply [] after × (after.now ≡ new)
 
-module _ {D : Type 0} (is_honest : D → Type 0) (state : D → DiskState) (moment : D → ℕ) (images_since : D → ℕ → List ℕ → Type 0) (failures : D → ℕ)
+module _ {D : Type 0} (model : DiskModel D)
     (first : Recording) (w : World Command) (old new : RecorderState D) where
   abbrev pub IsAnswered : Record → Reply → Type 0
-  IsAnswered given reply = ComesTo is_honest state moment images_since failures given reply new (progress first w old)
+  IsAnswered given reply = ComesTo model given reply new (progress first w old)
 
   abbrev pub IsNext : Step Command → Type 0
-  IsNext step = IsStep is_honest state moment images_since Shows Accepts add first w step old.file.disk new.file.disk × IsIn is_honest state first (happens w step) new
+  IsNext step = IsRecorderStep model first w step old.file.disk new.file.disk × IsIn model first (happens w step) new
 
   abbrev Rises : Reply → Type 0
-  Rises reply = reply ≡ RefusedReply Disk → (failures old.file.disk < failures new.file.disk) ⊎ (failures new.file.disk ≡ 2 ^ 64 - 1)
+  Rises reply = reply ≡ RefusedReply Disk → (model.failures old.file.disk < model.failures new.file.disk) ⊎ (model.failures new.file.disk ≡ 2 ^ 64 - 1)
 
   -- a record that is a step
   pub one_step : (given : Record) (reply : Reply) (step : Step Command) → steps_of old.most w given reply new.file.disk ≡ (step, new.file.disk) ∷ []
-      → Replies old given reply new → (is_honest old.file.disk → Writes state old given reply new)
-      → (IsIn is_honest state first w old → is_honest old.file.disk → IsNext step)
-      → is_honest old.file.disk ↔ is_honest new.file.disk → failures old.file.disk ≤ failures new.file.disk → Rises reply → IsAnswered given reply
+      → Replies old given reply new → (model.is_honest old.file.disk → Writes model.state old given reply new)
+      → (IsIn model first w old → model.is_honest old.file.disk → IsNext step)
+      → model.is_honest old.file.disk ↔ model.is_honest new.file.disk → model.failures old.file.disk ≤ model.failures new.file.disk → Rises reply → IsAnswered given reply
   one_step given reply step same replies writes next honest later cause = (
     progress first (happens w step) new,
     record {
@@ -153,7 +154,7 @@ module _ {D : Type 0} (is_honest : D → Type 0) (state : D → DiskState) (mome
       world_is = sym (ap (λ (l : List (Step Command × D)). run w l) same);
       comes_next = λ h is_in.
           let comes = next is_in h in
-          (subst (λ (l : List (Step Command × D)). AreSteps is_honest state moment images_since Shows Accepts add first w old.file.disk l) (sym same) (comes.0, tt), comes.1);
+          (subst (λ (l : List (Step Command × D)). AreSteps model Shows Accepts add first w old.file.disk l) (sym same) (comes.0, tt), comes.1);
       honest = honest;
       later = later;
       cause = cause;
@@ -170,15 +171,15 @@ module _ {D : Type 0} (is_honest : D → Type 0) (state : D → DiskState) (mome
         record {
           replies = subst (λ (failed : Bool). FlushedBy failed old reply new) (sym bad) (is, same);
           none = refl;
-          writes = λ h. subst (λ (r : Reply). Writes state old Flush r new) (sym is) (ap (λ (r : RecorderState D). committed state r) same);
+          writes = λ h. subst (λ (r : Reply). Writes model.state old Flush r new) (sym is) (ap (λ (r : RecorderState D). committed model.state r) same);
           same = refl;
           world_is = sym (ap (λ (l : List (Step Command × D)). run w l) none);
           comes_next = λ h is_in. (
-            subst (λ (l : List (Step Command × D)). AreSteps is_honest state moment images_since Shows Accepts add first w old.file.disk l) (sym none) tt,
-            subst (λ (r : RecorderState D). IsIn is_honest state first w r) (sym same) is_in,
+            subst (λ (l : List (Step Command × D)). AreSteps model Shows Accepts add first w old.file.disk l) (sym none) tt,
+            subst (λ (r : RecorderState D). IsIn model first w r) (sym same) is_in,
           );
-          honest = (λ h. subst is_honest disk h, λ h. subst is_honest (sym disk) h);
-          later = omega (arith, ap failures disk);
+          honest = (λ h. subst model.is_honest disk h, λ h. subst model.is_honest (sym disk) h);
+          later = omega (arith, ap model.failures disk);
           cause = λ e. let never_both : RefusedReply Failed ≡ RefusedReply Disk = sym is ∙ e in absurd (cc never_both);
         },
         refl,
@@ -188,15 +189,15 @@ module _ {D : Type 0} (is_honest : D → Type 0) (state : D → DiskState) (mome
   pub flush_answered : (failed : Bool) (r : Result KeptOf Refusal) → old.file.failed ≡ failed
       → (failed ≡ true → (r ≡ Err Failed) × (new ≡ old))
       → IfErr r (λ refusal. ((refusal ≡ Failed) × (failed ≡ true)) ⊎ (refusal ≡ Disk))
-      → FlushedBy failed old (reply_of_flush r) new → (is_honest old.file.disk → Writes state old Flush (reply_of_flush r) new)
-      → (IsIn is_honest state first w old → w.is_open ≡ true → is_honest old.file.disk → IsNext (flush_step r))
-      → is_honest old.file.disk ↔ is_honest new.file.disk → failures old.file.disk ≤ failures new.file.disk → Rises (reply_of_flush r)
+      → FlushedBy failed old (reply_of_flush r) new → (model.is_honest old.file.disk → Writes model.state old Flush (reply_of_flush r) new)
+      → (IsIn model first w old → w.is_open ≡ true → model.is_honest old.file.disk → IsNext (flush_step r))
+      → model.is_honest old.file.disk ↔ model.is_honest new.file.disk → model.failures old.file.disk ≤ model.failures new.file.disk → Rises (reply_of_flush r)
       → IsAnswered Flush (reply_of_flush r)
   flush_answered true r bad by_failed refusals replies writes next honest later cause = let (is, same) = by_failed refl in no_step (reply_of_flush r) (ap reply_of_flush is) bad same
   flush_answered false r good by_failed refusals replies writes next honest later cause =
       one_step Flush (reply_of_flush r) (flush_step r) (flush_is r old.most w new.file.disk (only_disk r refusals))
       (subst (λ (failed : Bool). FlushedBy failed old (reply_of_flush r) new) (sym good) replies) writes
-      (λ is_in h. next is_in (is_open is_honest state moment images_since first w old is_in good) h) honest later cause
+      (λ is_in h. next is_in (is_open model first w old is_in good) h) honest later cause
 
 -- the disk's fault is reported
 pub command_fault : (r : Result Outcome Refusal) → reply_of r ≡ RefusedReply Disk → r ≡ Err Disk

@@ -1,6 +1,7 @@
 -- The records of a run, whichever way it ended, are answered in turn.
 use Rattle.std.proofs.Common.{◌≡◌, ◌↔◌, inl, inr, ℕ, ◌≤◌, List, [], ◌∷◌, ◌++◌, refl, sym, ap, ◌∙◌, subst, arith, append_assoc, Option, Err, Bool}
 use Rattle.std.proofs.lemmas.List.{append-nil}
+use Rattle.disk_model.specs.declared.disk.Disk.{Ghosts as DiskModel}
 use Rattle.disk_model.specs.Image.{DiskState}
 use Rattle.feed_replies.specs.declared.fault.RunFault.{RunFault}
 use Rattle.feed_replies.specs.declared.fault.RunFault.TheVariants.{Feed, Write, TooMany}
@@ -57,12 +58,12 @@ module _ {S : Type 0} (answers : S → Record → Reply → List ℕ → S → T
         (run.run.bytes, run.run.answers_all) run.stop.answers_it
 
 -- what holds from each recorder to the next, whether its disk is honest or not
-module _ {D : Type 0} (is_honest : D → Type 0) (state : D → DiskState) (moment : D → ℕ) (images_since : D → ℕ → List ℕ → Type 0) (failures : D → ℕ) where
+module _ {D : Type 0} (model : DiskModel D) where
   honest_all : (before after : Progress D) (records : List Record) (replies : List Reply) (bytes : List ℕ)
-      → AnswersAll (Answers is_honest state moment images_since failures) before records replies bytes after
-      → (is_honest before.now.file.disk ↔ is_honest after.now.file.disk) × (failures before.now.file.disk ≤ failures after.now.file.disk)
+      → AnswersAll (Answers model) before records replies bytes after
+      → (model.is_honest before.now.file.disk ↔ model.is_honest after.now.file.disk) × (model.failures before.now.file.disk ≤ model.failures after.now.file.disk)
   honest_all before after [] [] bytes (none, same) =
-      subst (λ (p : Progress D). (is_honest before.now.file.disk ↔ is_honest p.now.file.disk) × (failures before.now.file.disk ≤ failures p.now.file.disk)) (sym same)
+      subst (λ (p : Progress D). (model.is_honest before.now.file.disk ↔ model.is_honest p.now.file.disk) × (model.failures before.now.file.disk ≤ model.failures p.now.file.disk)) (sym same)
       ((λ h. h, λ h. h), omega arith)
   honest_all before after [] (reply ∷ replies) bytes all = absurd all
   honest_all before after (given ∷ records) [] bytes all = absurd all
@@ -71,8 +72,8 @@ module _ {D : Type 0} (is_honest : D → Type 0) (state : D → DiskState) (mome
       ((λ h. others.0 (answer.honest.0 h), λ h. answer.honest.1 (others.1 h)), omega (arith, answer.later, rises))
 
   pub kept_between : (before after : Progress D) (recorder : RecorderState D) (records : List Record) (replies : List Reply) → after.now ≡ recorder
-      → All (Answers is_honest state moment images_since failures) before records replies after
-      → (is_honest before.now.file.disk ↔ is_honest recorder.file.disk) × (failures before.now.file.disk ≤ failures recorder.file.disk)
+      → All (Answers model) before records replies after
+      → (model.is_honest before.now.file.disk ↔ model.is_honest recorder.file.disk) × (model.failures before.now.file.disk ≤ model.failures recorder.file.disk)
   kept_between before after recorder records replies is all =
-      subst (λ (r : RecorderState D). (is_honest before.now.file.disk ↔ is_honest r.file.disk) × (failures before.now.file.disk ≤ failures r.file.disk)) is
+      subst (λ (r : RecorderState D). (model.is_honest before.now.file.disk ↔ model.is_honest r.file.disk) × (model.failures before.now.file.disk ≤ model.failures r.file.disk)) is
       (honest_all before after records replies all.0 all.1)

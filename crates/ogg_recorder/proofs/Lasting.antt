@@ -1,8 +1,10 @@
 -- What a recorder always holds, after a command.
 use Rattle.std.proofs.Common.{◌≡◌, inl, ℕ, ◌+◌, ◌<◌, ◌≤◌, ◌^◌, Bool, true, false, nat_lt, List, ◌++◌, length, take, refl, sym, ◌∙◌, ap, subst, arith, append_assoc, Ok, Err, Result}
 use Rattle.std.proofs.lemmas.Bool.Decides.{nat_tests}
+use Rattle.disk_model.specs.declared.disk.Disk.{Ghosts as DiskModel}
 use Rattle.disk_model.specs.Image.{DiskState}
-use Rattle.disk_model.specs.Clock.{HasImages, LeavesOnly, and_then, started}
+use Rattle.disk_model.specs.Clock.{HasImages}
+use Rattle.disk_model.specs.Leaving.{LeavesOnly, and_then, started}
 use Rattle.gate_file.specs.Commit.{CommitsTo, CommitsToEither}
 use Rattle.gate_file.specs.Gate.{EachImage}
 use Rattle.gate_file.specs.GateFile as G
@@ -33,37 +35,37 @@ pub same_refusal : {T : Type 0} (a b : Refusal) → ◌≡◌ {A = Result T Refu
 same_refusal a b e = cc
 
 -- a staging, and then a commit of what is staged
-pub staged_then : {D : Type 0} (moment : D → ℕ) (images_since : D → ℕ → List ℕ → Type 0) (old mid new : D) (b more c others : List ℕ) → c ≡ b → others ≡ more → LeavesOnly moment images_since old mid (CommitsTo b)
-    → LeavesOnly moment images_since mid new (CommitsToEither c others) → LeavesOnly moment images_since old new (CommitsToEither b more)
-staged_then moment images_since old mid new b more c others same alike first second =
-    and_then moment images_since old mid new (CommitsTo b) (CommitsToEither c others) (CommitsToEither b more) first second (λ image commits. inl commits)
+pub staged_then : {D : Type 0} (model : DiskModel D) (old mid new : D) (b more c others : List ℕ) → c ≡ b → others ≡ more → LeavesOnly model old mid (CommitsTo b)
+    → LeavesOnly model mid new (CommitsToEither c others) → LeavesOnly model old new (CommitsToEither b more)
+staged_then model old mid new b more c others same alike first second =
+    and_then model old mid new (CommitsTo b) (CommitsToEither c others) (CommitsToEither b more) first second (λ image commits. inl commits)
     (λ image either. subst (λ (l : List ℕ). CommitsToEither l more image) same (subst (λ (l : List ℕ). CommitsToEither c l image) alike either))
 
 -- no call was made: each image commits to what is committed
-pub nothing_staged : {D : Type 0} (state : D → DiskState) (moment : D → ℕ) (images_since : D → ℕ → List ℕ → Type 0) (disk : D) (b more : List ℕ) → HasImages (state disk) (moment disk) (images_since disk)
-    → EachImage (state disk) (CommitsTo b) → LeavesOnly moment images_since disk disk (CommitsToEither b more)
-nothing_staged state moment images_since disk b more has each = started moment images_since disk (CommitsToEither b more) (λ image since. inl (each image (has.only_now image since)))
+pub nothing_staged : {D : Type 0} (model : DiskModel D) (disk : D) (b more : List ℕ) → HasImages (model.state disk) (model.moment disk) (model.images_since disk)
+    → EachImage (model.state disk) (CommitsTo b) → LeavesOnly model disk disk (CommitsToEither b more)
+nothing_staged model disk b more has each = started model disk (CommitsToEither b more) (λ image since. inl (each image (has.only_now image since)))
 
 -- the same bytes in front, up to the same place
 pub same_front : (end now : ℕ) (contents b : List ℕ) → now ≡ end → take end contents ≡ b → take now contents ≡ b
 same_front end now contents b same front = ap (λ (n : ℕ). take n contents) same ∙ front
 
-module _ {D : Type 0} (is_honest : D → Type 0) (state : D → DiskState) (old : RecorderState D) (file : GateState D) (chain : ChainState) (command : Command) (size : ℕ) (was : IsRecorder is_honest state old)
+module _ {D : Type 0} (model : DiskModel D) (old : RecorderState D) (file : GateState D) (chain : ChainState) (command : Command) (size : ℕ) (was : IsRecorder model old)
     (good : old.file.failed ≡ false) (packets : AddsPackets) (some : AddsSome) (sized : length (command_bytes old.chain command) ≡ size) (is : IsCommand command) (kept : decision old.chain command ≡ Ok size)
     (room : old.chain.length_of + size < 2 ^ 40) (accept : (links : Links) → old.chain ≡ chain_state_of links → chain ≡ chain_state_of (links_after links command)) (grows : chain.length_of ≡ old.chain.length_of + size)
-    (still : file.failed ≡ false) (before : is_honest file.disk → is_honest old.file.disk) (images : is_honest file.disk → EachImage (state file.disk) (CommitsTo (G.committed state file))) where
+    (still : file.failed ≡ false) (before : model.is_honest file.disk → model.is_honest old.file.disk) (images : model.is_honest file.disk → EachImage (model.state file.disk) (CommitsTo (G.committed model.state file))) where
   size_some : 0 < size
   size_some = omega (arith, sized, command_long some old.chain command size was.chain is kept)
 
   whole_chain : IsWholeChain chain
   whole_chain = (was.chain.0 ++ command_bytes old.chain command, chain_grows packets was.chain.0 old.chain chain command size was.chain.1 is kept accept)
 
-  all_now : is_honest old.file.disk → HoldsChain ((committed state old ++ staged state old) ++ command_bytes old.chain command) chain
-  all_now honest = chain_grows packets (committed state old ++ staged state old) old.chain chain command size (was.all good honest) is kept accept
+  all_now : model.is_honest old.file.disk → HoldsChain ((committed model.state old ++ staged model.state old) ++ command_bytes old.chain command) chain
+  all_now honest = chain_grows packets (committed model.state old ++ staged model.state old) old.chain chain command size (was.all good honest) is kept accept
 
   -- it waits
-  pub is_waiting : old.held + 1 < old.most → file.whole ≡ true → (is_honest old.file.disk → G.committed state file ≡ committed state old)
-      → (is_honest old.file.disk → G.staged_bytes state file ≡ staged state old ++ command_bytes old.chain command) → IsRecorder is_honest state (recorder_state file chain old.tail old.kept (old.held + 1) old.most)
+  pub is_waiting : old.held + 1 < old.most → file.whole ≡ true → (model.is_honest old.file.disk → G.committed model.state file ≡ committed model.state old)
+      → (model.is_honest old.file.disk → G.staged_bytes model.state file ≡ staged model.state old ++ command_bytes old.chain command) → IsRecorder model (recorder_state file chain old.tail old.kept (old.held + 1) old.most)
   is_waiting few whole same more = record {
     few = few;
     count = omega (arith, grows, size_some, was.count);
@@ -73,13 +75,13 @@ module _ {D : Type 0} (is_honest : D → Type 0) (state : D → DiskState) (old 
     empty = λ _ none. absurd (omega (arith, none));
     whole = λ _ _. whole;
     all = λ _ now. subst (λ (l : List ℕ). HoldsChain l chain)
-        (append_assoc (committed state old) (staged state old) (command_bytes old.chain command) ∙ (λ i. sym (same (before now)) i ++ sym (more (before now)) i)) (all_now (before now));
+        (append_assoc (committed model.state old) (staged model.state old) (command_bytes old.chain command) ∙ (λ i. sym (same (before now)) i ++ sym (more (before now)) i)) (all_now (before now));
     images = λ _ now. images now;
   }
 
   -- it is kept
-  pub is_kept : file.staged ≡ 0 → (is_honest old.file.disk → G.committed state file ≡ committed state old ++ (staged state old ++ command_bytes old.chain command))
-      → 0 < old.most → IsRecorder is_honest state (recorder_state file chain old.tail (old.kept + (old.held + 1)) 0 old.most)
+  pub is_kept : file.staged ≡ 0 → (model.is_honest old.file.disk → G.committed model.state file ≡ committed model.state old ++ (staged model.state old ++ command_bytes old.chain command))
+      → 0 < old.most → IsRecorder model (recorder_state file chain old.tail (old.kept + (old.held + 1)) 0 old.most)
   is_kept none grown few = record {
     few = few;
     count = omega (arith, grows, size_some, was.count);
@@ -89,6 +91,6 @@ module _ {D : Type 0} (is_honest : D → Type 0) (state : D → DiskState) (old 
     empty = λ _ _. none;
     whole = λ _ some. absurd (omega (arith, some));
     all = λ _ now. subst (λ (l : List ℕ). HoldsChain l chain)
-        (append_assoc (committed state old) (staged state old) (command_bytes old.chain command) ∙ sym (grown (before now)) ∙ sym (none_staged state file none)) (all_now (before now));
+        (append_assoc (committed model.state old) (staged model.state old) (command_bytes old.chain command) ∙ sym (grown (before now)) ∙ sym (none_staged model.state file none)) (all_now (before now));
     images = λ _ now. images now;
   }

@@ -1,7 +1,9 @@
 -- What an opening leaves, and what it finds.
 use Rattle.std.proofs.Common.{[], ◌≡◌, ℕ, Bool, false, List, ◌++◌, refl, sym, ◌∙◌, ap, subst, arith, append-nil}
+use Rattle.disk_model.specs.declared.disk.Disk.{Ghosts as DiskModel}
 use Rattle.disk_model.specs.Image.{DiskState, IsImage}
-use Rattle.disk_model.specs.Clock.{HasImages, LeavesOnly, and_then, weakened}
+use Rattle.disk_model.specs.Clock.{HasImages}
+use Rattle.disk_model.specs.Leaving.{LeavesOnly, and_then, weakened}
 use Rattle.gate_file.specs.Commit.{CommitsTo}
 use Rattle.gate_file.specs.CommitLaws.{one_commit}
 use Rattle.gate_file.specs.Gate.{EachImage}
@@ -35,22 +37,22 @@ shows_as_before before image is = record {
   keeps = λ recording shown. record { bytes = shown.bytes; commits = is.keeps shown.bytes shown.commits; held = shown.held };
 }
 
-module _ {D : Type 0} (moment : D → ℕ) (images_since : D → ℕ → List ℕ → Type 0) (old new : D) where
-  pub shows_earlier : (before : DiskState) → LeavesOnly moment images_since old new (IsAsBefore Commits before) → LeavesOnly moment images_since old new (IsAsBefore Shows before)
-  shows_earlier before leaves = weakened moment images_since old new _ _ leaves (shows_as_before before)
+module _ {D : Type 0} (model : DiskModel D) (old new : D) where
+  pub shows_earlier : (before : DiskState) → LeavesOnly model old new (IsAsBefore Commits before) → LeavesOnly model old new (IsAsBefore Shows before)
+  shows_earlier before leaves = weakened model old new _ _ leaves (shows_as_before before)
 
-  pub images_earlier : (before : DiskState) → LeavesOnly moment images_since old new (IsImage before) → LeavesOnly moment images_since old new (IsAsBefore Commits before)
-  images_earlier before leaves = weakened moment images_since old new _ _ leaves (as_before before)
+  pub images_earlier : (before : DiskState) → LeavesOnly model old new (IsImage before) → LeavesOnly model old new (IsAsBefore Commits before)
+  images_earlier before leaves = weakened model old new _ _ leaves (as_before before)
 
   -- up to its sync, and then a making ready
-  pub opened_earlier : (mid : D) (before : DiskState) (b source : List ℕ) → IsImage before source → CommitsTo b source → LeavesOnly moment images_since old mid (IsImage before)
-      → LeavesOnly moment images_since mid new (CommitsTo b) → LeavesOnly moment images_since old new (IsAsBefore Commits before)
+  pub opened_earlier : (mid : D) (before : DiskState) (b source : List ℕ) → IsImage before source → CommitsTo b source → LeavesOnly model old mid (IsImage before)
+      → LeavesOnly model mid new (CommitsTo b) → LeavesOnly model old new (IsAsBefore Commits before)
   opened_earlier mid before b source is was found ready =
-      and_then moment images_since old mid new _ _ _ found ready (as_before before) (λ image commits. commits_as_before before b source image is was commits)
+      and_then model old mid new _ _ _ found ready (as_before before) (λ image commits. commits_as_before before b source image is was commits)
 
   -- what each image since a moment has, each image has now
-  pub images_have : (state : D → DiskState) (P : List ℕ → Type 0) → HasImages (state new) (moment new) (images_since new) → LeavesOnly moment images_since old new P → EachImage (state new) P
-  images_have state P has leaves = λ image is. leaves.each image (has.counts_now (moment old) image leaves.later is)
+  pub images_have : (state : D → DiskState) (P : List ℕ → Type 0) → HasImages (state new) (model.moment new) (model.images_since new) → LeavesOnly model old new P → EachImage (state new) P
+  images_have state P has leaves = λ image is. leaves.each image (has.counts_now (model.moment old) image leaves.later is)
 
 -- ---- a recorder with no command that waits
 pub nothing_in : {D : Type 0} (state : D → DiskState) (file : GateState D) → file.staged ≡ 0 → G.staged_bytes state file ≡ []
@@ -59,9 +61,9 @@ nothing_in state file none = ap (λ (n : ℕ). G.staged_bytes state (record file
 pub none_staged : {D : Type 0} (state : D → DiskState) (file : GateState D) → file.staged ≡ 0 → G.committed state file ++ G.staged_bytes state file ≡ G.committed state file
 none_staged state file none = ap (λ (n : ℕ). G.committed state file ++ G.staged_bytes state (record file { staged = n })) none ∙ append-nil (G.committed state file)
 
-module _ {D : Type 0} (is_honest : D → Type 0) (state : D → DiskState) (file : GateState D) (chain : ChainState) (tail : ℕ) where
-  pub is_opened : file.failed ≡ false → file.staged ≡ 0 → IsWholeChain chain → (is_honest file.disk → HoldsChain (G.committed state file) chain)
-      → (is_honest file.disk → EachImage (state file.disk) (CommitsTo (G.committed state file))) → IsRecorder is_honest state (recorder_state file chain tail 0 0 1)
+module _ {D : Type 0} (model : DiskModel D) (file : GateState D) (chain : ChainState) (tail : ℕ) where
+  pub is_opened : file.failed ≡ false → file.staged ≡ 0 → IsWholeChain chain → (model.is_honest file.disk → HoldsChain (G.committed model.state file) chain)
+      → (model.is_honest file.disk → EachImage (model.state file.disk) (CommitsTo (G.committed model.state file))) → IsRecorder model (recorder_state file chain tail 0 0 1)
   is_opened good none whole all images = record {
     few = omega arith;
     count = omega arith;
@@ -70,19 +72,19 @@ module _ {D : Type 0} (is_honest : D → Type 0) (state : D → DiskState) (file
     none = λ failed. refl;
     empty = λ still nothing. none;
     whole = λ still some. absurd (omega (arith, some));
-    all = λ still honest. subst (λ (l : List ℕ). HoldsChain l chain) (sym (none_staged state file none)) (all honest);
+    all = λ still honest. subst (λ (l : List ℕ). HoldsChain l chain) (sym (none_staged model.state file none)) (all honest);
     images = λ still honest. images honest;
   }
 
-  pub is_in_opened : (first : Recording) (w : World Command) (found : Bool) (recording : Recording) → file.failed ≡ false → file.staged ≡ 0 → (is_honest file.disk → Holds (G.committed state file) recording)
-      → recording ≡ now_in add first (happens w (Opened found)) → IsIn is_honest state first (happens w (Opened found)) (recorder_state file chain tail 0 0 1)
+  pub is_in_opened : (first : Recording) (w : World Command) (found : Bool) (recording : Recording) → file.failed ≡ false → file.staged ≡ 0 → (model.is_honest file.disk → Holds (G.committed model.state file) recording)
+      → recording ≡ now_in add first (happens w (Opened found)) → IsIn model first (happens w (Opened found)) (recorder_state file chain tail 0 0 1)
   is_in_opened first w found recording good none holds is = record {
     failed = good;
     none = λ opened. refl;
     count = λ opened. refl;
-    kept = λ honest. subst (λ (r : Recording). Holds (G.committed state file) r) is (holds honest);
-    all = λ opened honest. subst (λ (l : List ℕ). Holds l (now_in add first (happens w (Opened found)))) (sym (none_staged state file none))
-        (subst (λ (r : Recording). Holds (G.committed state file) r) is (holds honest));
+    kept = λ honest. subst (λ (r : Recording). Holds (G.committed model.state file) r) is (holds honest);
+    all = λ opened honest. subst (λ (l : List ℕ). Holds l (now_in add first (happens w (Opened found)))) (sym (none_staged model.state file none))
+        (subst (λ (r : Recording). Holds (G.committed model.state file) r) is (holds honest));
   }
 
 -- what is found: each image now commits to it, and an image before did

@@ -1,6 +1,7 @@
 -- Records answered in turn are steps of the history.
 use Rattle.std.proofs.Common.{◌≡◌, ℕ, ◌+◌, ◌≤◌, Bool, true, false, nat_lt, if◌then◌else◌, List, [], ◌∷◌, ◌++◌, length, refl, sym, ap, ◌∙◌, subst, arith, append_assoc, Result, Ok, Err}
 use Rattle.std.proofs.lemmas.List.{append-nil}
+use Rattle.disk_model.specs.declared.disk.Disk.{Ghosts as DiskModel}
 use Rattle.disk_model.specs.Image.{DiskState}
 use Rattle.feed_records.specs.declared.item.Record.{Record}
 use Rattle.feed_records.specs.declared.item.Record.TheVariants.{Command as CommandOf, Flush}
@@ -162,9 +163,9 @@ none_by : (waiting : List Command) (given : Record) → kept_by waiting given (R
 none_by waiting (CommandOf command) = refl
 none_by waiting Flush = refl
 
-module _ {D : Type 0} (is_honest : D → Type 0) (state : D → DiskState) (moment : D → ℕ) (images_since : D → ℕ → List ℕ → Type 0) (failures : D → ℕ) (table : OfTable) where
+module _ {D : Type 0} (model : DiskModel D) (table : OfTable) where
   abbrev pub AreAnswered : Progress D → List Record → List Reply → List ℕ → Progress D → Type 0
-  AreAnswered before records replies bytes after = AnswersAll (Answers is_honest state moment images_since failures) before records replies bytes after
+  AreAnswered before records replies bytes after = AnswersAll (Answers model) before records replies bytes after
 
   pub none_kept : (waiting : List Command) (before : Progress D) (records : List Record) (replies : List Reply) (bytes : List ℕ) (after : Progress D)
       → before.now.file.failed ≡ true → AreAnswered before records replies bytes after → kept_after waiting records replies ≡ []
@@ -187,7 +188,7 @@ module _ {D : Type 0} (is_honest : D → Type 0) (state : D → DiskState) (mome
       none_kept next.world.held next records replies later after still rest ∙ sym (none_kept (waiting_after before.world.held given reply) next records replies later after still rest)
 
   pub are_steps : (before after : Progress D) (records : List Record) (replies : List Reply) (bytes : List ℕ) → AreAnswered before records replies bytes after
-      → HasSteps is_honest state moment images_since before after records replies
+      → HasSteps model before after records replies
   are_steps before after [] [] bytes (none, same) = record {
     steps = [];
     are_commands = tt;
@@ -197,7 +198,7 @@ module _ {D : Type 0} (is_honest : D → Type 0) (state : D → DiskState) (mome
     accepts = refl;
     keeps = refl;
     are = λ stands. tt;
-    stands = λ stands. subst (λ (p : Progress D). Stands is_honest state moment images_since p) (sym same) stands;
+    stands = λ stands. subst (λ (p : Progress D). Stands model p) (sym same) stands;
   }
   are_steps before after [] (reply ∷ replies) bytes all = absurd all
   are_steps before after (given ∷ records) [] bytes all = absurd all
@@ -207,7 +208,7 @@ module _ {D : Type 0} (is_honest : D → Type 0) (state : D → DiskState) (mome
       let it = one table w before.now next.now given reply answer.replies in
       let mine : List (Step Command × D) = steps_of before.now.most w given reply next.now.file.disk in
       let others = are_steps next after records replies later rest in
-      let Are : Recording → World Command → D → Type 0 = λ first world from. AreSteps is_honest state moment images_since Shows Accepts add first world from others.steps in
+      let Are : Recording → World Command → D → Type 0 = λ first world from. AreSteps model Shows Accepts add first world from others.steps in
       record {
         steps = mine ++ others.steps;
         are_commands = commands-append mine others.steps it.commands others.are_commands;
@@ -223,7 +224,7 @@ module _ {D : Type 0} (is_honest : D → Type 0) (state : D → DiskState) (mome
             acknowledged-append w mine others.steps ∙ (λ i. it.keeps i ++ more i);
         are = λ (h, is_in).
             let comes = answer.comes_next h is_in in
-            steps-append is_honest state moment images_since Shows Accepts add before.first w disk mine others.steps comes.0
+            steps-append model Shows Accepts add before.first w disk mine others.steps comes.0
             (subst (λ first. Are first (run w mine) (disk_after disk mine)) answer.same
             (subst (λ world. Are next.first world (disk_after disk mine)) answer.world_is
             (subst (λ from. Are next.first next.world from) (sym it.ends) (others.are (answer.honest.0 h, comes.1)))));

@@ -1,8 +1,9 @@
 -- What a run over a feed has recorded, at each moment and at its end. Ours.
 use Rattle.std.specs.Prelude.{◌≡◌, ℕ, false, Option, List, [], ◌∷◌, ◌++◌, Bool}
 use Rattle.std.proofs.Common.{inl, inr}
+use Rattle.disk_model.specs.declared.disk.Disk.{Ghosts as DiskModel}
 use Rattle.disk_model.specs.Image.{DiskState}
-use Rattle.disk_model.specs.Clock.{LeavesOnly}
+use Rattle.disk_model.specs.Leaving.{LeavesOnly}
 use Rattle.feed_records.specs.declared.item.Record.{Record}
 use Rattle.feed_records.specs.declared.item.Record.TheVariants.{Command as CommandOf}
 use Rattle.feed_replies.specs.declared.fault.RunFault.{RunFault}
@@ -79,10 +80,10 @@ accepted_of [] replies = []
 accepted_of (given ∷ records) [] = []
 accepted_of (given ∷ records) (reply ∷ replies) = accepted_by given reply ++ accepted_of records replies
 
-module _ {D : Type 0} (is_honest : D → Type 0) (state : D → DiskState) (moment : D → ℕ) (images_since : D → ℕ → List ℕ → Type 0) where
+module _ {D : Type 0} (model : DiskModel D) where
   -- The disk is honest, and the recorder stands there in the history of its file.
   abbrev pub Stands : Progress D → Type 0
-  Stands before = is_honest before.now.file.disk × IsIn is_honest state before.first before.world before.now
+  Stands before = model.is_honest before.now.file.disk × IsIn model before.first before.world before.now
 
   -- Records that were answered in turn are steps of the history: commands and flushes, which lead from the one world
   -- and disk to the other. The replies say which commands these steps accept, and which ones they acknowledge.
@@ -95,21 +96,21 @@ module _ {D : Type 0} (is_honest : D → Type 0) (state : D → DiskState) (mome
     pub accepts : accepted steps ≡ accepted_of records replies
     pub keeps : acknowledged before.world steps ≡ kept_after before.world.held records replies
     pub are : Stands before
-        → AreSteps is_honest state moment images_since Shows Accepts add before.first before.world before.now.file.disk steps
+        → AreSteps model Shows Accepts add before.first before.world before.now.file.disk steps
     pub stands : Stands before → Stands after
 
   -- What a run has recorded.
   pub record HasRecorded (before after : Progress D) (all : Answered) : Type 0 where
     -- the committed bytes grow by exactly those of the kept commands
-    pub grows : is_honest before.now.file.disk → (links : Links) (waiting : List Command) → HasWaiting state links waiting before.now
-        → committed state after.now ≡ committed state before.now ++ bytes_of_commands links (kept_after waiting all.records all.replies)
+    pub grows : model.is_honest before.now.file.disk → (links : Links) (waiting : List Command) → HasWaiting model.state links waiting before.now
+        → committed model.state after.now ≡ committed model.state before.now ++ bytes_of_commands links (kept_after waiting all.records all.replies)
     pub same : after.first ≡ before.first
     -- the kept commands are acknowledged, after those that were
     pub keeps : after.world.acknowledged ≡ before.world.acknowledged ++ kept_after before.world.held all.records all.replies
     pub stands : Stands before → Stands after
     -- at each moment each image shows a prefix of the accepted commands
     pub any_moment : Stands before → before.now.file.failed ≡ false
-        → LeavesOnly moment images_since before.now.file.disk after.now.file.disk
+        → LeavesOnly model before.now.file.disk after.now.file.disk
         (ShowsSome Shows add before.first (before.world.acknowledged ++ before.world.held ++ accepted_of all.records all.replies))
     -- at the end each image shows every acknowledged command, without the group in doubt or with it
-    pub at_end : Stands before → before.now.file.failed ≡ false → StandsIn Shows add after.first after.world (state after.now.file.disk)
+    pub at_end : Stands before → before.now.file.failed ≡ false → StandsIn Shows add after.first after.world (model.state after.now.file.disk)

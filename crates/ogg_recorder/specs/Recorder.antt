@@ -1,6 +1,7 @@
 -- What a `Recorder` shows, and where it stands in the history of its file. Ours.
 use Rattle.std.specs.Prelude.{◌≡◌, ℕ, ◌+◌, ◌<◌, ◌≤◌, ◌^◌, true, false, not, List, [], ◌++◌, length}
 use Rattle.std.specs.List.{fold}
+use Rattle.disk_model.specs.declared.disk.Disk.{Ghosts as DiskModel}
 use Rattle.disk_model.specs.Image.{DiskState}
 use Rattle.gate_file.specs.Commit.{CommitsTo}
 use Rattle.gate_file.specs.Gate.{EachImage}
@@ -10,7 +11,9 @@ use Rattle.link_chain.specs.ChainState.{ChainState}
 use Rattle.link_chain.specs.Recording.{Recording, Holds}
 use Rattle.chain_rules.specs.Recording.{add}
 use Rattle.ogg_command.specs.declared.command.Command.{Command}
-use Rattle.history.specs.World.{World, now_in}
+use Rattle.history.specs.World.{World, Step, now_in}
+use Rattle.history.specs.History.{IsStep}
+use Rattle.ogg_recorder.specs.Recovery.{Shows, Accepts}
 use Rattle.ogg_recorder.specs.Taking.{HoldsChain, IsWholeChain}
 
 -- Its file, and the chain of all links, with those of the commands that wait. Then how many bytes followed the
@@ -42,7 +45,7 @@ abbrev pub staged : {D : Type 0} → (D → DiskState) → RecorderState D → L
 staged state recorder = G.staged_bytes state recorder.file
 
 -- What always holds.
-pub record IsRecorder {D : Type 0} (is_honest : D → Type 0) (state : D → DiskState) (recorder : RecorderState D) : Type 0 where
+pub record IsRecorder {D : Type 0} (model : DiskModel D) (recorder : RecorderState D) : Type 0 where
   pub few : recorder.held < recorder.most
   -- each command has at least one byte
   pub count : recorder.kept + recorder.held ≤ recorder.chain.length_of
@@ -52,16 +55,20 @@ pub record IsRecorder {D : Type 0} (is_honest : D → Type 0) (state : D → Dis
   pub none : recorder.file.failed ≡ true → recorder.held ≡ 0
   pub empty : recorder.file.failed ≡ false → recorder.held ≡ 0 → recorder.file.staged ≡ 0
   pub whole : recorder.file.failed ≡ false → 0 < recorder.held → recorder.file.whole ≡ true
-  pub all : recorder.file.failed ≡ false → is_honest recorder.file.disk → HoldsChain (committed state recorder ++ staged state recorder) recorder.chain
-  pub images : recorder.file.failed ≡ false → is_honest recorder.file.disk → EachImage (state recorder.file.disk) (CommitsTo (committed state recorder))
+  pub all : recorder.file.failed ≡ false → model.is_honest recorder.file.disk → HoldsChain (committed model.state recorder ++ staged model.state recorder) recorder.chain
+  pub images : recorder.file.failed ≡ false → model.is_honest recorder.file.disk → EachImage (model.state recorder.file.disk) (CommitsTo (committed model.state recorder))
 
 -- In a history that began when every image showed `first`, the recorder stands in this world. The committed bytes
 -- hold the acknowledged commands, and the staged ones add those that wait. While the recorder hasn't failed nothing
 -- is in doubt.
-pub record IsIn {D : Type 0} (is_honest : D → Type 0) (state : D → DiskState) (first : Recording) (w : World Command) (recorder : RecorderState D) : Type 0 where
+pub record IsIn {D : Type 0} (model : DiskModel D) (first : Recording) (w : World Command) (recorder : RecorderState D) : Type 0 where
   pub failed : recorder.file.failed ≡ not w.is_open
   pub none : w.is_open ≡ true → w.in_doubt ≡ []
   pub count : w.is_open ≡ true → length w.held ≡ recorder.held
-  pub kept : is_honest recorder.file.disk → Holds (committed state recorder) (now_in add first w)
-  pub all : w.is_open ≡ true → is_honest recorder.file.disk
-      → Holds (committed state recorder ++ staged state recorder) (fold add (now_in add first w) w.held)
+  pub kept : model.is_honest recorder.file.disk → Holds (committed model.state recorder) (now_in add first w)
+  pub all : w.is_open ≡ true → model.is_honest recorder.file.disk
+      → Holds (committed model.state recorder ++ staged model.state recorder) (fold add (now_in add first w) w.held)
+
+-- a step of the history that began when every image showed `first`, of what recorders record
+abbrev pub IsRecorderStep : {D : Type 0} → DiskModel D → Recording → World Command → Step Command → D → D → Type 0
+IsRecorderStep model first w step old new = IsStep model Shows Accepts add first w step old new

@@ -1,5 +1,6 @@
 -- How a recorder answers the records of a feed, and which steps of its file's history they are. Ours.
 use Rattle.std.specs.Prelude.{◌≡◌, ◌⊎◌, ◌↔◌, ℕ, ◌+◌, ◌-◌, ◌^◌, ◌<◌, ◌≤◌, Bool, true, false, Result, Ok, Err, List, [], ◌∷◌, ◌++◌}
+use Rattle.disk_model.specs.declared.disk.Disk.{Ghosts as DiskModel}
 use Rattle.disk_model.specs.Image.{DiskState}
 use Rattle.feed_records.specs.declared.item.Record.{Record}
 use Rattle.feed_records.specs.declared.item.Record.TheVariants.{Command as CommandOf, Flush}
@@ -120,21 +121,20 @@ steps_of most world Flush (RefusedReply Failed) disk = []
 steps_of most world Flush (RefusedReply refusal) disk = (Faulted Flushing, disk) ∷ []
 steps_of most world Flush reply disk = (Flushed, disk) ∷ []
 
-module _ {D : Type 0} (is_honest : D → Type 0) (state : D → DiskState) (moment : D → ℕ)
-    (images_since : D → ℕ → List ℕ → Type 0) (failures : D → ℕ) where
+module _ {D : Type 0} (model : DiskModel D) where
   -- This reply answers the record. The record has no pages of its own in the output: its pages go to the disk. In
   -- each history in which the recorder stands, if its disk is honest, the record is what comes next.
   pub record Answers (before : Progress D) (given : Record) (reply : Reply) (own : List ℕ) (after : Progress D) : Type 0 where
     pub replies : Replies before.now given reply after.now
     pub none : own ≡ []
-    pub writes : is_honest before.now.file.disk → Writes state before.now given reply after.now
+    pub writes : model.is_honest before.now.file.disk → Writes model.state before.now given reply after.now
     pub same : after.first ≡ before.first
     pub world_is : after.world ≡ run before.world (steps_of before.now.most before.world given reply after.now.file.disk)
-    pub comes_next : is_honest before.now.file.disk → IsIn is_honest state before.first before.world before.now
-        → AreSteps is_honest state moment images_since Shows Accepts add before.first before.world before.now.file.disk
+    pub comes_next : model.is_honest before.now.file.disk → IsIn model before.first before.world before.now
+        → AreSteps model Shows Accepts add before.first before.world before.now.file.disk
         (steps_of before.now.most before.world given reply after.now.file.disk)
-        × IsIn is_honest state after.first after.world after.now
-    pub honest : is_honest before.now.file.disk ↔ is_honest after.now.file.disk
-    pub later : failures before.now.file.disk ≤ failures after.now.file.disk
-    pub cause : reply ≡ RefusedReply Disk → (failures before.now.file.disk < failures after.now.file.disk)
-        ⊎ (failures after.now.file.disk ≡ 2 ^ 64 - 1)
+        × IsIn model after.first after.world after.now
+    pub honest : model.is_honest before.now.file.disk ↔ model.is_honest after.now.file.disk
+    pub later : model.failures before.now.file.disk ≤ model.failures after.now.file.disk
+    pub cause : reply ≡ RefusedReply Disk → (model.failures before.now.file.disk < model.failures after.now.file.disk)
+        ⊎ (model.failures after.now.file.disk ≡ 2 ^ 64 - 1)

@@ -1,20 +1,18 @@
 //! Commands are recorded, in groups that share a commit.
 ghost use Rattle.std.specs.Prelude.{◌≡◌, ◌≢◌, ◌↔◌, ◌⊎◌, ◌+◌, ◌-◌, ◌^◌, ◌<◌, ◌≤◌, ◌++◌, true, false, List, [], ℕ, length, OnOk, OnErr, IfOk, IfErr, IsOk, Ok, Err};
-ghost use Rattle.disk_model.specs.Clock.{LeavesOnly};
+ghost use Rattle.disk_model.specs.Leaving.{LeavesOnly};
+ghost use Rattle.disk_model.specs.Frame.{Frame};
 ghost use Rattle.gate_file.specs.Commit.{CommitsTo, CommitsToEither};
-ghost use Rattle.gate_file.specs.Gate.{EachImage};
 ghost use Rattle.link_chain.specs.ChainState.{chain_state_of};
 ghost use Rattle.link_chain.specs.Recording.{Recording};
 ghost use Rattle.chain_rules.specs.Decision.{decision};
 ghost use Rattle.chain_rules.specs.Encoding.{command_bytes, links_after};
-ghost use Rattle.chain_rules.specs.Recording.{add};
 ghost use Rattle.ogg_command.specs.declared.command.Command.{Command as CommandOf};
 ghost use Rattle.ogg_command.specs.declared.refusal.Refusal.{Refusal as RefusalOf};
 ghost use Rattle.feed_replies.specs.declared.reply.Kept.{Kept as KeptOf};
 ghost use Rattle.history.specs.World.{World, happens};
-ghost use Rattle.history.specs.History.{IsStep};
-ghost use Rattle.ogg_recorder.specs.Recovery.{Links, Shows, Accepts};
-ghost use Rattle.ogg_recorder.specs.Recorder.{RecorderState, IsIn, recorder_state, committed, staged};
+ghost use Rattle.ogg_recorder.specs.Recovery.{Links};
+ghost use Rattle.ogg_recorder.specs.Recorder.{IsIn, recorder_state, committed, staged, IsRecorderStep};
 ghost use Rattle.ogg_recorder.specs.Small.{begins_link};
 ghost use Rattle.ogg_recorder.specs.Answer.{Tells, kept_by, call_of, command_step, flush_step};
 
@@ -45,8 +43,8 @@ impl<D: Disk> Recorder<D> {
         requires few { most ≤ 1024 }
         requires none { self.old.held ≡ 0 }
         ensures set { self.new ≡ recorder_state self.old.file self.old.chain self.old.tail self.old.kept self.old.held most }
-        ensures stands { (first : Recording) (w : World CommandOf) → IsIn D.is_honest D.state first w self.old
-            → IsIn D.is_honest D.state first w self.new }
+        ensures stands { (first : Recording) (w : World CommandOf) → IsIn D.Disk first w self.old
+            → IsIn D.Disk first w self.new }
     {
         self.most = most;
     }
@@ -87,24 +85,21 @@ impl<D: Disk> Recorder<D> {
 
         // Every image since the call began commits to what was committed, without the group or with all of it.
         ensures any_moment { D.is_honest self.old.file.disk → self.old.file.failed ≡ false
-            → LeavesOnly D.moment D.images_since self.old.file.disk self.new.file.disk
+            → LeavesOnly D.Disk self.old.file.disk self.new.file.disk
             (CommitsToEither (committed D.state self.old) (staged D.state self.old ++ command_bytes self.old.chain command.now)) }
 
         ensures waits { D.is_honest self.old.file.disk → IfOk result (λ outcome. (count : ℕ) → outcome ≡ Outcome.Held count
-            → LeavesOnly D.moment D.images_since self.old.file.disk self.new.file.disk (CommitsTo (committed D.state self.old))) }
+            → LeavesOnly D.Disk self.old.file.disk self.new.file.disk (CommitsTo (committed D.state self.old))) }
 
         // It is a step of each history in which the recorder stands.
-        ensures step { (first : Recording) (w : World CommandOf) → IsIn D.is_honest D.state first w self.old
+        ensures step { (first : Recording) (w : World CommandOf) → IsIn D.Disk first w self.old
             → D.is_honest self.old.file.disk
-            → IsStep D.is_honest D.state D.moment D.images_since Shows Accepts add first w
+            → IsRecorderStep D.Disk first w
             (command_step result (call_of self.old.most w command.now) command.now) self.old.file.disk self.new.file.disk
-            × IsIn D.is_honest D.state first
+            × IsIn D.Disk first
             (happens w (command_step result (call_of self.old.most w command.now) command.now)) self.new }
 
-        ensures honest { D.is_honest self.old.file.disk ↔ D.is_honest self.new.file.disk }
-        ensures later { D.failures self.old.file.disk ≤ D.failures self.new.file.disk }
-        ensures cause { result ≡ Err Refusal.Disk → (D.failures self.old.file.disk < D.failures self.new.file.disk)
-            ⊎ (D.failures self.new.file.disk ≡ 2 ^ 64 - 1) }
+        ensures frame { Frame D.Disk self.old.file.disk self.new.file.disk (result ≡ Err Refusal.Disk) }
     {
         command_is_in_range(command);
         command_adds_its_packets();
@@ -175,20 +170,17 @@ impl<D: Disk> Recorder<D> {
 
         // Every image since the call began commits to what was committed, without the group or with all of it.
         ensures any_moment { D.is_honest self.old.file.disk → self.old.file.failed ≡ false
-            → LeavesOnly D.moment D.images_since self.old.file.disk self.new.file.disk
+            → LeavesOnly D.Disk self.old.file.disk self.new.file.disk
             (CommitsToEither (committed D.state self.old) (staged D.state self.old)) }
 
         // It is a step of each history in which the recorder stands.
-        ensures step { (first : Recording) (w : World CommandOf) → IsIn D.is_honest D.state first w self.old
+        ensures step { (first : Recording) (w : World CommandOf) → IsIn D.Disk first w self.old
             → w.is_open ≡ true → D.is_honest self.old.file.disk
-            → IsStep D.is_honest D.state D.moment D.images_since Shows Accepts add first w
+            → IsRecorderStep D.Disk first w
             (flush_step result) self.old.file.disk self.new.file.disk
-            × IsIn D.is_honest D.state first (happens w (flush_step result)) self.new }
+            × IsIn D.Disk first (happens w (flush_step result)) self.new }
 
-        ensures honest { D.is_honest self.old.file.disk ↔ D.is_honest self.new.file.disk }
-        ensures later { D.failures self.old.file.disk ≤ D.failures self.new.file.disk }
-        ensures cause { result ≡ Err Refusal.Disk → (D.failures self.old.file.disk < D.failures self.new.file.disk)
-            ⊎ (D.failures self.new.file.disk ≡ 2 ^ 64 - 1) }
+        ensures frame { Frame D.Disk self.old.file.disk self.new.file.disk (result ≡ Err Refusal.Disk) }
     {
         if self.file.is_failed() {
             return Err(Refusal::Failed);

@@ -27,11 +27,11 @@ pub fn end_open_streams<D: Disk, S: Replies>(
     replies: &mut S,
 ) -> Result<bool, WriteFault>
     ensures ok { (first : Recording) (w : World CommandOf) → OnOk result ((after : Progress D) × (after.now ≡ recorder.new)
-        × HasEnded (Answers D.is_honest D.state D.moment D.images_since D.failures) (progress first w recorder.old) after
+        × HasEnded (Answers D.Disk) (progress first w recorder.old) after
         (S.lines replies.old) (S.lines replies.new)) }
     ensures left { IfOk result (λ left. left ≡ is_open recorder.new.chain) }
     ensures err { (first : Recording) (w : World CommandOf) → OnErr result ((after : Progress D) × (after.now ≡ recorder.new)
-        × HasToldSome (Answers D.is_honest D.state D.moment D.images_since D.failures) S.waits (progress first w recorder.old) after
+        × HasToldSome (Answers D.Disk) S.waits (progress first w recorder.old) after
         (S.lines replies.old) (S.lines replies.new)) }
 {
     for _ in 0..MOST_STREAMS {
@@ -50,9 +50,9 @@ fn end_first<D: Disk, S: Replies>(
     replies: &mut S,
 ) -> Result<bool, WriteFault>
     ensures ok { (before : Progress D) → before.now ≡ recorder.old → OnOk result ((after : Progress D) × (after.now ≡ recorder.new)
-        × HasEnded (Answers D.is_honest D.state D.moment D.images_since D.failures) before after (S.lines replies.old) (S.lines replies.new)) }
+        × HasEnded (Answers D.Disk) before after (S.lines replies.old) (S.lines replies.new)) }
     ensures err { (before : Progress D) → before.now ≡ recorder.old → OnErr result ((after : Progress D) × (after.now ≡ recorder.new)
-        × HasToldSome (Answers D.is_honest D.state D.moment D.images_since D.failures) S.waits before after (S.lines replies.old) (S.lines replies.new)) }
+        × HasToldSome (Answers D.Disk) S.waits before after (S.lines replies.old) (S.lines replies.new)) }
 {
     match first_open(recorder.streams()) {
         Some(serial) => match end_stream(recorder, serial, replies) {
@@ -77,9 +77,9 @@ fn end_stream<D: Disk, S: Replies>(
     replies: &mut S,
 ) -> Result<Reply, WriteFault>
     ensures ok { (before : Progress D) → before.now ≡ recorder.old → OnOk result ((after : Progress D) × (after.now ≡ recorder.new)
-        × HasEnded (Answers D.is_honest D.state D.moment D.images_since D.failures) before after (S.lines replies.old) (S.lines replies.new)) }
+        × HasEnded (Answers D.Disk) before after (S.lines replies.old) (S.lines replies.new)) }
     ensures err { (before : Progress D) → before.now ≡ recorder.old → OnErr result ((after : Progress D) × (after.now ≡ recorder.new)
-        × HasToldSome (Answers D.is_honest D.state D.moment D.images_since D.failures) S.waits before after (S.lines replies.old) (S.lines replies.new)) }
+        × HasToldSome (Answers D.Disk) S.waits before after (S.lines replies.old) (S.lines replies.new)) }
 {
     let end = Command::End(serial);
     let mut none = io::sink();

@@ -68,26 +68,26 @@ pub fn images_show_one_recording()
 pub fn acknowledged_commands_survive<D: Disk>()
     // Between two calls.
     ensures at_end { (first : Recording) (disk now : D) (w : World CommandOf) (steps : List (Step CommandOf × D))
-        → IsHistory D.is_honest D.state D.moment D.images_since Shows Accepts add first disk steps w now
+        → IsHistory D.Disk Shows Accepts add first disk steps w now
         → (image : List ℕ) → IsImage (D.state now) image
         → ShowsFirst Shows Accepts add first steps w image }
 
     // At each moment of one more call.
     ensures any_moment { (first : Recording) (disk now : D) (w : World CommandOf) (steps : List (Step CommandOf × D))
-        → IsHistory D.is_honest D.state D.moment D.images_since Shows Accepts add first disk steps w now
+        → IsHistory D.Disk Shows Accepts add first disk steps w now
         → (call : Call CommandOf) (new : D) → MayBegin Accepts add first w call
-        → Leaves D.state D.moment D.images_since Shows add first w call now new
+        → Leaves D.Disk Shows add first w call now new
         → (image : List ℕ) → D.images_since new (D.moment now) image
         → ShowsFirst Shows Accepts add first steps (begun w call) image }
 
     // While a recorder is open, every image shows only what is acknowledged: nothing that waits.
     ensures while_open { (first : Recording) (disk now : D) (w : World CommandOf) (steps : List (Step CommandOf × D))
-        → IsHistory D.is_honest D.state D.moment D.images_since Shows Accepts add first disk steps w now
+        → IsHistory D.Disk Shows Accepts add first disk steps w now
         → w.is_open ≡ true → ShowsOnly Shows (D.state now) (after_commands first w.acknowledged) }
 
     // What an opening finds is the acknowledged commands, without the group in doubt or with it.
     ensures opening { (first : Recording) (disk now : D) (w : World CommandOf) (steps : List (Step CommandOf × D))
-        → IsHistory D.is_honest D.state D.moment D.images_since Shows Accepts add first disk steps w now
+        → IsHistory D.Disk Shows Accepts add first disk steps w now
         → (new : D) (found : Recording) → Finds Shows (D.state now) (D.state new) found
         → (found ≡ after_commands first w.acknowledged) ⊎ (found ≡ after_commands first (commands w)) }
 {
@@ -98,11 +98,11 @@ pub fn acknowledged_commands_survive<D: Disk>()
 /// flush. The commands that they acknowledge are those whose replies say that they are kept, in order.
 pub fn records_are_steps<D: Disk>()
     ensures steps { (before after : Progress D) (records : List Record) (replies : List Reply) (bytes : List ℕ)
-        → AnswersAll (Answers D.is_honest D.state D.moment D.images_since D.failures) before records replies bytes after
-        → HasSteps D.is_honest D.state D.moment D.images_since before after records replies }
+        → AnswersAll (Answers D.Disk) before records replies bytes after
+        → HasSteps D.Disk before after records replies }
     // On an honest disk the committed bytes grow by exactly those of the kept commands.
     ensures bytes { (before after : Progress D) (records : List Record) (replies : List Reply) (bytes : List ℕ)
-        → AnswersAll (Answers D.is_honest D.state D.moment D.images_since D.failures) before records replies bytes after
+        → AnswersAll (Answers D.Disk) before records replies bytes after
         → D.is_honest before.now.file.disk → (links : Links) (waiting : List CommandOf) → HasWaiting D.state links waiting before.now
         → committed D.state after.now ≡ committed D.state before.now ++ bytes_of_commands links (kept_after waiting records replies) }
 {

@@ -1,11 +1,10 @@
 //! A file is opened: one pass finds the end of its committed bytes and takes their pages into a chain.
 ghost use Rattle.std.specs.Prelude.{◌≡◌, ◌≢◌, ◌↔◌, ◌⊎◌, ◌+◌, ◌-◌, ◌^◌, ◌<◌, ◌≤◌, ℕ, length, take, IfOk, IfErr};
 ghost use Rattle.disk_model.specs.Image.{IsImage};
-ghost use Rattle.disk_model.specs.Clock.{LeavesOnly};
-ghost use Rattle.ogg_page.specs.declared.fault.PageFault.{PageFault as PageFaultOf};
 ghost use Rattle.link_chain.specs.declared.chain_fault.ChainFault.{ChainFault as ChainFaultOf};
-ghost use Rattle.gate_file.specs.Found.{HasEnd, IsDamagedAt, found_bytes};
+ghost use Rattle.gate_file.specs.Found.{HasEnd, found_bytes};
 ghost use Rattle.gate_file.specs.Gate.{EndsAt};
+ghost use Rattle.gate_file.specs.Opening.{Opens, GivesBack};
 ghost use Rattle.ogg_recorder.specs.Taking.{HoldsChain, IsWholeChain, IsBrokenAt, IsUnfinished};
 
 use crate::staging::SmallPage;
@@ -32,25 +31,15 @@ pub(crate) fn find_chain<D: Disk>(alloc: Global, disk: D) -> Result<FoundChain<D
         → HasEnd o.found.end o.found.tail o.found.closed (D.state o.found.disk)) }
     ensures chain { IfOk result (λ o. D.is_honest disk → HoldsChain (found_bytes D.state o.found) o.shape.chain) }
     ensures whole { IfOk result (λ o. IsWholeChain o.shape.chain) }
-    ensures damaged { IfErr result (λ e. (offset : ℕ) (fault : PageFaultOf) → e.0 ≡ OpenFault.Page offset fault
-        → D.is_honest disk → IsDamagedAt (D.state disk).contents offset fault) }
     ensures broken { IfErr result (λ e. (offset : ℕ) (fault : ChainFaultOf) → e.0 ≡ OpenFault.Chain offset fault
         → D.is_honest disk → (end : ℕ) × EndsAt (D.state disk).contents end
         × IsBrokenAt (take end (D.state disk).contents) offset fault) }
     ensures unfinished { IfErr result (λ e. (serial : ℕ) → e.0 ≡ OpenFault.Unfinished serial
         → D.is_honest disk → (end : ℕ) × EndsAt (D.state disk).contents end
         × IsUnfinished (take end (D.state disk).contents) serial) }
-    ensures untouched { IfErr result (λ e. e.0 ≢ OpenFault.Disk → D.is_honest disk
-        → (D.state e.1).contents ≡ (D.state disk).contents) }
-    ensures any_moment { IfOk result (λ o. D.is_honest disk
-        → LeavesOnly D.moment D.images_since disk o.found.disk (IsImage (D.state disk))) }
-    ensures any_moment_err { IfErr result (λ e. D.is_honest disk
-        → LeavesOnly D.moment D.images_since disk e.1 (IsImage (D.state disk))) }
-    ensures honest { IfOk result (λ o. D.is_honest disk ↔ D.is_honest o.found.disk) }
-    ensures honest_err { IfErr result (λ e. D.is_honest disk ↔ D.is_honest e.1) }
-    ensures later { IfOk result (λ o. D.failures disk ≤ D.failures o.found.disk) }
-    ensures cause { IfErr result (λ e. (D.failures disk ≤ D.failures e.1)
-        × (e.0 ≡ OpenFault.Disk → (D.failures disk < D.failures e.1) ⊎ (D.failures e.1 ≡ 2 ^ 64 - 1))) }
+    ensures opens { IfOk result (λ o. Opens D.Disk (IsImage (D.state disk)) disk o.found.disk) }
+    ensures gives_back { IfErr result (λ e. GivesBack D.Disk (IsImage (D.state disk)) OpenFault.Disk OpenFault.Page
+        disk e.0 e.1) }
 {
     let buffer = match PageBuffer::new(alloc) {
         Ok(buffer) => buffer,

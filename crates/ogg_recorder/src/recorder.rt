@@ -1,23 +1,23 @@
 //! A recorder of commands.
-ghost use Rattle.std.specs.Prelude.{◌≡◌, ◌≢◌, ◌↔◌, ◌⊎◌, ◌+◌, ◌-◌, ◌^◌, ◌<◌, ◌≤◌, true, false, Bool, ℕ, List, length, take, drop, OnOk, IfOk, IfErr, ◌++◌};
+ghost use Rattle.std.specs.Prelude.{◌≡◌, ◌≢◌, ◌↔◌, ◌⊎◌, ◌+◌, ◌-◌, ◌^◌, ◌<◌, ◌≤◌, true, false, Bool, ℕ, List, length, take, drop, OnOk, IfOk, IfErr, ◌++◌, ⊤};
 ghost use Rattle.disk_model.specs.Image.{IsSettled};
-ghost use Rattle.disk_model.specs.Clock.{LeavesOnly};
+ghost use Rattle.disk_model.specs.Leaving.{LeavesOnly};
 ghost use Rattle.disk_model.specs.Fault.{HasCause};
-ghost use Rattle.ogg_page.specs.declared.fault.PageFault.{PageFault as PageFaultOf};
+ghost use Rattle.disk_model.specs.Frame.{Frame};
 ghost use Rattle.link_chain.specs.Recording.{Recording};
 ghost use Rattle.link_chain.specs.declared.chain_fault.ChainFault.{ChainFault as ChainFaultOf};
 ghost use Rattle.gate_file.specs.Commit.{CommitsTo};
-ghost use Rattle.gate_file.specs.Found.{IsDamagedAt};
 ghost use Rattle.gate_file.specs.Gate.{EachImage, EndsAt};
 ghost use Rattle.gate_file.specs.Reading.{OnlyReads};
+ghost use Rattle.gate_file.specs.Opening.{Opens, GivesBack};
 ghost use Rattle.chain_rules.specs.Recording.{add};
 ghost use Rattle.ogg_command.specs.declared.command.Command.{Command as CommandOf};
 ghost use Rattle.history.specs.Showing.{IsAsBefore};
 ghost use Rattle.history.specs.World.{World, Opening, Opened, Sealing, Sealed, Looked, Faulted, happens};
-ghost use Rattle.history.specs.History.{StandsIn, IsStep};
-ghost use Rattle.ogg_recorder.specs.Recovery.{Commits, Shows, Accepts};
+ghost use Rattle.history.specs.History.{StandsIn};
+ghost use Rattle.ogg_recorder.specs.Recovery.{Commits, Shows};
 ghost use Rattle.ogg_recorder.specs.Taking.{HoldsChain, IsBrokenAt, IsUnfinished};
-ghost use Rattle.ogg_recorder.specs.Recorder.{RecorderState, IsRecorder, IsIn, recorder_state, over_disk, committed, staged};
+ghost use Rattle.ogg_recorder.specs.Recorder.{RecorderState, IsRecorder, IsIn, recorder_state, over_disk, committed, staged, IsRecorderStep};
 
 use crate::opening::{FoundChain, find_chain};
 use crate::staging::SmallPage;
@@ -54,7 +54,7 @@ impl<D: Disk> Model for Recorder<D> {
 
     ghost view = { λ r. recorder_state r.file r.shape.chain r.tail r.kept r.held r.most };
 
-    ghost invariant = { λ r. IsRecorder D.is_honest D.state (recorder_state r.file r.shape.chain r.tail r.kept r.held r.most) };
+    ghost invariant = { λ r. IsRecorder D.Disk (recorder_state r.file r.shape.chain r.tail r.kept r.held r.most) };
 }
 
 impl<D: Disk> Recorder<D> {
@@ -73,40 +73,29 @@ impl<D: Disk> Recorder<D> {
             × (committed D.state r ≡ take r.file.end (D.state disk).contents)) }
         ensures holds { IfOk result (λ r. D.is_honest disk → HoldsChain (committed D.state r) r.chain) }
 
-        ensures damaged { IfErr result (λ e. (offset : ℕ) (fault : PageFaultOf) → e.0 ≡ OpenFault.Page offset fault
-            → D.is_honest disk → IsDamagedAt (D.state disk).contents offset fault) }
         ensures broken { IfErr result (λ e. (offset : ℕ) (fault : ChainFaultOf) → e.0 ≡ OpenFault.Chain offset fault
             → D.is_honest disk → (end : ℕ) × EndsAt (D.state disk).contents end
             × IsBrokenAt (take end (D.state disk).contents) offset fault) }
         ensures unfinished { IfErr result (λ e. (serial : ℕ) → e.0 ≡ OpenFault.Unfinished serial
             → D.is_honest disk → (end : ℕ) × EndsAt (D.state disk).contents end
             × IsUnfinished (take end (D.state disk).contents) serial) }
-        ensures untouched { IfErr result (λ e. e.0 ≢ OpenFault.Disk → D.is_honest disk
-            → (D.state e.1).contents ≡ (D.state disk).contents) }
 
         // What a recorder left in any history is refused only for want of memory, or by the disk.
         ensures reopens { IfErr result (λ e. (first : Recording) (w : World CommandOf) → StandsIn Shows add first w (D.state disk)
             → D.is_honest disk → (e.0 ≡ OpenFault.Disk) ⊎ (e.0 ≡ OpenFault.Memory)) }
 
         // Every image since the call began commits to what an image at its start commits to.
-        ensures any_moment { IfOk result (λ r. D.is_honest disk
-            → LeavesOnly D.moment D.images_since disk r.file.disk (IsAsBefore Commits (D.state disk))) }
-        ensures any_moment_err { IfErr result (λ e. D.is_honest disk
-            → LeavesOnly D.moment D.images_since disk e.1 (IsAsBefore Commits (D.state disk))) }
+        ensures opens { IfOk result (λ r. Opens D.Disk (IsAsBefore Commits (D.state disk)) disk r.file.disk) }
+        ensures gives_back { IfErr result (λ e. GivesBack D.Disk (IsAsBefore Commits (D.state disk)) OpenFault.Disk
+            OpenFault.Page disk e.0 e.1) }
 
         // It is a step of each history that led to the disk.
         ensures step { IfOk result (λ r. (first : Recording) (w : World CommandOf) → StandsIn Shows add first w (D.state disk)
             → w.is_open ≡ false → D.is_honest disk → (found : Bool)
-            × IsStep D.is_honest D.state D.moment D.images_since Shows Accepts add first w (Opened found) disk r.file.disk
-            × IsIn D.is_honest D.state first (happens w (Opened found)) r) }
+            × IsRecorderStep D.Disk first w (Opened found) disk r.file.disk
+            × IsIn D.Disk first (happens w (Opened found)) r) }
         ensures step_err { IfErr result (λ e. (first : Recording) (w : World CommandOf) → w.is_open ≡ false → D.is_honest disk
-            → IsStep D.is_honest D.state D.moment D.images_since Shows Accepts add first w (Faulted Opening) disk e.1) }
-
-        ensures honest { IfOk result (λ r. D.is_honest disk ↔ D.is_honest r.file.disk) }
-        ensures honest_err { IfErr result (λ e. D.is_honest disk ↔ D.is_honest e.1) }
-        ensures later { IfOk result (λ r. D.failures disk ≤ D.failures r.file.disk) }
-        ensures cause { IfErr result (λ e. (D.failures disk ≤ D.failures e.1)
-            × (e.0 ≡ OpenFault.Disk → (D.failures disk < D.failures e.1) ⊎ (D.failures e.1 ≡ 2 ^ 64 - 1))) }
+            → IsRecorderStep D.Disk first w (Faulted Opening) disk e.1) }
     {
         disks_stand_in_their_world::<D, crate::laws::Recorded>();
         let FoundChain {
@@ -139,7 +128,7 @@ impl<D: Disk> Recorder<D> {
     pub fn end(&self) -> u64
         ensures end { result ≡ self.now.file.end }
         // What holds of each recorder.
-        ensures always { IsRecorder D.is_honest D.state self.now }
+        ensures always { IsRecorder D.Disk self.now }
         ensures inside { D.is_honest self.now.file.disk → length (committed D.state self.now) ≡ self.now.file.end }
         // While it hasn't failed, every image commits to them.
         ensures images { self.now.file.failed ≡ false → D.is_honest self.now.file.disk
@@ -214,12 +203,12 @@ impl<D: Disk> Recorder<D> {
         requires { from + length buffer.old ≤ self.old.file.end }
         ensures read { OnOk result (D.is_honest self.old.file.disk
             → buffer.new ≡ take (length buffer.old) (drop from (committed D.state self.old))) }
-        ensures reads { OnlyReads D.is_honest D.state D.moment D.images_since self.old.file.disk self.new.file.disk }
+        ensures reads { OnlyReads D.Disk self.old.file.disk self.new.file.disk }
         ensures same { self.new ≡ over_disk self.new.file.disk self.old }
-        ensures step { (first : Recording) (w : World CommandOf) → IsIn D.is_honest D.state first w self.old
+        ensures step { (first : Recording) (w : World CommandOf) → IsIn D.Disk first w self.old
             → D.is_honest self.old.file.disk
-            → IsStep D.is_honest D.state D.moment D.images_since Shows Accepts add first w Looked self.old.file.disk self.new.file.disk
-            × IsIn D.is_honest D.state first w self.new }
+            → IsRecorderStep D.Disk first w Looked self.old.file.disk self.new.file.disk
+            × IsIn D.Disk first w self.new }
         ensures cause { HasCause (D.failures self.old.file.disk) (D.failures self.new.file.disk) result }
     {
         self.file.read(from, buffer)
@@ -238,21 +227,18 @@ impl<D: Disk> Recorder<D> {
 
         // Every image since the call began commits to the same bytes.
         ensures any_moment { IfOk result (λ disk. D.is_honest self.file.disk
-            → LeavesOnly D.moment D.images_since self.file.disk disk (CommitsTo (committed D.state self))) }
+            → LeavesOnly D.Disk self.file.disk disk (CommitsTo (committed D.state self))) }
         ensures any_moment_err { IfErr result (λ e. D.is_honest self.file.disk
-            → LeavesOnly D.moment D.images_since self.file.disk e.1 (CommitsTo (committed D.state self))) }
-        ensures step { IfOk result (λ disk. (first : Recording) (w : World CommandOf) → IsIn D.is_honest D.state first w self
+            → LeavesOnly D.Disk self.file.disk e.1 (CommitsTo (committed D.state self))) }
+        ensures step { IfOk result (λ disk. (first : Recording) (w : World CommandOf) → IsIn D.Disk first w self
             → D.is_honest self.file.disk
-            → IsStep D.is_honest D.state D.moment D.images_since Shows Accepts add first w Sealed self.file.disk disk) }
-        ensures step_err { IfErr result (λ e. (first : Recording) (w : World CommandOf) → IsIn D.is_honest D.state first w self
+            → IsRecorderStep D.Disk first w Sealed self.file.disk disk) }
+        ensures step_err { IfErr result (λ e. (first : Recording) (w : World CommandOf) → IsIn D.Disk first w self
             → D.is_honest self.file.disk
-            → IsStep D.is_honest D.state D.moment D.images_since Shows Accepts add first w (Faulted Sealing) self.file.disk e.1) }
+            → IsRecorderStep D.Disk first w (Faulted Sealing) self.file.disk e.1) }
 
-        ensures honest { IfOk result (λ disk. D.is_honest self.file.disk ↔ D.is_honest disk) }
-        ensures honest_err { IfErr result (λ e. D.is_honest self.file.disk ↔ D.is_honest e.1) }
-        ensures later { IfOk result (λ disk. D.failures self.file.disk ≤ D.failures disk) }
-        ensures later_err { IfErr result (λ e. D.failures self.file.disk ≤ D.failures e.1) }
-        ensures cause { IfErr result (λ e. (D.failures self.file.disk < D.failures e.1) ⊎ (D.failures e.1 ≡ 2 ^ 64 - 1)) }
+        ensures frame { IfOk result (λ disk. Frame D.Disk self.file.disk disk ⊥) }
+        ensures frame_err { IfErr result (λ e. Frame D.Disk self.file.disk e.1 ⊤) }
     {
         match self.file.seal() {
             Ok(disk) => Ok(disk),
@@ -282,7 +268,7 @@ impl<D: Disk> PageSource for Recorder<D> {
 
     ghost failures = { λ r. D.failures r.file.disk };
 
-    ghost only_reads = { λ old new. OnlyReads D.is_honest D.state D.moment D.images_since old.file.disk new.file.disk × (new ≡ over_disk new.file.disk old) };
+    ghost only_reads = { λ old new. OnlyReads D.Disk old.file.disk new.file.disk × (new ≡ over_disk new.file.disk old) };
 
     fn end(&self) -> u64 {
         self.file.end()
@@ -298,13 +284,13 @@ impl<D: Disk> PageSource for Recorder<D> {
     ghost fits = { λ r h. h.1 };
 
     ghost reads_nothing = { λ r. (
-      nothing_read D.is_honest D.state D.moment D.images_since r.file.disk
+      nothing_read _ r.file.disk
           (λ h image since. (D.laws r.file.disk h).only_now image since),
       refl,
     ) };
 
     ghost reads_on = { λ a b c first second. (
-      reads_then D.is_honest D.state D.moment D.images_since a.file.disk b.file.disk c.file.disk first.0 second.0,
+      reads_then _ a.file.disk b.file.disk c.file.disk first.0 second.0,
       second.1 ∙ ap (over_disk c.file.disk) first.1,
     ) };
 }

@@ -1,5 +1,6 @@
 //! The run over a whole feed.
 ghost use Rattle.std.specs.Prelude.{◌≡◌, ◌↔◌, ◌≤◌, IfOk, IfErr, None};
+ghost use Rattle.disk_model.specs.Frame.{Frame};
 ghost use Rattle.link_chain.specs.Recording.{Recording};
 ghost use Rattle.ogg_command.specs.declared.command.Command.{Command as CommandOf};
 ghost use Rattle.history.specs.World.{World};
@@ -34,25 +35,24 @@ pub fn record_feed<D: Disk, R: Read, W: Write>(
     // what every image showed meanwhile in each history in which the recorder stands.
     ensures ok { (first : Recording) (w : World CommandOf)
         → IfOk result (λ tally. (after : Progress D) × (after.now ≡ recorder.new)
-        × (run : RunsWhole (Answers D.is_honest D.state D.moment D.images_since D.failures) waiting_in
+        × (run : RunsWhole (Answers D.Disk) waiting_in
         (streams (R.remaining reader.old) None (W.contents replies.old)) (streams (R.remaining reader.new) None (W.contents replies.new))
         (progress first w recorder.old) after after.now.file.end tally)
-        × HasRecorded D.is_honest D.state D.moment D.images_since (progress first w recorder.old) after
-        (answered_to (Answers D.is_honest D.state D.moment D.images_since D.failures) waiting_in (Ok tt)
+        × HasRecorded D.Disk (progress first w recorder.old) after
+        (answered_to (Answers D.Disk) waiting_in (Ok tt)
         (streams (R.remaining reader.old) None (W.contents replies.old)) (streams (R.remaining reader.new) None (W.contents replies.new))
         (progress first w recorder.old) after run.run)) }
     ensures err { (first : Recording) (w : World CommandOf)
         → IfErr result (λ fault. (after : Progress D) × (after.now ≡ recorder.new)
-        × (run : EndsBy (Answers D.is_honest D.state D.moment D.images_since D.failures) waiting_in fault
+        × (run : EndsBy (Answers D.Disk) waiting_in fault
         (streams (R.remaining reader.old) None (W.contents replies.old)) (streams (R.remaining reader.new) None (W.contents replies.new))
         (progress first w recorder.old) after)
-        × HasRecorded D.is_honest D.state D.moment D.images_since (progress first w recorder.old) after
-        (answered_by (Answers D.is_honest D.state D.moment D.images_since D.failures) waiting_in fault
+        × HasRecorded D.Disk (progress first w recorder.old) after
+        (answered_by (Answers D.Disk) waiting_in fault
         (streams (R.remaining reader.old) None (W.contents replies.old)) (streams (R.remaining reader.new) None (W.contents replies.new))
         (progress first w recorder.old) after run)) }
 
-    ensures honest { D.is_honest recorder.old.file.disk ↔ D.is_honest recorder.new.file.disk }
-    ensures later { D.failures recorder.old.file.disk ≤ D.failures recorder.new.file.disk }
+    ensures frame { Frame D.Disk recorder.old.file.disk recorder.new.file.disk ⊥ }
 {
     record_feed_for::<Unknown, D, R, W>(alloc, reader, replies, recorder)
 }
@@ -69,25 +69,24 @@ pub fn record_feed_for<A: Ahead<R>, D: Disk, R: Read, S: Replies>(
     // what every image showed meanwhile in each history in which the recorder stands.
     ensures ok { (first : Recording) (w : World CommandOf)
         → IfOk result (λ tally. (after : Progress D) × (after.now ≡ recorder.new)
-        × (run : RunsWhole (Answers D.is_honest D.state D.moment D.images_since D.failures) waiting_in
+        × (run : RunsWhole (Answers D.Disk) waiting_in
         (streams_to (R.remaining reader.old) None (S.lines replies.old) S.waits (S.enough replies.old)) (streams_to (R.remaining reader.new) None (S.lines replies.new) S.waits (S.enough replies.new))
         (progress first w recorder.old) after after.now.file.end tally)
-        × HasRecorded D.is_honest D.state D.moment D.images_since (progress first w recorder.old) after
-        (answered_to (Answers D.is_honest D.state D.moment D.images_since D.failures) waiting_in (Ok tt)
+        × HasRecorded D.Disk (progress first w recorder.old) after
+        (answered_to (Answers D.Disk) waiting_in (Ok tt)
         (streams_to (R.remaining reader.old) None (S.lines replies.old) S.waits (S.enough replies.old)) (streams_to (R.remaining reader.new) None (S.lines replies.new) S.waits (S.enough replies.new))
         (progress first w recorder.old) after run.run)) }
     ensures err { (first : Recording) (w : World CommandOf)
         → IfErr result (λ fault. (after : Progress D) × (after.now ≡ recorder.new)
-        × (run : EndsBy (Answers D.is_honest D.state D.moment D.images_since D.failures) waiting_in fault
+        × (run : EndsBy (Answers D.Disk) waiting_in fault
         (streams_to (R.remaining reader.old) None (S.lines replies.old) S.waits (S.enough replies.old)) (streams_to (R.remaining reader.new) None (S.lines replies.new) S.waits (S.enough replies.new))
         (progress first w recorder.old) after)
-        × HasRecorded D.is_honest D.state D.moment D.images_since (progress first w recorder.old) after
-        (answered_by (Answers D.is_honest D.state D.moment D.images_since D.failures) waiting_in fault
+        × HasRecorded D.Disk (progress first w recorder.old) after
+        (answered_by (Answers D.Disk) waiting_in fault
         (streams_to (R.remaining reader.old) None (S.lines replies.old) S.waits (S.enough replies.old)) (streams_to (R.remaining reader.new) None (S.lines replies.new) S.waits (S.enough replies.new))
         (progress first w recorder.old) after run)) }
 
-    ensures honest { D.is_honest recorder.old.file.disk ↔ D.is_honest recorder.new.file.disk }
-    ensures later { D.failures recorder.old.file.disk ≤ D.failures recorder.new.file.disk }
+    ensures frame { Frame D.Disk recorder.old.file.disk recorder.new.file.disk ⊥ }
 {
     records_are_steps::<D>();
     runs_show_first_commands::<D, Recorded>();

@@ -40,7 +40,7 @@ impl<D: Disk> Runner for Recorder<D> {
 
     ghost is_in = { λ before recorder. before.now ≡ recorder };
 
-    ghost answers = { Answers D.is_honest D.state D.moment D.images_since D.failures };
+    ghost answers = { Answers D.Disk };
 
     ghost held_in = { waiting_in };
 

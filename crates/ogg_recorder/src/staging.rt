@@ -1,8 +1,8 @@
 //! The pages of a command are staged after those that wait.
 ghost use Rattle.std.specs.Prelude.{◌≡◌, ◌↔◌, ◌⊎◌, ◌+◌, ◌-◌, ◌^◌, ◌<◌, ◌≤◌, ◌++◌, ◌∷◌, [], true, false, List, ℕ, length, Some, OnOk, IsOk, IsErr, Ok, Err, vec_capacity};
 ghost use Rattle.std.specs.List.{AllByRecursion};
-ghost use Rattle.disk_model.specs.Clock.{LeavesOnly};
-ghost use Rattle.disk_model.specs.Fault.{HasCause};
+ghost use Rattle.disk_model.specs.Leaving.{LeavesOnly};
+ghost use Rattle.disk_model.specs.Frame.{Frame};
 ghost use Rattle.ogg_page.specs.Page.{Page, IsPage, page_bytes, bytes_of_pages};
 ghost use Rattle.gate_file.specs.Commit.{CommitsTo};
 ghost use Rattle.gate_file.specs.Gate.{EachImage};
@@ -97,13 +97,10 @@ pub(crate) fn stage_command<D: Disk>(
         → staged_bytes D.state file.new ≡ staged_bytes D.state file.old ++ command_bytes shape.old.chain command.now) }
     ensures front { D.is_honest file.old.disk → committed D.state file.new ≡ committed D.state file.old }
     ensures any_moment { OnOk result (D.is_honest file.old.disk
-        → LeavesOnly D.moment D.images_since file.old.disk file.new.disk (CommitsTo (committed D.state file.old))) }
+        → LeavesOnly D.Disk file.old.disk file.new.disk (CommitsTo (committed D.state file.old))) }
     ensures any_moment_err { result ≡ Err Unstaged.Disk → D.is_honest file.old.disk
-        → LeavesOnly D.moment D.images_since file.old.disk file.new.disk (CommitsTo (committed D.state file.old)) }
-    ensures honest { D.is_honest file.old.disk ↔ D.is_honest file.new.disk }
-    ensures later { D.failures file.old.disk ≤ D.failures file.new.disk }
-    ensures cause { result ≡ Err Unstaged.Disk → (D.failures file.old.disk < D.failures file.new.disk)
-        ⊎ (D.failures file.new.disk ≡ 2 ^ 64 - 1) }
+        → LeavesOnly D.Disk file.old.disk file.new.disk (CommitsTo (committed D.state file.old)) }
+    ensures frame { Frame D.Disk file.old.disk file.new.disk (result ≡ Err Unstaged.Disk) }
 {
     command_adds_its_packets();
     match shape.prepare(command) {
@@ -142,10 +139,9 @@ fn stage_large<D: Disk>(
     ensures staged { OnOk result (D.is_honest file.old.disk
         → staged_bytes D.state file.new ≡ staged_bytes D.state file.old ++ command_bytes shape.now.chain command.now) }
     ensures front { D.is_honest file.old.disk → committed D.state file.new ≡ committed D.state file.old }
-    ensures any_moment { D.is_honest file.old.disk → LeavesOnly D.moment D.images_since file.old.disk file.new.disk
+    ensures any_moment { D.is_honest file.old.disk → LeavesOnly D.Disk file.old.disk file.new.disk
         (CommitsTo (committed D.state file.old)) }
-    ensures honest { D.is_honest file.old.disk ↔ D.is_honest file.new.disk }
-    ensures cause { HasCause (D.failures file.old.disk) (D.failures file.new.disk) result }
+    ensures frame { Frame D.Disk file.old.disk file.new.disk (IsErr result) }
 {
     let mut pages = shape.pages(command).unwrap();
     stage_pages(file, &mut pages, buffer)
@@ -190,10 +186,9 @@ pub(crate) fn stage_pages<D: Disk>(
     ensures staged { OnOk result (D.is_honest file.old.disk
         → staged_bytes D.state file.new ≡ staged_bytes D.state file.old ++ bytes_of_pages pages.old) }
     ensures front { D.is_honest file.old.disk → committed D.state file.new ≡ committed D.state file.old }
-    ensures any_moment { D.is_honest file.old.disk → LeavesOnly D.moment D.images_since file.old.disk file.new.disk
+    ensures any_moment { D.is_honest file.old.disk → LeavesOnly D.Disk file.old.disk file.new.disk
         (CommitsTo (committed D.state file.old)) }
-    ensures honest { D.is_honest file.old.disk ↔ D.is_honest file.new.disk }
-    ensures cause { HasCause (D.failures file.old.disk) (D.failures file.new.disk) result }
+    ensures frame { Frame D.Disk file.old.disk file.new.disk (IsErr result) }
 {
     'pages: while pages.next(buffer) {
         match stage_page(file, buffer, pages.left() == 0) {
@@ -218,10 +213,9 @@ fn stage_page<D: Disk>(
     ensures staged { OnOk result ((page : Page) → buffer.now.finished ≡ Some page → D.is_honest file.old.disk
         → staged_bytes D.state file.new ≡ staged_bytes D.state file.old ++ page_bytes page) }
     ensures front { D.is_honest file.old.disk → committed D.state file.new ≡ committed D.state file.old }
-    ensures any_moment { D.is_honest file.old.disk → LeavesOnly D.moment D.images_since file.old.disk file.new.disk
+    ensures any_moment { D.is_honest file.old.disk → LeavesOnly D.Disk file.old.disk file.new.disk
         (CommitsTo (committed D.state file.old)) }
-    ensures honest { D.is_honest file.old.disk ↔ D.is_honest file.new.disk }
-    ensures cause { HasCause (D.failures file.old.disk) (D.failures file.new.disk) result }
+    ensures frame { Frame D.Disk file.old.disk file.new.disk (IsErr result) }
 {
     if is_last {
         file.stage_last(buffer.closed())

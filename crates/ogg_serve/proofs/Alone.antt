@@ -1,5 +1,6 @@
 -- Records are answered by a machine without its sessions.
 use Rattle.std.proofs.Common.{◌≡◌, ◌+◌, ℕ, Bool, true, false, Option, Some, None, Result, Ok, Err, List, [], ◌∷◌, sym, ◌∙◌, ap, subst}
+use Rattle.disk_model.specs.declared.disk.Disk.{Ghosts as DiskModel}
 use Rattle.disk_model.specs.Image.{DiskState}
 use Rattle.feed_records.specs.declared.item.Record.{Record}
 use Rattle.feed_records.specs.declared.item.Record.TheVariants.{Command as CommandOf, Flush}
@@ -44,14 +45,14 @@ pub file_alone : (old new : HubState) → KeepsFile old new → alone new ≡ al
 file_alone old new file = ap alone file
 
 -- ---- answers
-module _ {D : Type 0} (is_honest : D → Type 0) (state : D → DiskState) (moment : D → ℕ) (images_since : D → ℕ → List ℕ → Type 0) (failures : D → ℕ) where
-  pub gets : (before mid : Progress D) (given : Record) (reply : Reply) (own : List ℕ) → Answers is_honest state moment images_since failures before given reply own mid
+module _ {D : Type 0} (model : DiskModel D) where
+  pub gets : (before mid : Progress D) (given : Record) (reply : Reply) (own : List ℕ) → Answers model before given reply own mid
       → RecordAnswers (alone before.machine) given reply own (alone mid.machine)
   gets before mid (CommandOf command) reply own a =
       (a.0, (a.1.answer, a.1.told, alone_command before.machine mid.machine command a.1.answer a.1.step))
   gets before mid Flush reply own a = (a.0, (a.1.answer, a.1.told, alone_flush before.machine mid.machine a.1.answer a.1.step))
 
-  pub opens : (failed : Bool) (reply : Reply) (step : Step) (mid after : Progress D) → FollowsIf is_honest state moment images_since failures failed reply step mid after
+  pub opens : (failed : Bool) (reply : Reply) (step : Step) (mid after : Progress D) → FollowsIf model failed reply step mid after
       → OpensAgain failed (alone mid.machine) (alone after.machine)
   opens true reply (Done told) mid after f =
       (Some after.machine.committed, alone_reopen mid.machine after.machine (Some after.machine.committed) f.1.step)
@@ -60,14 +61,14 @@ module _ {D : Type 0} (is_honest : D → Type 0) (state : D → DiskState) (mome
   opens false reply step mid after f = ap (λ (p : Progress D). alone p.machine) f.1
 
   pub lives : (before mid after : Progress D) (given : Record) (reply : Reply) (own : List ℕ) (step : Step)
-      → Answers is_honest state moment images_since failures before given reply own mid → Follows is_honest state moment images_since failures reply step mid after
+      → Answers model before given reply own mid → Follows model reply step mid after
       → LiveAnswers (alone before.machine) given reply own (alone after.machine)
   lives before mid after given reply own step a f =
       let got = gets before mid given reply own a in
       (got.0, alone mid.machine, got.1, opens (says_failed reply) reply step mid after f)
 
   -- the file could not be opened again
-  pub no_file : (failed : Bool) (reply : Reply) (fault : OpenFault) (mid after : Progress D) → FollowsIf is_honest state moment images_since failures failed reply (Lost fault) mid after
+  pub no_file : (failed : Bool) (reply : Reply) (fault : OpenFault) (mid after : Progress D) → FollowsIf model failed reply (Lost fault) mid after
       → (alone after.machine).has_file ≡ false
   no_file true reply fault mid after f = ap (λ (hub : HubState). hub.has_file) f.step
   no_file false reply fault mid after f = let no : Lost fault ≡ Done reply = f.0 in cc

@@ -2,6 +2,7 @@
 use Rattle.std.proofs.Common.{◌≡◌, ℕ, Bool, true, false, Option, Some, None, Result, Ok, Err, List, [], ◌∷◌, refl, sym, ◌∙◌, subst, inl, inr}
 use Rattle.std.specs.Prelude.{⊤}
 use Rattle.std.specs.List.{AllByRecursion}
+use Rattle.disk_model.specs.declared.disk.Disk.{Ghosts as DiskModel}
 use Rattle.disk_model.specs.Image.{DiskState}
 use Rattle.feed_replies.specs.declared.fault.RunFault.{RunFault}
 use Rattle.feed_replies.specs.declared.fault.RunFault.TheVariants.{Feed, Write, TooMany}
@@ -35,14 +36,14 @@ module _ (others : OthersStay) (numbers : NumbersStay) (grow : BytesGrow) where
     extends = (grow old (record { event = event; after = new } ∷ []) (step, tt)).0;
   }
 
-  module _ {D : Type 0} (is_honest : D → Type 0) (state : D → DiskState) (moment : D → ℕ) (images_since : D → ℕ → List ℕ → Type 0) (failures : D → ℕ) where
+  module _ {D : Type 0} (model : DiskModel D) where
     answered : (before after : Progress D) (given : RecordOf) (reply : Reply) (own : List ℕ)
-        → Answers is_honest state moment images_since failures before given reply own after → KeepsAll before.machine after.machine
+        → Answers model before given reply own after → KeepsAll before.machine after.machine
     answered before after (CommandOf command) reply own a = keep before.machine after.machine (Record command a.1.answer) a.1.step refl
     answered before after FlushOf reply own a = keep before.machine after.machine (Flush a.1.answer) a.1.step refl
 
     ran : (old new : Streams) (was now : RunState) (before mid : Progress D) (reply : Reply)
-        → Steps (Answers is_honest state moment images_since failures) waiting_in old new was now before mid reply → KeepsAll before.machine mid.machine
+        → Steps (Answers model) waiting_in old new was now before mid reply → KeepsAll before.machine mid.machine
     ran old new was now before mid reply (inl one) = answered before mid one.given reply one.own one.answers_it
     ran old new was now before mid reply (inr one) = answered before mid FlushOf reply [] one.answers_it
 
@@ -50,37 +51,37 @@ module _ (others : OthersStay) (numbers : NumbersStay) (grow : BytesGrow) where
     same_machine before after e = subst (λ (p : Progress D). KeepsAll before.machine p.machine) (sym e) (all_none before.machine)
 
     reopened : (result : Result ⊤ OpenFault) (before after : Progress D)
-        → Reopened is_honest state moment images_since failures result before after → KeepsAll before.machine after.machine
+        → Reopened model result before after → KeepsAll before.machine after.machine
     reopened result before after r = keep before.machine after.machine (Reopen (found_by result after.machine)) r.step refl
 
     followed : (failed : Bool) (reply : Reply) (step : FeedStep) (before after : Progress D)
-        → FollowsIf is_honest state moment images_since failures failed reply step before after → KeepsAll before.machine after.machine
+        → FollowsIf model failed reply step before after → KeepsAll before.machine after.machine
     followed true reply (Done told) before after f = reopened (Ok tt) before after f.1
     followed true reply (Lost fault) before after f = reopened (Err fault) before after f
     followed true reply End before after f = absurd f
     followed false reply step before after f = same_machine before after f.1
 
     has_answered : (old new : Streams) (was now : RunState) (before after : Progress D) (step : FeedStep)
-        → HasAnswered is_honest state moment images_since failures old new was now before after step → KeepsAll before.machine after.machine
+        → HasAnswered model old new was now before after step → KeepsAll before.machine after.machine
     has_answered old new was now before after step h =
         all_both before.machine h.mid.machine after.machine (ran old new was now before h.mid h.reply h.ran) (followed (says_failed h.reply) h.reply step h.mid after h.follows)
 
     stopped : (waits : Bool) (pages new_pages lines new_lines : Option (List ℕ)) (given : RecordOf) (own : List ℕ) (reply : Reply) (before reached after : Progress D)
         → StopsAt waits pages new_pages lines new_lines own reply before reached after
-        → Answers is_honest state moment images_since failures before given reply own reached → KeepsAll before.machine after.machine
+        → Answers model before given reply own reached → KeepsAll before.machine after.machine
     stopped waits pages new_pages lines new_lines given own reply before reached after (inl none) a = same_machine before after none.2
     stopped waits pages new_pages lines new_lines given own reply before reached after (inr all) a =
         subst (λ (p : Progress D). KeepsAll before.machine p.machine) (sym all.2) (answered before reached given reply own a)
 
     stops : (fault : RunFault) (old new : Streams) (known : Option Version) (count : ℕ) (before after : Progress D)
-        → StopsBy (Answers is_honest state moment images_since failures) waiting_in fault old new known count before after → KeepsAll before.machine after.machine
+        → StopsBy (Answers model) waiting_in fault old new known count before after → KeepsAll before.machine after.machine
     stops (Feed fault) old new known count before after s = same_machine before after s.same
     stops TooMany old new known count before after s = same_machine before after s.same
     stops Write old new known count before after s =
         stopped new.waits old.pages new.pages old.lines new.lines s.given s.own s.reply before s.reached after s.written s.answers_it
 
     pub stepped : (old new : Streams) (was now : RunState) (before after : Progress D) (result : Result FeedStep RunFault)
-        → HasStepped is_honest state moment images_since failures old new was now before after result → KeepsAll before.machine after.machine
+        → HasStepped model old new was now before after result → KeepsAll before.machine after.machine
     stepped old new was now before after (Ok (Done reply)) h = has_answered old new was now before after (Done reply) h
     stepped old new was now before after (Ok (Lost fault)) h = has_answered old new was now before after (Lost fault) h
     stepped old new was now before after (Ok End) h = same_machine before after h.same

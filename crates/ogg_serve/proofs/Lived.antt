@@ -1,5 +1,6 @@
 -- How far a feed has come by its steps, with calls of sessions between them.
 use Rattle.std.proofs.Common.{◌≡◌, ◌+◌, ℕ, zero, suc, Option, Some, None, Result, Ok, Err, List, [], ◌∷◌, ◌++◌, inl, inr, refl, sym, ◌∙◌, ap, subst, arith, length-append}
+use Rattle.disk_model.specs.declared.disk.Disk.{Ghosts as DiskModel}
 use Rattle.disk_model.specs.Image.{DiskState}
 use Rattle.feed_replies.specs.declared.fault.RunFault.{RunFault}
 use Rattle.feed_replies.specs.declared.fault.RunFault.TheVariants.{Feed, Write, TooMany}
@@ -19,14 +20,14 @@ use Rattle.ogg_serve.proofs.Alone.{file_alone, gets, lives, no_file}
 use Rattle.ogg_serve.proofs.ReadOn.{none_run, runs_on}
 use Rattle.ogg_serve.proofs.Taken.{file_both, followed}
 
-module _ {D : Type 0} (is_honest : D → Type 0) (state : D → DiskState) (moment : D → ℕ) (images_since : D → ℕ → List ℕ → Type 0) (failures : D → ℕ) where
+module _ {D : Type 0} (model : DiskModel D) where
   same_machine : (before after : Progress D) → after ≡ before → alone after.machine ≡ alone before.machine
   same_machine before after same = ap (λ (p : Progress D). alone p.machine) same
 
   module _ (start old new : Streams) (was now : RunState) (first : HubState) (before : Progress D) (so : HasRunSome start old was first (alone before.machine)) where
     -- a record was answered
-    run_one : (mid after : Progress D) (reply : Reply) (step : Step) → RunsOne (Answers is_honest state moment images_since failures) old new was now before mid reply
-        → Follows is_honest state moment images_since failures reply step mid after → HasRunSome start new now first (alone after.machine)
+    run_one : (mid after : Progress D) (reply : Reply) (step : Step) → RunsOne (Answers model) old new was now before mid reply
+        → Follows model reply step mid after → HasRunSome start new now first (alone after.machine)
     run_one mid after reply step one follows = record {
       records = so.records ++ one.given ∷ [];
       replies = so.replies ++ reply ∷ [];
@@ -34,14 +35,14 @@ module _ {D : Type 0} (is_honest : D → Type 0) (state : D → DiskState) (mome
           subst (λ (v : Option Version). HasRun LiveAnswers start new v (so.records ++ one.given ∷ []) (so.replies ++ reply ∷ []) first (alone after.machine))
           (sym (ap (λ (s : RunState). s.version) one.now_is))
           (runs_on LiveAnswers start old new was.version one.known so.records so.replies first (alone before.machine) (alone after.machine) one.given reply one.own so.has_run one.read
-          (lives is_honest state moment images_since failures before mid after one.given reply one.own step one.answers_it follows) one.pages one.lines);
+          (lives model before mid after one.given reply one.own step one.answers_it follows) one.pages one.lines);
       many = ap (λ (s : RunState). s.records) one.now_is ∙ ap (λ (n : ℕ). n + 1) so.many ∙ sym (length-append so.records (one.given ∷ []));
       few = omega (arith, one.few, so.many, length-append so.records (one.given ∷ []));
     }
 
     -- what waited was flushed
-    close_one : (mid after : Progress D) (reply : Reply) (step : Step) → (one : ClosesOne (Answers is_honest state moment images_since failures) waiting_in old new was now before mid reply)
-        → Follows is_honest state moment images_since failures reply step mid after → RunsTo LiveAnswers waiting_of one.outcome start new first (alone after.machine)
+    close_one : (mid after : Progress D) (reply : Reply) (step : Step) → (one : ClosesOne (Answers model) waiting_in old new was now before mid reply)
+        → Follows model reply step mid after → RunsTo LiveAnswers waiting_of one.outcome start new first (alone after.machine)
     close_one mid after reply step one follows = record {
       known = was.version;
       records = so.records;
@@ -53,7 +54,7 @@ module _ {D : Type 0} (is_honest : D → Type 0) (state : D → DiskState) (mome
       run = so.has_run;
       few = so.few;
       leaves = subst (λ (n : ℕ). Leaves one.outcome was.version n new.enough old.feed new.feed) so.many one.leaves;
-      closed = inr (one.waits, reply, refl, refl, lives is_honest state moment images_since failures before mid after Flush reply [] step one.answers_it follows, one.lines);
+      closed = inr (one.waits, reply, refl, refl, lives model before mid after Flush reply [] step one.answers_it follows, one.lines);
       pages = one.pages;
     }
 
@@ -76,7 +77,7 @@ module _ {D : Type 0} (is_honest : D → Type 0) (state : D → DiskState) (mome
     }
 
     -- a writer failed
-    stop_one : (after : Progress D) → StopsOne (Answers is_honest state moment images_since failures) waiting_in old new was.version was.records before after
+    stop_one : (after : Progress D) → StopsOne (Answers model) waiting_in old new was.version was.records before after
         → StopsLines start new first (alone after.machine)
     stop_one after s = record {
       known = was.version;
@@ -92,7 +93,7 @@ module _ {D : Type 0} (is_honest : D → Type 0) (state : D → DiskState) (mome
         own = s.own;
         reached = alone s.reached.machine;
         asked = subst (λ (n : ℕ). Asks waiting_of was.version n new.enough old.feed new.feed (alone before.machine) s.given) so.many s.asked;
-        answers_it = gets is_honest state moment images_since failures before s.reached s.given s.reply s.own s.answers_it;
+        answers_it = gets model before s.reached s.given s.reply s.own s.answers_it;
         written = stops_alone new.waits old.pages new.pages old.lines new.lines s.own s.reply s.reached after s.written;
       };
     }
@@ -123,7 +124,7 @@ module _ {D : Type 0} (is_honest : D → Type 0) (state : D → DiskState) (mome
         (subst (λ (x : Option (Result Step RunFault)). HasCome x old.run.outcome start (Bytes old) old.run first last) e come)
 
     module _ (start : Streams) (old new : FeedState R W) (first : HubState) (before after : Progress D) (so : HasRunSome start (Bytes old) old.run first (alone before.machine)) where
-      answered : (reply : Reply) → new.ended ≡ None → HasAnswered is_honest state moment images_since failures (Bytes old) (Bytes new) old.run new.run before after (Done reply)
+      answered : (reply : Reply) → new.ended ≡ None → HasAnswered model (Bytes old) (Bytes new) old.run new.run before after (Done reply)
           → Come start new first (alone after.machine)
       answered reply ended h =
           elim h.ran [
@@ -135,10 +136,10 @@ module _ {D : Type 0} (is_honest : D → Type 0) (state : D → DiskState) (mome
                 (close_one start (Bytes old) (Bytes new) old.run new.run first before so h.mid after h.reply (Done reply) one h.follows)
           ]
 
-      lost : (fault : _) → new.ended ≡ Some (Ok (Lost fault)) → HasAnswered is_honest state moment images_since failures (Bytes old) (Bytes new) old.run new.run before after (Lost fault)
+      lost : (fault : _) → new.ended ≡ Some (Ok (Lost fault)) → HasAnswered model (Bytes old) (Bytes new) old.run new.run before after (Lost fault)
           → Come start new first (alone after.machine)
       lost fault ended h =
-          let file = no_file is_honest state moment images_since failures (says_failed h.reply) h.reply fault h.mid after h.follows in
+          let file = no_file model (says_failed h.reply) h.reply fault h.mid after h.follows in
           come_as start new first (alone after.machine) (Some (Ok (Lost fault))) new.run.outcome ended refl
           (elim h.ran [
             | inl one ↦ (file, inl (run_one start (Bytes old) (Bytes new) old.run new.run first before so h.mid after h.reply (Lost fault) one h.follows))
@@ -146,7 +147,7 @@ module _ {D : Type 0} (is_honest : D → Type 0) (state : D → DiskState) (mome
           ])
 
       stepped : (answer : Result Step RunFault) → new.ended ≡ lasting answer
-          → HasStepped is_honest state moment images_since failures (Bytes old) (Bytes new) old.run new.run before after answer → Come start new first (alone after.machine)
+          → HasStepped model (Bytes old) (Bytes new) old.run new.run before after answer → Come start new first (alone after.machine)
       stepped (Ok (Done reply)) ended h = answered reply ended h
       stepped (Ok (Lost fault)) ended h = lost fault ended h
       stepped (Ok End) ended h =
@@ -171,7 +172,7 @@ module _ {D : Type 0} (is_honest : D → Type 0) (state : D → DiskState) (mome
     at_end (Err Write) other start now run first last to = absurd to.leaves
 
     one_step : (start : Streams) (old new : FeedState R W) (first before after : HubState) (ended : Option (Result Step RunFault)) (outcome : Option Outcome)
-        → old.ended ≡ ended → old.run.outcome ≡ outcome → StepsIf is_honest state moment images_since failures remaining contents ended outcome old new before after
+        → old.ended ≡ ended → old.run.outcome ≡ outcome → StepsIf model remaining contents ended outcome old new before after
         → Come start old first (alone before) → Come start new first (alone after)
     one_step start old new first before after (Some answer) outcome e f (same, still) come =
         subst (λ (feed : FeedState R W). Come start feed first (alone after)) (sym same) (subst (λ (hub : HubState). Come start old first (alone hub)) (sym still) come)
@@ -196,7 +197,7 @@ module _ {D : Type 0} (is_honest : D → Type 0) (state : D → DiskState) (mome
         })
 
     pub all_steps : (n : ℕ) (old new : FeedState R W) (before after : HubState) → IsNewFeed old
-        → TakesSteps is_honest state moment images_since failures remaining contents n old new before after → Come (Bytes old) new (alone before) (alone after)
+        → TakesSteps model remaining contents n old new before after → Come (Bytes old) new (alone before) (alone after)
     all_steps zero old new before after is (same, file) =
         subst (λ (feed : FeedState R W). Come (Bytes old) feed (alone before) (alone after)) (sym same)
         (subst (λ (hub : HubState). Come (Bytes old) old (alone before) hub) (sym (file_alone before after file)) (begins old (alone before) is))
@@ -206,15 +207,15 @@ module _ {D : Type 0} (is_honest : D → Type 0) (state : D → DiskState) (mome
         subst (λ (hub : HubState). Come (Bytes old) new (alone before) hub) (sym (file_alone two after file)) next
 
     -- steps after steps
-    pub joined : (n m : ℕ) (old mid new : FeedState R W) (a b c d : HubState) → TakesSteps is_honest state moment images_since failures remaining contents n old mid a b
-        → KeepsFile b c → TakesSteps is_honest state moment images_since failures remaining contents m mid new c d
-        → TakesSteps is_honest state moment images_since failures remaining contents (n + m) old new a d
+    pub joined : (n m : ℕ) (old mid new : FeedState R W) (a b c d : HubState) → TakesSteps model remaining contents n old mid a b
+        → KeepsFile b c → TakesSteps model remaining contents m mid new c d
+        → TakesSteps model remaining contents (n + m) old new a d
     joined n zero old mid new a b c d first between (same, file) =
         let e : n ≡ n + 0 = omega arith in
-        subst (λ (k : ℕ). TakesSteps is_honest state moment images_since failures remaining contents k old new a d) e
-        (subst (λ (feed : FeedState R W). TakesSteps is_honest state moment images_since failures remaining contents n old feed a d) (sym same)
-        (followed is_honest state moment images_since failures remaining contents n old mid a b d first (file_both b c d between file)))
+        subst (λ (k : ℕ). TakesSteps model remaining contents k old new a d) e
+        (subst (λ (feed : FeedState R W). TakesSteps model remaining contents n old feed a d) (sym same)
+        (followed model remaining contents n old mid a b d first (file_both b c d between file)))
     joined n (suc m) old mid new a b c d first between (feed, one, two, steps, step, file) =
         let e : suc (n + m) ≡ n + suc m = omega arith in
         let all = joined n m old mid feed a b c one first between steps in
-        subst (λ (k : ℕ). TakesSteps is_honest state moment images_since failures remaining contents k old new a d) e (feed, one, two, all, step, file)
+        subst (λ (k : ℕ). TakesSteps model remaining contents k old new a d) e (feed, one, two, all, step, file)

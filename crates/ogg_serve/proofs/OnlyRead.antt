@@ -1,32 +1,33 @@
 -- A file that is only read, by one call after the other.
 use Rattle.std.proofs.Common.{◌≡◌, ℕ, ◌≤◌, Option, Some, None, List, refl, sym, ◌∙◌, ap, subst, arith, inl, inr, ⊎_elim}
+use Rattle.disk_model.specs.declared.disk.Disk.{Ghosts as DiskModel}
 use Rattle.disk_model.specs.Image.{DiskState, IsImage}
-use Rattle.disk_model.specs.Clock.{started, weakened}
+use Rattle.disk_model.specs.Leaving.{started, weakened}
 use Rattle.gate_file.specs.Reading.{OnlyReads, nothing_read, reads_then}
 use Rattle.history.specs.Showing.{IsAsBefore}
 use Rattle.ogg_recorder.specs.Recorder.{RecorderState, over_disk}
 use Rattle.ogg_recorder.specs.Recovery.{Shows}
 use Rattle.serve_hub.specs.Images.{IfFile, Fails, Reads}
 
-module _ {D : Type 0} (is_honest : D → Type 0) (state : D → DiskState) (moment : D → ℕ) (images_since : D → ℕ → List ℕ → Type 0) (failures : D → ℕ) where
+module _ {D : Type 0} (model : DiskModel D) where
   -- the images of now
   abbrev pub IsNow : D → Type 0
-  IsNow disk = is_honest disk → (image : List ℕ) → images_since disk (moment disk) image → IsImage (state disk) image
+  IsNow disk = model.is_honest disk → (image : List ℕ) → model.images_since disk (model.moment disk) image → IsImage (model.state disk) image
 
-  as_before : (old new : D) → OnlyReads is_honest state moment images_since old new → is_honest old → (image : List ℕ) → IsImage (state old) image
-      → IsAsBefore Shows (state old) image
+  as_before : (old new : D) → OnlyReads model old new → model.is_honest old → (image : List ℕ) → IsImage (model.state old) image
+      → IsAsBefore Shows (model.state old) image
   as_before old new only h image now = record { source = image; was = now; keeps = λ s shows. shows }
 
-  none_read : (r : RecorderState D) → IsNow r.file.disk → Reads is_honest state moment images_since failures r r
+  none_read : (r : RecorderState D) → IsNow r.file.disk → Reads model r r
   none_read r now =
-      let only = nothing_read is_honest state moment images_since r.file.disk now in
+      let only = nothing_read model r.file.disk now in
       record {
         only = only;
         same = refl;
         step = λ first w there h. (
           (
             tt,
-            weakened moment images_since r.file.disk r.file.disk (IsImage (state r.file.disk)) (IsAsBefore Shows (state r.file.disk)) (only.any_moment h)
+            weakened model r.file.disk r.file.disk (IsImage (model.state r.file.disk)) (IsAsBefore Shows (model.state r.file.disk)) (only.any_moment h)
                 (as_before r.file.disk r.file.disk only h),
             h,
           ),
@@ -35,10 +36,10 @@ module _ {D : Type 0} (is_honest : D → Type 0) (state : D → DiskState) (mome
         later = omega arith;
       }
 
-  both_read : (a b c : RecorderState D) → Reads is_honest state moment images_since failures a b → Reads is_honest state moment images_since failures b c
-      → Reads is_honest state moment images_since failures a c
+  both_read : (a b c : RecorderState D) → Reads model a b → Reads model b c
+      → Reads model a c
   both_read a b c first second =
-      let only = reads_then is_honest state moment images_since a.file.disk b.file.disk c.file.disk first.only second.only in
+      let only = reads_then model a.file.disk b.file.disk c.file.disk first.only second.only in
       record {
         only = only;
         same = second.same ∙ ap (over_disk c.file.disk) first.same;
@@ -47,7 +48,7 @@ module _ {D : Type 0} (is_honest : D → Type 0) (state : D → DiskState) (mome
             let two = second.step world w one.1 (first.only.honest.0 h) in (
               (
                 tt,
-                weakened moment images_since a.file.disk c.file.disk (IsImage (state a.file.disk)) (IsAsBefore Shows (state a.file.disk)) (only.any_moment h)
+                weakened model a.file.disk c.file.disk (IsImage (model.state a.file.disk)) (IsAsBefore Shows (model.state a.file.disk)) (only.any_moment h)
                     (as_before a.file.disk c.file.disk only h),
                 only.honest.0 h,
               ),
@@ -57,10 +58,10 @@ module _ {D : Type 0} (is_honest : D → Type 0) (state : D → DiskState) (mome
       }
 
   abbrev FileRead : Option (RecorderState D) → Option (RecorderState D) → Type 0
-  FileRead old new = IfFile (Reads is_honest state moment images_since failures) old new
+  FileRead old new = IfFile (Reads model) old new
 
   abbrev FileFails : Option (RecorderState D) → Option (RecorderState D) → Type 0
-  FileFails old new = IfFile (Fails is_honest state moment images_since failures) old new
+  FileFails old new = IfFile (Fails model) old new
 
   pub unread : (file : Option (RecorderState D)) → ((disk : D) → IsNow disk) → FileRead file file
   unread None now = refl

@@ -1,6 +1,7 @@
 -- Steps of a feed, one after the other.
 use Rattle.std.proofs.Common.{◌≡◌, ◌+◌, ℕ, zero, suc, arith, Option, Some, None, Result, Ok, Err, List, refl, sym, ◌∙◌, ap, subst}
 use Rattle.std.specs.Prelude.{IfSome}
+use Rattle.disk_model.specs.declared.disk.Disk.{Ghosts as DiskModel}
 use Rattle.disk_model.specs.Image.{DiskState}
 use Rattle.feed_replies.specs.declared.fault.RunFault.{RunFault}
 use Rattle.feed_run.specs.Run.{Outcome, RunState}
@@ -28,8 +29,7 @@ ended_so (Some o) result last reader new_reader replies new_replies run new_run 
     let stays : last ≡ Some result = is ∙ subst (λ (r : Result Step RunFault). lasting r ≡ Some r) (sym told) (lasting_at o) in
     (told, (λ i. feed_state (readers i) (writers i) (runs i) (stays i)), hubs)
 
-module _ {D : Type 0} (is_honest : D → Type 0) (state : D → DiskState) (moment : D → ℕ) (images_since : D → ℕ → List ℕ → Type 0)
-    (failures : D → ℕ) {R W : Type 0} (remaining : R → Option (List ℕ)) (contents : W → Option (List ℕ)) where
+module _ {D : Type 0} (model : DiskModel D) {R W : Type 0} (remaining : R → Option (List ℕ)) (contents : W → Option (List ℕ)) where
   -- what a step does, by what its contract says
   pub taken : (shows : HubParts D → HubState
       → Type 0) (keeps : HubState → HubState → Type 0) → ((m : HubState) → keeps m m) → (ended : Option (Result Step RunFault)) (outcome : Option Outcome) (result : Result Step RunFault)
@@ -38,9 +38,9 @@ module _ {D : Type 0} (is_honest : D → Type 0) (state : D → DiskState) (mome
       → (ended ≡ None
       → IfSome outcome (λ o. (result ≡ step_at o) × (new ≡ feed_state old.reader old.replies old.run (Some result)) × (hub_after ≡ hub)))
       → (ended ≡ None → outcome ≡ None → (after : HubState) × shows hub_after after × keeps before after
-      × GoesOn is_honest state moment images_since failures remaining contents old new before after)
+      × GoesOn model remaining contents old new before after)
       → (after : HubState) × shows hub_after after × keeps before after
-      × StepsIf is_honest state moment images_since failures remaining contents ended outcome old new before after
+      × StepsIf model remaining contents ended outcome old new before after
   taken shows keeps none (Some answer) outcome result old new hub hub_after before shown stays closed stepped =
       (before, subst (λ (h : HubParts D). shows h before) (sym stays.2) shown, none before, (stays.1, refl))
   taken shows keeps none None (Some o) result old new hub hub_after before shown stays closed stepped =
@@ -54,22 +54,22 @@ module _ {D : Type 0} (is_honest : D → Type 0) (state : D → DiskState) (mome
 
   -- the same number of steps
   pub as_many : (n : ℕ) (old new : FeedState R W) (before after : HubState)
-      → TakesSteps is_honest state moment images_since failures remaining contents (suc n) old new before after
-      → TakesSteps is_honest state moment images_since failures remaining contents (n + 1) old new before after
+      → TakesSteps model remaining contents (suc n) old new before after
+      → TakesSteps model remaining contents (n + 1) old new before after
   as_many n old new before after steps =
       let e : suc n ≡ n + 1 = omega arith in
-      subst (λ (k : ℕ). TakesSteps is_honest state moment images_since failures remaining contents k old new before after) e steps
+      subst (λ (k : ℕ). TakesSteps model remaining contents k old new before after) e steps
 
   -- nothing is recorded before the steps either
   pub led : (n : ℕ) (old new : FeedState R W) (a b c : HubState) → KeepsFile a b
-      → TakesSteps is_honest state moment images_since failures remaining contents n old new b c
-      → TakesSteps is_honest state moment images_since failures remaining contents n old new a c
+      → TakesSteps model remaining contents n old new b c
+      → TakesSteps model remaining contents n old new a c
   led zero old new a b c first steps = (steps.0, file_both a b c first steps.1)
   led (suc n) old new a b c first (feed, one, two, steps, step, file) = (feed, one, two, led n old feed a b one first steps, step, file)
 
   -- nothing is recorded after the steps either
   pub followed : (n : ℕ) (old new : FeedState R W) (a b c : HubState)
-      → TakesSteps is_honest state moment images_since failures remaining contents n old new a b → KeepsFile b c
-      → TakesSteps is_honest state moment images_since failures remaining contents n old new a c
+      → TakesSteps model remaining contents n old new a b → KeepsFile b c
+      → TakesSteps model remaining contents n old new a c
   followed zero old new a b c steps last = (steps.0, file_both a b c steps.1 last)
   followed (suc n) old new a b c (feed, one, two, steps, step, file) last = (feed, one, two, steps, step, file_both two b c file last)

@@ -1,5 +1,6 @@
 -- What a step of a feed does while its file is served. Ours.
 use Rattle.std.specs.Prelude.{◌≡◌, ℕ, ⊤, Bool, true, false, Option, Some, None, Result, Ok, Err, List}
+use Rattle.disk_model.specs.declared.disk.Disk.{Ghosts as DiskModel}
 use Rattle.disk_model.specs.Image.{DiskState}
 use Rattle.feed_replies.specs.declared.fault.RunFault.{RunFault}
 use Rattle.feed_replies.specs.declared.reply.Reply.{Reply}
@@ -35,12 +36,12 @@ abbrev pub says_failed : Reply → Bool
 says_failed (Refused Disk) = true
 says_failed reply = false
 
-module _ {D : Type 0} (is_honest : D → Type 0) (state : D → DiskState) (moment : D → ℕ) (images_since : D → ℕ → List ℕ → Type 0) (failures : D → ℕ) where
+module _ {D : Type 0} (model : DiskModel D) where
   -- the disk was given back and opened again
   pub record Reopened (result : Result ⊤ OpenFault) (before after : Progress D) : Type 0 where
     pub step : reopen_step before.machine (found_by result after.machine) after.machine
     pub disk : (old new : D) → disk_in before.now.file before.now.lost ≡ Some old → disk_in after.now.file after.now.lost ≡ Some new
-        → Reopens is_honest state moment images_since failures result after.now.file old new
+        → Reopens model result after.now.file old new
 
   -- After the reply that the disk has failed the file is opened again. After any other reply nothing is done.
   abbrev pub FollowsFailure : Step → Progress D → Progress D → Type 0
@@ -59,7 +60,7 @@ module _ {D : Type 0} (is_honest : D → Type 0) (state : D → DiskState) (mome
   pub record HasAnswered (old new : Streams) (was now : RunState) (before after : Progress D) (step : Step) : Type 0 where
     pub reply : Reply
     pub mid : Progress D
-    pub ran : Steps (Answers is_honest state moment images_since failures) waiting_in old new was now before mid reply
+    pub ran : Steps (Answers model) waiting_in old new was now before mid reply
     pub follows : Follows reply step mid after
 
   -- what a step with this answer has done, if the run had not ended before
@@ -68,7 +69,7 @@ module _ {D : Type 0} (is_honest : D → Type 0) (state : D → DiskState) (mome
   HasStepped old new was now before after (Ok (Lost fault)) = HasAnswered old new was now before after (Lost fault)
   HasStepped old new was now before after (Ok End) = EndsOne waiting_in (Ok tt) old new was.version was.records before after
   HasStepped old new was now before after (Err fault) =
-      StopsBy (Answers is_honest state moment images_since failures) waiting_in fault old new was.version was.records before after
+      StopsBy (Answers model) waiting_in fault old new was.version was.records before after
 
 -- The answer stays from then on, unless it is a reply.
 abbrev pub lasting : Result Step RunFault → Option (Result Step RunFault)

@@ -1,6 +1,7 @@
 -- The steps of a feed that are taken while a connection is served. Ours.
 use Rattle.std.specs.Prelude.{◌≡◌, ◌⊎◌, ◌+◌, ◌*◌, ◌<◌, ◌≤◌, ℕ, zero, suc, Bool, Option, Some, None, Result, Ok, Err, List, length, take}
 use Rattle.std.specs.Io.KnownBytes.{Appends, Consumes}
+use Rattle.disk_model.specs.declared.disk.Disk.{Ghosts as DiskModel}
 use Rattle.disk_model.specs.Image.{DiskState}
 use Rattle.feed_replies.specs.declared.fault.RunFault.{RunFault}
 use Rattle.feed_run.specs.Run.{Outcome, streams}
@@ -16,14 +17,13 @@ use Rattle.ogg_serve.specs.declared.pieces.Served.{Served}
 use Rattle.ogg_serve.specs.declared.pieces.Served.TheVariants.{Whole, NoHead, Cut}
 use Rattle.serve_machine.specs.declared.fault.HubFault.{HubFault}
 
-module _ {D : Type 0} (is_honest : D → Type 0) (state : D → DiskState) (moment : D → ℕ) (images_since : D → ℕ → List ℕ → Type 0)
-    (failures : D → ℕ) {R W : Type 0} (remaining : R → Option (List ℕ)) (contents : W → Option (List ℕ)) where
+module _ {D : Type 0} (model : DiskModel D) {R W : Type 0} (remaining : R → Option (List ℕ)) (contents : W → Option (List ℕ)) where
   -- a step of a feed that had not ended
   pub record GoesOn (old new : FeedState R W) (before after : HubState) : Type 0 where
     pub was : HubParts D
     pub now : HubParts D
     pub answer : Result Step RunFault
-    pub stepped : HasStepped is_honest state moment images_since failures
+    pub stepped : HasStepped model
         (streams (remaining old.reader) None (contents old.replies)) (streams (remaining new.reader) None (contents new.replies))
         old.run new.run (record { now = was; machine = before }) (record { now = now; machine = after }) answer
     pub ended : new.ended ≡ lasting answer

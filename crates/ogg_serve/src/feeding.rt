@@ -73,19 +73,19 @@ impl<R: Read, W: Write + Drop> LiveFeed<R, W> {
     /// If the reply says that the disk has failed, the file is opened again, once. If that fails, the answer is
     /// `Lost` from then on. Otherwise the feed goes on over what was found, with counts from 1.
     pub fn step<D: Disk + Drop>(&mut self, hub: &mut Hub<D>) -> Result<Step, RunFault>
-        ensures stepped { (before : Progress D) → IsIn D.is_honest D.state before hub.old → self.old.ended ≡ None → self.old.run.outcome ≡ None
-            → (after : Progress D) × IsIn D.is_honest D.state after hub.new
-            × HasStepped D.is_honest D.state D.moment D.images_since D.failures
+        ensures stepped { (before : Progress D) → IsIn D.Disk before hub.old → self.old.ended ≡ None → self.old.run.outcome ≡ None
+            → (after : Progress D) × IsIn D.Disk after hub.new
+            × HasStepped D.Disk
             (streams (R.remaining self.old.reader) None (W.contents self.old.replies))
             (streams (R.remaining self.new.reader) None (W.contents self.new.replies)) self.old.run self.new.run before after result }
 
         // By the machine alone, and with the answers that stay.
-        ensures takes { (before : HubState) → Shows D.is_honest D.state hub.old before → (after : HubState) × Shows D.is_honest D.state hub.new after
-            × TakesStep D.is_honest D.state D.moment D.images_since D.failures R.remaining W.contents self.old self.new before after }
+        ensures takes { (before : HubState) → Shows D.Disk hub.old before → (after : HubState) × Shows D.Disk hub.new after
+            × TakesStep D.Disk R.remaining W.contents self.old self.new before after }
 
         // In each history in which the hub stood, the record is what comes next, and so is the reopening after it.
-        ensures history { (before : HubState) → Shows D.is_honest D.state hub.old before
-            → ContinuesHistory D.is_honest D.state D.moment D.images_since hub.old hub.new }
+        ensures history { (before : HubState) → Shows D.Disk hub.old before
+            → ContinuesHistory D.Disk hub.old hub.new }
 
         // What it answers from then on.
         ensures ended { self.old.ended ≡ None → self.new.ended ≡ lasting result }
@@ -129,9 +129,9 @@ fn take_step<D: Disk + Drop, R: Read, W: Write>(
     reader: &mut R,
     replies: &mut W,
 ) -> Result<Step, RunFault>
-    ensures stepped { (before : Progress D) → IsIn D.is_honest D.state before hub.old → run.old.outcome ≡ None
-        → (after : Progress D) × IsIn D.is_honest D.state after hub.new
-        × HasStepped D.is_honest D.state D.moment D.images_since D.failures
+    ensures stepped { (before : Progress D) → IsIn D.Disk before hub.old → run.old.outcome ≡ None
+        → (after : Progress D) × IsIn D.Disk after hub.new
+        × HasStepped D.Disk
         (streams (R.remaining reader.old) None (W.contents replies.old)) (streams (R.remaining reader.new) None (W.contents replies.new))
         run.old run.new before after result }
     ensures closed { IfSome run.old.outcome (λ outcome. (result ≡ step_at outcome) × (run.new ≡ run.old) × (hub.new ≡ hub.old)
@@ -146,8 +146,8 @@ fn take_step<D: Disk + Drop, R: Read, W: Write>(
 
 /// Opens the file again if the reply says that the disk has failed.
 fn follow<D: Disk + Drop>(hub: &mut Hub<D>, reply: Reply) -> Step
-    ensures { (before : Progress D) → IsIn D.is_honest D.state before hub.old → (after : Progress D) × IsIn D.is_honest D.state after hub.new
-        × Follows D.is_honest D.state D.moment D.images_since D.failures reply result before after }
+    ensures { (before : Progress D) → IsIn D.Disk before hub.old → (after : Progress D) × IsIn D.Disk after hub.new
+        × Follows D.Disk reply result before after }
 {
     if says_failed(reply) {
         match hub.reopen() {

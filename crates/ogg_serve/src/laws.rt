@@ -25,14 +25,14 @@ use std::io::{Read, Write};
 /// the reply that the disk has failed the file is opened again, and counts begin again.
 pub fn feeds_are_run_beside_sessions<D: Disk, F: Read, L: Write>()
     ensures lives { (n : ℕ) (old new : FeedState F L) (before after : HubState) → IsNewFeed old
-        → TakesSteps D.is_honest D.state D.moment D.images_since D.failures F.remaining L.contents n old new before after
+        → TakesSteps D.Disk F.remaining L.contents n old new before after
         → HasLived F.remaining L.contents old new before after }
     // Steps, then calls that leave the file, as those of sessions do, and then further steps.
     ensures joins { (n m : ℕ) (old mid new : FeedState F L) (before one two after : HubState)
-        → TakesSteps D.is_honest D.state D.moment D.images_since D.failures F.remaining L.contents n old mid before one
+        → TakesSteps D.Disk F.remaining L.contents n old mid before one
         → KeepsFile one two
-        → TakesSteps D.is_honest D.state D.moment D.images_since D.failures F.remaining L.contents m mid new two after
-        → TakesSteps D.is_honest D.state D.moment D.images_since D.failures F.remaining L.contents (n + m) old new before after }
+        → TakesSteps D.Disk F.remaining L.contents m mid new two after
+        → TakesSteps D.Disk F.remaining L.contents (n + m) old new before after }
     ensures counts { (before after : HubState) (records : List Record) (replies : List Reply) (bytes : List ℕ)
         → AnswersAll LiveAnswers before records replies bytes after → HaveCounts before.count records replies }
 {}
@@ -42,10 +42,10 @@ pub fn feeds_are_run_beside_sessions<D: Disk, F: Read, L: Write>()
 /// the disk and in each of them: a prefix of the commands, with every acknowledged one.
 pub fn histories_go_on_beside_sessions<D: Disk>()
     ensures { (first : Recording) (begun disk : D) (w : World CommandOf) (steps : List (StepOf CommandOf × D)) (old new : HubParts D)
-        → IsHistory D.is_honest D.state D.moment D.images_since Shows Accepts add first begun steps w disk
-        → StandsOn D.is_honest D.state first w old.file old.lost disk
-        → ContinuesHistory D.is_honest D.state D.moment D.images_since old new
+        → IsHistory D.Disk Shows Accepts add first begun steps w disk
+        → StandsOn D.Disk first w old.file old.lost disk
+        → ContinuesHistory D.Disk old new
         → (more : List (StepOf CommandOf × D)) × (now : D)
-        × IsHistory D.is_honest D.state D.moment D.images_since Shows Accepts add first begun (steps ++ more) (run w more) now
-        × StandsOn D.is_honest D.state first (run w more) new.file new.lost now }
+        × IsHistory D.Disk Shows Accepts add first begun (steps ++ more) (run w more) now
+        × StandsOn D.Disk first (run w more) new.file new.lost now }
 {}

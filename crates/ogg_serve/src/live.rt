@@ -32,23 +32,23 @@ pub fn live_one<D: Disk + Drop, R: Read, W: Write, F: Read, L: Write + Drop>(
     writer: &mut W,
     feed: &mut LiveFeed<F, L>,
 ) -> Result<Served, HubFault>
-    ensures served { (before : HubState) → Shows D.is_honest D.state hub.old before → is_full before ≡ false → AreNumbered before
-        → (after : HubState) × Shows D.is_honest D.state hub.new after × KeepsOthers before.next_id before after
+    ensures served { (before : HubState) → Shows D.Disk hub.old before → is_full before ≡ false → AreNumbered before
+        → (after : HubState) × Shows D.Disk hub.new after × KeepsOthers before.next_id before after
         × (phase_of after before.next_id ≡ None)
         × ((n : ℕ)
-        × TakesSteps D.is_honest D.state D.moment D.images_since D.failures F.remaining L.contents n feed.old feed.new before after
+        × TakesSteps D.Disk F.remaining L.contents n feed.old feed.new before after
         × GetsIn (R.remaining reader.old) (R.remaining reader.new) (W.contents writer.old) (W.contents writer.new)
         n after.has_file before.committed result) }
 
     // In each history in which the hub stood, what was recorded and read is what comes next.
-    ensures history { (before : HubState) → Shows D.is_honest D.state hub.old before → AreNumbered before
-        → ContinuesHistory D.is_honest D.state D.moment D.images_since hub.old hub.new }
+    ensures history { (before : HubState) → Shows D.Disk hub.old before → AreNumbered before
+        → ContinuesHistory D.Disk hub.old hub.new }
 
     // A fault has a cause.
-    ensures cause { result ≡ Err HubFault.Source → (before : HubState) → Shows D.is_honest D.state hub.old before
+    ensures cause { result ≡ Err HubFault.Source → (before : HubState) → Shows D.Disk hub.old before
         → AreNumbered before → HasFailed (failures_in D.failures hub.old) (failures_in D.failures hub.new) }
-    ensures full { (before : HubState) → Shows D.is_honest D.state hub.old before → is_full before ≡ true
-        → (result ≡ Err HubFault.SessionsFull) × Shows D.is_honest D.state hub.new before × (feed.new ≡ feed.old)
+    ensures full { (before : HubState) → Shows D.Disk hub.old before → is_full before ≡ true
+        → (result ≡ Err HubFault.SessionsFull) × Shows D.Disk hub.new before × (feed.new ≡ feed.old)
         × (reader.new ≡ reader.old) × (writer.new ≡ writer.old) }
 {
     calls_move_their_session();
@@ -75,17 +75,17 @@ fn exchange<D: Disk + Drop, R: Read, W: Write, F: Read, L: Write + Drop>(
     feed: &mut LiveFeed<F, L>,
     tries: &mut Tries,
 ) -> Result<Served, HubFault>
-    ensures served { (before : HubState) → Shows D.is_honest D.state hub.old before → phase_of before id ≡ Some (Reading [])
-        → (after : HubState) × Shows D.is_honest D.state hub.new after × KeepsOthers id before after
+    ensures served { (before : HubState) → Shows D.Disk hub.old before → phase_of before id ≡ Some (Reading [])
+        → (after : HubState) × Shows D.Disk hub.new after × KeepsOthers id before after
         × ((n : ℕ)
-        × TakesSteps D.is_honest D.state D.moment D.images_since D.failures F.remaining L.contents n feed.old feed.new before after
+        × TakesSteps D.Disk F.remaining L.contents n feed.old feed.new before after
         × GetsIn (R.remaining reader.old) (R.remaining reader.new) (W.contents writer.old) (W.contents writer.new)
         n after.has_file before.committed result) }
-    ensures tried { (before : HubState) → Shows D.is_honest D.state hub.old before → phase_of before id ≡ Some (Reading [])
+    ensures tried { (before : HubState) → Shows D.Disk hub.old before → phase_of before id ≡ Some (Reading [])
         → tries.old ≡ false → HasTriedAll tries.new before.committed result }
-    ensures history { (before : HubState) → Shows D.is_honest D.state hub.old before → phase_of before id ≡ Some (Reading [])
-        → ContinuesHistory D.is_honest D.state D.moment D.images_since hub.old hub.new }
-    ensures cause { result ≡ Err HubFault.Source → (before : HubState) → Shows D.is_honest D.state hub.old before
+    ensures history { (before : HubState) → Shows D.Disk hub.old before → phase_of before id ≡ Some (Reading [])
+        → ContinuesHistory D.Disk hub.old hub.new }
+    ensures cause { result ≡ Err HubFault.Source → (before : HubState) → Shows D.Disk hub.old before
         → phase_of before id ≡ Some (Reading []) → HasFailed (failures_in D.failures hub.old) (failures_in D.failures hub.new) }
 {
     disks_stand_in_their_world::<D, Recorded>();
@@ -107,12 +107,12 @@ fn exchange<D: Disk + Drop, R: Read, W: Write, F: Read, L: Write + Drop>(
 
 /// Takes a step of the feed. If it was the last, its answer stays in the feed. No session sees any of it.
 fn go_on<D: Disk + Drop, F: Read, L: Write + Drop>(hub: &mut Hub<D>, feed: &mut LiveFeed<F, L>)
-    ensures took { (before : HubState) → Shows D.is_honest D.state hub.old before
-        → (after : HubState) × Shows D.is_honest D.state hub.new after × KeepsAll before after
-        × TakesStep D.is_honest D.state D.moment D.images_since D.failures F.remaining L.contents feed.old feed.new before after }
-    ensures history { (before : HubState) → Shows D.is_honest D.state hub.old before
-        → ContinuesHistory D.is_honest D.state D.moment D.images_since hub.old hub.new }
-    ensures later { (before : HubState) → Shows D.is_honest D.state hub.old before
+    ensures took { (before : HubState) → Shows D.Disk hub.old before
+        → (after : HubState) × Shows D.Disk hub.new after × KeepsAll before after
+        × TakesStep D.Disk F.remaining L.contents feed.old feed.new before after }
+    ensures history { (before : HubState) → Shows D.Disk hub.old before
+        → ContinuesHistory D.Disk hub.old hub.new }
+    ensures later { (before : HubState) → Shows D.Disk hub.old before
         → failures_in D.failures hub.old ≤ failures_in D.failures hub.new }
 {
     committed_bytes_grow();

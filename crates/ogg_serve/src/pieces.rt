@@ -39,16 +39,16 @@ pub fn read_head<D: Disk + Drop, R: Read>(
     reader: &mut R,
     tries: &mut Tries,
 ) -> Result<Option<Served>, HubFault>
-    ensures read { (before : HubState) → Shows D.is_honest D.state hub.old before → phase_of before id ≡ Some (Reading [])
-        → (after : HubState) × Shows D.is_honest D.state hub.new after × OnlyServes id before after
+    ensures read { (before : HubState) → Shows D.Disk hub.old before → phase_of before id ≡ Some (Reading [])
+        → (after : HubState) × Shows D.Disk hub.new after × OnlyServes id before after
         × HasRead (R.remaining reader.old) (R.remaining reader.new) id before.committed after result }
-    ensures tried { (before : HubState) → Shows D.is_honest D.state hub.old before → phase_of before id ≡ Some (Reading [])
+    ensures tried { (before : HubState) → Shows D.Disk hub.old before → phase_of before id ≡ Some (Reading [])
         → tries.old ≡ false → HasTried tries.new result }
 
     // The file is only read, and a fault has a cause.
-    ensures disk { IfFile (Reads D.is_honest D.state D.moment D.images_since D.failures) hub.old.file hub.new.file }
-    ensures cause { result ≡ Err HubFault.Source → (before : HubState) → Shows D.is_honest D.state hub.old before
-        → phase_of before id ≡ Some (Reading []) → IfFile (Fails D.is_honest D.state D.moment D.images_since D.failures) hub.old.file hub.new.file }
+    ensures disk { IfFile (Reads D.Disk) hub.old.file hub.new.file }
+    ensures cause { result ≡ Err HubFault.Source → (before : HubState) → Shows D.Disk hub.old before
+        → phase_of before id ≡ Some (Reading []) → IfFile (Fails D.Disk) hub.old.file hub.new.file }
     ensures lost { hub.new.lost ≡ hub.old.lost }
 {
     calls_move_their_session();
@@ -77,15 +77,15 @@ pub fn send_piece<D: Disk + Drop, W: Write>(
     writer: &mut W,
     tries: &mut Tries,
 ) -> Result<Option<Served>, HubFault>
-    ensures sent { (before : HubState) (rest : List ℕ) → Shows D.is_honest D.state hub.old before → phase_of before id ≡ Some (Sending rest)
-        → (after : HubState) × Shows D.is_honest D.state hub.new after × OnlyServes id before after
+    ensures sent { (before : HubState) (rest : List ℕ) → Shows D.Disk hub.old before → phase_of before id ≡ Some (Sending rest)
+        → (after : HubState) × Shows D.Disk hub.new after × OnlyServes id before after
         × HasSent (W.contents writer.old) (W.contents writer.new) id rest after result }
     ensures tried { tries.old ≡ false → HasTried tries.new result }
 
     // The file is only read, and a fault has a cause.
-    ensures disk { IfFile (Reads D.is_honest D.state D.moment D.images_since D.failures) hub.old.file hub.new.file }
-    ensures cause { result ≡ Err HubFault.Source → (before : HubState) → Shows D.is_honest D.state hub.old before
-        → IfFile (Fails D.is_honest D.state D.moment D.images_since D.failures) hub.old.file hub.new.file }
+    ensures disk { IfFile (Reads D.Disk) hub.old.file hub.new.file }
+    ensures cause { result ≡ Err HubFault.Source → (before : HubState) → Shows D.Disk hub.old before
+        → IfFile (Fails D.Disk) hub.old.file hub.new.file }
     ensures lost { hub.new.lost ≡ hub.old.lost }
 {
     calls_move_their_session();

@@ -28,17 +28,17 @@ pub fn serve_one<D: Disk + Drop, R: Read, W: Write>(
     reader: &mut R,
     writer: &mut W,
 ) -> Result<Served, HubFault>
-    ensures served { (before : HubState) → Shows D.is_honest D.state hub.old before → is_full before ≡ false → AreNumbered before
-        → (after : HubState) × Shows D.is_honest D.state hub.new after × OnlyServes before.next_id before after
+    ensures served { (before : HubState) → Shows D.Disk hub.old before → is_full before ≡ false → AreNumbered before
+        → (after : HubState) × Shows D.Disk hub.new after × OnlyServes before.next_id before after
         × (phase_of after before.next_id ≡ None)
         × Gets (R.remaining reader.old) (R.remaining reader.new) (W.contents writer.old) (W.contents writer.new) before.has_file before.committed result }
 
     // The file is only read, and a fault has a cause.
-    ensures disk { IfFile (Reads D.is_honest D.state D.moment D.images_since D.failures) hub.old.file hub.new.file }
-    ensures cause { result ≡ Err HubFault.Source → (before : HubState) → Shows D.is_honest D.state hub.old before
-        → AreNumbered before → IfFile (Fails D.is_honest D.state D.moment D.images_since D.failures) hub.old.file hub.new.file }
-    ensures full { (before : HubState) → Shows D.is_honest D.state hub.old before → is_full before ≡ true
-        → (result ≡ Err HubFault.SessionsFull) × Shows D.is_honest D.state hub.new before × (reader.new ≡ reader.old) × (writer.new ≡ writer.old) }
+    ensures disk { IfFile (Reads D.Disk) hub.old.file hub.new.file }
+    ensures cause { result ≡ Err HubFault.Source → (before : HubState) → Shows D.Disk hub.old before
+        → AreNumbered before → IfFile (Fails D.Disk) hub.old.file hub.new.file }
+    ensures full { (before : HubState) → Shows D.Disk hub.old before → is_full before ≡ true
+        → (result ≡ Err HubFault.SessionsFull) × Shows D.Disk hub.new before × (reader.new ≡ reader.old) × (writer.new ≡ writer.old) }
 {
     calls_move_their_session();
     other_sessions_stay();
@@ -63,14 +63,14 @@ fn exchange<D: Disk + Drop, R: Read, W: Write>(
     writer: &mut W,
     tries: &mut Tries,
 ) -> Result<Served, HubFault>
-    ensures served { (before : HubState) → Shows D.is_honest D.state hub.old before → phase_of before id ≡ Some (Reading [])
-        → (after : HubState) × Shows D.is_honest D.state hub.new after × OnlyServes id before after
+    ensures served { (before : HubState) → Shows D.Disk hub.old before → phase_of before id ≡ Some (Reading [])
+        → (after : HubState) × Shows D.Disk hub.new after × OnlyServes id before after
         × Gets (R.remaining reader.old) (R.remaining reader.new) (W.contents writer.old) (W.contents writer.new) before.has_file before.committed result }
-    ensures tried { (before : HubState) → Shows D.is_honest D.state hub.old before → phase_of before id ≡ Some (Reading [])
+    ensures tried { (before : HubState) → Shows D.Disk hub.old before → phase_of before id ≡ Some (Reading [])
         → tries.old ≡ false → HasTriedAll tries.new before.committed result }
-    ensures disk { IfFile (Reads D.is_honest D.state D.moment D.images_since D.failures) hub.old.file hub.new.file }
-    ensures cause { result ≡ Err HubFault.Source → (before : HubState) → Shows D.is_honest D.state hub.old before
-        → phase_of before id ≡ Some (Reading []) → IfFile (Fails D.is_honest D.state D.moment D.images_since D.failures) hub.old.file hub.new.file }
+    ensures disk { IfFile (Reads D.Disk) hub.old.file hub.new.file }
+    ensures cause { result ≡ Err HubFault.Source → (before : HubState) → Shows D.Disk hub.old before
+        → phase_of before id ≡ Some (Reading []) → IfFile (Fails D.Disk) hub.old.file hub.new.file }
 {
     match read_head(hub, id, reader, tries) {
         Ok(None) => {}

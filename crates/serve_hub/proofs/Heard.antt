@@ -1,6 +1,7 @@
 -- What a listener hears, over a hub.
 use Rattle.std.proofs.Common.{◌≡◌, ℕ, ◌<◌, Some, Option, Result, List, length, sym, subst}
 use Rattle.std.specs.Prelude.{IfOk, min}
+use Rattle.disk_model.specs.declared.disk.Disk.{Ghosts as DiskModel}
 use Rattle.disk_model.specs.Image.{DiskState}
 use Rattle.ogg_recorder.specs.Recorder.{RecorderState}
 use Rattle.serve_live.specs.Hearing.{IsHearing}
@@ -27,12 +28,11 @@ pub cause_of : (moment : Moment) (given : List ℕ) (before : ListenerState) (si
 cause_of moment given before size C bytes other is said =
     subst (λ (l : List ℕ). (hearing : IsHearing moment l before given) → C × (0 < min (length hearing.rest) size)) (sym is) said
 
-module _ {D : Type 0} (is_honest : D → Type 0) (state : D → DiskState) where
+module _ {D : Type 0} (model : DiskModel D) where
   -- the place of a hub with a file
-  pub place_file : (file : Option (RecorderState D)) (r : RecorderState D) (lost : Option (Lost D)) (m : HubState) → file ≡ Some r → ShowsPlace is_honest state file lost m
-      → ShowsFile is_honest state r m
-  place_file file r lost m e s = subst (λ (o : Option (RecorderState D)). ShowsPlace is_honest state o lost m) e s
+  pub place_file : (file : Option (RecorderState D)) (r : RecorderState D) (lost : Option (Lost D)) (m : HubState) → file ≡ Some r → ShowsPlace model file lost m
+      → ShowsFile model r m
+  place_file file r lost m e s = subst (λ (o : Option (RecorderState D)). ShowsPlace model o lost m) e s
 
-  module _ (moment_of : D → ℕ) (images_since : D → ℕ → List ℕ → Type 0) (failures : D → ℕ) where
-    pub read_shows : (old new : RecorderState D) (m : HubState) → ShowsFile is_honest state old m → Reads is_honest state moment_of images_since failures old new → ShowsFile is_honest state new m
-    read_shows old new m s reads = still_shows is_honest state old new m m.sessions s (reads.only.honest.0 s.honest) (reads.only.same s.honest) reads.same
+  pub read_shows : (old new : RecorderState D) (m : HubState) → ShowsFile model old m → Reads model old new → ShowsFile model new m
+  read_shows old new m s reads = still_shows model old new m m.sessions s (reads.only.honest.0 s.honest) (reads.only.same s.honest) reads.same

@@ -1,6 +1,7 @@
 -- What was heard of committed bytes is heard of bytes that have grown.
 use Rattle.std.proofs.Common.{◌≡◌, ℕ, Option, Some, None, List, [], ◌∷◌, ◌++◌, sym, ◌∙◌, ap, subst, inl, inr, append_assoc}
 use Rattle.std.specs.List.{AllByRecursion}
+use Rattle.disk_model.specs.declared.disk.Disk.{Ghosts as DiskModel}
 use Rattle.disk_model.specs.Image.{DiskState}
 use Rattle.ogg_page.specs.Page.{Page, IsPage, page_bytes, bytes_of_pages}
 use Rattle.ogg_page.specs.PagesLaws.{follows}
@@ -111,9 +112,9 @@ module _ (grows : (moment : Moment) (committed bytes : List ℕ) (more : List Pa
 some_same : {D : Type 0} (a b : D) → ◌≡◌ {A = Option D} (Some a) (Some b) → a ≡ b
 some_same a b e = cc
 
-module _ {D : Type 0} (is_honest : D → Type 0) (state : D → DiskState) where
-  pub place_images : (file : Option (RecorderState D)) (lost : Option (Lost D)) (machine : HubState) (disk : D) → ShowsPlace is_honest state file lost machine → disk_in file lost ≡ Some disk
-      → EachImage (state disk) (Commits machine)
-  place_images (Some recorder) lost machine disk s is = subst (λ (d : D). EachImage (state d) (Commits machine)) (some_same recorder.file.disk disk is) s.images
-  place_images None (Some gone) machine disk s is = subst (λ (d : D). EachImage (state d) (Commits machine)) (some_same gone.disk disk is) s.images
+module _ {D : Type 0} (model : DiskModel D) where
+  pub place_images : (file : Option (RecorderState D)) (lost : Option (Lost D)) (machine : HubState) (disk : D) → ShowsPlace model file lost machine → disk_in file lost ≡ Some disk
+      → EachImage (model.state disk) (Commits machine)
+  place_images (Some recorder) lost machine disk s is = subst (λ (d : D). EachImage (model.state d) (Commits machine)) (some_same recorder.file.disk disk is) s.images
+  place_images None (Some gone) machine disk s is = subst (λ (d : D). EachImage (model.state d) (Commits machine)) (some_same gone.disk disk is) s.images
   place_images None None machine disk s is = absurd s

@@ -2,6 +2,7 @@
 use Rattle.std.proofs.Common.{◌≡◌, ℕ, Bool, true, false, not, Option, Some, None, IsOk, Result, Ok, Err, List, [], ◌∷◌, ◌++◌, refl, sym, ◌∙◌, ap, subst, inl, inr, append_assoc}
 use Rattle.std.specs.Prelude.{is_some, if◌then◌else◌}
 use Rattle.std.proofs.lemmas.Bool.{both_ways, or_parts}
+use Rattle.disk_model.specs.declared.disk.Disk.{Ghosts as DiskModel}
 use Rattle.disk_model.specs.Image.{DiskState, IsImage}
 use Rattle.ogg_page.specs.Page.{Page, bytes_of_pages}
 use Rattle.ogg_page.specs.PageLaws.{bytes_both, pages_both}
@@ -123,27 +124,27 @@ module _ (still_holds : (bytes : List ℕ) (recording : Recording) (held : Holds
   linked_command old new command (Err _) is step linked recorded = linked_same old new step.2 linked
 
 -- ---- a recorder
-module _ {D : Type 0} (is_honest : D → Type 0) (state : D → DiskState) where
+module _ {D : Type 0} (model : DiskModel D) where
   -- while it hasn't failed, what is committed holds a recording with what waits
-  pub recorded_in : (r : RecorderState D) (m : HubState) → IsRecorder is_honest state r → ShowsFile is_honest state r m → is_failed m ≡ false
+  pub recorded_in : (r : RecorderState D) (m : HubState) → IsRecorder model r → ShowsFile model r m → is_failed m ≡ false
       → IsRecorded (m.committed ++ m.held)
   recorded_in r m always f fine =
       let good : r.file.failed ≡ false = sym f.failed_is ∙ (or_parts (not m.has_file) (is_some m.in_doubt) fine).1 in
       let holds = always.all good f.honest in
-      let waits : m.held ≡ staged state r = f.held_is ∙ ap (λ (b : Bool). if b then [] else staged state r) good in
-      let bytes : m.committed ++ m.held ≡ committed state r ++ staged state r =
-      ap (λ (l : List ℕ). l ++ m.held) f.committed_is ∙ ap (λ (l : List ℕ). committed state r ++ l) waits in
+      let waits : m.held ≡ staged model.state r = f.held_is ∙ ap (λ (b : Bool). if b then [] else staged model.state r) good in
+      let bytes : m.committed ++ m.held ≡ committed model.state r ++ staged model.state r =
+      ap (λ (l : List ℕ). l ++ m.held) f.committed_is ∙ ap (λ (l : List ℕ). committed model.state r ++ l) waits in
       subst IsRecorded (sym bytes) (holds.recording, (holds.links, holds.are_links, holds.holds))
 
   -- a new hub's machine
-  pub new_linked : (r : RecorderState D) (m : HubState) → IsRecorder is_honest state r → r.file.failed ≡ false → is_honest r.file.disk
-      → IsImage (state r.file.disk) (state r.file.disk).contents → m.in_doubt ≡ None → m.committed ≡ committed state r → FindsLinks m
+  pub new_linked : (r : RecorderState D) (m : HubState) → IsRecorder model r → r.file.failed ≡ false → model.is_honest r.file.disk
+      → IsImage (model.state r.file.disk) (model.state r.file.disk).contents → m.in_doubt ≡ None → m.committed ≡ committed model.state r → FindsLinks m
   new_linked r m always good honest image none is =
       let holds = always.all good honest in
-      let bytes : List ℕ = committed state r in
-      let pages = pages_of bytes (state r.file.disk).contents (always.images good honest (state r.file.disk).contents image) in
-      found_in (front_is_chain bytes (staged state r) holds.links pages holds.are_links)
+      let bytes : List ℕ = committed model.state r in
+      let pages = pages_of bytes (model.state r.file.disk).contents (always.images good honest (model.state r.file.disk).contents image) in
+      found_in (front_is_chain bytes (staged model.state r) holds.links pages holds.are_links)
     where
-      found_in : IsChain (committed state r) → FindsLinks m
+      found_in : IsChain (committed model.state r) → FindsLinks m
       found_in chain found (inl same) = subst IsChain (sym (same ∙ is)) chain
       found_in chain found (inr (group, doubt, same)) = let both : ◌≡◌ {A = Option (List ℕ)} None (Some group) = sym none ∙ doubt in cc

@@ -2,6 +2,7 @@
 use Rattle.std.proofs.Common.{◌≡◌, ℕ, ◌+◌, ◌<◌, ◌≤◌, ◌^◌, true, false, Option, Some, None, Ok, Err, List, [], ◌∷◌, ◌++◌, length, refl, sym, ap, subst, ◌∙◌, arith, inl, inr}
 use Rattle.std.specs.Prelude.{is_some, nat_le}
 use Rattle.std.proofs.lemmas.Bool.{cases_Bool, or_left, or_cases, le-leb, leb-true}
+use Rattle.disk_model.specs.declared.disk.Disk.{Ghosts as DiskModel}
 use Rattle.disk_model.specs.Image.{DiskState, IsImage}
 use Rattle.link_index.specs.Adding.{IndexState, IsIndexOf}
 use Rattle.ogg_recorder.specs.Recorder.{RecorderState, IsRecorder, committed, staged}
@@ -38,9 +39,9 @@ not_full m parts room same are few short =
       | inr isnt ↦ isnt
     ]
 
-module _ {D : Type 0} (is_honest : D → Type 0) (state : D → DiskState) where
+module _ {D : Type 0} (model : DiskModel D) where
   pub other_sessions : (file : Option (RecorderState D)) (lost : Option (Lost D)) (m : HubState) (sessions : List Session) (next : ℕ)
-      → ShowsPlace is_honest state file lost m → ShowsPlace is_honest state file lost (record m { sessions = sessions; next_id = next })
+      → ShowsPlace model file lost m → ShowsPlace model file lost (record m { sessions = sessions; next_id = next })
   other_sessions (Some r) lost m sessions next s = record {
     honest = s.honest;
     has_file = s.has_file;
@@ -66,10 +67,10 @@ module _ {D : Type 0} (is_honest : D → Type 0) (state : D → DiskState) where
   other_sessions None None m sessions next s = absurd s
 
   module _ (file : Option (RecorderState D)) (lost : Option (Lost D)) (index : IndexState) (sessions : List SessionParts) (next : Option ℕ) (most room : ℕ)
-      (m : HubState) (s : Shows is_honest state (hub_parts file lost index sessions next most room) m) where
+      (m : HubState) (s : Shows model (hub_parts file lost index sessions next most room) m) where
     pub closes : (id place : ℕ) (left : List SessionParts) → place_in id sessions ≡ Some place
         → ((committed : List ℕ) (machine : List Session) → AreSessions committed sessions machine → AreSessions committed left (without_in id machine))
-        → (after : HubState) × Shows is_honest state (hub_parts file lost index left next most room) after × close_step (phase_in id m.sessions) m id (Ok tt) after
+        → (after : HubState) × Shows model (hub_parts file lost index left next most room) after × close_step (phase_in id m.sessions) m id (Ok tt) after
     closes id place left at ends =
         let f = found m.committed id place sessions m.sessions s.sessions_are at in (
           without_session id m,
@@ -86,14 +87,14 @@ module _ {D : Type 0} (is_honest : D → Type 0) (state : D → DiskState) where
         )
 
     pub closes_none : (id : ℕ) → place_in id sessions ≡ None
-        → (after : HubState) × Shows is_honest state (hub_parts file lost index sessions next most room) after × close_step (phase_in id m.sessions) m id (Err NoSession) after
+        → (after : HubState) × Shows model (hub_parts file lost index sessions next most room) after × close_step (phase_in id m.sessions) m id (Err NoSession) after
     closes_none id at =
         (m, s, subst (λ (o : Option Phase). close_step o m id (Err NoSession) m) (sym (not_found m.committed id sessions m.sessions s.sessions_are at)) (refl, refl))
 
     -- another session
     pub connects : (id : ℕ) (now : List SessionParts) (next_now : Option ℕ) → next ≡ Some id → id < 2 ^ 64 → next_of next_now ≡ id + 1 → length sessions < room
         → ((committed : List ℕ) (machine : List Session) → AreSessions committed sessions machine → AreSessions committed now (machine ++ record { id = id; phase = Reading [] } ∷ []))
-        → (after : HubState) × Shows is_honest state (hub_parts file lost index now next_now most room) after × connect_step m (Ok id) after
+        → (after : HubState) × Shows model (hub_parts file lost index now next_now most room) after × connect_step m (Ok id) after
     connects id now next_now is short more few adds =
         let number : m.next_id ≡ id = s.next_is ∙ ap next_of is in (
           with_session m,
@@ -113,19 +114,19 @@ module _ {D : Type 0} (is_honest : D → Type 0) (state : D → DiskState) where
     pub goes_on : (file_now : Option (RecorderState D)) (lost_now : Option (Lost D)) (after : HubState) (event : Event)
         → ((before after : HubState) (event : Event) (index : IndexState) (parts : List SessionParts) → hub_step before event after → after.sessions ≡ before.sessions
         → IsOfFront before.committed index → AreSessions before.committed parts before.sessions → IsOfFront after.committed index × AreSessions after.committed parts after.sessions)
-        → ShowsPlace is_honest state file_now lost_now after → FindsLinks after → hub_step m event after → after.sessions ≡ m.sessions → after.next_id ≡ m.next_id → after.room ≡ m.room → (most_now : ℕ) → after.most_after_reopening ≡ most_now
-        → Shows is_honest state (hub_parts file_now lost_now index sessions next most_now room) after
+        → ShowsPlace model file_now lost_now after → FindsLinks after → hub_step m event after → after.sessions ≡ m.sessions → after.next_id ≡ m.next_id → after.room ≡ m.room → (most_now : ℕ) → after.most_after_reopening ≡ most_now
+        → Shows model (hub_parts file_now lost_now index sessions next most_now room) after
     goes_on file_now lost_now after event law place linked step same numbers rooms most_now most_is =
         let (front, are) = law m after event index sessions step same s.indexed s.sessions_are in
         record { place = place; linked = linked; indexed = front; sessions_are = are; next_is = numbers ∙ s.next_is; most_is = most_is; room_is = rooms ∙ s.room_is }
 
   -- a new hub
-  pub new_shows : (room : ℕ) (r : RecorderState D) (index : IndexState) (sessions : List SessionParts) → sessions ≡ [] → IsIndexOf [] index → IsRecorder is_honest state r → r.file.failed ≡ false → is_honest r.file.disk
-      → IsImage (state r.file.disk) (state r.file.disk).contents → (m : HubState) × Shows is_honest state (hub_parts (Some r) None index sessions (Some 0) 1 room) m × IsNewFor room m
+  pub new_shows : (room : ℕ) (r : RecorderState D) (index : IndexState) (sessions : List SessionParts) → sessions ≡ [] → IsIndexOf [] index → IsRecorder model r → r.file.failed ≡ false → model.is_honest r.file.disk
+      → IsImage (model.state r.file.disk) (model.state r.file.disk).contents → (m : HubState) × Shows model (hub_parts (Some r) None index sessions (Some 0) 1 room) m × IsNewFor room m
   new_shows room r index sessions none empty always good honest image =
       let m : HubState = record {
-        committed = committed state r;
-        held = staged state r;
+        committed = committed model.state r;
+        held = staged model.state r;
         waiting = r.held;
         most = r.most;
         most_after_reopening = 1;
@@ -138,15 +139,15 @@ module _ {D : Type 0} (is_honest : D → Type 0) (state : D → DiskState) where
       } in (
         m,
         record {
-          place = shows_good is_honest state r m honest always good refl refl refl refl refl refl refl;
-          linked = new_linked is_honest state r m always good honest image refl refl;
+          place = shows_good model r m honest always good refl refl refl refl refl refl refl;
+          linked = new_linked model r m always good honest image refl refl;
           indexed = record {
             front = [];
-            rest = committed state r;
+            rest = committed model.state r;
             split = refl;
             added = record { pages = []; rest = []; after = []; are_pages = tt; spelled = refl; taken = refl; is_index = empty; left = refl };
           };
-          sessions_are = subst (λ (l : List SessionParts). AreSessions (committed state r) l []) (sym none) tt;
+          sessions_are = subst (λ (l : List SessionParts). AreSessions (committed model.state r) l []) (sym none) tt;
           next_is = refl;
           most_is = refl;
           room_is = refl;

@@ -3,8 +3,10 @@ use Rattle.std.proofs.Common.{◌≡◌, ◌≢◌, ◌⊎◌, ℕ, zero, suc, �
 use Rattle.std.specs.Prelude.{is_some, if◌then◌else◌, ◌||◌, OnOk, IfOk, IfErr}
 use Rattle.std.proofs.lemmas.Bool.{cases_Bool}
 use Rattle.std.proofs.lemmas.List.{take_at, drop_at}
+use Rattle.disk_model.specs.declared.disk.Disk.{Ghosts as DiskModel}
 use Rattle.disk_model.specs.Image.{DiskState}
-use Rattle.disk_model.specs.Clock.{HasImages, LeavesOnly}
+use Rattle.disk_model.specs.Clock.{HasImages}
+use Rattle.disk_model.specs.Leaving.{LeavesOnly}
 use Rattle.gate_file.specs.Commit.{CommitsToEither}
 use Rattle.gate_file.specs.Gate.{staged_in}
 use Rattle.link_chain.specs.ChainState.{ChainState}
@@ -72,32 +74,32 @@ not_disk refusal few is = absurd (omega (arith, few, ap code_of is))
 same_sessions : (m : HubState) → KeepsSessions m m
 same_sessions m = record { sessions = refl; numbers = refl; group = refl; room = refl }
 
-module _ {D : Type 0} (is_honest : D → Type 0) (state : D → DiskState) (new : RecorderState D) where
+module _ {D : Type 0} (model : DiskModel D) (new : RecorderState D) where
   -- the recorder hasn't failed, and the machine has its bytes
-  pub shows_good : (after : HubState) → is_honest new.file.disk → IsRecorder is_honest state new → new.file.failed ≡ false → after.has_file ≡ true → after.committed ≡ committed state new
-      → after.held ≡ staged state new → after.waiting ≡ new.held → after.most ≡ new.most → after.count ≡ new.kept + new.held → is_some after.in_doubt ≡ false
-      → ShowsFile is_honest state new after
+  pub shows_good : (after : HubState) → model.is_honest new.file.disk → IsRecorder model new → new.file.failed ≡ false → after.has_file ≡ true → after.committed ≡ committed model.state new
+      → after.held ≡ staged model.state new → after.waiting ≡ new.held → after.most ≡ new.most → after.count ≡ new.kept + new.held → is_some after.in_doubt ≡ false
+      → ShowsFile model new after
   shows_good after honest now good file committed_is held_is waiting_is most_is count_is none = record {
     honest = honest;
     has_file = file;
     committed_is = committed_is;
-    held_is = held_is ∙ sym (ap (λ (x : Bool). if x then [] else staged state new) good);
+    held_is = held_is ∙ sym (ap (λ (x : Bool). if x then [] else staged model.state new) good);
     waiting_is = waiting_is;
     most_is = most_is;
     count_is = count_is;
     failed_is = none ∙ sym good;
-    images = λ image is. (committed state new, inl (sym committed_is), now.images good honest image is);
+    images = λ image is. (committed model.state new, inl (sym committed_is), now.images good honest image is);
   }
 
-  pub staged_none : IsRecorder is_honest state new → new.file.failed ≡ false → new.held ≡ 0 → staged state new ≡ []
-  staged_none now fine none = ap (λ (n : ℕ). staged_in new.file.end n (state new.file.disk).contents) (now.empty fine none)
+  pub staged_none : IsRecorder model new → new.file.failed ≡ false → new.held ≡ 0 → staged model.state new ≡ []
+  staged_none now fine none = ap (λ (n : ℕ). staged_in new.file.end n (model.state new.file.disk).contents) (now.empty fine none)
 
-module _ {D : Type 0} (is_honest : D → Type 0) (state : D → DiskState) (moment : D → ℕ) (images_since : D → ℕ → List ℕ → Type 0) (old new : RecorderState D) (m : HubState) (s : ShowsFile is_honest state old m) where
+module _ {D : Type 0} (model : DiskModel D) (old new : RecorderState D) (m : HubState) (s : ShowsFile model old m) where
   abbrev b : List ℕ
-  b = committed state old
+  b = committed model.state old
 
   abbrev waits : List ℕ
-  waits = staged state old
+  waits = staged model.state old
 
   failed_as : is_failed m ≡ old.file.failed
   failed_as = ap (λ (x : Bool). not x || is_some m.in_doubt) s.has_file ∙ s.failed_is
@@ -110,13 +112,13 @@ module _ {D : Type 0} (is_honest : D → Type 0) (state : D → DiskState) (mome
 
   -- what the answer of the machine is
   abbrev Stepped : (HubState → Type 0) → Type 0
-  Stepped P = (after : HubState) × ShowsFile is_honest state new after × P after × KeepsSessions m after
+  Stepped P = (after : HubState) × ShowsFile model new after × P after × KeepsSessions m after
 
   -- nothing has changed
   unchanged : (P : HubState → Type 0) → new ≡ old → P m → Stepped P
-  unchanged P same p = (m, subst (λ (r : RecorderState D). ShowsFile is_honest state r m) (sym same) s, p, same_sessions m)
+  unchanged P same p = (m, subst (λ (r : RecorderState D). ShowsFile model r m) (sym same) s, p, same_sessions m)
 
-  module _ (always : IsRecorder is_honest state old) (command : Command) where
+  module _ (always : IsRecorder model old) (command : Command) where
     accepted : old.file.failed ≡ false → IsOk (decision old.chain command) → IsAccepted m command (command_bytes old.chain command)
     accepted good ok =
         let h : HoldsChain (b ++ waits) old.chain = always.all good s.honest in (
@@ -135,30 +137,30 @@ module _ {D : Type 0} (is_honest : D → Type 0) (state : D → DiskState) (mome
         )
 
   -- the disk has failed over this group
-  shows_doubt : (after : HubState) (group : List ℕ) → is_honest new.file.disk → HasImages (state new.file.disk) (moment new.file.disk) (images_since new.file.disk)
-      → LeavesOnly moment images_since old.file.disk new.file.disk (CommitsToEither b group) → new.file.failed ≡ true → after.has_file ≡ true
-      → after.committed ≡ b → committed state new ≡ b → after.held ≡ [] → after.waiting ≡ new.held → after.most ≡ new.most → after.count ≡ new.kept + new.held
-      → after.in_doubt ≡ Some group → ShowsFile is_honest state new after
+  shows_doubt : (after : HubState) (group : List ℕ) → model.is_honest new.file.disk → HasImages (model.state new.file.disk) (model.moment new.file.disk) (model.images_since new.file.disk)
+      → LeavesOnly model old.file.disk new.file.disk (CommitsToEither b group) → new.file.failed ≡ true → after.has_file ≡ true
+      → after.committed ≡ b → committed model.state new ≡ b → after.held ≡ [] → after.waiting ≡ new.held → after.most ≡ new.most → after.count ≡ new.kept + new.held
+      → after.in_doubt ≡ Some group → ShowsFile model new after
   shows_doubt after group honest has leaves bad file committed_is front held_is waiting_is most_is count_is doubt = record {
     honest = honest;
     has_file = file;
     committed_is = committed_is ∙ sym front;
-    held_is = held_is ∙ sym (ap (λ (x : Bool). if x then [] else staged state new) bad);
+    held_is = held_is ∙ sym (ap (λ (x : Bool). if x then [] else staged model.state new) bad);
     waiting_is = waiting_is;
     most_is = most_is;
     count_is = count_is;
     failed_is = ap (λ (o : Option (List ℕ)). is_some o) doubt ∙ sym bad;
     images = λ image is.
-        elim (leaves.each image (has.counts_now (moment old.file.disk) image leaves.later is)) [
+        elim (leaves.each image (has.counts_now (model.moment old.file.disk) image leaves.later is)) [
           | inl one ↦ (b, inl (sym committed_is), one)
           | inr other ↦ (b ++ group, inr (group, doubt, ap (λ (l : List ℕ). l ++ group) (sym committed_is)), other)
         ];
   }
 
-  module _ (always : IsRecorder is_honest state old) (now : IsRecorder is_honest state new) (honest : is_honest new.file.disk) (has : HasImages (state new.file.disk) (moment new.file.disk) (images_since new.file.disk))
-      (long_old : length b ≡ old.file.end) (long_new : length (committed state new) ≡ new.file.end) where
-    none_staged : new.file.failed ≡ false → new.held ≡ 0 → staged state new ≡ []
-    none_staged = staged_none is_honest state new now
+  module _ (always : IsRecorder model old) (now : IsRecorder model new) (honest : model.is_honest new.file.disk) (has : HasImages (model.state new.file.disk) (model.moment new.file.disk) (model.images_since new.file.disk))
+      (long_old : length b ≡ old.file.end) (long_new : length (committed model.state new) ≡ new.file.end) where
+    none_staged : new.file.failed ≡ false → new.held ≡ 0 → staged model.state new ≡ []
+    none_staged = staged_none model new now
 
     abbrev kept_of : ℕ → ℕ → Kept
     kept_of count end = record { count = count; end = end }
@@ -168,36 +170,36 @@ module _ {D : Type 0} (is_honest : D → Type 0) (state : D → DiskState) (mome
       added = command_bytes old.chain command
 
       held_step : (count : ℕ) → old.file.failed ≡ false → IsOk (decision old.chain command) → Tells old (WasHeld count) new → new.file.failed ≡ false
-          → committed state new ++ staged state new ≡ (b ++ waits) ++ added → Stepped (command_step m command (Ok (WasHeld count)))
+          → committed model.state new ++ staged model.state new ≡ (b ++ waits) ++ added → Stepped (command_step m command (Ok (WasHeld count)))
       held_step count good ok tells fine grows =
-          let joined : committed state new ++ staged state new ≡ b ++ (waits ++ added) = grows ∙ append_assoc b waits added in
-          let long : length (committed state new) ≡ length b = long_new ∙ tells.2 ∙ sym long_old in
-          let front = same_front (committed state new) (staged state new) b (waits ++ added) long joined in
-          let rest = same_rest (committed state new) (staged state new) b (waits ++ added) long joined in
+          let joined : committed model.state new ++ staged model.state new ≡ b ++ (waits ++ added) = grows ∙ append_assoc b waits added in
+          let long : length (committed model.state new) ≡ length b = long_new ∙ tells.2 ∙ sym long_old in
+          let front = same_front (committed model.state new) (staged model.state new) b (waits ++ added) long joined in
+          let rest = same_rest (committed model.state new) (staged model.state new) b (waits ++ added) long joined in
           let held_is : new.held ≡ old.held + 1 = ap (λ (r : RecorderState D). r.held) tells.3 in
           let kept_is : new.kept ≡ old.kept = ap (λ (r : RecorderState D). r.kept) tells.3 in
           let most_is : new.most ≡ old.most = ap (λ (r : RecorderState D). r.most) tells.3 in (
             holding added m,
-            shows_good is_honest state new (holding added m) honest now fine s.has_file (s.committed_is ∙ sym front) (ap (λ (l : List ℕ). l ++ added) (held_good good) ∙ sym rest)
+            shows_good model new (holding added m) honest now fine s.has_file (s.committed_is ∙ sym front) (ap (λ (l : List ℕ). l ++ added) (held_good good) ∙ sym rest)
                 (omega (arith, s.waiting_is, held_is)) (s.most_is ∙ sym most_is) (omega (arith, s.count_is, held_is, kept_is)) (s.failed_is ∙ good),
             (failed_as ∙ good, added, accepted always command good ok, omega (arith, tells.0, s.waiting_is, s.most_is), omega (arith, tells.1, s.count_is), refl),
             record { sessions = refl; numbers = refl; group = refl; room = refl },
           )
 
       kept_step : (kept : Kept) → old.file.failed ≡ false → IsOk (decision old.chain command) → Tells old (WasKept kept) new → new.file.failed ≡ false
-          → committed state new ++ staged state new ≡ (b ++ waits) ++ added → Stepped (command_step m command (Ok (WasKept kept)))
+          → committed model.state new ++ staged model.state new ≡ (b ++ waits) ++ added → Stepped (command_step m command (Ok (WasKept kept)))
       kept_step kept good ok tells fine grows =
           let held_is : new.held ≡ 0 = ap (λ (r : RecorderState D). r.held) tells.2 in
           let kept_is : new.kept ≡ old.kept + (old.held + 1) = ap (λ (r : RecorderState D). r.kept) tells.2 in
           let most_is : new.most ≡ old.most = ap (λ (r : RecorderState D). r.most) tells.2 in
           let none = none_staged fine held_is in
-          let whole_now : committed state new ≡ b ++ (waits ++ added) =
-          sym (append-nil (committed state new)) ∙ ap (λ (l : List ℕ). committed state new ++ l) (sym none) ∙ grows ∙ append_assoc b waits added in
-          let committed_is : m.committed ++ (m.held ++ added) ≡ committed state new =
+          let whole_now : committed model.state new ≡ b ++ (waits ++ added) =
+          sym (append-nil (committed model.state new)) ∙ ap (λ (l : List ℕ). committed model.state new ++ l) (sym none) ∙ grows ∙ append_assoc b waits added in
+          let committed_is : m.committed ++ (m.held ++ added) ≡ committed model.state new =
           same_sum m.committed (m.held ++ added) b (waits ++ added) s.committed_is (ap (λ (l : List ℕ). l ++ added) (held_good good)) ∙ sym whole_now in
           let count_is : m.count + 1 ≡ new.kept = omega (arith, s.count_is, kept_is) in (
             committing (holding added m),
-            shows_good is_honest state new (committing (holding added m)) honest now fine s.has_file committed_is (sym none) (sym held_is) (s.most_is ∙ sym most_is)
+            shows_good model new (committing (holding added m)) honest now fine s.has_file committed_is (sym none) (sym held_is) (s.most_is ∙ sym most_is)
                 (omega (arith, count_is, held_is)) (s.failed_is ∙ good),
             (
               failed_as ∙ good,
@@ -212,7 +214,7 @@ module _ {D : Type 0} (is_honest : D → Type 0) (state : D → DiskState) (mome
 
       disk_step : old.file.failed ≡ false → IsOk (decision old.chain command)
           → (new.file.failed ≡ true) × (new.file.end ≡ old.file.end) × (new ≡ recorder_state new.file old.chain old.tail old.kept 0 old.most)
-          → committed state new ≡ b → LeavesOnly moment images_since old.file.disk new.file.disk (CommitsToEither b (waits ++ added)) → Stepped (command_step m command (Err Disk))
+          → committed model.state new ≡ b → LeavesOnly model old.file.disk new.file.disk (CommitsToEither b (waits ++ added)) → Stepped (command_step m command (Err Disk))
       disk_step good ok faulted front leaves =
           let held_is : new.held ≡ 0 = ap (λ (r : RecorderState D). r.held) faulted.2 in
           let kept_is : new.kept ≡ old.kept = ap (λ (r : RecorderState D). r.kept) faulted.2 in
@@ -234,8 +236,8 @@ module _ {D : Type 0} (is_honest : D → Type 0) (state : D → DiskState) (mome
           → IfErr result (λ refusal. refusal ≢ Disk → new ≡ old)
           → IfErr result (λ refusal. refusal ≡ Disk → (new.file.failed ≡ true) × (new.file.end ≡ old.file.end) × (new ≡ recorder_state new.file old.chain old.tail old.kept 0 old.most))
           → IfOk result (λ outcome. Tells old outcome new) → OnOk result (new.file.failed ≡ false)
-          → OnOk result (is_honest old.file.disk → committed state new ++ staged state new ≡ (b ++ waits) ++ added) → IfErr result (λ _. committed state new ≡ b)
-          → (old.file.failed ≡ false → LeavesOnly moment images_since old.file.disk new.file.disk (CommitsToEither b (waits ++ added)))
+          → OnOk result (model.is_honest old.file.disk → committed model.state new ++ staged model.state new ≡ (b ++ waits) ++ added) → IfErr result (λ _. committed model.state new ≡ b)
+          → (old.file.failed ≡ false → LeavesOnly model old.file.disk new.file.disk (CommitsToEither b (waits ++ added)))
           → Stepped (command_step m command result)
       commands (Ok (WasHeld count)) table by_failed by_rules otherwise ok same faulted tells good grows front leaves = held_step count ok.0 ok.1 tells good (grows s.honest)
       commands (Ok (WasKept kept)) table by_failed by_rules otherwise ok same faulted tells good grows front leaves = kept_step kept ok.0 ok.1 tells good (grows s.honest)
@@ -266,15 +268,15 @@ module _ {D : Type 0} (is_honest : D → Type 0) (state : D → DiskState) (mome
               ]
 
     flushed : (kept : Kept) → old.file.failed ≡ false → new.file.failed ≡ false → kept ≡ kept_by_recorder new
-        → new ≡ recorder_state new.file old.chain old.tail (old.kept + old.held) 0 old.most → committed state new ≡ b ++ waits → Stepped (flush_step m (Ok kept))
+        → new ≡ recorder_state new.file old.chain old.tail (old.kept + old.held) 0 old.most → committed model.state new ≡ b ++ waits → Stepped (flush_step m (Ok kept))
     flushed kept good fine kept_by_is new_is grows =
         let held_is : new.held ≡ 0 = ap (λ (r : RecorderState D). r.held) new_is in
         let kept_is : new.kept ≡ old.kept + old.held = ap (λ (r : RecorderState D). r.kept) new_is in
         let most_is : new.most ≡ old.most = ap (λ (r : RecorderState D). r.most) new_is in
-        let committed_is : m.committed ++ m.held ≡ committed state new = whole good ∙ sym grows in
+        let committed_is : m.committed ++ m.held ≡ committed model.state new = whole good ∙ sym grows in
         let count_is : m.count ≡ new.kept = s.count_is ∙ sym kept_is in (
           committing m,
-          shows_good is_honest state new (committing m) honest now fine s.has_file committed_is (sym (none_staged fine held_is)) (sym held_is) (s.most_is ∙ sym most_is)
+          shows_good model new (committing m) honest now fine s.has_file committed_is (sym (none_staged fine held_is)) (sym held_is) (s.most_is ∙ sym most_is)
               (omega (arith, count_is, held_is)) (s.failed_is ∙ good),
           (
             failed_as ∙ good,
@@ -286,7 +288,7 @@ module _ {D : Type 0} (is_honest : D → Type 0) (state : D → DiskState) (mome
 
     flush_failed : old.file.failed ≡ false → 0 < old.held
         → (new.file.failed ≡ true) × (new.file.end ≡ old.file.end) × (new ≡ recorder_state new.file old.chain old.tail old.kept 0 old.most)
-        → committed state new ≡ b → LeavesOnly moment images_since old.file.disk new.file.disk (CommitsToEither b waits) → Stepped (flush_step m (Err Disk))
+        → committed model.state new ≡ b → LeavesOnly model old.file.disk new.file.disk (CommitsToEither b waits) → Stepped (flush_step m (Err Disk))
     flush_failed good some faulted front leaves =
         let held_is : new.held ≡ 0 = ap (λ (r : RecorderState D). r.held) faulted.2 in
         let kept_is : new.kept ≡ old.kept = ap (λ (r : RecorderState D). r.kept) faulted.2 in
@@ -305,8 +307,8 @@ module _ {D : Type 0} (is_honest : D → Type 0) (state : D → DiskState) (mome
         → IfErr result (λ refusal. refusal ≡ Disk → (new.file.failed ≡ true) × (new.file.end ≡ old.file.end) × (new ≡ recorder_state new.file old.chain old.tail old.kept 0 old.most))
         → IfOk result (λ kept. (kept ≡ kept_by_recorder new) × (new ≡ recorder_state new.file old.chain old.tail (old.kept + old.held) 0 old.most))
         → OnOk result ((old.file.failed ≡ false) × (new.file.failed ≡ false))
-        → OnOk result (is_honest old.file.disk → committed state new ≡ b ++ waits) → IfErr result (λ _. committed state new ≡ b)
-        → (old.file.failed ≡ false → LeavesOnly moment images_since old.file.disk new.file.disk (CommitsToEither b waits))
+        → OnOk result (model.is_honest old.file.disk → committed model.state new ≡ b ++ waits) → IfErr result (λ _. committed model.state new ≡ b)
+        → (old.file.failed ≡ false → LeavesOnly model old.file.disk new.file.disk (CommitsToEither b waits))
         → Stepped (flush_step m result)
     flushes (Ok kept) by_failed refusals nothing faulted tells good grows front leaves = flushed kept good.0 good.1 tells.0 tells.1 (grows s.honest)
     flushes (Err refusal) by_failed refusals nothing faulted tells good grows front leaves =

@@ -1,8 +1,10 @@
 -- What each image of a hub's disk shows at each moment of a call, and which step of its file's history the call is.
 -- Ours.
 use Rattle.std.specs.Prelude.{◌≡◌, ◌⊎◌, ◌↔◌, ℕ, ◌-◌, ◌^◌, ◌<◌, ◌≤◌, Bool, true, false, IfOk, IfErr, Option, None, Some, Result, Err, List, ◌++◌, ⊤}
+use Rattle.disk_model.specs.declared.disk.Disk.{Ghosts as DiskModel}
 use Rattle.disk_model.specs.Image.{DiskState}
-use Rattle.disk_model.specs.Clock.{LeavesOnly}
+use Rattle.disk_model.specs.Leaving.{LeavesOnly}
+use Rattle.disk_model.specs.Frame.{Frame}
 use Rattle.gate_file.specs.Commit.{CommitsTo, CommitsToEither}
 use Rattle.gate_file.specs.Reading.{OnlyReads}
 use Rattle.gate_file.specs.declared.fault.OpenFault.{OpenFault}
@@ -13,13 +15,13 @@ use Rattle.chain_rules.specs.Recording.{add}
 use Rattle.feed_replies.specs.declared.reply.Kept.{Kept}
 use Rattle.history.specs.Showing.{IsAsBefore}
 use Rattle.history.specs.World.{World, Opening, Opened, Looked, Faulted, happens}
-use Rattle.history.specs.History.{IsStep, StandsIn}
+use Rattle.history.specs.History.{StandsIn}
 use Rattle.ogg_command.specs.declared.command.Command.{Command}
 use Rattle.ogg_command.specs.declared.refusal.Refusal.{Refusal}
 use Rattle.ogg_command.specs.declared.refusal.Refusal.TheVariants.{Disk}
 use Rattle.ogg_recorder.specs.Answer.{call_of, command_step, flush_step}
-use Rattle.ogg_recorder.specs.Recorder.{RecorderState, IsIn, over_disk, committed, staged}
-use Rattle.ogg_recorder.specs.Recovery.{Commits, Shows, Accepts}
+use Rattle.ogg_recorder.specs.Recorder.{RecorderState, IsIn, over_disk, committed, staged, IsRecorderStep}
+use Rattle.ogg_recorder.specs.Recovery.{Commits, Shows}
 use Rattle.ogg_recorder.specs.declared.commanding.Outcome.{Outcome}
 use Rattle.ogg_recorder.specs.declared.commanding.Outcome.TheVariants.{Held as WasHeld}
 use Rattle.serve_sending.specs.Sending.{HasFailed}
@@ -47,64 +49,58 @@ IfFile P None new = new ≡ None
 IfFile P (Some old) None = ⊥
 IfFile P (Some old) (Some new) = P old new
 
-module _ {D : Type 0} (is_honest : D → Type 0) (state : D → DiskState) (moment : D → ℕ) (images_since : D → ℕ → List ℕ → Type 0) (failures : D → ℕ) where
+module _ {D : Type 0} (model : DiskModel D) where
   -- What a command leaves of the file, with its answer: each image since the call began commits to what was
   -- committed, without the group or with all of it, and without it while the command waits. The command is a step
   -- of each history in which the recorder stands.
   pub record Records (command : Command) (result : Result Outcome Refusal) (old new : RecorderState D) : Type 0 where
-    pub any_moment : is_honest old.file.disk → old.file.failed ≡ false
-        → LeavesOnly moment images_since old.file.disk new.file.disk
-        (CommitsToEither (committed state old) (staged state old ++ command_bytes old.chain command))
-    pub waits : is_honest old.file.disk → IfOk result (λ outcome. (count : ℕ) → outcome ≡ WasHeld count
-        → LeavesOnly moment images_since old.file.disk new.file.disk (CommitsTo (committed state old)))
-    pub step : (first : Recording) (w : World Command) → IsIn is_honest state first w old → is_honest old.file.disk
-        → IsStep is_honest state moment images_since Shows Accepts add first w
+    pub any_moment : model.is_honest old.file.disk → old.file.failed ≡ false
+        → LeavesOnly model old.file.disk new.file.disk
+        (CommitsToEither (committed model.state old) (staged model.state old ++ command_bytes old.chain command))
+    pub waits : model.is_honest old.file.disk → IfOk result (λ outcome. (count : ℕ) → outcome ≡ WasHeld count
+        → LeavesOnly model old.file.disk new.file.disk (CommitsTo (committed model.state old)))
+    pub step : (first : Recording) (w : World Command) → IsIn model first w old → model.is_honest old.file.disk
+        → IsRecorderStep model first w
         (command_step result (call_of old.most w command) command) old.file.disk new.file.disk
-        × IsIn is_honest state first (happens w (command_step result (call_of old.most w command) command)) new
-    pub honest : is_honest old.file.disk ↔ is_honest new.file.disk
-    pub later : failures old.file.disk ≤ failures new.file.disk
-    pub cause : result ≡ Err Disk → (failures old.file.disk < failures new.file.disk) ⊎ (failures new.file.disk ≡ 2 ^ 64 - 1)
+        × IsIn model first (happens w (command_step result (call_of old.most w command) command)) new
+    pub frame : Frame model old.file.disk new.file.disk (result ≡ Err Disk)
 
   -- The same of a flush.
   pub record Flushes (result : Result Kept Refusal) (old new : RecorderState D) : Type 0 where
-    pub any_moment : is_honest old.file.disk → old.file.failed ≡ false
-        → LeavesOnly moment images_since old.file.disk new.file.disk (CommitsToEither (committed state old) (staged state old))
-    pub step : (first : Recording) (w : World Command) → IsIn is_honest state first w old → w.is_open ≡ true → is_honest old.file.disk
-        → IsStep is_honest state moment images_since Shows Accepts add first w (flush_step result) old.file.disk new.file.disk
-        × IsIn is_honest state first (happens w (flush_step result)) new
-    pub honest : is_honest old.file.disk ↔ is_honest new.file.disk
-    pub later : failures old.file.disk ≤ failures new.file.disk
-    pub cause : result ≡ Err Disk → (failures old.file.disk < failures new.file.disk) ⊎ (failures new.file.disk ≡ 2 ^ 64 - 1)
+    pub any_moment : model.is_honest old.file.disk → old.file.failed ≡ false
+        → LeavesOnly model old.file.disk new.file.disk (CommitsToEither (committed model.state old) (staged model.state old))
+    pub step : (first : Recording) (w : World Command) → IsIn model first w old → w.is_open ≡ true → model.is_honest old.file.disk
+        → IsRecorderStep model first w (flush_step result) old.file.disk new.file.disk
+        × IsIn model first (happens w (flush_step result)) new
+    pub frame : Frame model old.file.disk new.file.disk (result ≡ Err Disk)
 
   -- What a call of a session leaves of the file: it is only read, so each image shows the same.
   pub record Reads (old new : RecorderState D) : Type 0 where
-    pub only : OnlyReads is_honest state moment images_since old.file.disk new.file.disk
+    pub only : OnlyReads model old.file.disk new.file.disk
     pub same : new ≡ over_disk new.file.disk old
-    pub step : (first : Recording) (w : World Command) → IsIn is_honest state first w old → is_honest old.file.disk
-        → IsStep is_honest state moment images_since Shows Accepts add first w Looked old.file.disk new.file.disk
-        × IsIn is_honest state first w new
-    pub later : failures old.file.disk ≤ failures new.file.disk
+    pub step : (first : Recording) (w : World Command) → IsIn model first w old → model.is_honest old.file.disk
+        → IsRecorderStep model first w Looked old.file.disk new.file.disk
+        × IsIn model first w new
+    pub later : model.failures old.file.disk ≤ model.failures new.file.disk
 
   -- a failure of its disk was counted
   abbrev pub Fails : RecorderState D → RecorderState D → Type 0
-  Fails old new = HasFailed (failures old.file.disk) (failures new.file.disk)
+  Fails old new = HasFailed (model.failures old.file.disk) (model.failures new.file.disk)
 
   -- which step of a history a reopening is
   abbrev pub OpensIn : Recording → World Command → D → D → Option (RecorderState D) → Type 0
   OpensIn first w old new (Some recorder) =
-      (found : Bool) × IsStep is_honest state moment images_since Shows Accepts add first w (Opened found) old new
-      × IsIn is_honest state first (happens w (Opened found)) recorder
-  OpensIn first w old new None = IsStep is_honest state moment images_since Shows Accepts add first w (Faulted Opening) old new
+      (found : Bool) × IsRecorderStep model first w (Opened found) old new
+      × IsIn model first (happens w (Opened found)) recorder
+  OpensIn first w old new None = IsRecorderStep model first w (Faulted Opening) old new
 
   -- What a reopening leaves of the disk, with its answer, and the recorder that it opened: each image since the call
   -- began commits to what an image at its start commits to. A file that was ours, whatever happened to it, is refused
   -- only for want of memory, or by the disk.
   pub record Reopens (result : Result ⊤ OpenFault) (file : Option (RecorderState D)) (old new : D) : Type 0 where
-    pub any_moment : is_honest old → LeavesOnly moment images_since old new (IsAsBefore Commits (state old))
-    pub step : (first : Recording) (w : World Command) → StandsIn Shows add first w (state old) → w.is_open ≡ false → is_honest old
+    pub any_moment : model.is_honest old → LeavesOnly model old new (IsAsBefore Commits (model.state old))
+    pub step : (first : Recording) (w : World Command) → StandsIn Shows add first w (model.state old) → w.is_open ≡ false → model.is_honest old
         → OpensIn first w old new file
-    pub refused : (first : Recording) (w : World Command) → StandsIn Shows add first w (state old) → is_honest old
+    pub refused : (first : Recording) (w : World Command) → StandsIn Shows add first w (model.state old) → model.is_honest old
         → IfErr result (λ fault. (fault ≡ DiskOf) ⊎ (fault ≡ MemoryOf))
-    pub honest : is_honest old ↔ is_honest new
-    pub later : failures old ≤ failures new
-    pub cause : result ≡ Err DiskOf → (failures old < failures new) ⊎ (failures new ≡ 2 ^ 64 - 1)
+    pub frame : Frame model old new (result ≡ Err DiskOf)

@@ -1,6 +1,6 @@
 -- What the listeners of a hub hear. Ours.
 use Rattle.std.specs.Prelude.{◌≡◌, ℕ, List, [], ◌++◌, length, take, min}
-use Rattle.disk_model.specs.Image.{DiskState}
+use Rattle.disk_model.specs.declared.disk.Disk.{Ghosts as DiskModel}
 use Rattle.gate_file.specs.Commit.{CommitsTo}
 use Rattle.serve_live.specs.Hearing.{IsHearing}
 use Rattle.serve_live.specs.Listening.{ListenerState}
@@ -25,8 +25,8 @@ abbrev pub OnlyReading : {D : Type 0} → HubParts D → HubParts D → Type 0
 OnlyReading old new = new ≡ hub_parts new.file old.lost new.index old.sessions old.next old.most old.room
 
 -- a call that is no step: each machine that the hub was seen as, it is seen as
-abbrev pub KeepsMachine : {D : Type 0} → (D → Type 0) → (D → DiskState) → HubParts D → HubParts D → Type 0
-KeepsMachine is_honest state old new = (machine : HubState) → Shows is_honest state old machine → Shows is_honest state new machine
+abbrev pub KeepsMachine : {D : Type 0} → DiskModel D → HubParts D → HubParts D → Type 0
+KeepsMachine model old new = (machine : HubState) → Shows model old machine → Shows model new machine
 
 -- The image shows what was heard: its committed bytes hold a recording, and what is heard of them since the moment
 -- begins with it.

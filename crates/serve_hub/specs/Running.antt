@@ -1,5 +1,6 @@
 -- How a hub answers the records of a feed. Ours.
 use Rattle.std.specs.Prelude.{◌≡◌, ◌≢◌, ℕ, IfErr, Result, List, [], length}
+use Rattle.disk_model.specs.declared.disk.Disk.{Ghosts as DiskModel}
 use Rattle.disk_model.specs.Image.{DiskState}
 use Rattle.feed_records.specs.declared.item.Record.{Record}
 use Rattle.feed_records.specs.declared.item.Record.TheVariants.{Command as CommandOf, Flush}
@@ -28,19 +29,19 @@ waiting_in before = before.machine.waiting
 abbrev pub end_in : {D : Type 0} → Progress D → ℕ
 end_in before = length before.machine.committed
 
-module _ {D : Type 0} (is_honest : D → Type 0) (state : D → DiskState) where
+module _ {D : Type 0} (model : DiskModel D) where
   -- the hub is this one, and is seen as this machine
   abbrev pub IsIn : Progress D → HubParts D → Type 0
-  IsIn before hub = (before.now ≡ hub) × Shows is_honest state hub before.machine
+  IsIn before hub = (before.now ≡ hub) × Shows model hub before.machine
 
-module _ {D : Type 0} (is_honest : D → Type 0) (state : D → DiskState) (moment : D → ℕ) (images_since : D → ℕ → List ℕ → Type 0) (failures : D → ℕ) where
+module _ {D : Type 0} (model : DiskModel D) where
   -- a command got this reply: it was a step of the machine, and of the history of the file; a refusal other than `Disk`
   -- changes nothing
   pub record CommandAnswered (before after : Progress D) (command : Command) (reply : Reply) : Type 0 where
     pub answer : Result Outcome Refusal
     pub told : reply ≡ reply_of answer
     pub step : command_step before.machine command answer after.machine
-    pub disk : IfFile (Records is_honest state moment images_since failures command answer) before.now.file after.now.file
+    pub disk : IfFile (Records model command answer) before.now.file after.now.file
     pub only : OnlyFile before.now after.now
     pub same : IfErr answer (λ refusal. refusal ≢ Disk → after.now ≡ before.now)
 
@@ -49,7 +50,7 @@ module _ {D : Type 0} (is_honest : D → Type 0) (state : D → DiskState) (mome
     pub answer : Result Kept Refusal
     pub told : reply ≡ reply_of_flush answer
     pub step : flush_step before.machine answer after.machine
-    pub disk : IfFile (Flushes is_honest state moment images_since failures answer) before.now.file after.now.file
+    pub disk : IfFile (Flushes model answer) before.now.file after.now.file
     pub only : OnlyFile before.now after.now
     pub same : IfErr answer (λ refusal. refusal ≢ Disk → after.now ≡ before.now)
 

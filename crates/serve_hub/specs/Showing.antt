@@ -1,5 +1,6 @@
 -- Which machine a hub is seen as. Ours.
 use Rattle.std.specs.Prelude.{◌≡◌, ℕ, ◌+◌, true, false, if◌then◌else◌, is_some, Option, None, Some, List, [], ◌++◌, length, take}
+use Rattle.disk_model.specs.declared.disk.Disk.{Ghosts as DiskModel}
 use Rattle.disk_model.specs.Image.{DiskState}
 use Rattle.ogg_page.specs.Page.{Page}
 use Rattle.gate_file.specs.Commit.{CommitsTo}
@@ -25,36 +26,36 @@ IsChain bytes = (links : List (List Page)) × AreLinks bytes links
 abbrev pub FindsLinks : HubState → Type 0
 FindsLinks machine = (found : List ℕ) → MayBeFound machine found → IsChain found
 
-module _ {D : Type 0} (is_honest : D → Type 0) (state : D → DiskState) where
+module _ {D : Type 0} (model : DiskModel D) where
   -- with a file: the machine has what the recorder has, and a group is in doubt exactly if the recorder has failed
   pub record ShowsFile (recorder : RecorderState D) (machine : HubState) : Type 0 where
-    pub honest : is_honest recorder.file.disk
+    pub honest : model.is_honest recorder.file.disk
     pub has_file : machine.has_file ≡ true
-    pub committed_is : machine.committed ≡ committed state recorder
-    pub held_is : machine.held ≡ (if recorder.file.failed then [] else staged state recorder)
+    pub committed_is : machine.committed ≡ committed model.state recorder
+    pub held_is : machine.held ≡ (if recorder.file.failed then [] else staged model.state recorder)
     pub waiting_is : machine.waiting ≡ recorder.held
     pub most_is : machine.most ≡ recorder.most
     pub count_is : machine.count ≡ recorder.kept + recorder.held
     pub failed_is : is_some machine.in_doubt ≡ recorder.file.failed
-    pub images : EachImage (state recorder.file.disk) (Commits machine)
+    pub images : EachImage (model.state recorder.file.disk) (Commits machine)
 
   -- without a file nothing waits
   pub record ShowsLost (lost : Lost D) (machine : HubState) : Type 0 where
-    pub honest : is_honest lost.disk
+    pub honest : model.is_honest lost.disk
     pub has_file : machine.has_file ≡ false
-    pub committed_is : machine.committed ≡ take lost.end (state lost.disk).contents
+    pub committed_is : machine.committed ≡ take lost.end (model.state lost.disk).contents
     pub long : length machine.committed ≡ lost.end
     pub held_is : machine.held ≡ []
     pub waiting_is : machine.waiting ≡ 0
     pub most_is : machine.most ≡ machine.most_after_reopening
     pub count_is : machine.count ≡ 0
-    pub images : EachImage (state lost.disk) (Commits machine)
+    pub images : EachImage (model.state lost.disk) (Commits machine)
 
   -- each image of the disk has the committed bytes of the machine, and there are `end` of them
   pub record IsOver (disk : D) (end : ℕ) (machine : HubState) : Type 0 where
-    pub honest : is_honest disk
+    pub honest : model.is_honest disk
     pub long : length machine.committed ≡ end
-    pub images : EachImage (state disk) (Commits machine)
+    pub images : EachImage (model.state disk) (Commits machine)
 
   abbrev pub ShowsPlace : Option (RecorderState D) → Option (Lost D) → HubState → Type 0
   ShowsPlace (Some recorder) lost machine = ShowsFile recorder machine

@@ -17,11 +17,11 @@ fn record_command<D: Disk>(
     recorder: &mut Recorder<D>,
     command: &Command,
 ) -> Result<Outcome, Refusal>
-    ensures step { (before : HubState) → ShowsFile D.is_honest D.state recorder.old before → (after : HubState)
-        × ShowsFile D.is_honest D.state recorder.new after × command_step before command.now result after × KeepsSessions before after }
-    ensures linked { (before after : HubState) → ShowsFile D.is_honest D.state recorder.old before → command_step before command.now result after
+    ensures step { (before : HubState) → ShowsFile D.Disk recorder.old before → (after : HubState)
+        × ShowsFile D.Disk recorder.new after × command_step before command.now result after × KeepsSessions before after }
+    ensures linked { (before after : HubState) → ShowsFile D.Disk recorder.old before → command_step before command.now result after
         → FindsLinks before → FindsLinks after }
-    ensures disk { Records D.is_honest D.state D.moment D.images_since D.failures command.now result recorder.old recorder.new }
+    ensures disk { Records D.Disk command.now result recorder.old recorder.new }
     ensures same { IfErr result (λ refusal. refusal ≢ Refusal.Disk → recorder.new ≡ recorder.old) }
 {
     command_is_in_range(command);
@@ -35,11 +35,11 @@ fn record_command<D: Disk>(
 
 /// Commits what waits.
 fn flush_commands<D: Disk>(recorder: &mut Recorder<D>) -> Result<Kept, Refusal>
-    ensures step { (before : HubState) → ShowsFile D.is_honest D.state recorder.old before → (after : HubState)
-        × ShowsFile D.is_honest D.state recorder.new after × flush_step before result after × KeepsSessions before after }
-    ensures linked { (before after : HubState) → ShowsFile D.is_honest D.state recorder.old before → flush_step before result after
+    ensures step { (before : HubState) → ShowsFile D.Disk recorder.old before → (after : HubState)
+        × ShowsFile D.Disk recorder.new after × flush_step before result after × KeepsSessions before after }
+    ensures linked { (before after : HubState) → ShowsFile D.Disk recorder.old before → flush_step before result after
         → FindsLinks before → FindsLinks after }
-    ensures disk { Flushes D.is_honest D.state D.moment D.images_since D.failures result recorder.old recorder.new }
+    ensures disk { Flushes D.Disk result recorder.old recorder.new }
     ensures same { IfErr result (λ refusal. refusal ≢ Refusal.Disk → recorder.new ≡ recorder.old) }
 {
     let _before = recorder.end();
@@ -53,12 +53,12 @@ pub(crate) fn command_file<D: Disk>(
     file: &mut Option<Recorder<D>>,
     command: &Command,
 ) -> Result<Outcome, Refusal>
-    ensures step { (lost : Option (Lost D)) (before : HubState) → ShowsPlace D.is_honest D.state file.old lost before → (after : HubState)
-        × ShowsPlace D.is_honest D.state file.new lost after × command_step before command.now result after × KeepsSessions before after }
+    ensures step { (lost : Option (Lost D)) (before : HubState) → ShowsPlace D.Disk file.old lost before → (after : HubState)
+        × ShowsPlace D.Disk file.new lost after × command_step before command.now result after × KeepsSessions before after }
     ensures stays { file.new ≡ None → file.old ≡ None }
-    ensures linked { (lost : Option (Lost D)) (before after : HubState) → ShowsPlace D.is_honest D.state file.old lost before → command_step before command.now result after
+    ensures linked { (lost : Option (Lost D)) (before after : HubState) → ShowsPlace D.Disk file.old lost before → command_step before command.now result after
         → FindsLinks before → FindsLinks after }
-    ensures disk { IfFile (Records D.is_honest D.state D.moment D.images_since D.failures command.now result) file.old file.new }
+    ensures disk { IfFile (Records D.Disk command.now result) file.old file.new }
     ensures same { IfErr result (λ refusal. refusal ≢ Refusal.Disk → file.new ≡ file.old) }
     ensures no_file { file.old ≡ None → result ≡ Err Refusal.Failed }
 {
@@ -70,12 +70,12 @@ pub(crate) fn command_file<D: Disk>(
 
 /// Commits what waits, if there is a file.
 pub(crate) fn flush_file<D: Disk>(file: &mut Option<Recorder<D>>) -> Result<Kept, Refusal>
-    ensures step { (lost : Option (Lost D)) (before : HubState) → ShowsPlace D.is_honest D.state file.old lost before → (after : HubState)
-        × ShowsPlace D.is_honest D.state file.new lost after × flush_step before result after × KeepsSessions before after }
+    ensures step { (lost : Option (Lost D)) (before : HubState) → ShowsPlace D.Disk file.old lost before → (after : HubState)
+        × ShowsPlace D.Disk file.new lost after × flush_step before result after × KeepsSessions before after }
     ensures stays { file.new ≡ None → file.old ≡ None }
-    ensures linked { (lost : Option (Lost D)) (before after : HubState) → ShowsPlace D.is_honest D.state file.old lost before → flush_step before result after
+    ensures linked { (lost : Option (Lost D)) (before after : HubState) → ShowsPlace D.Disk file.old lost before → flush_step before result after
         → FindsLinks before → FindsLinks after }
-    ensures disk { IfFile (Flushes D.is_honest D.state D.moment D.images_since D.failures result) file.old file.new }
+    ensures disk { IfFile (Flushes D.Disk result) file.old file.new }
     ensures same { IfErr result (λ refusal. refusal ≢ Refusal.Disk → file.new ≡ file.old) }
     ensures no_file { file.old ≡ None → result ≡ Err Refusal.Failed }
 {
@@ -101,7 +101,7 @@ pub(crate) fn group_file<D: Disk>(file: &mut Option<Recorder<D>>, most: u32)
 
 /// How many commands wait.
 pub(crate) fn held_in<D: Disk>(file: &Option<Recorder<D>>) -> u64
-    ensures { (lost : Option (Lost D)) (machine : HubState) → ShowsPlace D.is_honest D.state file.now lost machine
+    ensures { (lost : Option (Lost D)) (machine : HubState) → ShowsPlace D.Disk file.now lost machine
         → result ≡ machine.waiting }
 {
     match file {

@@ -62,7 +62,7 @@ impl<D: Disk> Model for Hub<D> {
 impl<D: Disk> SeenAsHub for Hub<D> {
     ghost use Rattle.serve_hub.specs.Showing.{Shows};
 
-    ghost shows = { Shows D.is_honest D.state };
+    ghost shows = { Shows D.Disk };
 }
 
 /// The room for this many sessions, and for a page.
@@ -94,7 +94,7 @@ impl<D: Disk> Hub<D> {
             × (hub.next ≡ Some 0) × (hub.most ≡ 1) × IsIndexOf [] hub.index) }
         // If the recorder hasn't failed, the hub is seen as a new machine.
         ensures shown { IfOk result (λ hub. recorder.file.failed ≡ false → D.is_honest recorder.file.disk
-            → (machine : HubState) × Shows D.is_honest D.state hub machine × IsNew machine) }
+            → (machine : HubState) × Shows D.Disk hub machine × IsNew machine) }
         ensures back { IfErr result (λ e. e.1 ≡ recorder) }
         ensures room { IfOk result (λ hub. hub.room ≡ most_sessions) }
     {
@@ -112,7 +112,7 @@ impl<D: Disk> Hub<D> {
             × (hub.next ≡ Some 0) × (hub.most ≡ 1) × (hub.room ≡ most) × IsIndexOf [] hub.index) }
         // If the recorder hasn't failed, the hub is seen as a new machine with this room.
         ensures shown { IfOk result (λ hub. recorder.file.failed ≡ false → D.is_honest recorder.file.disk
-            → (machine : HubState) × Shows D.is_honest D.state hub machine × IsNewFor most machine) }
+            → (machine : HubState) × Shows D.Disk hub machine × IsNewFor most machine) }
         ensures back { IfErr result (λ e. e.1 ≡ recorder) }
     {
         let _end = recorder.end();
@@ -137,7 +137,7 @@ impl<D: Disk> Hub<D> {
     /// `SessionsFull` says that there are as many sessions as there may be, 64 if no other number was asked for, or
     /// that all numbers of 64 bits are given. Nothing is changed then.
     pub fn connect(&mut self) -> Result<u64, HubFault>
-        ensures step { Steps (Shows D.is_honest D.state) self.old self.new (λ after. Connect result) }
+        ensures step { Steps (Shows D.Disk) self.old self.new (λ after. Connect result) }
         ensures room { result ≢ Err HubFault.Memory }
 
         // By what the hub keeps, whatever its disk.
@@ -159,7 +159,7 @@ impl<D: Disk> Hub<D> {
 
     /// Ends a session. `NoSession` says that there is none with this number; nothing is changed then.
     pub fn close(&mut self, id: u64) -> Result<(), HubFault>
-        ensures step { Steps (Shows D.is_honest D.state) self.old self.new (λ after. Close id result) }
+        ensures step { Steps (Shows D.Disk) self.old self.new (λ after. Close id result) }
 
         // By what the hub keeps, whatever its disk.
         ensures no_session { (result ≡ Err HubFault.NoSession) ↔ (place_in id self.old.sessions ≡ None) }
@@ -178,8 +178,8 @@ impl<D: Disk> Hub<D> {
 
     /// Records a command, as [`Recorder::command`] does, with its refusals. Without a file it is refused as `Failed`.
     pub fn command(&mut self, command: &Command) -> Result<Outcome, Refusal>
-        ensures step { Steps (Shows D.is_honest D.state) self.old self.new (λ after. Record command.now result) }
-        ensures disk { IfFile (Records D.is_honest D.state D.moment D.images_since D.failures command.now result)
+        ensures step { Steps (Shows D.Disk) self.old self.new (λ after. Record command.now result) }
+        ensures disk { IfFile (Records D.Disk command.now result)
             self.old.file self.new.file }
 
         // Whatever the disk: a refusal other than `Disk` changes nothing.
@@ -193,8 +193,8 @@ impl<D: Disk> Hub<D> {
 
     /// Commits the commands that wait, as [`Recorder::flush`] does. Without a file it is refused as `Failed`.
     pub fn flush(&mut self) -> Result<Kept, Refusal>
-        ensures step { Steps (Shows D.is_honest D.state) self.old self.new (λ after. Flush result) }
-        ensures disk { IfFile (Flushes D.is_honest D.state D.moment D.images_since D.failures result) self.old.file self.new.file }
+        ensures step { Steps (Shows D.Disk) self.old self.new (λ after. Flush result) }
+        ensures disk { IfFile (Flushes D.Disk result) self.old.file self.new.file }
 
         // Whatever the disk: a refusal other than `Disk` changes nothing.
         ensures same { IfErr result (λ refusal. refusal ≢ Refusal.Disk → self.new ≡ self.old) }
@@ -212,7 +212,7 @@ impl<D: Disk> Hub<D> {
         requires few { most ≤ 1024 }
         requires file { IsSome self.old.file }
         requires none { (recorder : RecorderState D) → self.old.file ≡ Some recorder → recorder.held ≡ 0 }
-        ensures step { Steps (Shows D.is_honest D.state) self.old self.new (λ after. Group most) }
+        ensures step { Steps (Shows D.Disk) self.old self.new (λ after. Group most) }
         ensures places { self.new.room ≡ self.old.room }
     {
         sessions_stay();
@@ -222,14 +222,14 @@ impl<D: Disk> Hub<D> {
 
     /// How many commands wait; none without a file.
     pub fn held(&self) -> u64
-        ensures { (machine : HubState) → Shows D.is_honest D.state self.now machine → result ≡ machine.waiting }
+        ensures { (machine : HubState) → Shows D.Disk self.now machine → result ≡ machine.waiting }
     {
         held_in(&self.file)
     }
 
     /// The length of the committed bytes. Without a file it is the last length that is known.
     pub fn end(&self) -> u64
-        ensures { (machine : HubState) → Shows D.is_honest D.state self.now machine → result ≡ length machine.committed }
+        ensures { (machine : HubState) → Shows D.Disk self.now machine → result ≡ length machine.committed }
     {
         end_in(&self.file, &self.lost)
     }
@@ -247,15 +247,15 @@ impl<D: Disk + Drop> Hub<D> {
     /// `NoSession` says that there is no session with this number, and `NoFile` that there is no file; nothing is
     /// changed then, nor after `Memory`. After `Source` the session has ended.
     pub fn receive(&mut self, id: u64, bytes: &[u8]) -> Result<Progress, HubFault>
-        ensures step { Steps (Shows D.is_honest D.state) self.old self.new (λ after. Receive id bytes.now result) }
+        ensures step { Steps (Shows D.Disk) self.old self.new (λ after. Receive id bytes.now result) }
 
         // `Memory` comes if the session's head has no room for the bytes, or once they complete it.
         ensures memory { result ≡ Err HubFault.Memory → LacksRoomIn id self.old.sessions bytes.now }
 
         // The file is only read, and a fault has a cause.
-        ensures disk { IfFile (Reads D.is_honest D.state D.moment D.images_since D.failures) self.old.file self.new.file }
-        ensures cause { result ≡ Err HubFault.Source → (machine : HubState) → Shows D.is_honest D.state self.old machine
-            → IfFile (Fails D.is_honest D.state D.moment D.images_since D.failures) self.old.file self.new.file }
+        ensures disk { IfFile (Reads D.Disk) self.old.file self.new.file }
+        ensures cause { result ≡ Err HubFault.Source → (machine : HubState) → Shows D.Disk self.old machine
+            → IfFile (Fails D.Disk) self.old.file self.new.file }
 
         // By what the hub keeps, whatever its disk: `NoSession` comes before `NoFile`.
         ensures no_session { (result ≡ Err HubFault.NoSession) ↔ (place_in id self.old.sessions ≡ None) }
@@ -282,15 +282,15 @@ impl<D: Disk + Drop> Hub<D> {
     ///
     /// `NoSession` and `NoFile` mean the same as in `receive`. After `Source` the session has ended.
     pub fn pull(&mut self, id: u64, buffer: &mut [u8]) -> Result<Pulled, HubFault>
-        ensures step { Steps (Shows D.is_honest D.state) self.old self.new
+        ensures step { Steps (Shows D.Disk) self.old self.new
             (λ after. Pull id (length buffer.old) (given_in buffer.new result)) }
         ensures memory { result ≢ Err HubFault.Memory }
         ensures within { IfOk result (λ pulled. pulled.count ≤ length buffer.old) }
 
         // The file is only read, and a fault has a cause.
-        ensures disk { IfFile (Reads D.is_honest D.state D.moment D.images_since D.failures) self.old.file self.new.file }
-        ensures cause { result ≡ Err HubFault.Source → (machine : HubState) → Shows D.is_honest D.state self.old machine
-            → IfFile (Fails D.is_honest D.state D.moment D.images_since D.failures) self.old.file self.new.file }
+        ensures disk { IfFile (Reads D.Disk) self.old.file self.new.file }
+        ensures cause { result ≡ Err HubFault.Source → (machine : HubState) → Shows D.Disk self.old machine
+            → IfFile (Fails D.Disk) self.old.file self.new.file }
 
         // By what the hub keeps, whatever its disk: `NoSession` comes before `NoFile`.
         ensures no_session { (result ≡ Err HubFault.NoSession) ↔ (place_in id self.old.sessions ≡ None) }
@@ -313,9 +313,9 @@ impl<D: Disk + Drop> Hub<D> {
     /// these are `Memory` and `Disk` alone. The sessions stay, and what waited is lost. After a fault there is no file,
     /// and the disk is kept for another reopening.
     pub fn reopen(&mut self) -> Result<(), OpenFault>
-        ensures step { Steps (Shows D.is_honest D.state) self.old self.new (λ after. Reopen (found_by result after)) }
+        ensures step { Steps (Shows D.Disk) self.old self.new (λ after. Reopen (found_by result after)) }
         ensures disk { (old new : D) → disk_in self.old.file self.old.lost ≡ Some old → disk_in self.new.file self.new.lost ≡ Some new
-            → Reopens D.is_honest D.state D.moment D.images_since D.failures result self.new.file old new }
+            → Reopens D.Disk result self.new.file old new }
         ensures places { self.new.room ≡ self.old.room }
     {
         sessions_stay();
@@ -336,7 +336,7 @@ impl<D: Disk + Drop> Hub<D> {
     /// and no memory is taken.
     pub fn into_recorder(self) -> Result<Recorder<D>, D>
         ensures recorder { IfOk result (λ recorder. self.file ≡ Some recorder) }
-        ensures committed { IfOk result (λ recorder. (machine : HubState) → Shows D.is_honest D.state self machine
+        ensures committed { IfOk result (λ recorder. (machine : HubState) → Shows D.Disk self machine
             → committed D.state recorder ≡ machine.committed) }
         ensures none { IfErr result (λ disk. (self.file ≡ None) × (end : ℕ) × (self.lost ≡ Some (lost_file disk end))) }
     {

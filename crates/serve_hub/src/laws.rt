@@ -1,7 +1,7 @@
 //! What always holds of the listeners of a hub.
 ghost use Rattle.std.specs.Prelude.{◌≡◌, ◌++◌, ℕ, List, Some, false};
 ghost use Rattle.std.specs.List.{AllByRecursion};
-ghost use Rattle.disk_model.specs.Clock.{LeavesOnly};
+ghost use Rattle.disk_model.specs.Leaving.{LeavesOnly};
 ghost use Rattle.gate_file.specs.Commit.{CommitsToEither};
 ghost use Rattle.gate_file.specs.Gate.{EachImage};
 ghost use Rattle.ogg_page.specs.Page.{Page};
@@ -60,14 +60,14 @@ pub fn what_a_hub_lets_hear_is_a_chain()
 /// Of what each image commits to, what the listener would hear begins with what it was given.
 pub fn images_show_what_was_heard<D: Disk>()
     ensures images { (hub : HubParts D) (disk : D) (machine : HubState) (moment : Moment) (listener : ListenerState) (given : List ℕ)
-        → Shows D.is_honest D.state hub machine → disk_in hub.file hub.lost ≡ Some disk → IsSound machine
+        → Shows D.Disk hub machine → disk_in hub.file hub.lost ≡ Some disk → IsSound machine
         → IsHearing moment machine.committed listener given → EachImage (D.state disk) (ShowsHeard moment given) }
     // While a call appends, each image since it began commits to what was committed, or to that with all that is
     // appended.
     ensures calls { (old new : D) (committed more : List ℕ) (moment : Moment) (listener : ListenerState) (given : List ℕ)
         → IsRecorded committed → IsRecorded (committed ++ more) → IsHearing moment committed listener given
-        → LeavesOnly D.moment D.images_since old new (CommitsToEither committed more)
-        → LeavesOnly D.moment D.images_since old new (ShowsHeard moment given) }
+        → LeavesOnly D.Disk old new (CommitsToEither committed more)
+        → LeavesOnly D.Disk old new (ShowsHeard moment given) }
 {
     sessions_hear_what_is_committed();
 }

@@ -39,17 +39,17 @@ fn join_from<D: Disk + Drop>(
 ) -> Result<Listener, HubFault>
     requires { IsSome room.old }
     ensures joins { (lost : Option (Lost D)) (machine : HubState) (links : List (List Page)) (moment : Moment)
-        → ShowsPlace D.is_honest D.state file.old lost machine → IsOfFront machine.committed index.old
+        → ShowsPlace D.Disk file.old lost machine → IsOfFront machine.committed index.old
         → AreLinks machine.committed links → IsPlaceIn links moment place
         → IfOk result (λ listener. IsHearing moment machine.committed listener []) }
-    ensures shows { (lost : Option (Lost D)) (machine : HubState) → ShowsPlace D.is_honest D.state file.old lost machine
+    ensures shows { (lost : Option (Lost D)) (machine : HubState) → ShowsPlace D.Disk file.old lost machine
         → IsOfFront machine.committed index.old
-        → ShowsPlace D.is_honest D.state file.new lost machine × IsOfFront machine.committed index.new }
+        → ShowsPlace D.Disk file.new lost machine × IsOfFront machine.committed index.new }
     ensures cause { (lost : Option (Lost D)) (machine : HubState) (links : List (List Page)) (moment : Moment)
-        → ShowsPlace D.is_honest D.state file.old lost machine → IsOfFront machine.committed index.old
+        → ShowsPlace D.Disk file.old lost machine → IsOfFront machine.committed index.old
         → AreLinks machine.committed links → IsPlaceIn links moment place → result ≡ Err HubFault.Source
-        → IfFile (Fails D.is_honest D.state D.moment D.images_since D.failures) file.old file.new }
-    ensures disk { IfFile (Reads D.is_honest D.state D.moment D.images_since D.failures) file.old file.new }
+        → IfFile (Fails D.Disk) file.old file.new }
+    ensures disk { IfFile (Reads D.Disk) file.old file.new }
     ensures no_file { (result ≡ Err HubFault.NoFile) ↔ (file.old ≡ None) }
     ensures other { (result ≢ Err HubFault.NoSession) × (result ≢ Err HubFault.SessionsFull) }
     ensures same { result ≡ Err HubFault.NoFile → (file.new ≡ file.old) × (index.new ≡ index.old) }
@@ -77,9 +77,9 @@ fn hear_in<D: Disk>(
         → IfOk result (λ count. HearsMore moment (committed D.state recorder.old) given hearing.rest (length buffer.old) count buffer.new listener.new) }
     ensures cause { (moment : Moment) (given : List ℕ) → D.is_honest recorder.old.file.disk
         → (hearing : IsHearing moment (committed D.state recorder.old) listener.old given) → result ≡ Err HubFault.Source
-        → Fails D.is_honest D.state D.moment D.images_since D.failures recorder.old recorder.new
+        → Fails D.Disk recorder.old recorder.new
         × (0 < min (length hearing.rest) (length buffer.old)) }
-    ensures disk { Reads D.is_honest D.state D.moment D.images_since D.failures recorder.old recorder.new }
+    ensures disk { Reads D.Disk recorder.old recorder.new }
     ensures faults { IfErr result (λ fault. fault ≡ HubFault.Source) }
     ensures same { OnErr result (listener.new ≡ listener.old) }
     ensures within { IfOk result (λ count. count ≤ length buffer.old) }
@@ -99,15 +99,15 @@ fn hear_from<D: Disk>(
     buffer: &mut [u8],
 ) -> Result<usize, HubFault>
     ensures hears { (lost : Option (Lost D)) (machine : HubState) (moment : Moment) (given : List ℕ)
-        → ShowsPlace D.is_honest D.state file.old lost machine → (hearing : IsHearing moment machine.committed listener.old given)
+        → ShowsPlace D.Disk file.old lost machine → (hearing : IsHearing moment machine.committed listener.old given)
         → IfOk result (λ count. HearsMore moment machine.committed given hearing.rest (length buffer.old) count buffer.new listener.new) }
-    ensures shows { (lost : Option (Lost D)) (machine : HubState) → ShowsPlace D.is_honest D.state file.old lost machine
-        → ShowsPlace D.is_honest D.state file.new lost machine }
+    ensures shows { (lost : Option (Lost D)) (machine : HubState) → ShowsPlace D.Disk file.old lost machine
+        → ShowsPlace D.Disk file.new lost machine }
     ensures cause { (lost : Option (Lost D)) (machine : HubState) (moment : Moment) (given : List ℕ)
-        → ShowsPlace D.is_honest D.state file.old lost machine → (hearing : IsHearing moment machine.committed listener.old given)
-        → result ≡ Err HubFault.Source → IfFile (Fails D.is_honest D.state D.moment D.images_since D.failures) file.old file.new
+        → ShowsPlace D.Disk file.old lost machine → (hearing : IsHearing moment machine.committed listener.old given)
+        → result ≡ Err HubFault.Source → IfFile (Fails D.Disk) file.old file.new
         × (0 < min (length hearing.rest) (length buffer.old)) }
-    ensures disk { IfFile (Reads D.is_honest D.state D.moment D.images_since D.failures) file.old file.new }
+    ensures disk { IfFile (Reads D.Disk) file.old file.new }
     ensures no_file { (result ≡ Err HubFault.NoFile) ↔ (file.old ≡ None) }
     ensures faults { IfErr result (λ fault. (fault ≡ HubFault.NoFile) ⊎ (fault ≡ HubFault.Source)) }
     ensures nothing { result ≡ Err HubFault.NoFile → (file.new ≡ file.old) × (buffer.new ≡ buffer.old) }
@@ -129,16 +129,16 @@ impl<D: Disk + Drop> Hub<D> {
     /// `NoFile` says that there is no file; nothing is changed then. After `Memory` or `Source`, a fault of the disk,
     /// the index may have more pages than before, and nothing else is changed.
     pub fn join(&mut self, place: JoinPlace) -> Result<Listener, HubFault>
-        ensures machine { KeepsMachine D.is_honest D.state self.old self.new }
-        ensures joins { (machine : HubState) (links : List (List Page)) (moment : Moment) → Shows D.is_honest D.state self.old machine
+        ensures machine { KeepsMachine D.Disk self.old self.new }
+        ensures joins { (machine : HubState) (links : List (List Page)) (moment : Moment) → Shows D.Disk self.old machine
             → AreLinks machine.committed links → IsPlaceIn links moment place
             → IfOk result (λ listener. IsHearing moment machine.committed listener []) }
 
         // The file is only read, and a fault of committed links has a cause.
-        ensures disk { IfFile (Reads D.is_honest D.state D.moment D.images_since D.failures) self.old.file self.new.file }
-        ensures cause { (machine : HubState) (links : List (List Page)) (moment : Moment) → Shows D.is_honest D.state self.old machine
+        ensures disk { IfFile (Reads D.Disk) self.old.file self.new.file }
+        ensures cause { (machine : HubState) (links : List (List Page)) (moment : Moment) → Shows D.Disk self.old machine
             → AreLinks machine.committed links → IsPlaceIn links moment place → result ≡ Err HubFault.Source
-            → IfFile (Fails D.is_honest D.state D.moment D.images_since D.failures) self.old.file self.new.file }
+            → IfFile (Fails D.Disk) self.old.file self.new.file }
 
         // By what the hub keeps, whatever its disk.
         ensures no_file { (result ≡ Err HubFault.NoFile) ↔ (self.old.file ≡ None) }
@@ -160,7 +160,7 @@ impl<D: Disk> Hub<D> {
     /// A listener that waits while no link is open: it hears from the next link's first page on. No memory is taken,
     /// and the disk isn't asked.
     pub fn wait(&self) -> Listener
-        ensures { (machine : HubState) → Shows D.is_honest D.state self.now machine
+        ensures { (machine : HubState) → Shows D.Disk self.now machine
             → IsHearing (waiting_at machine.committed) machine.committed result [] }
     {
         listeners_hear_what_they_should();
@@ -173,16 +173,16 @@ impl<D: Disk> Hub<D> {
     /// `NoFile` says that there is no file; nothing is changed then. After `Source`, a fault of the disk, the listener
     /// is as it was, and the buffer may hold anything.
     pub fn hear(&mut self, listener: &mut Listener, buffer: &mut [u8]) -> Result<usize, HubFault>
-        ensures machine { KeepsMachine D.is_honest D.state self.old self.new }
-        ensures hears { (machine : HubState) (moment : Moment) (given : List ℕ) → Shows D.is_honest D.state self.old machine
+        ensures machine { KeepsMachine D.Disk self.old self.new }
+        ensures hears { (machine : HubState) (moment : Moment) (given : List ℕ) → Shows D.Disk self.old machine
             → (hearing : IsHearing moment machine.committed listener.old given)
             → IfOk result (λ count. HearsMore moment machine.committed given hearing.rest (length buffer.old) count buffer.new listener.new) }
 
         // The file is only read, and a fault has a cause: a byte was to be given.
-        ensures disk { IfFile (Reads D.is_honest D.state D.moment D.images_since D.failures) self.old.file self.new.file }
-        ensures cause { (machine : HubState) (moment : Moment) (given : List ℕ) → Shows D.is_honest D.state self.old machine
+        ensures disk { IfFile (Reads D.Disk) self.old.file self.new.file }
+        ensures cause { (machine : HubState) (moment : Moment) (given : List ℕ) → Shows D.Disk self.old machine
             → (hearing : IsHearing moment machine.committed listener.old given) → result ≡ Err HubFault.Source
-            → IfFile (Fails D.is_honest D.state D.moment D.images_since D.failures) self.old.file self.new.file
+            → IfFile (Fails D.Disk) self.old.file self.new.file
             × (0 < min (length hearing.rest) (length buffer.old)) }
 
         // By what the hub keeps, whatever its disk.

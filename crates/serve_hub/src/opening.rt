@@ -27,14 +27,14 @@ pub(crate) fn open_again<D: Disk>(
 ) -> Result<Recorder<D>, (OpenFault, D)>
     requires some { 1 ≤ most }
     requires few { most ≤ 1024 }
-    ensures found { IfOk result (λ recorder. (before : HubState) → IsOver D.is_honest D.state disk end before
+    ensures found { IfOk result (λ recorder. (before : HubState) → IsOver D.Disk disk end before
         → before.most_after_reopening ≡ most → (after : HubState)
-        × ShowsFile D.is_honest D.state recorder after × reopen_step before (Some after.committed) after × KeepsSessions before after) }
-    ensures lost { IfErr result (λ e. (before : HubState) → IsOver D.is_honest D.state disk end before
-        → ShowsLost D.is_honest D.state (lost_file e.1 end) (without_file before)) }
-    ensures opened { IfOk result (λ recorder. Reopens D.is_honest D.state D.moment D.images_since D.failures
+        × ShowsFile D.Disk recorder after × reopen_step before (Some after.committed) after × KeepsSessions before after) }
+    ensures lost { IfErr result (λ e. (before : HubState) → IsOver D.Disk disk end before
+        → ShowsLost D.Disk (lost_file e.1 end) (without_file before)) }
+    ensures opened { IfOk result (λ recorder. Reopens D.Disk
         (Ok tt) (Some recorder) disk recorder.file.disk) }
-    ensures failed { IfErr result (λ e. Reopens D.is_honest D.state D.moment D.images_since D.failures (Err e.0) None disk e.1) }
+    ensures failed { IfErr result (λ e. Reopens D.Disk (Err e.0) None disk e.1) }
 {
     match Recorder::open(alloc, disk) {
         Ok(mut recorder) => {
@@ -54,8 +54,8 @@ pub(crate) fn take_disk<D: Disk + Drop>(
     requires { file.old ≡ None → IsSome lost.old }
     ensures file { file.new ≡ None }
     ensures lost { lost.new ≡ None }
-    ensures over { (before : HubState) → ShowsPlace D.is_honest D.state file.old lost.old before
-        → IsOver D.is_honest D.state result.disk result.end before }
+    ensures over { (before : HubState) → ShowsPlace D.Disk file.old lost.old before
+        → IsOver D.Disk result.disk result.end before }
     ensures disk { disk_in file.old lost.old ≡ Some result.disk }
 {
     match file.take() {
@@ -73,7 +73,7 @@ pub(crate) fn take_disk<D: Disk + Drop>(
 
 /// How many bytes are committed.
 pub(crate) fn end_in<D: Disk>(file: &Option<Recorder<D>>, lost: &Option<Lost<D>>) -> u64
-    ensures { (machine : HubState) → ShowsPlace D.is_honest D.state file.now lost.now machine → result ≡ length machine.committed }
+    ensures { (machine : HubState) → ShowsPlace D.Disk file.now lost.now machine → result ≡ length machine.committed }
 {
     match file {
         Some(recorder) => recorder.end(),

@@ -83,16 +83,16 @@ pub(crate) fn receive_from<D: Disk + Drop>(
 ) -> Result<Progress, HubFault>
     requires room { IsSome room.old }
     requires order { IdsRise sessions.old.items }
-    ensures step { (lost : Option (Lost D)) (before : HubState) → ShowsPlace D.is_honest D.state file.old lost before
+    ensures step { (lost : Option (Lost D)) (before : HubState) → ShowsPlace D.Disk file.old lost before
         → IsOfFront before.committed index.old → AreSessions before.committed sessions.old.items before.sessions
-        → (left : List SessionOf) × ShowsPlace D.is_honest D.state file.new lost (record before { sessions = left })
+        → (left : List SessionOf) × ShowsPlace D.Disk file.new lost (record before { sessions = left })
         × IsOfFront before.committed index.new × AreSessions before.committed sessions.new.items left
         × receive_step (phase_of before id) before.has_file before id bytes.now result (record before { sessions = left }) }
     ensures cause { result ≡ Err HubFault.Source → (lost : Option (Lost D)) (before : HubState)
-        → ShowsPlace D.is_honest D.state file.old lost before → IsOfFront before.committed index.old
-        → (links : List (List Page)) → AreLinks before.committed links → IfFile (Fails D.is_honest D.state D.moment D.images_since D.failures) file.old file.new }
+        → ShowsPlace D.Disk file.old lost before → IsOfFront before.committed index.old
+        → (links : List (List Page)) → AreLinks before.committed links → IfFile (Fails D.Disk) file.old file.new }
     ensures memory { result ≡ Err HubFault.Memory → LacksRoomIn id sessions.old.items bytes.now }
-    ensures disk { IfFile (Reads D.is_honest D.state D.moment D.images_since D.failures) file.old file.new }
+    ensures disk { IfFile (Reads D.Disk) file.old file.new }
     ensures order { (next : ℕ) → AreInOrder next sessions.old.items → AreInOrder next sessions.new.items }
     ensures no_session { (result ≡ Err HubFault.NoSession) ↔ (place_in id sessions.old.items ≡ None) }
     ensures no_file { (result ≡ Err HubFault.NoFile) ↔ (IsSome (place_in id sessions.old.items) × (file.old ≡ None)) }
@@ -123,15 +123,15 @@ pub(crate) fn pull_from<D: Disk + Drop>(
 ) -> Result<Pulled, HubFault>
     requires room { IsSome room.old }
     requires order { IdsRise sessions.old.items }
-    ensures step { (lost : Option (Lost D)) (before : HubState) → ShowsPlace D.is_honest D.state file.old lost before
+    ensures step { (lost : Option (Lost D)) (before : HubState) → ShowsPlace D.Disk file.old lost before
         → AreSessions before.committed sessions.old.items before.sessions
-        → (left : List SessionOf) × ShowsPlace D.is_honest D.state file.new lost (record before { sessions = left })
+        → (left : List SessionOf) × ShowsPlace D.Disk file.new lost (record before { sessions = left })
         × AreSessions before.committed sessions.new.items left
         × pull_step (phase_of before id) before.has_file before id (length buffer.old) (given_in buffer.new result) (record before { sessions = left }) }
     ensures cause { result ≡ Err HubFault.Source → (lost : Option (Lost D)) (before : HubState)
-        → ShowsPlace D.is_honest D.state file.old lost before → AreSessions before.committed sessions.old.items before.sessions
-        → IfFile (Fails D.is_honest D.state D.moment D.images_since D.failures) file.old file.new }
-    ensures disk { IfFile (Reads D.is_honest D.state D.moment D.images_since D.failures) file.old file.new }
+        → ShowsPlace D.Disk file.old lost before → AreSessions before.committed sessions.old.items before.sessions
+        → IfFile (Fails D.Disk) file.old file.new }
+    ensures disk { IfFile (Reads D.Disk) file.old file.new }
     ensures order { (next : ℕ) → AreInOrder next sessions.old.items → AreInOrder next sessions.new.items }
     ensures no_session { (result ≡ Err HubFault.NoSession) ↔ (place_in id sessions.old.items ≡ None) }
     ensures no_file { (result ≡ Err HubFault.NoFile) ↔ (IsSome (place_in id sessions.old.items) × (file.old ≡ None)) }

@@ -15,9 +15,9 @@ impl<D: Disk> Runner for Hub<D> {
 
     ghost State = { Progress D };
 
-    ghost is_in = { IsIn D.is_honest D.state };
+    ghost is_in = { IsIn D.Disk };
 
-    ghost answers = { Answers D.is_honest D.state D.moment D.images_since D.failures };
+    ghost answers = { Answers D.Disk };
 
     ghost held_in = { waiting_in };
 

@@ -17,7 +17,7 @@ use ogg_recorder::Recorder;
 /// How many bytes are committed and wait. Without a file it is the last end that is known.
 pub(crate) fn length_of<D: Disk>(file: &Option<Recorder<D>>, lost: &Option<Lost<D>>) -> u64
     ensures length { result ≡ length_in file.now lost.now }
-    ensures machine { (machine : HubState) → ShowsPlace D.is_honest D.state file.now lost.now machine → machine.in_doubt ≡ None
+    ensures machine { (machine : HubState) → ShowsPlace D.Disk file.now lost.now machine → machine.in_doubt ≡ None
         → result ≡ length (machine.committed ++ machine.held) }
 {
     match file {
@@ -33,7 +33,7 @@ pub(crate) fn length_of<D: Disk>(file: &Option<Recorder<D>>, lost: &Option<Lost<
 pub(crate) fn streams_of<D: Disk>(file: &Option<Recorder<D>>) -> &[StreamState]
     ensures streams { result.now ≡ streams_in file.now }
     ensures machine { (lost : Option (LostOf D)) (machine : HubState) (links : List (List Page))
-        → ShowsPlace D.is_honest D.state file.now lost machine → HasLinks machine links
+        → ShowsPlace D.Disk file.now lost machine → HasLinks machine links
         → result.now ≡ (chain_state_of links).streams }
 {
     bytes_are_one_chain();
@@ -50,7 +50,7 @@ pub(crate) fn streams_of<D: Disk>(file: &Option<Recorder<D>>) -> &[StreamState]
 pub(crate) fn serials_of<D: Disk>(file: &Option<Recorder<D>>) -> &[u32]
     ensures serials { result.now ≡ serials_in file.now }
     ensures machine { (lost : Option (LostOf D)) (machine : HubState) (links : List (List Page))
-        → ShowsPlace D.is_honest D.state file.now lost machine → HasLinks machine links
+        → ShowsPlace D.Disk file.now lost machine → HasLinks machine links
         → result.now ≡ (chain_state_of links).serials }
 {
     bytes_are_one_chain();
@@ -67,7 +67,7 @@ pub(crate) fn serials_of<D: Disk>(file: &Option<Recorder<D>>) -> &[u32]
 pub(crate) fn links_of<D: Disk>(file: &Option<Recorder<D>>) -> u64
     ensures links { result ≡ links_in file.now }
     ensures machine { (lost : Option (LostOf D)) (machine : HubState) (links : List (List Page))
-        → ShowsPlace D.is_honest D.state file.now lost machine → HasLinks machine links
+        → ShowsPlace D.Disk file.now lost machine → HasLinks machine links
         → result ≡ (chain_state_of links).links }
 {
     bytes_are_one_chain();
@@ -83,7 +83,7 @@ pub(crate) fn links_of<D: Disk>(file: &Option<Recorder<D>>) -> u64
 /// Whether the disk has failed, or there is no file.
 pub(crate) fn has_failed<D: Disk>(file: &Option<Recorder<D>>) -> bool
     ensures failed { result ≡ failed_in file.now }
-    ensures machine { (lost : Option (LostOf D)) (machine : HubState) → ShowsPlace D.is_honest D.state file.now lost machine
+    ensures machine { (lost : Option (LostOf D)) (machine : HubState) → ShowsPlace D.Disk file.now lost machine
         → result ≡ is_failed machine }
 {
     match file {
@@ -97,7 +97,7 @@ impl<D: Disk> Hub<D> {
     /// that is known. After a fault of the disk it still counts those of the group in doubt.
     pub fn length(&self) -> u64
         ensures length { result ≡ length_in self.now.file self.now.lost }
-        ensures machine { (machine : HubState) → Shows D.is_honest D.state self.now machine → machine.in_doubt ≡ None
+        ensures machine { (machine : HubState) → Shows D.Disk self.now machine → machine.in_doubt ≡ None
             → result ≡ length (machine.committed ++ machine.held) }
     {
         length_of(&self.file, &self.lost)
@@ -107,7 +107,7 @@ impl<D: Disk> Hub<D> {
     /// none.
     pub fn streams(&self) -> &[StreamState]
         ensures streams { result.now ≡ streams_in self.now.file }
-        ensures machine { (machine : HubState) (links : List (List Page)) → Shows D.is_honest D.state self.now machine
+        ensures machine { (machine : HubState) (links : List (List Page)) → Shows D.Disk self.now machine
             → HasLinks machine links → result.now ≡ (chain_state_of links).streams }
     {
         streams_of(&self.file)
@@ -117,7 +117,7 @@ impl<D: Disk> Hub<D> {
     /// file there are none.
     pub fn serials(&self) -> &[u32]
         ensures serials { result.now ≡ serials_in self.now.file }
-        ensures machine { (machine : HubState) (links : List (List Page)) → Shows D.is_honest D.state self.now machine
+        ensures machine { (machine : HubState) (links : List (List Page)) → Shows D.Disk self.now machine
             → HasLinks machine links → result.now ≡ (chain_state_of links).serials }
     {
         serials_of(&self.file)
@@ -126,7 +126,7 @@ impl<D: Disk> Hub<D> {
     /// How many links the file has, those that wait included. Without a file there are none.
     pub fn links(&self) -> u64
         ensures links { result ≡ links_in self.now.file }
-        ensures machine { (machine : HubState) (links : List (List Page)) → Shows D.is_honest D.state self.now machine
+        ensures machine { (machine : HubState) (links : List (List Page)) → Shows D.Disk self.now machine
             → HasLinks machine links → result ≡ (chain_state_of links).links }
     {
         links_of(&self.file)
@@ -135,7 +135,7 @@ impl<D: Disk> Hub<D> {
     /// Whether there is a file: there is none after a reopening that failed.
     pub fn has_file(&self) -> bool
         ensures file { result ≡ is_some self.now.file }
-        ensures machine { (machine : HubState) → Shows D.is_honest D.state self.now machine → result ≡ machine.has_file }
+        ensures machine { (machine : HubState) → Shows D.Disk self.now machine → result ≡ machine.has_file }
     {
         self.file.is_some()
     }
@@ -143,7 +143,7 @@ impl<D: Disk> Hub<D> {
     /// Whether the disk has failed, or there is no file. Then each command is refused as `Failed` until a reopening.
     pub fn is_failed(&self) -> bool
         ensures failed { result ≡ failed_in self.now.file }
-        ensures machine { (machine : HubState) → Shows D.is_honest D.state self.now machine → result ≡ is_failed machine }
+        ensures machine { (machine : HubState) → Shows D.Disk self.now machine → result ≡ is_failed machine }
     {
         has_failed(&self.file)
     }

@@ -1,5 +1,6 @@
 -- What a step of a station has done, of the source that had the air and in numbers. Ours.
 use Rattle.std.specs.Prelude.{◌≡◌, ⊤, ℕ, Bool, false, true, Option, Some, List}
+use Rattle.disk_model.specs.declared.disk.Disk.{Ghosts as DiskModel}
 use Rattle.disk_model.specs.Image.{DiskState}
 use Rattle.import_mend.specs.declared.mend.Mend.{Mend}
 use Rattle.import_record.specs.declared.intake.Taken.{Taken}
@@ -35,21 +36,21 @@ reopens (GivenUp fault) = true
 reopens done = false
 
 -- ---- of the source that had the air
-module _ {D : Type 0} (is_honest : D → Type 0) (state : D → DiskState) (moment : D → ℕ) (images_since : D → ℕ → List ℕ → Type 0) (failures : D → ℕ) where
+module _ {D : Type 0} (model : DiskModel D) where
   -- A step was taken of its stream, as import_record takes it, and it still has the air.
   pub record HasStepped (step : Step) (air : OnAir) (now : Option OnAir) (new : LiveHub D) (before : Progress D) : Type 0 where
     pub source : OnAir
     pub after : Progress D
     pub on_air : now ≡ Some source
     pub keeps : KeepsBytes step air source
-    pub reached : IsIn is_honest state after new.hub
-    pub takes : TakesStep (Answers is_honest state moment images_since failures) (HasAllTaken air) step air.import source.import before after
+    pub reached : IsIn model after new.hub
+    pub takes : TakesStep (Answers model) (HasAllTaken air) step air.import source.import before after
 
   -- The end of its stream was found, and what was open of it was ended.
   pub record HasEnded (offset : ℕ) (junk : Option Mend) (taken : Taken) (air : OnAir) (before : Progress D) : Type 0 where
     pub run : ImportRun
     pub after : Progress D
-    pub takes : TakesEnd (Answers is_honest state moment images_since failures) (HasAllTaken air) offset junk taken air.import run before after
+    pub takes : TakesEnd (Answers model) (HasAllTaken air) offset junk taken air.import run before after
 
   -- Bytes were looked for among those that have come, or came to its stream. Nothing was recorded.
   pub record HasPassedOn (air : OnAir) (now : Option OnAir) (old new : LiveHub D) : Type 0 where
@@ -61,9 +62,9 @@ module _ {D : Type 0} (is_honest : D → Type 0) (state : D → DiskState) (mome
   -- What was taken of the source, by what the step has done: what is recorded of it is what import_record says of its
   -- bytes.
   abbrev pub TakesFromSource : Done → OnAir → Option OnAir → LiveHub D → LiveHub D → Type 0
-  TakesFromSource (Stepped step) air now old new = (before : Progress D) → IsIn is_honest state before old.hub → HasStepped step air now new before
+  TakesFromSource (Stepped step) air now old new = (before : Progress D) → IsIn model before old.hub → HasStepped step air now new before
   TakesFromSource (Ended offset junk taken) air now old new =
-      (before : Progress D) → IsIn is_honest state before old.hub → HasEnded offset junk taken air before
+      (before : Progress D) → IsIn model before old.hub → HasEnded offset junk taken air before
   TakesFromSource Bytes air now old new = HasPassedOn air now old new
   TakesFromSource done air now old new = ⊤
 

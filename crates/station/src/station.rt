@@ -206,11 +206,11 @@ impl<D: Disk + Drop> Station<D> {
     pub fn received(&mut self, key: usize, bytes: &[u8], now: u64)
         ensures reads { (client : ClientState) (id : ℕ) → get self.old.clients.slots key ≡ Some client → client.stage ≡ ReadingOf → client.session ≡ Some id
             → (progress : Result ProgressOf HubFaultOf)
-            × Steps (Shows D.is_honest D.state) self.old.live.hub self.new.live.hub (λ machine. Receive id bytes.now progress)
+            × Steps (Shows D.Disk) self.old.live.hub self.new.live.hub (λ machine. Receive id bytes.now progress)
             × (get self.new.clients.slots key ≡ Some (with_stage (stage_after progress) (with_line (moved_on client.line) client))) }
         // The file is only read, if at all.
         ensures disk { (self.new.live.hub.file ≡ self.old.live.hub.file)
-            ⊎ IfFile (Reads D.is_honest D.state D.moment D.images_since D.failures) self.old.live.hub.file self.new.live.hub.file }
+            ⊎ IfFile (Reads D.Disk) self.old.live.hub.file self.new.live.hub.file }
         ensures others { OthersStay key self.old.clients self.new.clients }
     {
         let Some(client) = self.clients.slots.get_mut(key) else {
@@ -250,7 +250,7 @@ impl<D: Disk + Drop> Station<D> {
     /// The station answers this connection itself.
     fn answer(&mut self, key: usize, resource: OwnResource, head: bool, now: u64)
         ensures disk { (self.new.live.hub.file ≡ self.old.live.hub.file)
-            ⊎ IfFile (Reads D.is_honest D.state D.moment D.images_since D.failures) self.old.live.hub.file self.new.live.hub.file }
+            ⊎ IfFile (Reads D.Disk) self.old.live.hub.file self.new.live.hub.file }
         ensures others { OthersStay key self.old.clients self.new.clients }
     {
         let Some(client) = self.clients.slots.get_mut(key) else {
@@ -285,10 +285,10 @@ impl<D: Disk + Drop> Station<D> {
     /// taken. Say with `wrote` how many of them were written, before it is called again.
     pub fn next(&mut self, key: usize, buffer: &mut [u8], now: u64) -> usize
         ensures gives { (client : ClientState) → get self.old.clients.slots key ≡ Some client → client.stage ≢ WaitingOf → (after : ClientState)
-            × Gives (Shows D.is_honest D.state) self.old.live.hub self.new.live.hub (length buffer.old) client result buffer.new after
+            × Gives (Shows D.Disk) self.old.live.hub self.new.live.hub (length buffer.old) client result buffer.new after
             × (get self.new.clients.slots key ≡ Some (given result (is_over self.old.air self.old.ending) now after)) }
         ensures disk { (self.new.live.hub.file ≡ self.old.live.hub.file)
-            ⊎ IfFile (Reads D.is_honest D.state D.moment D.images_since D.failures) self.old.live.hub.file self.new.live.hub.file }
+            ⊎ IfFile (Reads D.Disk) self.old.live.hub.file self.new.live.hub.file }
         ensures others { OthersStay key self.old.clients self.new.clients }
         ensures air { self.new.air ≡ self.old.air }
         ensures within { result ≤ length buffer.new }
@@ -312,10 +312,10 @@ impl<D: Disk + Drop> Station<D> {
     /// The next bytes for this connection.
     fn give(&mut self, key: usize, buffer: &mut [u8], now: u64) -> usize
         ensures gives { (client : ClientState) → get self.old.clients.slots key ≡ Some client → (after : ClientState)
-            × Gives (Shows D.is_honest D.state) self.old.live.hub self.new.live.hub (length buffer.old) client result buffer.new after
+            × Gives (Shows D.Disk) self.old.live.hub self.new.live.hub (length buffer.old) client result buffer.new after
             × (get self.new.clients.slots key ≡ Some (given result (is_over self.old.air self.old.ending) now after)) }
         ensures disk { (self.new.live.hub.file ≡ self.old.live.hub.file)
-            ⊎ IfFile (Reads D.is_honest D.state D.moment D.images_since D.failures) self.old.live.hub.file self.new.live.hub.file }
+            ⊎ IfFile (Reads D.Disk) self.old.live.hub.file self.new.live.hub.file }
         ensures others { OthersStay key self.old.clients self.new.clients }
         ensures air { self.new.air ≡ self.old.air }
         ensures within { result ≤ length buffer.new }

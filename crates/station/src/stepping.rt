@@ -63,12 +63,12 @@ impl<D: Disk + Drop> Station<D> {
     pub fn step(&mut self, now: u64) -> Done
         // What is recorded of a source is what import_record says of its bytes.
         ensures takes { (air : OnAirOf) → self.old.air ≡ Some air
-            → TakesFromSource D.is_honest D.state D.moment D.images_since D.failures result air self.new.air self.old.live self.new.live }
+            → TakesFromSource D.Disk result air self.new.air self.old.live self.new.live }
         // A fault of the disk comes before anything of the source that follows, and is noted.
         ensures failed { failed_in self.old.live.hub.file ≡ true → reopens result ≡ true }
         ensures noted { (air : OnAirOf) → self.old.air ≡ Some air → result ≡ Done.Reopened → GoesOnWithLoss air self.new.air }
         // If more is committed, listeners are woken now, or it is remembered that they are to be.
-        ensures wakes { (before after : HubState) → Shows D.is_honest D.state self.old.live.hub before → Shows D.is_honest D.state self.new.live.hub after
+        ensures wakes { (before after : HubState) → Shows D.Disk self.old.live.hub before → Shows D.Disk self.new.live.hub after
             → length before.committed ≢ length after.committed → (self.new.waking ≡ woken_at now) ⊎ (self.new.waking.unheard ≡ true) }
     {
         let end = self.live.hub().end();
@@ -100,7 +100,7 @@ impl<D: Disk + Drop> Station<D> {
     /// Does what is next to be done.
     fn step_once(&mut self, now: u64) -> Done
         ensures takes { (air : OnAirOf) → self.old.air ≡ Some air
-            → TakesFromSource D.is_honest D.state D.moment D.images_since D.failures result air self.new.air self.old.live self.new.live }
+            → TakesFromSource D.Disk result air self.new.air self.old.live self.new.live }
         ensures parts { (air : OnAirOf) → self.old.air ≡ Some air
             → PartsBy result (failed_in self.new.live.hub.file) air self.old.clients.slots self.new.clients.slots }
         ensures failed { failed_in self.old.live.hub.file ≡ true → reopens result ≡ true }
@@ -123,7 +123,7 @@ impl<D: Disk + Drop> Station<D> {
     /// Takes a step of the source, if there is one.
     fn step_air(&mut self, now: u64) -> Done
         ensures takes { (air : OnAirOf) → self.old.air ≡ Some air
-            → TakesFromSource D.is_honest D.state D.moment D.images_since D.failures result air self.new.air self.old.live self.new.live }
+            → TakesFromSource D.Disk result air self.new.air self.old.live self.new.live }
         ensures parts { (air : OnAirOf) → self.old.air ≡ Some air
             → PartsBy result (failed_in self.new.live.hub.file) air self.old.clients.slots self.new.clients.slots }
         ensures goes_on { result ≢ Done.Reopened }
@@ -269,7 +269,7 @@ impl<D: Disk + Drop> Station<D> {
 
     /// How many milliseconds may be waited before `step` commits what waits, if nothing comes; none if nothing waits.
     pub(crate) fn until_due(&self, now: u64) -> Option<u64>
-        ensures { (machine : HubState) → Shows D.is_honest D.state self.now.live.hub machine
+        ensures { (machine : HubState) → Shows D.Disk self.now.live.hub machine
             → result ≡ until_due machine.waiting self.now.waiting_since now }
     {
         until_due(self.live.hub().held(), self.waiting_since, now)

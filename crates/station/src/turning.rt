@@ -196,7 +196,7 @@ impl<D: Disk + Drop> Station<D> {
 
     /// How it does.
     pub fn shown(&self) -> Shown
-        ensures recorded { (machine : HubState) → Shows D.is_honest D.state self.now.live.hub machine → result.bytes ≡ length machine.committed }
+        ensures recorded { (machine : HubState) → Shows D.Disk self.now.live.hub machine → result.bytes ≡ length machine.committed }
         ensures source { (result.on_air ≡ is_some self.now.air) × (result.packets ≡ self.now.counts.packets) }
         ensures commits { result.commits ≡ self.now.commits_a_second }
         ensures listeners { result.listeners ≡ listeners_in self.now.clients.slots }
@@ -212,7 +212,7 @@ impl<D: Disk + Drop> Station<D> {
 
     /// How many milliseconds may be waited, if nothing comes, until there is something to do.
     pub fn until_next(&self, now: u64) -> u64
-        ensures exactly { (machine : HubState) → Shows D.is_honest D.state self.now.live.hub machine
+        ensures exactly { (machine : HubState) → Shows D.Disk self.now.live.hub machine
             → result ≡ until_next self.now.clients.turns.len (until_commit machine.waiting self.now.waiting_since now)
             (until_due (gathers self.now.air self.now.ending) self.now.waking now) }
         ensures turn { 0 < self.now.clients.turns.len → result ≡ 0 }

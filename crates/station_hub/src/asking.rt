@@ -39,10 +39,10 @@ impl<D: Disk + Drop> LiveHub<D> {
     /// The hub answers this connection: a session takes what has come of its head. If there is no place for one, the
     /// connection is cut.
     pub fn connect(&mut self, client: &mut Client)
-        ensures connects { IsConnected (Shows D.is_honest D.state) self.old.hub self.new.hub client.old client.new
+        ensures connects { IsConnected (Shows D.Disk) self.old.hub self.new.hub client.old client.new
             ⊎ ((self.new.hub ≡ self.old.hub) × (client.new ≡ cut client.old)) }
         ensures disk { (self.new.hub.file ≡ self.old.hub.file)
-            ⊎ IfFile (Reads D.is_honest D.state D.moment D.images_since D.failures) self.old.hub.file self.new.hub.file }
+            ⊎ IfFile (Reads D.Disk) self.old.hub.file self.new.hub.file }
         ensures places { self.new.places ≡ self.old.places }
     {
         match self.hub.connect() {
@@ -57,10 +57,10 @@ impl<D: Disk + Drop> LiveHub<D> {
     /// Further bytes of a session's request.
     pub fn read(&mut self, id: u64, client: &mut Client, bytes: &[u8])
         ensures read { (progress : Result ProgressOf HubFaultOf)
-            × Steps (Shows D.is_honest D.state) self.old.hub self.new.hub (λ machine. Receive id bytes.now progress)
+            × Steps (Shows D.Disk) self.old.hub self.new.hub (λ machine. Receive id bytes.now progress)
             × (client.new ≡ with_stage (stage_after progress) client.old) }
         ensures disk { (self.new.hub.file ≡ self.old.hub.file)
-            ⊎ IfFile (Reads D.is_honest D.state D.moment D.images_since D.failures) self.old.hub.file self.new.hub.file }
+            ⊎ IfFile (Reads D.Disk) self.old.hub.file self.new.hub.file }
         ensures places { self.new.places ≡ self.old.places }
     {
         let progress = self.hub.receive(id, bytes);
@@ -70,11 +70,11 @@ impl<D: Disk + Drop> LiveHub<D> {
     /// A listener: it joins what is recorded, or waits until a link begins. If only the head of the answer is asked for, it
     /// gets that. Without memory it is cut, and after a fault of the file.
     pub fn listen(&mut self, client: &mut Client, head: bool)
-        ensures joins { (start : Start) (machine : HubState) → Shows D.is_honest D.state self.old.hub machine → Tracks start machine self.old.places
+        ensures joins { (start : Start) (machine : HubState) → Shows D.Disk self.old.hub machine → Tracks start machine self.old.places
             → client.new.stage ≡ HearingOf → (listener : ListenerState) × (client.new.listener ≡ Some listener)
             × JoinsAt (place_to_join self.old.places.boundaries) machine.committed listener }
         ensures disk { (self.new.hub.file ≡ self.old.hub.file)
-            ⊎ IfFile (Reads D.is_honest D.state D.moment D.images_since D.failures) self.old.hub.file self.new.hub.file }
+            ⊎ IfFile (Reads D.Disk) self.old.hub.file self.new.hub.file }
         ensures places { self.new.places ≡ self.old.places }
     {
         client.head.clear();
@@ -96,10 +96,10 @@ impl<D: Disk + Drop> LiveHub<D> {
 
     /// A listener that joins where it may.
     fn join(&mut self) -> Result<Listener, HubFault>
-        ensures joins { (start : Start) (machine : HubState) → Shows D.is_honest D.state self.old.hub machine → Tracks start machine self.old.places
+        ensures joins { (start : Start) (machine : HubState) → Shows D.Disk self.old.hub machine → Tracks start machine self.old.places
             → IfOk result (λ listener. JoinsAt (place_to_join self.old.places.boundaries) machine.committed listener) }
         ensures disk { (self.new.hub.file ≡ self.old.hub.file)
-            ⊎ IfFile (Reads D.is_honest D.state D.moment D.images_since D.failures) self.old.hub.file self.new.hub.file }
+            ⊎ IfFile (Reads D.Disk) self.old.hub.file self.new.hub.file }
         ensures places { self.new.places ≡ self.old.places }
     {
         listeners_join_committed_links();

@@ -31,9 +31,9 @@ fn give_again(client: &Client, buffer: &mut [u8]) -> usize
 /// Pulls the next bytes of the response of the connection's session.
 fn pull<D: Disk + Drop>(hub: &mut Hub<D>, id: u64, client: &mut Client, buffer: &mut [u8]) -> usize
     ensures pulled { (answer : Result GivenOf HubFaultOf)
-        × Steps (Shows D.is_honest D.state) hub.old hub.new (λ after. Pull id (length buffer.old) answer)
+        × Steps (Shows D.Disk) hub.old hub.new (λ after. Pull id (length buffer.old) answer)
         × HasPulled answer client.old result buffer.new client.new }
-    ensures disk { (hub.new.file ≡ hub.old.file) ⊎ IfFile (Reads D.is_honest D.state D.moment D.images_since D.failures) hub.old.file hub.new.file }
+    ensures disk { (hub.new.file ≡ hub.old.file) ⊎ IfFile (Reads D.Disk) hub.old.file hub.new.file }
     ensures within { result ≤ length buffer.new }
 {
     match hub.pull(id, buffer) {
@@ -58,11 +58,11 @@ fn stage_after(done: bool) -> Stage
 /// Pulls the next bytes that a listener hears. After a fault of the file the connection is cut.
 fn hear<D: Disk + Drop>(hub: &mut Hub<D>, client: &mut Client, buffer: &mut [u8]) -> usize
     ensures heard { (machine : HubState) (moment : Moment) (given : List ℕ) (listener : ListenerState)
-        → Shows D.is_honest D.state hub.old machine → client.old.listener ≡ Some listener → (hearing : IsHearing moment machine.committed listener given)
+        → Shows D.Disk hub.old machine → client.old.listener ≡ Some listener → (hearing : IsHearing moment machine.committed listener given)
         → HasHeard moment machine.committed given hearing.rest (length buffer.old) client.old result buffer.new client.new }
-    ensures machine { KeepsMachine D.is_honest D.state hub.old hub.new }
+    ensures machine { KeepsMachine D.Disk hub.old hub.new }
     ensures none { client.old.listener ≡ None → (result ≡ 0) × (hub.new ≡ hub.old) × (client.new ≡ client.old) }
-    ensures disk { (hub.new.file ≡ hub.old.file) ⊎ IfFile (Reads D.is_honest D.state D.moment D.images_since D.failures) hub.old.file hub.new.file }
+    ensures disk { (hub.new.file ≡ hub.old.file) ⊎ IfFile (Reads D.Disk) hub.old.file hub.new.file }
     ensures within { result ≤ length buffer.new }
 {
     let Some(listener) = &mut client.listener else {
@@ -85,18 +85,18 @@ impl<D: Disk + Drop> LiveHub<D> {
             × (take result buffer.new ≡ take (length buffer.old) client.old.unsent) }
         ensures pulls { (id : ℕ) → client.old.unsent ≡ [] → client.old.stage ≡ SendingOf → client.old.session ≡ Some id
             → (answer : Result GivenOf HubFaultOf)
-            × Steps (Shows D.is_honest D.state) self.old.hub self.new.hub (λ after. Pull id (length buffer.old) answer)
+            × Steps (Shows D.Disk) self.old.hub self.new.hub (λ after. Pull id (length buffer.old) answer)
             × HasPulled answer client.old result buffer.new client.new }
         ensures hears { (machine : HubState) (moment : Moment) (given : List ℕ) (listener : ListenerState)
             → client.old.unsent ≡ [] → client.old.stage ≡ HearingOf
-            → Shows D.is_honest D.state self.old.hub machine → client.old.listener ≡ Some listener
+            → Shows D.Disk self.old.hub machine → client.old.listener ≡ Some listener
             → (hearing : IsHearing moment machine.committed listener given)
             → HasHeard moment machine.committed given hearing.rest (length buffer.old) client.old result buffer.new client.new }
-        ensures keeps { client.old.stage ≡ HearingOf → KeepsMachine D.is_honest D.state self.old.hub self.new.hub }
+        ensures keeps { client.old.stage ≡ HearingOf → KeepsMachine D.Disk self.old.hub self.new.hub }
         ensures nothing { client.old.unsent ≡ [] → client.old.stage ≢ SendingOf → client.old.stage ≢ HearingOf
             → (result ≡ 0) × (self.new.hub ≡ self.old.hub) × (client.new ≡ client.old) }
         ensures disk { (self.new.hub.file ≡ self.old.hub.file)
-            ⊎ IfFile (Reads D.is_honest D.state D.moment D.images_since D.failures) self.old.hub.file self.new.hub.file }
+            ⊎ IfFile (Reads D.Disk) self.old.hub.file self.new.hub.file }
         ensures within { result ≤ length buffer.new }
         ensures places { self.new.places ≡ self.old.places }
     {

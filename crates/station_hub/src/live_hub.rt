@@ -75,7 +75,7 @@ impl<D: Disk + Drop> LiveHub<D> {
 
     /// Ends a session. After a fault of the file it has ended already.
     pub fn close(&mut self, id: u64)
-        ensures step { (answer : Result ⊤ HubFaultOf) × Steps (Shows D.is_honest D.state) self.old.hub self.new.hub (λ after. Close id answer) }
+        ensures step { (answer : Result ⊤ HubFaultOf) × Steps (Shows D.Disk) self.old.hub self.new.hub (λ after. Close id answer) }
         ensures parts { OnlySessions self.old.hub self.new.hub }
         ensures places { self.new.places ≡ self.old.places }
     {
@@ -85,9 +85,9 @@ impl<D: Disk + Drop> LiveHub<D> {
     /// Opens the file again, as the hub does, with its faults. What waited is lost, or was committed after all, and where
     /// listeners join follows from that.
     pub fn reopen(&mut self) -> Result<(), OpenFault>
-        ensures step { Steps (Shows D.is_honest D.state) self.old.hub self.new.hub (λ after. Reopen (found_by result after)) }
+        ensures step { Steps (Shows D.Disk) self.old.hub self.new.hub (λ after. Reopen (found_by result after)) }
         ensures same { OnErr result (self.new.places ≡ self.old.places) }
-        ensures keeps { KeepsPlaces (Shows D.is_honest D.state) self.old.hub self.old.places self.new.hub self.new.places }
+        ensures keeps { KeepsPlaces (Shows D.Disk) self.old.hub self.old.places self.new.hub self.new.places }
     {
         listeners_join_committed_links();
         let end = self.hub.end();
@@ -120,7 +120,7 @@ impl<D: Disk + Drop> LiveHub<D> {
         ensures hub { self.new.hub ≡ self.old.hub }
         ensures waits { (count : ℕ) → reply ≡ HeldOf count → self.new.places.boundaries ≡ self.old.places.boundaries }
         // What is told of the command is what the hub has.
-        ensures told { (old machine : HubState) → Shows D.is_honest D.state self.old.hub machine
+        ensures told { (old machine : HubState) → Shows D.Disk self.old.hub machine
             → (old.in_doubt ≡ None → before ≡ length (old.committed ++ old.held))
             → (answered : AnsweredOf) × IsTold command.now old machine answered × (self.new.places ≡ answered_by reply answered self.old.places) }
     {
@@ -139,7 +139,7 @@ impl<D: Disk + Drop> LiveHub<D> {
     /// All that waited was committed.
     fn committed(&mut self)
         ensures hub { self.new.hub ≡ self.old.hub }
-        ensures told { (machine : HubState) → Shows D.is_honest D.state self.old.hub machine → (going : Bool) × IsOpenIn machine going
+        ensures told { (machine : HubState) → Shows D.Disk self.old.hub machine → (going : Bool) × IsOpenIn machine going
             × (self.new.places ≡ committed_to (length machine.committed) going self.old.places) }
     {
         let open = is_open(self.hub.streams());
@@ -149,7 +149,7 @@ impl<D: Disk + Drop> LiveHub<D> {
     /// The file was opened again, which had `end` committed bytes before.
     fn reopened(&mut self, end: u64)
         ensures hub { self.new.hub ≡ self.old.hub }
-        ensures told { (machine : HubState) → Shows D.is_honest D.state self.old.hub machine → (going : Bool) × IsOpenIn machine going
+        ensures told { (machine : HubState) → Shows D.Disk self.old.hub machine → (going : Bool) × IsOpenIn machine going
             × (self.new.places ≡ reopened_to end (length machine.committed) going self.old.places) }
     {
         let open = is_open(self.hub.streams());
@@ -176,9 +176,9 @@ impl<D: Disk + Drop> Runner for LiveHub<D> {
 
     ghost State = { Progress D };
 
-    ghost is_in = { λ before live. IsIn D.is_honest D.state before live.hub };
+    ghost is_in = { λ before live. IsIn D.Disk before live.hub };
 
-    ghost answers = { Answers D.is_honest D.state D.moment D.images_since D.failures };
+    ghost answers = { Answers D.Disk };
 
     ghost held_in = { waiting_in };
 
@@ -191,15 +191,15 @@ impl<D: Disk + Drop> Runner for LiveHub<D> {
         command: &Command,
         pages: &mut P,
     ) -> Result<Reply, WriteFault>
-        ensures ok { (before : Progress D) → IsIn D.is_honest D.state before self.old.hub
+        ensures ok { (before : Progress D) → IsIn D.Disk before self.old.hub
             → IfOk result (λ reply. (own : List ℕ) × (after : Progress D)
-            × Answers D.is_honest D.state D.moment D.images_since D.failures before (RecordOf.Command command.now) reply own after
-            × IsIn D.is_honest D.state after self.new.hub × Appends (P.contents pages.old) (P.contents pages.new) own) }
-        ensures err { (before : Progress D) → IsIn D.is_honest D.state before self.old.hub
+            × Answers D.Disk before (RecordOf.Command command.now) reply own after
+            × IsIn D.Disk after self.new.hub × Appends (P.contents pages.old) (P.contents pages.new) own) }
+        ensures err { (before : Progress D) → IsIn D.Disk before self.old.hub
             → OnErr result ((reply : ReplyOf) × (own : List ℕ) × (after : Progress D)
-            × Answers D.is_honest D.state D.moment D.images_since D.failures before (RecordOf.Command command.now) reply own after
-            × IsIn D.is_honest D.state before self.new.hub × WritesPart (P.contents pages.old) (P.contents pages.new) own) }
-        ensures keeps { KeepsPlaces (Shows D.is_honest D.state) self.old.hub self.old.places self.new.hub self.new.places }
+            × Answers D.Disk before (RecordOf.Command command.now) reply own after
+            × IsIn D.Disk before self.new.hub × WritesPart (P.contents pages.old) (P.contents pages.new) own) }
+        ensures keeps { KeepsPlaces (Shows D.Disk) self.old.hub self.old.places self.new.hub self.new.places }
     {
         listeners_join_committed_links();
         command_is_in_range(command);
@@ -214,10 +214,10 @@ impl<D: Disk + Drop> Runner for LiveHub<D> {
     }
 
     fn run_flush(&mut self) -> Reply
-        ensures answers { (before : Progress D) → IsIn D.is_honest D.state before self.old.hub → (after : Progress D)
-            × Answers D.is_honest D.state D.moment D.images_since D.failures before RecordOf.Flush result [] after
-            × IsIn D.is_honest D.state after self.new.hub }
-        ensures keeps { KeepsPlaces (Shows D.is_honest D.state) self.old.hub self.old.places self.new.hub self.new.places }
+        ensures answers { (before : Progress D) → IsIn D.Disk before self.old.hub → (after : Progress D)
+            × Answers D.Disk before RecordOf.Flush result [] after
+            × IsIn D.Disk after self.new.hub }
+        ensures keeps { KeepsPlaces (Shows D.Disk) self.old.hub self.old.places self.new.hub self.new.places }
     {
         listeners_join_committed_links();
         let reply = self.hub.run_flush();

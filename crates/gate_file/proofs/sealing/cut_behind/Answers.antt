@@ -1,5 +1,5 @@
 use Rattle.std.proofs.Common.{inl, [], take}
-use Rattle.disk_model.specs.Clock.{started, goes_on}
+use Rattle.disk_model.specs.Leaving.{started, goes_on}
 use Rattle.disk_model.specs.Torn.{image_within}
 use Rattle.gate_file.specs.Commit.{CommitsTo}
 use Rattle.gate_file.proofs.Crash.{front_cut}
@@ -13,8 +13,8 @@ returns-in_err-cut-clause-any_moment g c = λ honest.
     let old = c.args.disk.now in
     let b = take c.args.end (d.state old).contents in
     let stands = (c.requires honest).stands in
-    let at_start = started d.moment d.images_since old (CommitsTo b) (λ image since. stood b _ image stands ((g.met.D.Disk.laws old honest).only_now image since)) in
-    goes_on d.moment d.images_since old old c.cut.new.self _ (CommitsTo b) at_start (c.cut.ensures.time honest) (λ image is. cut_commits b _ image _ stands ((c.requires honest).long) is)
+    let at_start = started d old (CommitsTo b) (λ image since. stood b _ image stands ((g.met.D.Disk.laws old honest).only_now image since)) in
+    goes_on d old old c.cut.new.self _ (CommitsTo b) at_start (c.cut.ensures.time honest) (λ image is. cut_commits b _ image _ stands ((c.requires honest).long) is)
 
 pub returns-clause-any_moment : goal.returns-clause-any_moment
 returns-clause-any_moment g c = λ honest.
@@ -22,9 +22,9 @@ returns-clause-any_moment g c = λ honest.
     let old = c.args.disk.now in
     let b = take c.args.end (d.state old).contents in
     let stands = (c.requires honest).stands in
-    let at_start = started d.moment d.images_since old (CommitsTo b) (λ image since. stood b _ image stands ((g.met.D.Disk.laws old honest).only_now image since)) in
-    let cut = goes_on d.moment d.images_since old old c.cut.new.self _ (CommitsTo b) at_start (c.cut.ensures.time honest) (λ image is. cut_commits b _ image _ stands ((c.requires honest).long) is) in
-    goes_on d.moment d.images_since old c.cut.new.self c.sync.new.self _ (CommitsTo b) cut (c.sync.ensures.time (c.cut.ensures.honest.0 honest))
+    let at_start = started d old (CommitsTo b) (λ image since. stood b _ image stands ((g.met.D.Disk.laws old honest).only_now image since)) in
+    let cut = goes_on d old old c.cut.new.self _ (CommitsTo b) at_start (c.cut.ensures.time honest) (λ image is. cut_commits b _ image _ stands ((c.requires honest).long) is) in
+    goes_on d old c.cut.new.self c.sync.new.self _ (CommitsTo b) cut (c.sync.ensures.time (c.cut.ensures.honest.0 honest))
     (λ image is. cut_commits b _ image _ stands ((c.requires honest).long) (image_within _ _ image (c.cut.ensures.images honest) is))
 
 pub returns-in_err-cut-clause-front : goal.returns-in_err-cut-clause-front
@@ -32,11 +32,11 @@ returns-in_err-cut-clause-front g c = λ honest.
     let d = g.D.Disk in
     let still = c.cut.ensures.honest.0 honest in
     front_cut _ [] _ _ (c.requires honest).long
-    (inl (contents_have d.state d.moment d.images_since _ _ _ (g.met.D.Disk.laws c.cut.new.self still) (returns-in_err-cut-clause-any_moment g c honest)))
+    (inl (contents_have d _ _ _ (g.met.D.Disk.laws c.cut.new.self still) (returns-in_err-cut-clause-any_moment g c honest)))
 
 pub returns-clause-front : goal.returns-clause-front
 returns-clause-front g c = λ honest.
     let d = g.D.Disk in
     let still = c.sync.ensures.honest.0 (c.cut.ensures.honest.0 honest) in
     front_cut _ [] _ _ (c.requires honest).long
-    (inl (contents_have d.state d.moment d.images_since _ _ _ (g.met.D.Disk.laws c.sync.new.self still) (returns-clause-any_moment g c honest)))
+    (inl (contents_have d _ _ _ (g.met.D.Disk.laws c.sync.new.self still) (returns-clause-any_moment g c honest)))

@@ -1,7 +1,7 @@
 use Rattle.std.proofs.Common.{◌≡◌, inl, ℕ, ◌+◌, ◌-◌, List, [], length, take, drop, arith, ap, ◌∙◌, ◌++◌, length-drop}
 use Rattle.std.proofs.lemmas.List.{take_all}
 use Rattle.std.proofs.lemmas.Result.{on_ok_weaker}
-use Rattle.disk_model.specs.Clock.{weakened}
+use Rattle.disk_model.specs.Leaving.{weakened}
 use Rattle.gate_file.specs.Commit.{CommitsTo}
 use Rattle.gate_file.specs.Gate.{staged_in}
 use Rattle.gate_file.proofs.Crash.{front_cut}
@@ -15,7 +15,7 @@ returns-then-staged-eq0-clause-any_moment g c = λ honest.
     let disk = d.state c.args.disk.now in
     let b = take c.args.end disk.contents in
     let was = c.requires.staged honest in
-    weakened d.moment d.images_since _ _ _ (CommitsTo b) (c.write_behind.ensures.any_moment honest)
+    weakened d _ _ _ (CommitsTo b) (c.write_behind.ensures.any_moment honest)
     (λ image front. image_behind b (staged_in c.args.end c.args.staged disk.contents) disk (c.args.end + 1) image (omega (arith, was.long)) was.stages front)
 
 pub returns-else-staged-eq0-clause-any_moment : goal.returns-else-staged-eq0-clause-any_moment
@@ -24,22 +24,22 @@ returns-else-staged-eq0-clause-any_moment g c = λ honest.
     let disk = d.state c.args.disk.now in
     let b = take c.args.end disk.contents in
     let was = c.requires.staged honest in
-    weakened d.moment d.images_since _ _ _ (CommitsTo b) (c.write_behind-else-staged-eq0.ensures.any_moment honest)
+    weakened d _ _ _ (CommitsTo b) (c.write_behind-else-staged-eq0.ensures.any_moment honest)
     (λ image front. image_behind b (staged_in c.args.end c.args.staged disk.contents) disk (c.args.end + 1) image (omega (arith, was.long)) was.stages front)
 
 pub returns-then-staged-eq0-clause-front : goal.returns-then-staged-eq0-clause-front
 returns-then-staged-eq0-clause-front g c = λ honest.
     let d = g.D.Disk in
-    let still = c.write_behind.ensures.honest.0 honest in
+    let still = c.write_behind.ensures.frame.honest.0 honest in
     front_cut _ [] _ _ (c.requires.staged honest).long
-    (inl (contents_have d.state d.moment d.images_since _ _ _ (g.met.D.Disk.laws c.write_behind.new.disk still) (returns-then-staged-eq0-clause-any_moment g c honest)))
+    (inl (contents_have d _ _ _ (g.met.D.Disk.laws c.write_behind.new.disk still) (returns-then-staged-eq0-clause-any_moment g c honest)))
 
 pub returns-else-staged-eq0-clause-front : goal.returns-else-staged-eq0-clause-front
 returns-else-staged-eq0-clause-front g c = λ honest.
     let d = g.D.Disk in
-    let still = c.write_behind-else-staged-eq0.ensures.honest.0 honest in
+    let still = c.write_behind-else-staged-eq0.ensures.frame.honest.0 honest in
     front_cut _ [] _ _ (c.requires.staged honest).long
-    (inl (contents_have d.state d.moment d.images_since _ _ _ (g.met.D.Disk.laws c.write_behind-else-staged-eq0.new.disk still) (returns-else-staged-eq0-clause-any_moment g c honest)))
+    (inl (contents_have d _ _ _ (g.met.D.Disk.laws c.write_behind-else-staged-eq0.new.disk still) (returns-else-staged-eq0-clause-any_moment g c honest)))
 
 pub returns-then-staged-eq0-clause-written : goal.returns-then-staged-eq0-clause-written
 returns-then-staged-eq0-clause-written g c = on_ok_weaker c.write_behind.result (λ wrote honest.

@@ -3,4 +3,4 @@ use Rattle.history.proofs.laws.runs_show_first_commands.Goals as goal
 
 pub returns : goal.returns
 returns g c = λ first.
-    run_law g.D.Disk.is_honest g.D.Disk.state g.D.Disk.moment g.D.Disk.images_since g.B.Recordings.shows g.B.Recordings.accepts g.B.Recordings.next g.met.D.Disk.laws first
+    run_law g.D.Disk g.B.Recordings.shows g.B.Recordings.accepts g.B.Recordings.next g.met.D.Disk.laws first

@@ -6,13 +6,13 @@ use Rattle.ogg_recorder.proofs.ending.end_open_streams.Goals as goal
 pub loop-init : goal.loop-init
 loop-init g c = λ before is.
     let d = g.D.Disk in
-    let answers = Answers d.is_honest d.state d.moment d.images_since d.failures in
+    let answers = Answers d in
     (before, is, no_end answers before (g.S.Replies.lines c.args.replies.now))
 
 pub loop-preserved : goal.loop-preserved
 loop-preserved g c = λ before is.
     let d = g.D.Disk in
-    let answers = Answers d.is_honest d.state d.moment d.images_since d.failures in
+    let answers = Answers d in
     let (mid, there, so_far) = c.loop.invariant before is in
     let (after, now, one) = c.in-Ok-true.ensures.ok mid there in
     (after, now, ends_on answers before mid after _ _ _ so_far one)
@@ -20,7 +20,7 @@ loop-preserved g c = λ before is.
 pub returns-in-Err-clause-err : goal.returns-in-Err-clause-err
 returns-in-Err-clause-err g c = λ first w.
     let d = g.D.Disk in
-    let answers = Answers d.is_honest d.state d.moment d.images_since d.failures in
+    let answers = Answers d in
     let before = progress first w c.args.recorder.now in
     let (mid, there, so_far) = c.loop.invariant before refl in
     let (after, now, one) = c.in-Err.ensures.err mid there in
@@ -29,7 +29,7 @@ returns-in-Err-clause-err g c = λ first w.
 pub returns-in-Ok-false-clause-ok : goal.returns-in-Ok-false-clause-ok
 returns-in-Ok-false-clause-ok g c = λ first w.
     let d = g.D.Disk in
-    let answers = Answers d.is_honest d.state d.moment d.images_since d.failures in
+    let answers = Answers d in
     let before = progress first w c.args.recorder.now in
     let (mid, there, so_far) = c.loop.invariant before refl in
     let (after, now, one) = c.in-Ok-false.ensures.ok mid there in

@@ -7,5 +7,5 @@ use Rattle.ogg_recorder.proofs.ending.end_open_streams.Given as goal
 abbrev pub invariant-loop : goal.invariant-loop
 invariant-loop g l =
     (before : Progress g.row.D.Denot) → before.now ≡ l.fn.recorder → (mid : Progress g.row.D.Denot) × (mid.now ≡ l.recorder)
-    × HasEnded (Answers g.D.Disk.is_honest g.D.Disk.state g.D.Disk.moment g.D.Disk.images_since g.D.Disk.failures) before mid
+    × HasEnded (Answers g.D.Disk) before mid
     (g.S.Replies.lines l.fn.replies) (g.S.Replies.lines l.replies)

@@ -5,9 +5,9 @@ use Rattle.ogg_recorder.proofs.laws.records_are_steps.Goals as goal
 pub returns-clause-steps : goal.returns-clause-steps
 returns-clause-steps g c =
     let d = g.D.Disk in
-    are_steps d.is_honest d.state d.moment d.images_since d.failures c.refusals_are_of_the_table.ensures
+    are_steps d c.refusals_are_of_the_table.ensures
 
 pub returns-clause-bytes : goal.returns-clause-bytes
 returns-clause-bytes g c = λ before after records replies bytes all honest links waiting has.
     let d = g.D.Disk in
-    grown d.is_honest d.state d.moment d.images_since d.failures c.refusals_are_of_the_table.ensures links waiting before after records replies bytes honest has all
+    grown d c.refusals_are_of_the_table.ensures links waiting before after records replies bytes honest has all

@@ -1,28 +1,33 @@
 use Rattle.std.proofs.Common.{⊎_elim, ℕ, Some, List, take, sym, ◌∙◌, ap, subst}
 use Rattle.gate_file.specs.Found.{found_bytes}
 use Rattle.gate_file.specs.Gate.{EndsAt}
-use Rattle.gate_file.specs.OpenFault.{fault_of_finding, told_page}
+use Rattle.gate_file.specs.OpenFault.{fault_of_finding, told_disk, told_page}
 use Rattle.link_chain.specs.Taking.{unfinished_stream}
 use Rattle.ogg_recorder.specs.Taking.{IsBrokenAt, IsUnfinished}
 use Rattle.ogg_recorder.proofs.Passed.{have_passed, front_short, told_chain, told_not_unfinished, told_not_chain, same_serial}
 use Rattle.ogg_recorder.proofs.opening.find_chain.Goals as goal
 
-pub returns-in-Err-find_with-clause-untouched : goal.returns-in-Err-find_with-clause-untouched
-returns-in-Err-find_with-clause-untouched g c = λ not_disk honest.
-    ⊎_elim
-    (λ disk. absurd (not_disk (c.from.ensures ∙ ap fault_of_finding disk)))
-    (λ (offset, fault, is). (c.in-Err-find_with.ensures.damaged offset fault is honest).2)
-    c.in-Err-find_with.ensures.faults
-
-pub returns-in-Err-find_with-clause-damaged : goal.returns-in-Err-find_with-clause-damaged
-returns-in-Err-find_with-clause-damaged g c = λ offset fault told honest.
-    (c.in-Err-find_with.ensures.damaged offset fault (told_page c.in-Err-find_with.fault offset fault (sym c.from.ensures ∙ told)) honest).0
+pub returns-in-Err-find_with-clause-gives_back : goal.returns-in-Err-find_with-clause-gives_back
+returns-in-Err-find_with-clause-gives_back g c =
+    let back = c.in-Err-find_with.ensures.gives_back in
+    let finding = c.in-Err-find_with.fault in
+    record {
+      any_moment = back.any_moment;
+      frame = record {
+        honest = back.frame.honest;
+        later = back.frame.later;
+        cause = λ disk. back.frame.cause (told_disk finding (sym c.from.ensures ∙ disk));
+      };
+      untouched = λ not_disk. back.untouched (λ disk. not_disk (c.from.ensures ∙ ap fault_of_finding disk));
+      damaged = λ offset fault told. back.damaged offset fault (told_page finding offset fault (sym c.from.ensures ∙ told));
+      settled = λ offset fault told. back.settled offset fault (told_page finding offset fault (sym c.from.ensures ∙ told));
+    }
 
 pub returns-in-Ok-into_shape-clause-chain : goal.returns-in-Ok-into_shape-clause-chain
 returns-in-Ok-into_shape-clause-chain g c = λ honest.
     let d = g.D.Disk in
     let found = c.in-Ok-find_with.found.0 in
-    let here = c.in-Ok-find_with.ensures.honest.0 honest in
+    let here = c.in-Ok-find_with.ensures.opens.frame.honest.0 honest in
     let laws = g.met.D.Disk.laws found.disk here in
     let passed = have_passed c.new-taker.result c.find_with.new.visitor (found_bytes d.state found) c.new-taker.ensures.chain c.new-taker.ensures.broken
     (front_short (d.state found.disk) found.end laws.contents_is_image laws.fits) (c.in-Ok-find_with.ensures.seen honest) in
@@ -33,7 +38,7 @@ pub returns-in-Err-into_shape-clause-broken : goal.returns-in-Err-into_shape-cla
 returns-in-Err-into_shape-clause-broken g c = λ offset fault told honest.
     let d = g.D.Disk in
     let found = c.in-Ok-find_with.found.0 in
-    let here = c.in-Ok-find_with.ensures.honest.0 honest in
+    let here = c.in-Ok-find_with.ensures.opens.frame.honest.0 honest in
     let laws = g.met.D.Disk.laws found.disk here in
     let same = c.in-Ok-find_with.ensures.same honest in
     let passed = have_passed c.new-taker.result c.find_with.new.visitor (found_bytes d.state found) c.new-taker.ensures.chain c.new-taker.ensures.broken
@@ -56,7 +61,7 @@ pub returns-in-Err-into_shape-clause-unfinished : goal.returns-in-Err-into_shape
 returns-in-Err-into_shape-clause-unfinished g c = λ serial told honest.
     let d = g.D.Disk in
     let found = c.in-Ok-find_with.found.0 in
-    let here = c.in-Ok-find_with.ensures.honest.0 honest in
+    let here = c.in-Ok-find_with.ensures.opens.frame.honest.0 honest in
     let laws = g.met.D.Disk.laws found.disk here in
     let same = c.in-Ok-find_with.ensures.same honest in
     let passed = have_passed c.new-taker.result c.find_with.new.visitor (found_bytes d.state found) c.new-taker.ensures.chain c.new-taker.ensures.broken

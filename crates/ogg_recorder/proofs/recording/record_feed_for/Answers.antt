@@ -10,13 +10,13 @@ use Rattle.ogg_recorder.proofs.recording.record_feed_for.Goals as goal
 pub returns-in-Ok : goal.returns-in-Ok
 returns-in-Ok g c =
     let d = g.D.Disk in
-    let answers = Answers d.is_honest d.state d.moment d.images_since d.failures in
+    let answers = Answers d in
     let from = streams_to (g.R.Read.remaining c.args.reader.now) None (g.S.Replies.lines c.args.replies.now) g.S.Replies.waits (g.S.Replies.enough c.args.replies.now) in
     let to = streams_to (g.R.Read.remaining c.run_feed_for.new.reader) None (g.S.Replies.lines c.run_feed_for.new.replies) g.S.Replies.waits (g.S.Replies.enough c.run_feed_for.new.replies) in
     let kept =
     let before = progress [] start c.args.recorder.now in
     let (after, is, run) = c.in-Ok.ensures.ok before refl in
-    kept_between d.is_honest d.state d.moment d.images_since d.failures before after c.run_feed_for.new.runner _ _ is (run_to answers waiting_in (Ok tt) from to before after run.run) in
+    kept_between d before after c.run_feed_for.new.runner _ _ is (run_to answers waiting_in (Ok tt) from to before after run.run) in
     record {
       ok = λ first w.
           let before = progress first w c.args.recorder.now in
@@ -25,25 +25,24 @@ returns-in-Ok g c =
             after,
             is,
             run,
-            has_recorded d.is_honest d.state d.moment d.images_since c.runs_show_first_commands.ensures c.disks_stand_in_their_world.ensures.step before after
+            has_recorded d c.runs_show_first_commands.ensures c.disks_stand_in_their_world.ensures.step before after
                 (run.run.records ++ run.run.closing) (run.run.replies ++ run.run.last) c.end-end.ensures.images
                 (λ honest links waiting has. c.records_are_steps.ensures.bytes before after _ _ all.0 all.1 honest links waiting has) (c.records_are_steps.ensures.steps before after _ _ all.0 all.1),
           );
       err = λ first w. tt;
-      honest = kept.0;
-      later = kept.1;
+      frame = record { honest = kept.0; later = kept.1; cause = λ no. absurd no };
     }
 
 pub returns-in-Err : goal.returns-in-Err
 returns-in-Err g c =
     let d = g.D.Disk in
-    let answers = Answers d.is_honest d.state d.moment d.images_since d.failures in
+    let answers = Answers d in
     let from = streams_to (g.R.Read.remaining c.args.reader.now) None (g.S.Replies.lines c.args.replies.now) g.S.Replies.waits (g.S.Replies.enough c.args.replies.now) in
     let to = streams_to (g.R.Read.remaining c.run_feed_for.new.reader) None (g.S.Replies.lines c.run_feed_for.new.replies) g.S.Replies.waits (g.S.Replies.enough c.run_feed_for.new.replies) in
     let kept =
     let before = progress [] start c.args.recorder.now in
     let (after, is, run) = c.in-Err.ensures.err before refl in
-    kept_between d.is_honest d.state d.moment d.images_since d.failures before after c.run_feed_for.new.runner _ _ is (ended answers waiting_in c.in-Err.fault from to before after run) in
+    kept_between d before after c.run_feed_for.new.runner _ _ is (ended answers waiting_in c.in-Err.fault from to before after run) in
     record {
       ok = λ first w. tt;
       err = λ first w.
@@ -54,11 +53,10 @@ returns-in-Err g c =
             after,
             is,
             run,
-            has_recorded d.is_honest d.state d.moment d.images_since c.runs_show_first_commands.ensures c.disks_stand_in_their_world.ensures.step before after
+            has_recorded d c.runs_show_first_commands.ensures c.disks_stand_in_their_world.ensures.step before after
                 found.records found.replies c.end-end.ensures.images
                 (λ honest links waiting has. c.records_are_steps.ensures.bytes before after found.records found.replies all.0 all.1 honest links waiting has)
                 (c.records_are_steps.ensures.steps before after found.records found.replies all.0 all.1),
           );
-      honest = kept.0;
-      later = kept.1;
+      frame = record { honest = kept.0; later = kept.1; cause = λ no. absurd no };
     }

@@ -13,7 +13,7 @@ returns-in-Ok g c = λ before is_in.
     let failed : says_failed c.args.reply ≡ true = sym c.says_failed.ensures ∙ c.if-says_failed.true in (
       record { now = c.reopen.new.self; machine = s.0 },
       (refl, s.1),
-      subst (λ (failed : Bool). FollowsIf d.is_honest d.state d.moment d.images_since d.failures failed c.args.reply (Done c.args.reply) before (record { now = c.reopen.new.self; machine = s.0 })) (sym failed)
+      subst (λ (failed : Bool). FollowsIf d failed c.args.reply (Done c.args.reply) before (record { now = c.reopen.new.self; machine = s.0 })) (sym failed)
           (failed, record { step = s.2; disk = λ old new was now. e.disk old new (subst (λ (hub : HubParts _). disk_in hub.file hub.lost ≡ Some old) is_in.0 was) now }),
     )
 
@@ -25,6 +25,6 @@ returns-in-Err g c = λ before is_in.
     let failed : says_failed c.args.reply ≡ true = sym c.says_failed.ensures ∙ c.if-says_failed.true in (
       record { now = c.reopen.new.self; machine = s.0 },
       (refl, s.1),
-      subst (λ (failed : Bool). FollowsIf d.is_honest d.state d.moment d.images_since d.failures failed c.args.reply (Lost c.in-Err.fault) before (record { now = c.reopen.new.self; machine = s.0 })) (sym failed)
+      subst (λ (failed : Bool). FollowsIf d failed c.args.reply (Lost c.in-Err.fault) before (record { now = c.reopen.new.self; machine = s.0 })) (sym failed)
           (record { step = s.2; disk = λ old new was now. e.disk old new (subst (λ (hub : HubParts _). disk_in hub.file hub.lost ≡ Some old) is_in.0 was) now }),
     )

@@ -9,6 +9,6 @@ returns-in-Ok-Some-clause-stepped g c = λ before is_in unended.
     let (after, is_after, follows) = c.follow.ensures mid is_mid in (
       after,
       is_after,
-      has_answered d.is_honest d.state d.moment d.images_since d.failures _ _ _ _ before after c.follow.result
+      has_answered d _ _ _ _ before after c.follow.result
           (record { reply = c.in-Ok-Some.reply; mid = mid; ran = ran; follows = follows }),
     )

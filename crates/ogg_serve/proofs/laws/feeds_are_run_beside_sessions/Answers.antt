@@ -6,8 +6,8 @@ pub returns : goal.returns
 returns g c =
     let d = g.D.Disk in
     record {
-      lives = λ n old new before after is steps. all_steps d.is_honest d.state d.moment d.images_since d.failures g.F.Read.remaining g.L.Write.contents n old new before after is steps;
+      lives = λ n old new before after is steps. all_steps d g.F.Read.remaining g.L.Write.contents n old new before after is steps;
       joins = λ n m old mid new before one two after first between steps.
-          joined d.is_honest d.state d.moment d.images_since d.failures g.F.Read.remaining g.L.Write.contents n m old mid new before one two after first between steps;
+          joined d g.F.Read.remaining g.L.Write.contents n m old mid new before one two after first between steps;
       counts = have_counts;
     }

@@ -15,8 +15,8 @@ returns g c = λ first begun disk w steps old new history stands goes.
       record {
         begins = history.begins;
         are =
-            steps-append d.is_honest d.state d.moment d.images_since Shows Accepts add first start begun steps on.steps history.are
-            (subst₂ (λ (world : World Command) (at : _). AreSteps d.is_honest d.state d.moment d.images_since Shows Accepts add first world at on.steps)
+            steps-append d Shows Accepts add first start begun steps on.steps history.are
+            (subst₂ (λ (world : World Command) (at : _). AreSteps d Shows Accepts add first world at on.steps)
             (sym history.leads) (sym history.ends) on.are);
         leads = run-append start steps on.steps ∙ ap (λ (world : World Command). run world on.steps) history.leads;
         ends = disk_after-append begun steps on.steps ∙ ap (λ (at : _). disk_after at on.steps) history.ends;

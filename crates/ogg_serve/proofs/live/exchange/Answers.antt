@@ -45,20 +45,20 @@ returns-in-Err-clause-cause g c = λ is before shown phase.
     let d = g.D.Disk in
     let (after, shows, only, has) = c.in-Err.ensures.read before shown phase in
     let left = subst (λ (fault : HubFault). LeftBy fault after.has_file (phase_of after c.args.id)) (same_fault c.in-Err.fault Source is) has.0 in
-    let some = has_file d.is_honest d.state d.moment d.images_since d.failures _ _ after shows.place left.0 in
-    has_failed d.is_honest d.state d.moment d.images_since d.failures _ _ _ _ some
+    let some = has_file d _ _ after shows.place left.0 in
+    has_failed d _ _ _ _ some
     (c.in-Err.ensures.cause (ap Err (same_fault c.in-Err.fault Source is)) before shown phase)
 
 pub returns-in-Ok-Some-clause-history : goal.returns-in-Ok-Some-clause-history
 returns-in-Ok-Some-clause-history g c = λ before shown phase.
     let d = g.D.Disk in
-    read d.is_honest d.state d.moment d.images_since d.failures c.disks_stand_in_their_world.ensures.step c.args.hub.now c.read_head.new.hub
+    read d c.disks_stand_in_their_world.ensures.step c.args.hub.now c.read_head.new.hub
     c.in-Ok-Some.ensures.disk c.in-Ok-Some.ensures.lost
 
 pub returns-in-Err-clause-history : goal.returns-in-Err-clause-history
 returns-in-Err-clause-history g c = λ before shown phase.
     let d = g.D.Disk in
-    read d.is_honest d.state d.moment d.images_since d.failures c.disks_stand_in_their_world.ensures.step c.args.hub.now c.read_head.new.hub
+    read d c.disks_stand_in_their_world.ensures.step c.args.hub.now c.read_head.new.hub
     c.in-Err.ensures.disk c.in-Err.ensures.lost
 
 -- ---- the pieces
@@ -75,11 +75,11 @@ loop-init g c = record {
   tries = λ before shown phase none. tried_as _ _ None c.in-Ok-None.field-0-is (c.in-Ok-None.ensures.tried before shown phase none);
   history = λ before shown phase.
       let d = g.D.Disk in
-      read d.is_honest d.state d.moment d.images_since d.failures c.disks_stand_in_their_world.ensures.step c.args.hub.now c.read_head.new.hub
+      read d c.disks_stand_in_their_world.ensures.step c.args.hub.now c.read_head.new.hub
       c.in-Ok-None.ensures.disk c.in-Ok-None.ensures.lost;
   later = λ before shown phase.
       let d = g.D.Disk in
-      was_read d.is_honest d.state d.moment d.images_since d.failures _ _ _ _ c.in-Ok-None.ensures.disk c.in-Ok-None.ensures.lost;
+      was_read d _ _ _ _ c.in-Ok-None.ensures.disk c.in-Ok-None.ensures.lost;
 }
 
 pub returns-in-Ok-Some-send_piece-clause-served : goal.returns-in-Ok-Some-send_piece-clause-served
@@ -133,11 +133,11 @@ returns-in-Err-send_piece-clause-cause g c = λ is before shown phase.
     let t = later_in _ c.args.id _ _ _ _ before now then s (all.phases c.args.id) in
     let (after, shown_after, only, sent) = c.in-Err-send_piece.ensures.sent then t.sending.rest shown_then t.sending.phase in
     let left = subst (λ (fault : HubFault). LeftBy fault after.has_file (phase_of after c.args.id)) (same_fault c.in-Err-send_piece.fault Source is) sent.0 in
-    let some = has_file d.is_honest d.state d.moment d.images_since d.failures _ _ after shown_after.place left.0 in
+    let some = has_file d _ _ after shown_after.place left.0 in
     let so_far = c.loop.invariant.later before shown phase in
     let went = c.go_on.ensures.later now shows in
     failed_later (failures_in d.failures c.args.hub.now) (failures_in d.failures c.go_on.new.hub) (failures_in d.failures c.send_piece.new.hub) (omega (arith, so_far, went))
-    (has_failed d.is_honest d.state d.moment d.images_since d.failures _ _ _ _ some
+    (has_failed d _ _ _ _ some
     (c.in-Err-send_piece.ensures.cause (ap Err (same_fault c.in-Err-send_piece.fault Source is)) then shown_then))
 
 pub returns-in-Ok-Some-send_piece-clause-history : goal.returns-in-Ok-Some-send_piece-clause-history
@@ -146,10 +146,10 @@ returns-in-Ok-Some-send_piece-clause-history g c = λ before shown phase.
     let (now, shows, keeps, took, s) = c.loop.invariant.sending before shown phase in
     let so_far = c.loop.invariant.history before shown phase in
     let step = c.go_on.ensures.history now shows in
-    let piece = read d.is_honest d.state d.moment d.images_since d.failures c.disks_stand_in_their_world.ensures.step c.go_on.new.hub c.send_piece.new.hub
+    let piece = read d c.disks_stand_in_their_world.ensures.step c.go_on.new.hub c.send_piece.new.hub
     c.in-Ok-Some-send_piece.ensures.disk c.in-Ok-Some-send_piece.ensures.lost in
-    then_on d.is_honest d.state d.moment d.images_since d.failures c.args.hub.now c.loop.hub c.send_piece.new.hub so_far
-    (then_on d.is_honest d.state d.moment d.images_since d.failures c.loop.hub c.go_on.new.hub c.send_piece.new.hub step piece)
+    then_on d c.args.hub.now c.loop.hub c.send_piece.new.hub so_far
+    (then_on d c.loop.hub c.go_on.new.hub c.send_piece.new.hub step piece)
 
 pub returns-in-Err-send_piece-clause-history : goal.returns-in-Err-send_piece-clause-history
 returns-in-Err-send_piece-clause-history g c = λ before shown phase.
@@ -157,10 +157,10 @@ returns-in-Err-send_piece-clause-history g c = λ before shown phase.
     let (now, shows, keeps, took, s) = c.loop.invariant.sending before shown phase in
     let so_far = c.loop.invariant.history before shown phase in
     let step = c.go_on.ensures.history now shows in
-    let piece = read d.is_honest d.state d.moment d.images_since d.failures c.disks_stand_in_their_world.ensures.step c.go_on.new.hub c.send_piece.new.hub
+    let piece = read d c.disks_stand_in_their_world.ensures.step c.go_on.new.hub c.send_piece.new.hub
     c.in-Err-send_piece.ensures.disk c.in-Err-send_piece.ensures.lost in
-    then_on d.is_honest d.state d.moment d.images_since d.failures c.args.hub.now c.loop.hub c.send_piece.new.hub so_far
-    (then_on d.is_honest d.state d.moment d.images_since d.failures c.loop.hub c.go_on.new.hub c.send_piece.new.hub step piece)
+    then_on d c.args.hub.now c.loop.hub c.send_piece.new.hub so_far
+    (then_on d c.loop.hub c.go_on.new.hub c.send_piece.new.hub step piece)
 
 pub loop-preserved : goal.loop-preserved
 loop-preserved g c = record {
@@ -172,7 +172,7 @@ loop-preserved g c = record {
         after,
         shown_after,
         others_both c.args.id before then after (others_both c.args.id before now then keeps (of_all c.args.id now then all)) only.others,
-        as_many g.D.Disk.is_honest g.D.Disk.state g.D.Disk.moment g.D.Disk.images_since g.D.Disk.failures g.F.Read.remaining g.L.Write.contents _ _ _ before after
+        as_many g.D.Disk g.F.Read.remaining g.L.Write.contents _ _ _ before after
             (c.loop.feed, now, then, took, step, only.file),
         more_in _ c.args.id _ _ _ _ _ before then after t (sent_as _ _ c.args.id t.sending.rest after _ None c.in-Ok-None-send_piece.field-0-is sent),
       );
@@ -183,16 +183,16 @@ loop-preserved g c = record {
       let (now, shows, keeps, took, s) = c.loop.invariant.sending before shown phase in
       let so_far = c.loop.invariant.history before shown phase in
       let step = c.go_on.ensures.history now shows in
-      let piece = read d.is_honest d.state d.moment d.images_since d.failures c.disks_stand_in_their_world.ensures.step c.go_on.new.hub c.send_piece.new.hub
+      let piece = read d c.disks_stand_in_their_world.ensures.step c.go_on.new.hub c.send_piece.new.hub
       c.in-Ok-None-send_piece.ensures.disk c.in-Ok-None-send_piece.ensures.lost in
-      then_on d.is_honest d.state d.moment d.images_since d.failures c.args.hub.now c.loop.hub c.send_piece.new.hub so_far
-      (then_on d.is_honest d.state d.moment d.images_since d.failures c.loop.hub c.go_on.new.hub c.send_piece.new.hub step piece);
+      then_on d c.args.hub.now c.loop.hub c.send_piece.new.hub so_far
+      (then_on d c.loop.hub c.go_on.new.hub c.send_piece.new.hub step piece);
   later = λ before shown phase.
       let d = g.D.Disk in
       let (now, shows, keeps, took, s) = c.loop.invariant.sending before shown phase in
       let so_far = c.loop.invariant.later before shown phase in
       let step = c.go_on.ensures.later now shows in
-      let piece = was_read d.is_honest d.state d.moment d.images_since d.failures _ _ _ _ c.in-Ok-None-send_piece.ensures.disk c.in-Ok-None-send_piece.ensures.lost in
+      let piece = was_read d _ _ _ _ c.in-Ok-None-send_piece.ensures.disk c.in-Ok-None-send_piece.ensures.lost in
       omega (arith, so_far, step, piece);
 }
 

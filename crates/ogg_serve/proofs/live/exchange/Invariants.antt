@@ -10,17 +10,17 @@ use Rattle.ogg_serve.proofs.live.exchange.Given as goal
 
 abbrev pub invariant-loop : goal.invariant-loop
 invariant-loop g l = record {
-  sending : (before : HubState) → Shows g.D.Disk.is_honest g.D.Disk.state l.fn.hub before → phase_of before l.fn.id ≡ Some (Reading [])
-      → (now : HubState) × Shows g.D.Disk.is_honest g.D.Disk.state l.hub now
+  sending : (before : HubState) → Shows g.D.Disk l.fn.hub before → phase_of before l.fn.id ≡ Some (Reading [])
+      → (now : HubState) × Shows g.D.Disk l.hub now
       × KeepsOthers l.fn.id before now
-      × TakesSteps g.D.Disk.is_honest g.D.Disk.state g.D.Disk.moment g.D.Disk.images_since g.D.Disk.failures
+      × TakesSteps g.D.Disk
       g.F.Read.remaining g.L.Write.contents l.counter l.fn.feed l.feed before now
       × IsSendingIn l.counter l.fn.id (g.R.Read.remaining l.fn.reader) (g.R.Read.remaining l.reader)
       (g.W.Write.contents l.fn.writer) (g.W.Write.contents l.writer) before now;
-  tries : (before : HubState) → Shows g.D.Disk.is_honest g.D.Disk.state l.fn.hub before → phase_of before l.fn.id ≡ Some (Reading [])
+  tries : (before : HubState) → Shows g.D.Disk l.fn.hub before → phase_of before l.fn.id ≡ Some (Reading [])
       → l.fn.tries ≡ false → l.tries ≡ false;
-  history : (before : HubState) → Shows g.D.Disk.is_honest g.D.Disk.state l.fn.hub before → phase_of before l.fn.id ≡ Some (Reading [])
-      → ContinuesHistory g.D.Disk.is_honest g.D.Disk.state g.D.Disk.moment g.D.Disk.images_since l.fn.hub l.hub;
-  later : (before : HubState) → Shows g.D.Disk.is_honest g.D.Disk.state l.fn.hub before → phase_of before l.fn.id ≡ Some (Reading [])
+  history : (before : HubState) → Shows g.D.Disk l.fn.hub before → phase_of before l.fn.id ≡ Some (Reading [])
+      → ContinuesHistory g.D.Disk l.fn.hub l.hub;
+  later : (before : HubState) → Shows g.D.Disk l.fn.hub before → phase_of before l.fn.id ≡ Some (Reading [])
       → failures_in g.D.Disk.failures l.fn.hub ≤ failures_in g.D.Disk.failures l.hub;
 }

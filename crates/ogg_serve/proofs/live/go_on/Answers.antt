@@ -11,13 +11,13 @@ pub returns-clause-took : goal.returns-clause-took
 returns-clause-took g c = λ before shown.
     let d = g.D.Disk in
     let e = c.step.ensures in
-    taken d.is_honest d.state d.moment d.images_since d.failures g.F.Read.remaining g.L.Write.contents
-    (Shows d.is_honest d.state) KeepsAll all_none c.args.feed.now.ended c.args.feed.now.run.outcome _ c.args.feed.now c.step.new.self c.args.hub.now c.step.new.hub before shown e.stays e.closed
+    taken d g.F.Read.remaining g.L.Write.contents
+    (Shows d) KeepsAll all_none c.args.feed.now.ended c.args.feed.now.run.outcome _ c.args.feed.now c.step.new.self c.args.hub.now c.step.new.hub before shown e.stays e.closed
     (λ going unended.
     let (after, is_in, has) = e.stepped (record { now = c.args.hub.now; machine = before }) (refl, shown) going unended in (
       after.machine,
       is_in.1,
-      stepped c.other_sessions_stay.ensures c.sessions_are_numbered.ensures.kept c.committed_bytes_grow.ensures.grows d.is_honest d.state d.moment d.images_since d.failures
+      stepped c.other_sessions_stay.ensures c.sessions_are_numbered.ensures.kept c.committed_bytes_grow.ensures.grows d
           _ _ _ _ (record { now = c.args.hub.now; machine = before }) after _ has,
       record { was = c.args.hub.now; now = after.now; answer = _; stepped = has; ended = e.ended going },
     ))
@@ -26,7 +26,7 @@ pub returns-clause-later : goal.returns-clause-later
 returns-clause-later g c = λ before shown.
     let d = g.D.Disk in
     let e = c.step.ensures in
-    later d.is_honest d.state d.moment d.images_since d.failures c.args.feed.now.ended c.args.feed.now.run.outcome _ c.args.feed.now c.step.new.self c.args.hub.now c.step.new.hub e.stays e.closed
+    later d c.args.feed.now.ended c.args.feed.now.run.outcome _ c.args.feed.now c.step.new.self c.args.hub.now c.step.new.hub e.stays e.closed
     (λ going unended.
     let (after, is_in, has) = e.stepped (record { now = c.args.hub.now; machine = before }) (refl, shown) going unended in
-    by_step d.is_honest d.state d.moment d.images_since d.failures _ _ _ _ (record { now = c.args.hub.now; machine = before }) after _ c.step.new.hub is_in.0 is_in.1.place has)
+    by_step d _ _ _ _ (record { now = c.args.hub.now; machine = before }) after _ c.step.new.hub is_in.0 is_in.1.place has)

@@ -14,7 +14,7 @@ loop-init g c =
     let d = g.D.Disk in
     record {
       reading = λ before shown phase. (before, shown, at_first c.args.id _ before phase, omega arith);
-      disk = unread d.is_honest d.state d.moment d.images_since d.failures c.args.hub.now.file (λ disk h image since. (g.met.D.Disk.laws disk h).only_now image since);
+      disk = unread d c.args.hub.now.file (λ disk h image since. (g.met.D.Disk.laws disk h).only_now image since);
       tries = refl;
       lost = refl;
     }
@@ -30,7 +30,7 @@ returns-in-Ok-Ready-clause-read g c = λ before shown phase.
 pub returns-in-Ok-Ready-clause-disk : goal.returns-in-Ok-Ready-clause-disk
 returns-in-Ok-Ready-clause-disk g c =
     let d = g.D.Disk in
-    read_on d.is_honest d.state d.moment d.images_since d.failures _ _ _ c.loop.invariant.disk c.in-Ok-Ready.ensures.disk
+    read_on d _ _ _ c.loop.invariant.disk c.in-Ok-Ready.ensures.disk
 
 pub returns-in-Err-clause-read : goal.returns-in-Err-clause-read
 returns-in-Err-clause-read g c = λ before shown phase.
@@ -49,13 +49,13 @@ returns-in-Err-clause-read g c = λ before shown phase.
 pub returns-in-Err-clause-disk : goal.returns-in-Err-clause-disk
 returns-in-Err-clause-disk g c =
     let d = g.D.Disk in
-    read_on d.is_honest d.state d.moment d.images_since d.failures _ _ _ c.loop.invariant.disk c.in-Err.ensures.disk
+    read_on d _ _ _ c.loop.invariant.disk c.in-Err.ensures.disk
 
 pub returns-in-Err-clause-cause : goal.returns-in-Err-clause-cause
 returns-in-Err-clause-cause g c = λ is before shown phase.
     let d = g.D.Disk in
     let (now, shows, r, many) = c.loop.invariant.reading before shown phase in
-    failed_on d.is_honest d.state d.moment d.images_since d.failures _ _ _ c.loop.invariant.disk (c.in-Err.ensures.cause (ap Err (same_fault c.in-Err.fault Source is)) now shows)
+    failed_on d _ _ _ c.loop.invariant.disk (c.in-Err.ensures.cause (ap Err (same_fault c.in-Err.fault Source is)) now shows)
 
 pub loop-preserved : goal.loop-preserved
 loop-preserved g c =
@@ -69,7 +69,7 @@ loop-preserved g c =
           let count = length-take-le c.in-Some.count c.read.new.buffer c.in-Some.ensures.within in
           let l = longer _ c.args.id _ _ _ before now s.0 _ r c.in-Some.ensures.bytes only has many (omega (arith, count)) in
           (s.0, s.1, l.0, l.1);
-      disk = read_on d.is_honest d.state d.moment d.images_since d.failures _ _ _ c.loop.invariant.disk c.in-Ok-More.ensures.disk;
+      disk = read_on d _ _ _ c.loop.invariant.disk c.in-Ok-More.ensures.disk;
       tries = c.in-Some.ensures.same refl ∙ c.loop.invariant.tries;
       lost = c.in-Ok-More.ensures.lost ∙ c.loop.invariant.lost;
     }

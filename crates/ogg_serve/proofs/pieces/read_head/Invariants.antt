@@ -8,10 +8,10 @@ use Rattle.ogg_serve.proofs.pieces.read_head.Given as goal
 -- each turn but the last has added a byte
 abbrev pub invariant-loop : goal.invariant-loop
 invariant-loop g l = record {
-  reading : (before : HubState) → Shows g.D.Disk.is_honest g.D.Disk.state l.fn.hub before → phase_of before l.fn.id ≡ Some (Reading [])
-      → (now : HubState) × Shows g.D.Disk.is_honest g.D.Disk.state l.hub now
+  reading : (before : HubState) → Shows g.D.Disk l.fn.hub before → phase_of before l.fn.id ≡ Some (Reading [])
+      → (now : HubState) × Shows g.D.Disk l.hub now
       × (r : IsReading l.fn.id (g.R.Read.remaining l.fn.reader) (g.R.Read.remaining l.reader) before now) × (l.counter ≤ length r.received);
-  disk : IfFile (Reads g.D.Disk.is_honest g.D.Disk.state g.D.Disk.moment g.D.Disk.images_since g.D.Disk.failures) l.fn.hub.file l.hub.file;
+  disk : IfFile (Reads g.D.Disk) l.fn.hub.file l.hub.file;
   tries : l.tries ≡ l.fn.tries;
   lost : l.hub.lost ≡ l.fn.hub.lost;
 }

@@ -56,7 +56,7 @@ loop-preserved g c =
             more_in _ c.args.id _ _ _ _ _ before now after s
                 (sent_as _ _ c.args.id s.sending.rest after _ None c.in-Ok-None-send_piece.field-0-is sent),
           );
-      disk = read_on d.is_honest d.state d.moment d.images_since d.failures _ _ _ c.loop.invariant.disk c.in-Ok-None-send_piece.ensures.disk;
+      disk = read_on d _ _ _ c.loop.invariant.disk c.in-Ok-None-send_piece.ensures.disk;
       tries = λ before shown phase none.
           tried_as _ _ None c.in-Ok-None-send_piece.field-0-is (c.in-Ok-None-send_piece.ensures.tried (c.loop.invariant.tries before shown phase none));
     }
@@ -81,7 +81,7 @@ returns-in-Ok-Some-send_piece-clause-tried g c = λ before shown phase none.
 pub returns-in-Ok-Some-send_piece-clause-disk : goal.returns-in-Ok-Some-send_piece-clause-disk
 returns-in-Ok-Some-send_piece-clause-disk g c =
     let d = g.D.Disk in
-    read_on d.is_honest d.state d.moment d.images_since d.failures _ _ _ c.loop.invariant.disk c.in-Ok-Some-send_piece.ensures.disk
+    read_on d _ _ _ c.loop.invariant.disk c.in-Ok-Some-send_piece.ensures.disk
 
 pub returns-in-Err-send_piece-clause-served : goal.returns-in-Err-send_piece-clause-served
 returns-in-Err-send_piece-clause-served g c = λ before shown phase.
@@ -101,13 +101,13 @@ returns-in-Err-send_piece-clause-tried g c = λ before shown phase none.
 pub returns-in-Err-send_piece-clause-disk : goal.returns-in-Err-send_piece-clause-disk
 returns-in-Err-send_piece-clause-disk g c =
     let d = g.D.Disk in
-    read_on d.is_honest d.state d.moment d.images_since d.failures _ _ _ c.loop.invariant.disk c.in-Err-send_piece.ensures.disk
+    read_on d _ _ _ c.loop.invariant.disk c.in-Err-send_piece.ensures.disk
 
 pub returns-in-Err-send_piece-clause-cause : goal.returns-in-Err-send_piece-clause-cause
 returns-in-Err-send_piece-clause-cause g c = λ is before shown phase.
     let d = g.D.Disk in
     let (now, shows, only, s) = c.loop.invariant.sending before shown phase in
-    failed_on d.is_honest d.state d.moment d.images_since d.failures _ _ _ c.loop.invariant.disk (c.in-Err-send_piece.ensures.cause (ap Err (same_fault c.in-Err-send_piece.fault Source is)) now shows)
+    failed_on d _ _ _ c.loop.invariant.disk (c.in-Err-send_piece.ensures.cause (ap Err (same_fault c.in-Err-send_piece.fault Source is)) now shows)
 
 -- ---- after so many pieces
 pub returns-clause-served : goal.returns-clause-served

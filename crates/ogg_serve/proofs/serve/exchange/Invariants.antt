@@ -8,11 +8,11 @@ use Rattle.ogg_serve.proofs.serve.exchange.Given as goal
 
 abbrev pub invariant-loop : goal.invariant-loop
 invariant-loop g l = record {
-  sending : (before : HubState) → Shows g.D.Disk.is_honest g.D.Disk.state l.fn.hub before → phase_of before l.fn.id ≡ Some (Reading [])
-      → (now : HubState) × Shows g.D.Disk.is_honest g.D.Disk.state l.hub now
+  sending : (before : HubState) → Shows g.D.Disk l.fn.hub before → phase_of before l.fn.id ≡ Some (Reading [])
+      → (now : HubState) × Shows g.D.Disk l.hub now
       × OnlyServes l.fn.id before now
       × IsSendingIn l.counter l.fn.id (g.R.Read.remaining l.fn.reader) (g.R.Read.remaining l.reader) (g.W.Write.contents l.fn.writer) (g.W.Write.contents l.writer) before now;
-  disk : IfFile (Reads g.D.Disk.is_honest g.D.Disk.state g.D.Disk.moment g.D.Disk.images_since g.D.Disk.failures) l.fn.hub.file l.hub.file;
-  tries : (before : HubState) → Shows g.D.Disk.is_honest g.D.Disk.state l.fn.hub before → phase_of before l.fn.id ≡ Some (Reading [])
+  disk : IfFile (Reads g.D.Disk) l.fn.hub.file l.hub.file;
+  tries : (before : HubState) → Shows g.D.Disk l.fn.hub before → phase_of before l.fn.id ≡ Some (Reading [])
       → l.fn.tries ≡ false → l.tries ≡ false;
 }

@@ -22,7 +22,7 @@ returns-in-Ok-clause-served g c = λ before shown room numbered.
 pub returns-in-Ok-clause-disk : goal.returns-in-Ok-clause-disk
 returns-in-Ok-clause-disk g c =
     let d = g.D.Disk in
-    read_inside d.is_honest d.state d.moment d.images_since d.failures _ _ _ _ (ap (λ h. h.file) c.in-Ok.ensures.parts) c.exchange-served.ensures.disk
+    read_inside d _ _ _ _ (ap (λ h. h.file) c.in-Ok.ensures.parts) c.exchange-served.ensures.disk
     (ap (λ h. h.file) c.close.ensures.parts)
 
 pub returns-in-Ok-clause-cause : goal.returns-in-Ok-clause-cause
@@ -31,12 +31,12 @@ returns-in-Ok-clause-cause g c is before shown numbered =
     let s = c.in-Ok.ensures.step before shown in
     let same = s.2.1 in
     let begun = c.calls_move_their_session.ensures.connect before s.0 c.in-Ok.id s.2 (connected before c.in-Ok.id same (c.sessions_are_numbered.ensures.unused before numbered)) in
-    failed_inside d.is_honest d.state d.moment d.images_since d.failures _ _ _ _ (ap (λ h. h.file) c.in-Ok.ensures.parts)
+    failed_inside d _ _ _ _ (ap (λ h. h.file) c.in-Ok.ensures.parts)
     (c.exchange-served.ensures.cause is s.0 s.1 begun)
     (ap (λ h. h.file) c.close.ensures.parts)
 
 pub returns-in-Err-clause-disk : goal.returns-in-Err-clause-disk
 returns-in-Err-clause-disk g c =
     let d = g.D.Disk in
-    subst (λ h. IfFile (Reads d.is_honest d.state d.moment d.images_since d.failures) c.args.hub.now.file h.file) (sym c.in-Err.ensures.refused.1)
-    (unread d.is_honest d.state d.moment d.images_since d.failures c.args.hub.now.file (λ disk h image since. (g.met.D.Disk.laws disk h).only_now image since))
+    subst (λ h. IfFile (Reads d) c.args.hub.now.file h.file) (sym c.in-Err.ensures.refused.1)
+    (unread d c.args.hub.now.file (λ disk h image since. (g.met.D.Disk.laws disk h).only_now image since))

@@ -7,8 +7,8 @@ returns-clause-step g c = λ before s.
     let d = g.D.Disk in
     let e = c.flush-answer.ensures in
     let new = c.flush-answer.new.self in
-    let honest = e.honest.0 s.honest in
-    flushes d.is_honest d.state d.moment d.images_since c.args.recorder.now new before s c.end-before.ensures.always c.end-after.ensures.always honest (g.met.D.Disk.laws new.file.disk honest)
+    let honest = e.frame.honest.0 s.honest in
+    flushes d c.args.recorder.now new before s c.end-before.ensures.always c.end-after.ensures.always honest (g.met.D.Disk.laws new.file.disk honest)
     (c.end-before.ensures.inside s.honest) (c.end-after.ensures.inside honest) c.flush-answer.result e.by_failed e.refusals e.nothing e.faulted e.tells e.good e.grows (e.front s.honest) (e.any_moment s.honest)
 
 pub returns-clause-disk : goal.returns-clause-disk
@@ -17,12 +17,10 @@ returns-clause-disk g c =
     record {
       any_moment = e.any_moment;
       step = e.step;
-      honest = e.honest;
-      later = e.later;
-      cause = e.cause;
+      frame = e.frame;
     }
 
 pub returns-clause-linked : goal.returns-clause-linked
 returns-clause-linked g c = λ before after s step linked.
     let d = g.D.Disk in
-    linked_flush before after c.flush-answer.result step linked (recorded_in d.is_honest d.state c.args.recorder.now before c.end-before.ensures.always s)
+    linked_flush before after c.flush-answer.result step linked (recorded_in d c.args.recorder.now before c.end-before.ensures.always s)

@@ -5,4 +5,4 @@ use Rattle.serve_hub.proofs.commanding.flush_file.Goals as goal
 pub returns-in-Some-clause-linked : goal.returns-in-Some-clause-linked
 returns-in-Some-clause-linked g c = λ lost before after s step linked.
     let d = g.D.Disk in
-    c.flush_commands.ensures.linked before after (subst (λ file. ShowsPlace d.is_honest d.state file lost before) c.in-Some.is s) step linked
+    c.flush_commands.ensures.linked before after (subst (λ file. ShowsPlace d file lost before) c.in-Some.is s) step linked

@@ -7,8 +7,8 @@ returns-clause-step g c = λ before s.
     let d = g.D.Disk in
     let e = c.command-answer.ensures in
     let new = c.command-answer.new.self in
-    let honest = e.honest.0 s.honest in
-    commands d.is_honest d.state d.moment d.images_since c.args.recorder.now new before s c.end-before.ensures.always c.end-after.ensures.always honest (g.met.D.Disk.laws new.file.disk honest)
+    let honest = e.frame.honest.0 s.honest in
+    commands d c.args.recorder.now new before s c.end-before.ensures.always c.end-after.ensures.always honest (g.met.D.Disk.laws new.file.disk honest)
     (c.end-before.ensures.inside s.honest) (c.end-after.ensures.inside honest) c.args.command.now c.command-answer.result
     (c.refusals_are_of_the_table.ensures c.args.recorder.now.chain c.args.command.now) e.by_failed e.by_rules e.otherwise e.accepted e.same e.faulted e.tells e.good e.grows (e.front s.honest)
     (e.any_moment s.honest)
@@ -20,13 +20,11 @@ returns-clause-disk g c =
       any_moment = e.any_moment;
       waits = e.waits;
       step = e.step;
-      honest = e.honest;
-      later = e.later;
-      cause = e.cause;
+      frame = e.frame;
     }
 
 pub returns-clause-linked : goal.returns-clause-linked
 returns-clause-linked g c = λ before after s step linked.
     let d = g.D.Disk in
     linked_command c.command_adds_its_packets.ensures.holds before after c.args.command.now c.command-answer.result c.command_is_in_range.ensures step linked
-    (recorded_in d.is_honest d.state c.args.recorder.now before c.end-before.ensures.always s)
+    (recorded_in d c.args.recorder.now before c.end-before.ensures.always s)

@@ -20,7 +20,7 @@ pub returns-in-Ok-clause-disk : goal.returns-in-Ok-clause-disk
 returns-in-Ok-clause-disk g c =
     let d = g.D.Disk in
     let kept = c.pull.ensures.source in
-    was_read d.is_honest d.state d.moment d.images_since d.failures _ _ kept.only.0 kept.only.1 c.pull.ensures.later
+    was_read d _ _ kept.only.0 kept.only.1 c.pull.ensures.later
 
 pub returns-in-Err-clause-cause : goal.returns-in-Err-clause-cause
 returns-in-Err-clause-cause g c moment given honest hearing e =
@@ -34,4 +34,4 @@ pub returns-in-Err-clause-disk : goal.returns-in-Err-clause-disk
 returns-in-Err-clause-disk g c =
     let d = g.D.Disk in
     let kept = c.pull.ensures.source in
-    was_read d.is_honest d.state d.moment d.images_since d.failures _ _ kept.only.0 kept.only.1 c.pull.ensures.later
+    was_read d _ _ kept.only.0 kept.only.1 c.pull.ensures.later

@@ -6,4 +6,4 @@ returns-in-Some-clause-disk g c =
     let d = g.D.Disk in
     let kept = c.pull_in-answer.ensures.source in
     if_both _ _ _ _ _ c.in-Some.ensures.source c.close_window.ensures.file
-    (was_read d.is_honest d.state d.moment d.images_since d.failures _ _ kept.only.0 kept.only.1 c.pull_in-answer.ensures.later)
+    (was_read d _ _ kept.only.0 kept.only.1 c.pull_in-answer.ensures.later)

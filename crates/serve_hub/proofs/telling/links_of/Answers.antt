@@ -7,10 +7,10 @@ use Rattle.serve_hub.proofs.telling.links_of.Goals as goal
 pub returns-in-Some-clause-machine : goal.returns-in-Some-clause-machine
 returns-in-Some-clause-machine g c lost machine links s has =
     let d = g.D.Disk in
-    let f = place_file d.is_honest d.state c.args.file.now c.in-Some.recorder lost machine c.in-Some.is s in
-    c.links.ensures ∙ ap (λ chain. chain.links) (chain_is d.is_honest d.state c.bytes_are_one_chain.ensures.links c.in-Some.recorder machine links c.end-end.ensures.always f has)
+    let f = place_file d c.args.file.now c.in-Some.recorder lost machine c.in-Some.is s in
+    c.links.ensures ∙ ap (λ chain. chain.links) (chain_is d c.bytes_are_one_chain.ensures.links c.in-Some.recorder machine links c.end-end.ensures.always f has)
 
 pub returns-in-None-clause-machine : goal.returns-in-None-clause-machine
 returns-in-None-clause-machine g c lost machine links s has =
     let d = g.D.Disk in
-    absurd (no_links d.is_honest d.state c.bytes_are_one_chain.ensures.links lost machine links (subst (λ o. ShowsPlace d.is_honest d.state o lost machine) c.in-None.is s) has)
+    absurd (no_links d c.bytes_are_one_chain.ensures.links lost machine links (subst (λ o. ShowsPlace d o lost machine) c.in-None.is s) has)

@@ -7,8 +7,8 @@ use Rattle.gate_file.proofs.file.GateFile.append.Goals as goal
 pub invariant_of-self-2 : goal.invariant_of-self-2
 invariant_of-self-2 g c =
     let none : c.self.inside.staged ≡ 0 = ap (λ f. f.staged) c.self.view_is ∙ c.requires.none in
-    kept_ready g.D.Disk.is_honest g.D.Disk.state _ _ _ _ (omega (arith, c.in_ok-append_pages.ensures.short)) none c.self.invariant.some
-    (λ now. (c.in_ok-append_pages.ensures.grown (c.append_pages.ensures.honest.1 now)).ready)
+    kept_ready g.D.Disk _ _ _ _ (omega (arith, c.in_ok-append_pages.ensures.short)) none c.self.invariant.some
+    (λ now. (c.in_ok-append_pages.ensures.grown (c.append_pages.ensures.frame.honest.1 now)).ready)
 
 pub returns-clause-only : goal.returns-clause-only
 returns-clause-only g c = rw (← c.self.view_is) (λ honest. grown_only (pages_in c.args.bytes.now) _ _ _ _ (c.in_ok-append_pages.ensures.grown honest))

@@ -24,13 +24,18 @@ returns-in-Err-clause-step g c =
     let in_ = c.self.inside in
     let few = (c.refusals_are_of_the_table.ensures in_.shape.chain c.args.command.now c.in-Err.refusal (sym c.plan.ensures.decides ∙ c.in-Err.is)).1 in
     rw (← c.self.view_is)
-    (λ first w is_in honest. step_refused d.is_honest d.state d.moment d.images_since first w (recorder_state in_.file in_.shape.chain in_.tail in_.kept in_.held in_.most)
+    (λ first w is_in honest. step_refused d first w (recorder_state in_.file in_.shape.chain in_.tail in_.kept in_.held in_.most)
     c.in-Err.refusal _ c.args.command.now few is_in honest)
 
-pub returns-in-Err-clause-cause : goal.returns-in-Err-clause-cause
-returns-in-Err-clause-cause g c = λ e.
+pub returns-in-Err-clause-frame : goal.returns-in-Err-clause-frame
+returns-in-Err-clause-frame g c =
     let few = (c.refusals_are_of_the_table.ensures c.self.inside.shape.chain c.args.command.now c.in-Err.refusal (sym c.plan.ensures.decides ∙ c.in-Err.is)).1 in
-    absurd (not_disk c.in-Err.refusal few (same_refusal c.in-Err.refusal _ e))
+    rw (← c.self.view_is)
+    (record {
+      honest = ((λ h. h), (λ h. h));
+      later = omega arith;
+      cause = λ e. absurd (not_disk c.in-Err.refusal few (same_refusal c.in-Err.refusal _ e));
+    })
 
 pub returns-in-Err-clause-memory : goal.returns-in-Err-clause-memory
 returns-in-Err-clause-memory g c = λ _ e.
@@ -55,8 +60,8 @@ returns-in-Err-Disk-clause-step g c =
     let good = sym c.is_failed.ensures ∙ c.if-is_failed.false in
     let kept = sym c.plan.ensures.decides ∙ c.in-Ok.is in
     rw (← c.self.view_is)
-    (λ first w is_in honest. faulted_staging d.is_honest d.state d.moment d.images_since first w (recorder_state in_.file in_.shape.chain in_.tail in_.kept in_.held in_.most) c.command_adds_its_packets.ensures.links
-    c.args.command.now c.in-Ok.size is_in good honest (c.self.invariant.all good honest) c.command_is_in_range.ensures kept c.stage_command.new.file (c.stage_command.ensures.honest.0 honest) c.stage_command.new.shape.chain
+    (λ first w is_in honest. faulted_staging d first w (recorder_state in_.file in_.shape.chain in_.tail in_.kept in_.held in_.most) c.command_adds_its_packets.ensures.links
+    c.args.command.now c.in-Ok.size is_in good honest (c.self.invariant.all good honest) c.command_is_in_range.ensures kept c.stage_command.new.file (c.stage_command.ensures.frame.honest.0 honest) c.stage_command.new.shape.chain
     (c.in-Err-Disk.ensures.failed (ap Err c.in-Err-Disk.field-0-is)) (c.stage_command.ensures.front honest) (c.in-Err-Disk.ensures.any_moment_err (ap Err c.in-Err-Disk.field-0-is) honest))
 
 pub invariant_of-self-then-self-from : goal.invariant_of-self-then-self-from
@@ -72,14 +77,14 @@ invariant_of-self-then-self-from g c =
     let same = c.stage_command.ensures.chain in
     let file = c.stage_command.new.file in
     let whole = c.self.invariant.chain.1 in
-    is_waiting d.is_honest d.state old file c.accept_plan.new.self.chain command size c.self.invariant good c.command_adds_its_packets.ensures.links c.command_adds_pages.ensures.some
+    is_waiting d old file c.accept_plan.new.self.chain command size c.self.invariant good c.command_adds_its_packets.ensures.links c.command_adds_pages.ensures.some
     (c.command_adds_its_packets.ensures.size chain command size kept) c.command_is_in_range.ensures kept c.in-Ok.ensures.fits
     (λ links is. c.accept_plan.ensures.links links (same ∙ is))
     (c.accept_plan.ensures.grows whole.links size (same ∙ whole.chain_is) (ap (λ (s : ChainState). decision s command) same ∙ kept) ∙ ap (λ (s : ChainState). s.length_of + size) same)
-    c.in-Ok-stage_command.ensures.good c.stage_command.ensures.honest.1
-    (λ now. let honest = c.stage_command.ensures.honest.1 now in
+    c.in-Ok-stage_command.ensures.good c.stage_command.ensures.frame.honest.1
+    (λ now. let honest = c.stage_command.ensures.frame.honest.1 now in
     subst (λ (l : List ℕ). EachImage (d.state file.disk) (CommitsTo l)) (sym (c.stage_command.ensures.front honest))
-    (images_have d.moment d.images_since in_.file.disk file.disk d.state (CommitsTo (committed d.state in_.file)) (g.met.D.Disk.laws file.disk now) (c.in-Ok-stage_command.ensures.any_moment honest)))
+    (images_have d in_.file.disk file.disk d.state (CommitsTo (committed d.state in_.file)) (g.met.D.Disk.laws file.disk now) (c.in-Ok-stage_command.ensures.any_moment honest)))
     (omega (arith, c.if-self-from.true, c.from.ensures)) c.in-Ok-stage_command.ensures.whole c.stage_command.ensures.front
     (λ honest. c.in-Ok-stage_command.ensures.staged honest)
 
@@ -93,8 +98,8 @@ returns-then-self-from-clause-step g c =
     let kept = sym c.plan.ensures.decides ∙ c.in-Ok.is in
     let file = c.stage_command.new.file in
     rw (← c.self.view_is)
-    (λ first w is_in honest. held_step d.is_honest d.state d.moment d.images_since first w (recorder_state in_.file chain in_.tail in_.kept in_.held in_.most) c.command_adds_its_packets.ensures.links
-    command c.in-Ok.size is_in good honest (c.self.invariant.all good honest) c.command_is_in_range.ensures kept file (c.stage_command.ensures.honest.0 honest) c.accept_plan.new.self.chain
+    (λ first w is_in honest. held_step d first w (recorder_state in_.file chain in_.tail in_.kept in_.held in_.most) c.command_adds_its_packets.ensures.links
+    command c.in-Ok.size is_in good honest (c.self.invariant.all good honest) c.command_is_in_range.ensures kept file (c.stage_command.ensures.frame.honest.0 honest) c.accept_plan.new.self.chain
     c.in-Ok-stage_command.ensures.good (c.stage_command.ensures.front honest)
     (c.in-Ok-stage_command.ensures.staged honest) (c.in-Ok-stage_command.ensures.any_moment honest))
 
@@ -106,9 +111,9 @@ returns-in-Err-commit-clause-any_moment g c =
     let command = c.args.command.now in
     let mid = c.stage_command.new.file in
     rw (← c.self.view_is)
-    (λ honest good. staged_then d.moment d.images_since in_.file.disk mid.disk c.commit.new.self.disk (committed d.state in_.file) (staged_bytes d.state in_.file ++ command_bytes chain command)
+    (λ honest good. staged_then d in_.file.disk mid.disk c.commit.new.self.disk (committed d.state in_.file) (staged_bytes d.state in_.file ++ command_bytes chain command)
     (committed d.state mid) (staged_bytes d.state mid) (c.stage_command.ensures.front honest) (c.in-Ok-stage_command.ensures.staged honest)
-    (c.in-Ok-stage_command.ensures.any_moment honest) (c.commit.ensures.any_moment (c.stage_command.ensures.honest.0 honest)))
+    (c.in-Ok-stage_command.ensures.any_moment honest) (c.commit.ensures.any_moment (c.stage_command.ensures.frame.honest.0 honest)))
 
 pub returns-in-Err-commit-clause-step : goal.returns-in-Err-commit-clause-step
 returns-in-Err-commit-clause-step g c =
@@ -122,13 +127,13 @@ returns-in-Err-commit-clause-step g c =
     let file = c.commit.new.self in
     rw (← c.self.view_is)
     (λ first w is_in honest.
-    let here = c.stage_command.ensures.honest.0 honest in
-    faulted_commit d.is_honest d.state d.moment d.images_since first w (recorder_state in_.file chain in_.tail in_.kept in_.held in_.most) c.command_adds_its_packets.ensures.links
-    command c.in-Ok.size is_in good honest (c.self.invariant.all good honest) c.command_is_in_range.ensures kept file (c.commit.ensures.honest.0 here) c.stage_command.new.shape.chain
-    (lt_false (length w.held + 1) in_.most (omega (arith, c.if-self-from.false, c.from.ensures, is_in.count (is_open d.is_honest d.state d.moment d.images_since first w _ is_in good))))
+    let here = c.stage_command.ensures.frame.honest.0 honest in
+    faulted_commit d first w (recorder_state in_.file chain in_.tail in_.kept in_.held in_.most) c.command_adds_its_packets.ensures.links
+    command c.in-Ok.size is_in good honest (c.self.invariant.all good honest) c.command_is_in_range.ensures kept file (c.commit.ensures.frame.honest.0 here) c.stage_command.new.shape.chain
+    (lt_false (length w.held + 1) in_.most (omega (arith, c.if-self-from.false, c.from.ensures, is_in.count (is_open d first w _ is_in good))))
     (c.in-Err-commit.ensures.failed.1 refl)
     (same_front mid.end file.end (d.state file.disk).contents (committed d.state mid) c.in-Err-commit.ensures.end_err (c.commit.ensures.front here) ∙ c.stage_command.ensures.front honest)
-    (staged_then d.moment d.images_since in_.file.disk mid.disk file.disk (committed d.state in_.file) (staged_bytes d.state in_.file ++ command_bytes chain command)
+    (staged_then d in_.file.disk mid.disk file.disk (committed d.state in_.file) (staged_bytes d.state in_.file ++ command_bytes chain command)
     (committed d.state mid) (staged_bytes d.state mid) (c.stage_command.ensures.front honest) (c.in-Ok-stage_command.ensures.staged honest)
     (c.in-Ok-stage_command.ensures.any_moment honest) (c.commit.ensures.any_moment here)))
 
@@ -146,16 +151,16 @@ invariant_of-self-2 g c =
     let mid = c.stage_command.new.file in
     let file = c.commit.new.self in
     let whole = c.self.invariant.chain.1 in
-    let before : d.is_honest file.disk → d.is_honest in_.file.disk = λ now. c.stage_command.ensures.honest.1 (c.commit.ensures.honest.1 now) in
-    is_kept d.is_honest d.state old file c.accept_plan-2.new.self.chain command size c.self.invariant good c.command_adds_its_packets.ensures.links c.command_adds_pages.ensures.some
+    let before : d.is_honest file.disk → d.is_honest in_.file.disk = λ now. c.stage_command.ensures.frame.honest.1 (c.commit.ensures.frame.honest.1 now) in
+    is_kept d old file c.accept_plan-2.new.self.chain command size c.self.invariant good c.command_adds_its_packets.ensures.links c.command_adds_pages.ensures.some
     (c.command_adds_its_packets.ensures.size chain command size kept) c.command_is_in_range.ensures kept c.in-Ok.ensures.fits
     (λ links is. c.accept_plan-2.ensures.links links (same ∙ is))
     (c.accept_plan-2.ensures.grows whole.links size (same ∙ whole.chain_is) (ap (λ (s : ChainState). decision s command) same ∙ kept) ∙ ap (λ (s : ChainState). s.length_of + size) same)
     (not_failed file.failed (λ bad. never (c.in-Ok-commit.ensures.failed.0 bad))) before
-    (λ now. let here = c.commit.ensures.honest.1 now in
+    (λ now. let here = c.commit.ensures.frame.honest.1 now in
     subst (λ (l : List ℕ). EachImage (d.state file.disk) (CommitsTo l)) (sym (c.in-Ok-commit.ensures.grown here)) (c.in-Ok-commit.ensures.only here))
     c.in-Ok-commit.ensures.none
-    (λ honest. let here = c.stage_command.ensures.honest.0 honest in
+    (λ honest. let here = c.stage_command.ensures.frame.honest.0 honest in
     c.in-Ok-commit.ensures.grown here
     ∙ (λ i. c.stage_command.ensures.front honest i ++ (c.in-Ok-stage_command.ensures.staged honest) i))
     (omega (arith, c.self.invariant.few))
@@ -168,9 +173,9 @@ returns-clause-any_moment g c =
     let command = c.args.command.now in
     let mid = c.stage_command.new.file in
     rw (← c.self.view_is)
-    (λ honest good. staged_then d.moment d.images_since in_.file.disk mid.disk c.commit.new.self.disk (committed d.state in_.file) (staged_bytes d.state in_.file ++ command_bytes chain command)
+    (λ honest good. staged_then d in_.file.disk mid.disk c.commit.new.self.disk (committed d.state in_.file) (staged_bytes d.state in_.file ++ command_bytes chain command)
     (committed d.state mid) (staged_bytes d.state mid) (c.stage_command.ensures.front honest) (c.in-Ok-stage_command.ensures.staged honest)
-    (c.in-Ok-stage_command.ensures.any_moment honest) (c.commit.ensures.any_moment (c.stage_command.ensures.honest.0 honest)))
+    (c.in-Ok-stage_command.ensures.any_moment honest) (c.commit.ensures.any_moment (c.stage_command.ensures.frame.honest.0 honest)))
 
 pub returns-clause-step : goal.returns-clause-step
 returns-clause-step g c =
@@ -184,14 +189,14 @@ returns-clause-step g c =
     let file = c.commit.new.self in
     rw (← c.self.view_is)
     (λ first w is_in honest.
-    let here = c.stage_command.ensures.honest.0 honest in
+    let here = c.stage_command.ensures.frame.honest.0 honest in
     let more = c.in-Ok-stage_command.ensures.staged honest in
     let grown : committed d.state mid ++ staged_bytes d.state mid ≡ committed d.state in_.file ++ (staged_bytes d.state in_.file ++ command_bytes chain command) = (λ i. c.stage_command.ensures.front honest i ++ more i) in
-    kept_step d.is_honest d.state d.moment d.images_since first w (recorder_state in_.file chain in_.tail in_.kept in_.held in_.most) c.command_adds_its_packets.ensures.links
-    command c.in-Ok.size is_in good honest (c.self.invariant.all good honest) c.command_is_in_range.ensures kept file (c.commit.ensures.honest.0 here) c.accept_plan-2.new.self.chain
+    kept_step d first w (recorder_state in_.file chain in_.tail in_.kept in_.held in_.most) c.command_adds_its_packets.ensures.links
+    command c.in-Ok.size is_in good honest (c.self.invariant.all good honest) c.command_is_in_range.ensures kept file (c.commit.ensures.frame.honest.0 here) c.accept_plan-2.new.self.chain
     (not_failed file.failed (λ bad. never (c.in-Ok-commit.ensures.failed.0 bad))) c.in-Ok-commit.ensures.none
     (c.in-Ok-commit.ensures.grown here ∙ grown)
-    (staged_then d.moment d.images_since in_.file.disk mid.disk file.disk (committed d.state in_.file) (staged_bytes d.state in_.file ++ command_bytes chain command)
+    (staged_then d in_.file.disk mid.disk file.disk (committed d.state in_.file) (staged_bytes d.state in_.file ++ command_bytes chain command)
     (committed d.state mid) (staged_bytes d.state mid) (c.stage_command.ensures.front honest) more (c.in-Ok-stage_command.ensures.any_moment honest) (c.commit.ensures.any_moment here))
     (subst (λ (l : List ℕ). EachImage (d.state file.disk) (CommitsTo l)) grown (c.in-Ok-commit.ensures.only here)))
 

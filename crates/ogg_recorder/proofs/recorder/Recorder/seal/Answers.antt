@@ -9,8 +9,8 @@ returns-in-Ok-clause-step g c =
     let in_ = c.self.inside in
     let good = ap (λ r. r.file.failed) c.self.view_is ∙ c.requires.good in
     rw (← c.self.view_is)
-    (λ first w is_in honest. (sealed d.is_honest d.state d.moment d.images_since first w (recorder_state in_.file in_.shape.chain in_.tail in_.kept in_.held in_.most) is_in good honest c.in-Ok.disk
-    (c.in-Ok.ensures.honest.0 honest) (c.in-Ok.ensures.any_moment honest)).0)
+    (λ first w is_in honest. (sealed d first w (recorder_state in_.file in_.shape.chain in_.tail in_.kept in_.held in_.most) is_in good honest c.in-Ok.disk
+    (c.in-Ok.ensures.frame.honest.0 honest) (c.in-Ok.ensures.any_moment honest)).0)
 
 pub returns-clause-step_err : goal.returns-clause-step_err
 returns-clause-step_err g c =
@@ -18,5 +18,5 @@ returns-clause-step_err g c =
     let in_ = c.self.inside in
     let good = ap (λ r. r.file.failed) c.self.view_is ∙ c.requires.good in
     rw (← c.self.view_is)
-    (λ first w is_in honest. (sealed d.is_honest d.state d.moment d.images_since first w (recorder_state in_.file in_.shape.chain in_.tail in_.kept in_.held in_.most) is_in good honest c.in-Err.fault.1
-    (c.in-Err.ensures.honest_err.0 honest) (c.in-Err.ensures.any_moment_err honest)).1)
+    (λ first w is_in honest. (sealed d first w (recorder_state in_.file in_.shape.chain in_.tail in_.kept in_.held in_.most) is_in good honest c.in-Err.fault.1
+    (c.in-Err.ensures.frame_err.honest.0 honest) (c.in-Err.ensures.any_moment_err honest)).1)

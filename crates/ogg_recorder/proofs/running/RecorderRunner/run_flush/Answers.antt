@@ -12,9 +12,9 @@ returns-clause-answers g c = λ before reached.
     let new = c.flush-answer.new.self in
     let r = c.flush-answer.result in
     let e = c.flush-answer.ensures in
-    at_reached before old (λ b. ComesTo d.is_honest d.state d.moment d.images_since d.failures Flush c.reply_to_flush.result new b) reached
-    (subst (λ (reply : Reply). ComesTo d.is_honest d.state d.moment d.images_since d.failures Flush reply new (progress before.first before.world old)) (sym c.reply_to_flush.ensures)
-    (flush_answered d.is_honest d.state d.moment d.images_since d.failures before.first before.world old new old.file.failed r refl e.by_failed e.refusals
+    at_reached before old (λ b. ComesTo d Flush c.reply_to_flush.result new b) reached
+    (subst (λ (reply : Reply). ComesTo d Flush reply new (progress before.first before.world old)) (sym c.reply_to_flush.ensures)
+    (flush_answered d before.first before.world old new old.file.failed r refl e.by_failed e.refusals
     (flushed_by old.file.failed r old new e.by_failed e.refusals e.nothing e.faulted e.tells e.good)
     (λ honest. writes_flush honest d.state r old new e.grows e.none_waits (e.front honest))
-    (λ is_in opened honest. e.step before.first before.world is_in opened honest) e.honest e.later (λ told. e.cause (flush_fault r told))))
+    (λ is_in opened honest. e.step before.first before.world is_in opened honest) e.frame.honest e.frame.later (λ told. e.frame.cause (flush_fault r told))))

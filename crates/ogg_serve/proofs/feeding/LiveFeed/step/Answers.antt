@@ -22,8 +22,8 @@ returns-clause-takes g c =
     rw (← c.self.view_is)
     (λ before shown.
     let (after, shown_after, nothing, step) =
-    taken d.is_honest d.state d.moment d.images_since d.failures g.R.Read.remaining g.W.Write.contents
-    (Shows d.is_honest d.state) (λ (a b : HubState). ⊤) (λ (m : HubState). tt) in_.ended in_.run.outcome answer
+    taken d g.R.Read.remaining g.W.Write.contents
+    (Shows d) (λ (a b : HubState). ⊤) (λ (m : HubState). tt) in_.ended in_.run.outcome answer
     (feed_state in_.reader in_.replies in_.run in_.ended) (feed_state n.reader n.replies n.run c.lasting-self-inside.result) c.args.hub.now n.hub before shown
     (subst (λ (o : Option (Result Step RunFault)). IfSome o (λ was. (answer ≡ was) × (feed_state n.reader n.replies n.run c.lasting-self-inside.result ≡ feed_state in_.reader in_.replies in_.run in_.ended) × (n.hub ≡ c.args.hub.now))) (sym none) tt)
     (λ going. ended_so in_.run.outcome answer c.lasting-self-inside.result in_.reader n.reader in_.replies n.replies in_.run n.run c.args.hub.now n.hub lasts e.closed)
@@ -38,12 +38,12 @@ returns-clause-history g c = λ before shown.
     let in_ = c.self.inside in
     let e = c.take_step-answer.ensures in
     let n = c.take_step-answer.new in
-    by_outcome d.is_honest d.state d.moment d.images_since d.failures in_.run.outcome _ c.args.hub.now n.hub e.closed (λ outcome (told, run, hub, reader, replies). hub)
+    by_outcome d in_.run.outcome _ c.args.hub.now n.hub e.closed (λ outcome (told, run, hub, reader, replies). hub)
     (λ unended.
     let (after, is_in, has) = e.stepped (record { now = c.args.hub.now; machine = before }) (refl, shown) unended in
-    hub_stepped d.is_honest d.state d.moment d.images_since d.failures c.disks_stand_in_their_world.ensures.step _ _ _ _ c.args.hub.now n.hub before after _ shown is_in has)
+    hub_stepped d c.disks_stand_in_their_world.ensures.step _ _ _ _ c.args.hub.now n.hub before after _ shown is_in has)
 
 pub returns-in-Some-clause-history : goal.returns-in-Some-clause-history
 returns-in-Some-clause-history g c = λ before shown.
     let d = g.D.Disk in
-    same d.is_honest d.state d.moment d.images_since d.failures c.args.hub.now c.args.hub.now refl
+    same d c.args.hub.now c.args.hub.now refl

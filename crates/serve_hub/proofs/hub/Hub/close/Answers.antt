@@ -9,7 +9,7 @@ returns-in-Some-clause-step g c =
     let in_ = c.self.inside in
     let at : place_in c.args.id in_.sessions.items ≡ Some c.in-Some.field-0 = ap (place_in c.args.id) (sym c.as_slice.ensures.value) ∙ sym c.place_of.ensures ∙ c.in-Some.is in
     rw (← c.self.view_is)
-    (λ before s. closes d.is_honest d.state in_.file in_.lost in_.index in_.sessions.items in_.next in_.most in_.most_sessions before s c.args.id c.in-Some.field-0 c.drop_session.new.sessions.items at
+    (λ before s. closes d in_.file in_.lost in_.index in_.sessions.items in_.next in_.most in_.most_sessions before s c.args.id c.in-Some.field-0 c.drop_session.new.sessions.items at
     c.drop_session.ensures.items)
 
 pub returns-in-None-clause-step : goal.returns-in-None-clause-step
@@ -18,7 +18,7 @@ returns-in-None-clause-step g c =
     let in_ = c.self.inside in
     let at : place_in c.args.id in_.sessions.items ≡ None = ap (place_in c.args.id) (sym c.as_slice.ensures.value) ∙ sym c.place_of.ensures ∙ c.in-None.is in
     rw (← c.self.view_is)
-    (λ before s. closes_none d.is_honest d.state in_.file in_.lost in_.index in_.sessions.items in_.next in_.most in_.most_sessions before s c.args.id at)
+    (λ before s. closes_none d in_.file in_.lost in_.index in_.sessions.items in_.next in_.most in_.most_sessions before s c.args.id at)
 
 pub invariant_of-self : goal.invariant_of-self
 invariant_of-self g c =

@@ -11,7 +11,7 @@ returns-clause-step g c =
     (λ before s.
     let (after, place, step, keeps) = c.command_file.ensures.step in_.lost before s.place in (
       after,
-      goes_on d.is_honest d.state in_.file in_.lost in_.index in_.sessions.items in_.next in_.most in_.most_sessions before s c.command_file.new.file in_.lost after (Record c.args.command.now c.command_file.result) c.sessions_stay.ensures place
+      goes_on d in_.file in_.lost in_.index in_.sessions.items in_.next in_.most in_.most_sessions before s c.command_file.new.file in_.lost after (Record c.args.command.now c.command_file.result) c.sessions_stay.ensures place
           (c.command_file.ensures.linked in_.lost before after s.place step s.linked) step
           keeps.sessions keeps.numbers keeps.room in_.most (keeps.group ∙ s.most_is),
       step,

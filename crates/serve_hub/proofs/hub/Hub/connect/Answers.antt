@@ -15,6 +15,6 @@ returns-clause-step g c =
     let in_ = c.self.inside in
     rw (← c.self.view_is)
     (λ before s.
-    connects d.is_honest d.state in_.file in_.lost in_.index in_.sessions.items in_.next in_.most in_.most_sessions before s c.in-Some.id c.add_session.new.sessions.items c.next_after-self-inside.result c.in-Some.is c.next_after-self-inside.ensures.fits
+    connects d in_.file in_.lost in_.index in_.sessions.items in_.next in_.most in_.most_sessions before s c.in-Some.id c.add_session.new.sessions.items c.next_after-self-inside.result c.in-Some.is c.next_after-self-inside.ensures.fits
     c.next_after-self-inside.ensures.next
     (omega (arith, c.if-len-self.false, c.len.ensures, in_.sessions.ok.0)) c.add_session.ensures.items)

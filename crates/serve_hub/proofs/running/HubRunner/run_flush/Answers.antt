@@ -10,7 +10,7 @@ returns-clause-answers g c = λ before is_in.
     let d = g.D.Disk in
     let e = c.flush-answer.ensures in
     let s = e.step before.machine is_in.1 in
-    let disk = subst (λ (hub : HubParts _). IfFile (Flushes d.is_honest d.state d.moment d.images_since d.failures c.flush-answer.result) hub.file c.flush-answer.new.self.file) (sym is_in.0) e.disk in
+    let disk = subst (λ (hub : HubParts _). IfFile (Flushes d c.flush-answer.result) hub.file c.flush-answer.new.self.file) (sym is_in.0) e.disk in
     let only = subst (λ (hub : HubParts _). OnlyFile hub c.flush-answer.new.self) (sym is_in.0) e.parts in
     let same = subst (λ (hub : HubParts _). IfErr c.flush-answer.result (λ refusal. refusal ≢ Disk → c.flush-answer.new.self ≡ hub)) (sym is_in.0) e.same in
     (record { now = c.flush-answer.new.self; machine = s.0 }, (refl, record { answer = c.flush-answer.result; told = c.reply_to_flush.ensures; step = s.2; disk = disk; only = only; same = same }), (refl, s.1))

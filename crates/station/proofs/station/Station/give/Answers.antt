@@ -10,7 +10,7 @@ returns-clause-gives g c client is =
     let same : c.in-Some.client.now ≡ client = same_client c.in-Some.client.now client (c.in-Some.ensures.value ∙ is) in
     let after = c.give-count.new.client in (
       after,
-      subst (λ (one : ClientState). Gives (Shows g.D.Disk.is_honest g.D.Disk.state) c.args.self.now.live.hub c.give-count.new.self.hub (length c.args.buffer.now) one c.give-count.result c.give-count.new.buffer after) same
+      subst (λ (one : ClientState). Gives (Shows g.D.Disk) c.args.self.now.live.hub c.give-count.new.self.hub (length c.args.buffer.now) one c.give-count.result c.give-count.new.buffer after) same
           (record {
             again = c.give-count.ensures.again;
             pulls = c.give-count.ensures.pulls;

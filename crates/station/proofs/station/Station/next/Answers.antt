@@ -9,5 +9,5 @@ use Rattle.station.proofs.station.Station.next.Goals as goal
 pub returns-clause-gives : goal.returns-clause-gives
 returns-clause-gives g c client is apart =
     let same = c.refuse_if_waited.ensures.same client is apart in
-    subst (λ s. (after : ClientState) × Gives (Shows g.D.Disk.is_honest g.D.Disk.state) s.live.hub c.give.new.self.live.hub (length c.args.buffer.now) client c.give.result c.give.new.buffer after × (get c.give.new.self.clients.slots c.args.key ≡ Some (given c.give.result (is_over s.air s.ending) c.args.now after))) same
+    subst (λ s. (after : ClientState) × Gives (Shows g.D.Disk) s.live.hub c.give.new.self.live.hub (length c.args.buffer.now) client c.give.result c.give.new.buffer after × (get c.give.new.self.clients.slots c.args.key ≡ Some (given c.give.result (is_over s.air s.ending) c.args.now after))) same
     (c.give.ensures.gives client (ap (λ s. get s.clients.slots c.args.key) same ∙ is))

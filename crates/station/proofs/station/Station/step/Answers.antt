@@ -17,8 +17,8 @@ returns-clause-takes g c air is =
       | then-end w ↦ ap (λ s. s.live) w.self-is ∙ ap (λ s. s.live) c.count.ensures
       | else-end w ↦ ap (λ s. s.live) w.self-is ∙ ap (λ s. s.live) c.count.ensures
     ] in
-    subst (λ (now : Option OnAir). TakesFromSource g.D.Disk.is_honest g.D.Disk.state g.D.Disk.moment g.D.Disk.images_since g.D.Disk.failures c.step_once-done.result air now c.args.self.now.live c.wake_feeder.new.self.live) (sym air_is)
-    (subst (λ (live : LiveHub _). TakesFromSource g.D.Disk.is_honest g.D.Disk.state g.D.Disk.moment g.D.Disk.images_since g.D.Disk.failures c.step_once-done.result air c.step_once-done.new.self.air c.args.self.now.live live) (sym live_is)
+    subst (λ (now : Option OnAir). TakesFromSource g.D.Disk c.step_once-done.result air now c.args.self.now.live c.wake_feeder.new.self.live) (sym air_is)
+    (subst (λ (live : LiveHub _). TakesFromSource g.D.Disk c.step_once-done.result air c.step_once-done.new.self.air c.args.self.now.live live) (sym live_is)
     (c.step_once-done.ensures.takes air is))
 
 pub returns-clause-noted : goal.returns-clause-noted

@@ -33,7 +33,7 @@ returns-in-Ok-Stepped-clause-takes g c air is before is_in =
       on_air = refl;
       keeps = subst (λ (one : OnAir). KeepsBytes c.in-Ok-Stepped.step one new) same (record { seen = seen; pending = pending; feeder = feeder; short = short; lost = lost });
       reached = in_after;
-      takes = subst (λ (one : OnAir). TakesStep (Answers g.D.Disk.is_honest g.D.Disk.state g.D.Disk.moment g.D.Disk.images_since g.D.Disk.failures) (HasAllTaken one) c.in-Ok-Stepped.step one.import new.import before after) same takes;
+      takes = subst (λ (one : OnAir). TakesStep (Answers g.D.Disk) (HasAllTaken one) c.in-Ok-Stepped.step one.import new.import before after) same takes;
     }
 
 pub returns-in-Ok-Ended-clause-takes : goal.returns-in-Ok-Ended-clause-takes
@@ -47,7 +47,7 @@ returns-in-Ok-Ended-clause-takes g c air is before is_in =
     record {
       run = new.import;
       after = after;
-      takes = subst (λ (one : OnAir). TakesEnd (Answers g.D.Disk.is_honest g.D.Disk.state g.D.Disk.moment g.D.Disk.images_since g.D.Disk.failures) (HasAllTaken one) offset junk taken one.import new.import before after) same ends;
+      takes = subst (λ (one : OnAir). TakesEnd (Answers g.D.Disk) (HasAllTaken one) offset junk taken one.import new.import before after) same ends;
     }
 
 pub returns-in-Ok-Ended-clause-parts : goal.returns-in-Ok-Ended-clause-parts

@@ -12,7 +12,7 @@ returns-in-Ok-clause-connects g c = inl (record {
   progress = c.receive-progress.result;
   between = c.connect.new.self;
   connects = c.in-Ok.ensures.step;
-  receives = subst (λ (bytes : List ℕ). Steps (Shows g.D.Disk.is_honest g.D.Disk.state) c.connect.new.self c.receive-progress.new.self (λ machine. Receive c.in-Ok.id bytes c.receive-progress.result)) (c.as_slice.ensures.value ∙ ap (λ (client : ClientState). client.head) c.client.view_is) c.receive-progress.ensures.step;
+  receives = subst (λ (bytes : List ℕ). Steps (Shows g.D.Disk) c.connect.new.self c.receive-progress.new.self (λ machine. Receive c.in-Ok.id bytes c.receive-progress.result)) (c.as_slice.ensures.value ∙ ap (λ (client : ClientState). client.head) c.client.view_is) c.receive-progress.ensures.step;
   client = c.connected.ensures ∙ ap (λ (stage : Stage). record c.args.client.now { stage = stage; session = Some c.in-Ok.id; head = [] }) c.stage_after.ensures;
 })
 

@@ -12,7 +12,7 @@ returns-in-Ok-clause-keeps g c start before shows tracks =
     let (going, is_open, places) = c.reopened.ensures.told after shown in
     let moved = c.listeners_join_committed_links.ensures.reopened start before after old.places going after.committed step is_open tracks in (
       after,
-      subst (λ (hub : HubParts _). Shows g.D.Disk.is_honest g.D.Disk.state hub after) (sym c.reopened.ensures.hub) shown,
+      subst (λ (hub : HubParts _). Shows g.D.Disk hub after) (sym c.reopened.ensures.hub) shown,
       subst (λ (one : PlacesState). Tracks start after one)
           (ap (λ n. reopened_to n (length after.committed) going old.places) (sym (c.end-end.ensures before shows)) ∙ sym places) moved,
     )

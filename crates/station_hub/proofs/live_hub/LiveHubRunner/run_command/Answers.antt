@@ -9,7 +9,7 @@ use Rattle.station_hub.proofs.live_hub.LiveHubRunner.run_command.Goals as goal
 pub returns-in-Ok-clause-ok : goal.returns-in-Ok-clause-ok
 returns-in-Ok-clause-ok g c = λ before is_in.
     let r = c.in-Ok.ensures.ok before is_in in
-    (r.0, r.1, r.2, subst (λ (hub : HubParts _). IsIn g.D.Disk.is_honest g.D.Disk.state r.1 hub) (sym c.answered.ensures.hub) r.3, r.4)
+    (r.0, r.1, r.2, subst (λ (hub : HubParts _). IsIn g.D.Disk r.1 hub) (sym c.answered.ensures.hub) r.3, r.4)
 
 pub returns-in-Ok-clause-keeps : goal.returns-in-Ok-clause-keeps
 returns-in-Ok-clause-keeps g c start before shows tracks =
@@ -20,7 +20,7 @@ returns-in-Ok-clause-keeps g c start before shows tracks =
     let moved = c.listeners_join_committed_links.ensures.command start before after.machine old.places c.args.command.now answered.answer told
     c.command_is_in_range.ensures answered.step is_told tracks in (
       after.machine,
-      subst (λ (hub : HubParts _). Shows g.D.Disk.is_honest g.D.Disk.state hub after.machine) (sym c.answered.ensures.hub) is_in.1,
+      subst (λ (hub : HubParts _). Shows g.D.Disk hub after.machine) (sym c.answered.ensures.hub) is_in.1,
       subst (λ (one : PlacesState). Tracks start after.machine one) (ap (λ reply. answered_by reply told old.places) (sym answered.told) ∙ sym places) moved,
     )
 

@@ -29,7 +29,7 @@ returns-in-Kept-clause-keeps g c start before shows tracks =
     let (going, is_open, places) = c.committed.ensures.told after.machine is_in.1 in
     let step = subst (λ (answer : Result Kept Refusal). flush_step before answer after.machine) (kept_answer answered.answer c.in-Kept.field-0 answered.told) answered.step in (
       after.machine,
-      subst (λ (hub : HubParts _). Shows g.D.Disk.is_honest g.D.Disk.state hub after.machine) (sym c.committed.ensures.hub) is_in.1,
+      subst (λ (hub : HubParts _). Shows g.D.Disk hub after.machine) (sym c.committed.ensures.hub) is_in.1,
       subst (λ (one : PlacesState). Tracks start after.machine one) (sym places)
           (c.listeners_join_committed_links.ensures.flush start before after.machine old.places c.in-Kept.field-0 going step is_open tracks),
     )
