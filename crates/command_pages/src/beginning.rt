@@ -71,6 +71,7 @@ pub fn count_begin(skeleton: Option<SkeletonHead>, streams: &[NewStream]) -> u64
     match skeleton {
         None => count,
         Some(head) => {
+            // For the proof alone.
             let _time = fishead_of(&head);
             count + streams.len() as u64 + 2
         }

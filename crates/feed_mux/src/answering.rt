@@ -38,6 +38,7 @@ pub fn answer<P: Write>(
     ensures full { result ≡ Ok (Reply.Refused Refusal.Memory) → HasRoom shape.old command.now
         → vec_capacity bytes.old < length (command_bytes shape.old.chain command.now) }
 {
+    // For the proof alone.
     refusals_are_of_the_table();
     match shape.plan(command, plan) {
         Ok(_) => {}

@@ -26,6 +26,7 @@ fn check_command(shape: &mut Shape, count: &mut u64, command: &Command, plan: &m
     // Memory is short only if there is no room for what the command adds.
     ensures full { result ≡ Reply.Refused Refusal.Memory → HasRoom shape.old command.now → ⊥ }
 {
+    // For the proof alone.
     refusals_are_of_the_table();
     match shape.plan(command, plan) {
         Ok(_) => {}

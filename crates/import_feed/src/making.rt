@@ -94,6 +94,7 @@ fn finish_well<W: Write>(maker: &mut Maker, writer: &mut W) -> Result<Made, Maki
     ensures { (options : OptionsOf) (from left before : Option (List ℕ))
         → EndsWell options from left before (W.contents writer.old) maker.old → Finishes options result from left before (W.contents writer.new) }
 {
+    // For the proof alone.
     gathered_commands_hold_the_recording();
     match maker.close(writer) {
         Ok(()) => {}

@@ -121,6 +121,7 @@ impl Mending {
             → ClosesMended M.tells options result before (W.contents writer.new) unaware mends.new still.steps self.old self.new }
     {
         commands_begin_links_without_a_skeleton();
+        // For the proof alone.
         commands_hold_sound_links();
         let mut commands = Vec::new(self.alloc);
         let mend = match self.import.finish(&mut commands) {

@@ -72,6 +72,7 @@ impl Source {
     pub(crate) fn end(&mut self) -> Result<Vec<Command>, MakingFault>
         ensures ok { IfOk result (λ commands. GathersRest self.old self.new commands.items) }
     {
+        // For the proof alone.
         links_are_begun_without_a_skeleton();
         let mut commands = Vec::new(self.alloc);
         match self.gatherer.end(&mut commands) {
@@ -108,6 +109,7 @@ fn take_in(
         × (at + page_size page.now < 2 ^ 63)) }
     ensures err { IfErr result (RefusesPage gatherer.old page.now at (gatherer.new ≡ gatherer.old)) }
 {
+    // For the proof alone.
     links_are_begun_without_a_skeleton();
     if behind >= 1 << 63 {
         return Err(MakingFault::TooLong(at));

@@ -20,6 +20,7 @@ pub fn cut_page(
     ensures noted { IsNoted result grower.old grower.new }
     ensures packets { IfOk result (λ packets. EndIn rest.old.items page.now packets.items rest.new.items) }
 {
+    // For the proof alone.
     let _bytes = page.whole();
     cut(grower, rest, page.lacing(), page.body())
 }
@@ -68,6 +69,7 @@ pub fn first_size(page: &Page<'_>) -> usize
     ensures value { result ≡ first_size page.now.lacing }
     ensures bound { result ≤ longest_body }
 {
+    // For the proof alone.
     let _bytes = page.whole();
     first_size_of(page.lacing())
 }

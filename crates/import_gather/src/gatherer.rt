@@ -103,6 +103,7 @@ impl Gatherer {
         ensures pages { OnErr result (self.new.chain ≡ self.old.chain) }
         ensures noted { IsNoted result self.old.refused self.new.refused }
     {
+        // For the proof alone.
         let _bytes = page.whole();
         let open = is_open(self.chain.streams());
         self.link.take_page(&mut self.grower, page, open, commands)?;

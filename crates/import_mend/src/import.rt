@@ -79,6 +79,7 @@ impl Import {
         let junk = take_junk(&self.pages, &mut self.junk);
         match self.pages.lent() {
             Some((offset, page)) => {
+                // For the proof alone.
                 let _bytes = page.whole();
                 let mend = self
                     .mender

@@ -114,6 +114,7 @@ impl Mender {
         ensures gives { IfOk result (λ mend. (more : List CommandOf) × (commands.new.items ≡ commands.old.items ++ more)
             × GathersFirst page.now (mending self.old.losses gatherer.old) (mending self.new.losses gatherer.new) more) }
     {
+        // For the proof alone.
         let _bytes = page.whole();
         let streams = gatherer.chain().streams();
         let place = if is_open(streams) { streams.len() } else { 0 };

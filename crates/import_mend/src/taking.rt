@@ -79,6 +79,7 @@ pub fn break_off(gatherer: &mut Gatherer, joined: bool, serial: u32)
 fn is_left_whole(page: &Page<'_>) -> bool
     ensures { result ≡ true → left_whole page.now ≡ page.now }
 {
+    // For the proof alone.
     let _bytes = page.whole();
     !page.is_last() || whole_values(page.lacing()) == page.lacing().len()
 }
@@ -100,6 +101,7 @@ pub fn follow(
         × GathersLeft (is_joined lost stream (is_too_long gatherer.old.link page.now) page.now) stream.next_sequence page.now
         gatherer.old gatherer.new more) }
 {
+    // For the proof alone.
     let _bytes = page.whole();
     let joined = is_joined(lost, stream, gatherer.is_too_long(page), page);
     if joined && lost == 0 && is_left_whole(page) {

@@ -22,6 +22,7 @@ fn behind_rest<'a>(page: &Page<'a>, joined: bool) -> Part<'a>
     ensures whole { sum result.lacing.now ≡ length result.body.now }
     ensures few { length result.lacing.now ≤ most_values }
 {
+    // For the proof alone.
     let _bytes = page.whole();
     if page.is_continued() && !joined {
         behind_values(page.lacing(), page.body(), front_values(page.lacing()))
@@ -103,6 +104,7 @@ pub fn write_mended(
     ensures ok { OnOk result (out.new.items ≡ out.old.items ++ page_bytes (mended joined number page.now)) }
     ensures is_page { IsPage (mended joined number page.now) }
 {
+    // For the proof alone.
     let _bytes = page.whole();
     let part = left_of(page, joined);
     let head = PageHead {

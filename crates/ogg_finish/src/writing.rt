@@ -58,6 +58,7 @@ fn mark_last(page: &Page<'_>, buffer: &mut PageBuffer)
     ensures { buffer.new.finished ≡ Some (marked_last page.now) }
 {
     // Since it is a page, its lacing values, its body and its flags are bounded.
+    // For the proof alone.
     let _whole = page.whole();
     buffer.start(page.lacing());
     buffer.put(page.body());

@@ -101,6 +101,7 @@ impl<D: Disk> Recorder<D> {
 
         ensures frame { Frame D.Disk self.old.file.disk self.new.file.disk (result ≡ Err Refusal.Disk) }
     {
+        // For the proof alone.
         command_is_in_range(command);
         command_adds_its_packets();
         command_adds_pages();

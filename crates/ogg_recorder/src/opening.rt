@@ -54,6 +54,7 @@ pub(crate) fn find_chain<D: Disk>(alloc: Global, disk: D) -> Result<FoundChain<D
         Ok(found) => found,
         Err((fault, disk)) => return Err((OpenFault::from(fault), disk)),
     };
+    // For the proof alone.
     let _end = found.end();
     match taker.into_shape() {
         Ok(shape) => Ok(FoundChain {

@@ -97,6 +97,7 @@ impl<D: Disk> Recorder<D> {
         ensures step_err { IfErr result (λ e. (first : Recording) (w : World CommandOf) → w.is_open ≡ false → D.is_honest disk
             → IsRecorderStep D.Disk first w (Faulted Opening) disk e.1) }
     {
+        // For the proof alone.
         disks_stand_in_their_world::<D, crate::laws::Recorded>();
         let FoundChain {
             found,

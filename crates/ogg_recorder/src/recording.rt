@@ -89,6 +89,7 @@ pub fn record_feed_for<A: Ahead<R>, D: Disk, R: Read, S: Replies>(
     ensures frame { Frame D.Disk recorder.old.file.disk recorder.new.file.disk ⊥ }
 {
     records_are_steps::<D>();
+    // For the proof alone.
     runs_show_first_commands::<D, Recorded>();
     disks_stand_in_their_world::<D, Recorded>();
     let _end = recorder.end();

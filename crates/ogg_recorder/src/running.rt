@@ -53,6 +53,7 @@ impl<D: Disk> Runner for Recorder<D> {
         command: &Command,
         _pages: &mut P,
     ) -> Result<Reply, WriteFault> {
+        // For the proof alone.
         refusals_are_of_the_table();
         let answer = self.command(command);
         Ok(reply_to(answer))

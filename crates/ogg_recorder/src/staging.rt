@@ -102,6 +102,7 @@ pub(crate) fn stage_command<D: Disk>(
         → LeavesOnly D.Disk file.old.disk file.new.disk (CommitsTo (committed D.state file.old)) }
     ensures frame { Frame D.Disk file.old.disk file.new.disk (result ≡ Err Unstaged.Disk) }
 {
+    // For the proof alone.
     command_adds_its_packets();
     match shape.prepare(command) {
         Ok(()) => {}

@@ -56,6 +56,7 @@ impl PageTaker {
         ensures faults { IfErr result (λ fault. ((place : ℕ × _) × (self.broken ≡ Some place) × (fault ≡ open_fault place))
             ⊎ ((serial : ℕ) × (self.broken ≡ None) × (unfinished_stream self.chain.chain ≡ Some serial) × (fault ≡ OpenFault.Unfinished serial))) }
     {
+        // For the proof alone.
         pages_in_turn_are_links();
         links_left_whole_hold_a_recording();
         if let Some(place) = self.broken {
@@ -89,6 +90,7 @@ fn take_next(chain: &mut Chain, page: &Page<'_>) -> Result<(), ChainFault>
 {
     match chain.take_page(page) {
         Ok(()) => {
+            // For the proof alone.
             let _bytes = page.whole();
             Ok(())
         }

@@ -95,6 +95,7 @@ impl<R: Read, W: Write + Drop> LiveFeed<R, W> {
             × (self.new ≡ feed_state self.old.reader self.old.replies self.old.run (Some result)) × (hub.new ≡ hub.old)) }
         ensures stays { IfSome self.old.ended (λ answer. (result ≡ answer) × (self.new ≡ self.old) × (hub.new ≡ hub.old)) }
     {
+        // For the proof alone.
         disks_stand_in_their_world::<D, Recorded>();
         if let Some(answer) = self.ended {
             return answer;

@@ -51,6 +51,7 @@ pub fn live_one<D: Disk + Drop, R: Read, W: Write, F: Read, L: Write + Drop>(
         → (result ≡ Err HubFault.SessionsFull) × Shows D.Disk hub.new before × (feed.new ≡ feed.old)
         × (reader.new ≡ reader.old) × (writer.new ≡ writer.old) }
 {
+    // For the proof alone.
     calls_move_their_session();
     other_sessions_stay();
     sessions_are_numbered();
@@ -88,6 +89,7 @@ fn exchange<D: Disk + Drop, R: Read, W: Write, F: Read, L: Write + Drop>(
     ensures cause { result ≡ Err HubFault.Source → (before : HubState) → Shows D.Disk hub.old before
         → phase_of before id ≡ Some (Reading []) → HasFailed (failures_in D.failures hub.old) (failures_in D.failures hub.new) }
 {
+    // For the proof alone.
     disks_stand_in_their_world::<D, Recorded>();
     match read_head(hub, id, reader, tries) {
         Ok(None) => {}
@@ -116,6 +118,7 @@ fn go_on<D: Disk + Drop, F: Read, L: Write + Drop>(hub: &mut Hub<D>, feed: &mut 
         → failures_in D.failures hub.old ≤ failures_in D.failures hub.new }
 {
     committed_bytes_grow();
+    // For the proof alone.
     other_sessions_stay();
     sessions_are_numbered();
     let _ = feed.step(hub);

@@ -51,6 +51,7 @@ pub fn read_head<D: Disk + Drop, R: Read>(
         → phase_of before id ≡ Some (Reading []) → IfFile (Fails D.Disk) hub.old.file hub.new.file }
     ensures lost { hub.new.lost ≡ hub.old.lost }
 {
+    // For the proof alone.
     calls_move_their_session();
     other_sessions_stay();
     sessions_are_numbered();
@@ -88,6 +89,7 @@ pub fn send_piece<D: Disk + Drop, W: Write>(
         → IfFile (Fails D.Disk) hub.old.file hub.new.file }
     ensures lost { hub.new.lost ≡ hub.old.lost }
 {
+    // For the proof alone.
     calls_move_their_session();
     other_sessions_stay();
     sessions_are_numbered();

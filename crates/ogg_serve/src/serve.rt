@@ -40,6 +40,7 @@ pub fn serve_one<D: Disk + Drop, R: Read, W: Write>(
     ensures full { (before : HubState) → Shows D.Disk hub.old before → is_full before ≡ true
         → (result ≡ Err HubFault.SessionsFull) × Shows D.Disk hub.new before × (reader.new ≡ reader.old) × (writer.new ≡ writer.old) }
 {
+    // For the proof alone.
     calls_move_their_session();
     other_sessions_stay();
     sessions_are_numbered();

@@ -104,6 +104,7 @@ pub fn packets_of<'a>(
     match find_stream(index, link, serial) {
         Ok(found) => match bytes_of_link(bytes, found) {
             Ok(own) => {
+                // For the proof alone.
                 packets_are_held();
                 Ok(Packets::of(own, serial))
             }

@@ -133,6 +133,7 @@ pub fn parts_of<S: PageSource>(
     match find_stream(index, link, serial) {
         Ok(found) => match set_range(&mut window, found) {
             Ok(()) => {
+                // For the proof alone.
                 packets_are_held();
                 parts_are_of_the_packets();
                 Ok(Stream::of(window, serial))

@@ -24,11 +24,13 @@ fn record_command<D: Disk>(
     ensures disk { Records D.Disk command.now result recorder.old recorder.new }
     ensures same { IfErr result (λ refusal. refusal ≢ Refusal.Disk → recorder.new ≡ recorder.old) }
 {
+    // For the proof alone.
     command_is_in_range(command);
     command_adds_its_packets();
     refusals_are_of_the_table();
     let _before = recorder.end();
     let answer = recorder.command(command);
+    // For the proof alone.
     let _after = recorder.end();
     answer
 }
@@ -42,8 +44,10 @@ fn flush_commands<D: Disk>(recorder: &mut Recorder<D>) -> Result<Kept, Refusal>
     ensures disk { Flushes D.Disk result recorder.old recorder.new }
     ensures same { IfErr result (λ refusal. refusal ≢ Refusal.Disk → recorder.new ≡ recorder.old) }
 {
+    // For the proof alone.
     let _before = recorder.end();
     let answer = recorder.flush();
+    // For the proof alone.
     let _after = recorder.end();
     answer
 }

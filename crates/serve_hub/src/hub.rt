@@ -115,6 +115,7 @@ impl<D: Disk> Hub<D> {
             → (machine : HubState) × Shows D.Disk hub machine × IsNewFor most machine) }
         ensures back { IfErr result (λ e. e.1 ≡ recorder) }
     {
+        // For the proof alone.
         let _end = recorder.end();
         match rooms(alloc, most) {
             Ok((sessions, room)) => Ok(Hub {

@@ -39,6 +39,7 @@ pub(crate) fn open_again<D: Disk>(
     match Recorder::open(alloc, disk) {
         Ok(mut recorder) => {
             recorder.group(most);
+            // For the proof alone.
             let _end = recorder.end();
             Ok(recorder)
         }

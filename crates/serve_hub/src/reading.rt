@@ -35,6 +35,7 @@ pub(crate) fn open_window<D: Disk>(
 {
     match file.take() {
         Some(recorder) => {
+            // For the proof alone.
             let _end = recorder.end();
             Some(Window::new(recorder, room.take().unwrap(), 0, 0))
         }

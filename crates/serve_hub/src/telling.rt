@@ -36,9 +36,11 @@ pub(crate) fn streams_of<D: Disk>(file: &Option<Recorder<D>>) -> &[StreamState]
         → ShowsPlace D.Disk file.now lost machine → HasLinks machine links
         → result.now ≡ (chain_state_of links).streams }
 {
+    // For the proof alone.
     bytes_are_one_chain();
     match file {
         Some(recorder) => {
+            // For the proof alone.
             let _end = recorder.end();
             recorder.streams()
         }
@@ -53,9 +55,11 @@ pub(crate) fn serials_of<D: Disk>(file: &Option<Recorder<D>>) -> &[u32]
         → ShowsPlace D.Disk file.now lost machine → HasLinks machine links
         → result.now ≡ (chain_state_of links).serials }
 {
+    // For the proof alone.
     bytes_are_one_chain();
     match file {
         Some(recorder) => {
+            // For the proof alone.
             let _end = recorder.end();
             recorder.serials().as_slice()
         }
@@ -70,9 +74,11 @@ pub(crate) fn links_of<D: Disk>(file: &Option<Recorder<D>>) -> u64
         → ShowsPlace D.Disk file.now lost machine → HasLinks machine links
         → result ≡ (chain_state_of links).links }
 {
+    // For the proof alone.
     bytes_are_one_chain();
     match file {
         Some(recorder) => {
+            // For the proof alone.
             let _end = recorder.end();
             recorder.links()
         }

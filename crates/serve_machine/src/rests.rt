@@ -41,6 +41,7 @@ pub fn stream_rests_are_places()
         → (take n rest ≡ part_at skip n (page_bytes page))
         × IsStreamRest committed serial place (skip + n) left (drop n rest) }
 {
+    // For the proof alone.
     page_bytes_are_prefix_free();
 }
 
@@ -50,6 +51,7 @@ pub fn stream_rests_are_found()
         → AreBytes committed → IsStreamRest committed serial place skip count rest
         → stream_rest committed serial place skip count ≡ rest }
 {
+    // For the proof alone.
     longest_prefix_of_pages_is_unique();
     pages_are_found_in_turn();
 }

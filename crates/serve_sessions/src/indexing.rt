@@ -46,6 +46,7 @@ pub(crate) fn bring_up<S: PageSource>(
     ensures later { S.failures window.old.source ≤ S.failures window.new.source }
     ensures source { KeepsSource S.bytes S.is_honest S.size S.only_reads window.old.source window.new.source }
 {
+    // For the proof alone.
     links_are_indexed();
     let end = window.source_mut().end();
     if end >= LENGTHS || index.end() > end {

@@ -75,6 +75,7 @@ pub fn join_in<S: PageSource>(
     ensures later { S.failures window.old.source ≤ S.failures window.new.source }
     ensures source { KeepsSource S.bytes S.is_honest S.size S.only_reads window.old.source window.new.source }
 {
+    // For the proof alone.
     bytes_are_one_chain();
     match bring_up(window, index) {
         Ok(()) => join_source(window.source_mut(), index, alloc, place),

@@ -22,6 +22,7 @@ use station_sources::{Feeder, OnAir, counted};
 fn offered(head: &[u8], password: &Password) -> Offer
     ensures unauthorized { (request : RequestHead) → HasHead head.now request → IsUnauthorized password.now request → IsRefusal result }
 {
+    // For the proof alone.
     sources_are_refused();
     Offer::of(head, password)
 }

@@ -202,6 +202,7 @@ impl<D: Disk + Drop> Runner for LiveHub<D> {
         ensures keeps { KeepsPlaces (Shows D.Disk) self.old.hub self.old.places self.new.hub self.new.places }
     {
         listeners_join_committed_links();
+        // For the proof alone.
         command_is_in_range(command);
         let length = self.hub.length();
         match self.hub.run_command(command, pages) {
