@@ -10,5 +10,4 @@ mod Alongside
 mod Taken
 mod Alone
 mod Lived
-mod ReadOn
 mod Continuing

@@ -7,6 +7,7 @@ use Rattle.feed_replies.specs.declared.fault.RunFault.TheVariants.{Feed, Write, 
 use Rattle.feed_records.specs.declared.item.Record.TheVariants.{Flush}
 use Rattle.feed_replies.specs.declared.reply.Reply.{Reply}
 use Rattle.feed_records.specs.declared.version.Version.{Version}
+use Rattle.feed_run.specs.Laws.ReadOn.{none_run, runs_on}
 use Rattle.feed_run.specs.Run.{Asks, ClosesOne, EndsOne, HasRun, Leaves, Outcome, RunState, RunsOne, RunsTo, StopsAt, StopsOne, Streams, streams}
 use Rattle.serve_hub.specs.Running.{Progress, Answers, waiting_in}
 use Rattle.serve_machine.specs.Hub.{HubState}
@@ -17,7 +18,6 @@ use Rattle.ogg_serve.specs.Steps.{StepsIf, TakesSteps}
 use Rattle.ogg_serve.specs.declared.feeding.Step.{Step}
 use Rattle.ogg_serve.specs.declared.feeding.Step.TheVariants.{Done, End, Lost}
 use Rattle.ogg_serve.proofs.Alone.{file_alone, gets, lives, no_file}
-use Rattle.ogg_serve.proofs.ReadOn.{none_run, runs_on}
 use Rattle.ogg_serve.proofs.Taken.{file_both, followed}
 
 module _ {D : Type 0} (model : DiskModel D) where
