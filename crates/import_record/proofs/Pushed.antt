@@ -4,6 +4,7 @@ use Rattle.std.specs.Prelude.{min, sum}
 use Rattle.ogg_page.specs.Reading.{page_at}
 use Rattle.ogg_page.specs.Window.{LentAt}
 use Rattle.ogg_page.specs.declared.fault.PageFault.TheVariants.{Short}
+use Rattle.import_pages.specs.Laws.{end_given, page_given}
 use Rattle.import_pages.specs.Reader.{Gives, GivesEnd, GivesFault, GivesPage, HasAdvanced, ReaderState, unlent}
 use Rattle.import_pages.specs.declared.fault.PageReaderFault.{PageReaderFault}
 use Rattle.import_pages.specs.declared.fault.PageReaderFault.TheVariants.{Page as PageOf}
@@ -23,14 +24,6 @@ none_taken xs taken e = none_of taken (omega (arith, ap length e, length-append 
 
 whole_unread : (unread xs taken : List ℕ) → xs ≡ taken ++ xs → unread ++ taken ≡ unread
 whole_unread unread xs taken e = ap (λ l. unread ++ l) (none_taken xs taken e) ∙ append-nil unread
-
-page_given : (bytes : List ℕ) (left : Option (List ℕ)) (offset : ℕ) (lent : LentAt) (given : Option LentAt) (new : ReaderState) → given ≡ Some lent
-    → Gives bytes left offset (Ok tt) given new → GivesPage bytes offset lent new
-page_given bytes left offset lent given new same gives = subst (λ g. Gives bytes left offset (Ok tt) g new) same gives
-
-end_given : (bytes : List ℕ) (left : Option (List ℕ)) (offset : ℕ) (given : Option LentAt) (new : ReaderState) → given ≡ None
-    → Gives bytes left offset (Ok tt) given new → GivesEnd bytes left offset new
-end_given bytes left offset given new same gives = subst (λ g. Gives bytes left offset (Ok tt) g new) same gives
 
 -- a page goes on
 pub page_goes_on : (old : ReaderState) (from left : Option (List ℕ)) (lent : LentAt) (new : ReaderState) → HasAdvanced old from (Ok tt) new left
