@@ -22,17 +22,8 @@ use chain_rules::{
     Command, Refusal, command_adds_its_packets, command_adds_pages, refusals_are_of_the_table,
 };
 use disk_model::{Disk, DiskFault};
-use feed_replies::Kept;
+use feed_replies::{Kept, Outcome};
 use ogg_command::command_is_in_range;
-
-/// What became of a command that wasn't refused.
-#[derive(Clone, Copy, Debug, PartialEq, Eq)]
-pub enum Outcome {
-    /// It waits for the commit of its group. The number counts the commands accepted since the file was opened.
-    Held(u64),
-    /// It is kept, and so is all that waited.
-    Kept(Kept),
-}
 
 impl<D: Disk> Recorder<D> {
     ghost use Rattle.ogg_recorder.specs.Recorder.{RecorderState, recorder_state, committed, staged};

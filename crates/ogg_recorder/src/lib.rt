@@ -25,9 +25,8 @@ mod running;
 mod staging;
 mod taking;
 
-pub use commanding::Outcome;
 pub use ending::end_open_streams;
-pub use feed_replies::{Kept, RunFault, Tally};
+pub use feed_replies::{Kept, Outcome, RunFault, Tally};
 pub use gate_file::OpenFault;
 pub use laws::{
     Recorded, acknowledged_commands_survive, images_show_one_recording, records_are_steps,

@@ -12,7 +12,7 @@ use Rattle.feed_run.specs.Run.{HasRun, Outcome, RunState, RunsTo, StopsOne, Stre
 use Rattle.ogg_command.specs.declared.refusal.Refusal.{Refusal}
 use Rattle.ogg_command.specs.declared.refusal.Refusal.TheVariants.{Disk}
 use Rattle.ogg_recorder.specs.Running.{reply_of, reply_of_flush}
-use Rattle.ogg_recorder.specs.declared.commanding.Outcome.{Outcome as Recorded}
+use Rattle.feed_replies.specs.declared.outcome.Outcome.{Outcome as Recorded}
 use Rattle.serve_machine.specs.Hub.{HubState, command_step, flush_step, reopen_step}
 use Rattle.ogg_serve.specs.Feeding.{FeedState, says_failed}
 use Rattle.ogg_serve.specs.declared.feeding.Step.{Step}

@@ -22,8 +22,8 @@ use Rattle.ogg_command.specs.declared.refusal.Refusal.TheVariants.{Disk}
 use Rattle.ogg_recorder.specs.Answer.{call_of, command_step, flush_step}
 use Rattle.ogg_recorder.specs.Recorder.{RecorderState, IsIn, over_disk, committed, staged, IsRecorderStep}
 use Rattle.ogg_recorder.specs.Recovery.{Commits, Shows}
-use Rattle.ogg_recorder.specs.declared.commanding.Outcome.{Outcome}
-use Rattle.ogg_recorder.specs.declared.commanding.Outcome.TheVariants.{Held as WasHeld}
+use Rattle.feed_replies.specs.declared.outcome.Outcome.{Outcome}
+use Rattle.feed_replies.specs.declared.outcome.Outcome.TheVariants.{Held as WasHeld}
 use Rattle.serve_sending.specs.Sending.{HasFailed}
 use Rattle.serve_hub.specs.declared.opening.Lost.{Lost}
 use Rattle.serve_hub.specs.Parts.{HubParts}

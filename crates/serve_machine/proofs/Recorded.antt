@@ -17,8 +17,8 @@ use Rattle.ogg_command.specs.declared.refusal.Refusal.TheVariants.{Failed as Fai
 use Rattle.feed_replies.specs.declared.reply.Kept.{Kept}
 use Rattle.serve_machine.specs.declared.fault.HubFault.{HubFault}
 use Rattle.serve_machine.specs.declared.fault.HubFault.TheVariants.{NoSession, SessionsFull, Source, Memory, NoFile}
-use Rattle.ogg_recorder.specs.declared.commanding.Outcome.{Outcome}
-use Rattle.ogg_recorder.specs.declared.commanding.Outcome.TheVariants.{Held as WasHeld, Kept as WasKept}
+use Rattle.feed_replies.specs.declared.outcome.Outcome.{Outcome}
+use Rattle.feed_replies.specs.declared.outcome.Outcome.TheVariants.{Held as WasHeld, Kept as WasKept}
 use Rattle.serve_machine.specs.Hub.{HubState, Event, Connect, Receive, Pull, Close, Record, Flush, Group, Reopen, hub_step, phase_of, connect_step, command_step, flush_step, reopen_step, MayBeFound, IsAccepted, holding, committing, doubting, is_failed}
 use Rattle.serve_machine.specs.Run.{Step, AreSteps}
 use Rattle.serve_responses.specs.Response.{Asked, Asks, IsResponse, response}

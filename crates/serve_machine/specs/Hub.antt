@@ -14,8 +14,8 @@ use Rattle.feed_replies.specs.declared.reply.Kept.{Kept}
 use Rattle.ogg_http.specs.Head.{IsAwaited}
 use Rattle.serve_machine.specs.declared.fault.HubFault.{HubFault}
 use Rattle.serve_machine.specs.declared.fault.HubFault.TheVariants.{NoSession, SessionsFull, Source, Memory, NoFile}
-use Rattle.ogg_recorder.specs.declared.commanding.Outcome.{Outcome}
-use Rattle.ogg_recorder.specs.declared.commanding.Outcome.TheVariants.{Held as WasHeld, Kept as WasKept}
+use Rattle.feed_replies.specs.declared.outcome.Outcome.{Outcome}
+use Rattle.feed_replies.specs.declared.outcome.Outcome.TheVariants.{Held as WasHeld, Kept as WasKept}
 use Rattle.serve_machine.specs.declared.answers.Progress.{Progress}
 use Rattle.serve_machine.specs.declared.answers.Progress.TheVariants.{More, Ready}
 use Rattle.serve_responses.specs.Response.{Asked, Asks, IsResponse}

@@ -5,7 +5,7 @@ ghost use Rattle.ogg_command.specs.declared.command.Command.{Command};
 ghost use Rattle.ogg_command.specs.declared.refusal.Refusal.{Refusal};
 ghost use Rattle.ogg_command.specs.declared.refusal.Refusal.TheVariants.{Memory as NoRoom, Disk};
 ghost use Rattle.feed_replies.specs.declared.reply.Kept.{Kept};
-ghost use Rattle.ogg_recorder.specs.declared.commanding.Outcome.{Outcome};
+ghost use Rattle.feed_replies.specs.declared.outcome.Outcome.{Outcome};
 ghost use Rattle.serve_responses.specs.Response.{Asked, Asks, AsksOrWaits, IsResponse};
 ghost use Rattle.serve_machine.specs.declared.fault.HubFault.{HubFault as HubFaultOf};
 ghost use Rattle.serve_machine.specs.declared.fault.HubFault.TheVariants.{NoSession, SessionsFull, Source, Memory, NoFile};

@@ -1,15 +1,14 @@
 -- What a connection asks for, and how it is taken. Ours.
-use Rattle.std.specs.Prelude.{◌≡◌, ℕ, Some, Result, Ok, Err, List, []}
-use Rattle.serve_live.specs.Listening.{ListenerState}
+use Rattle.std.specs.Prelude.{◌≡◌, ℕ, Some, Result, Ok, Err, []}
 use Rattle.serve_machine.specs.Calls.{Steps}
 use Rattle.serve_machine.specs.Hub.{HubState, Connect, Receive}
 use Rattle.serve_machine.specs.declared.answers.Progress.{Progress}
 use Rattle.serve_machine.specs.declared.answers.Progress.TheVariants.{More, Ready}
 use Rattle.serve_machine.specs.declared.fault.HubFault.{HubFault}
 use Rattle.serve_hub.specs.Parts.{HubParts}
-use Rattle.serve_clients.specs.Client.{ClientState, told}
+use Rattle.serve_clients.specs.Client.{ClientState}
 use Rattle.serve_clients.specs.declared.client.Stage.{Stage}
-use Rattle.serve_clients.specs.declared.client.Stage.TheVariants.{Reading, Sending, Hearing, Cut}
+use Rattle.serve_clients.specs.declared.client.Stage.TheVariants.{Reading, Sending, Cut}
 
 -- the stage of a connection whose session has taken bytes with this answer
 abbrev pub stage_after : Result Progress HubFault → Stage
@@ -25,8 +24,3 @@ pub record IsConnected {D : Type 0} (shows : HubParts D → HubState → Type 0)
   pub connects : Steps shows old between (λ machine. Connect (Ok id))
   pub receives : Steps shows between new (λ machine. Receive id before.head progress)
   pub client : after ≡ record before { stage = stage_after progress; session = Some id; head = [] }
-
--- It listens: what is said before the first byte is told.
-pub record IsListening (text : List ℕ) (before after : ClientState) : Type 0 where
-  pub listener : ListenerState
-  pub client : after ≡ record (told text before) { stage = Hearing; head = []; listener = Some listener }
