@@ -37,6 +37,10 @@ none_from Is spell Of part bytes rest stand none x more h e =
     let (behind, (y, is, f)) = stand (more, (x, h, e)) in
     none y behind is f
 
+-- nor does one if there are fewer bytes than each has
+none_short : {X : Type 0} (Is : X → Type 0) (spell : X → List ℕ) (least : ℕ) → ((x : X) → Is x → least ≤ length (spell x)) → (bytes : List ℕ) → length bytes < least → BeginsNone Is spell bytes
+none_short Is spell least long bytes l x rest h e = omega (arith, l, ap length e, length-append (spell x) rest, long x h)
+
 -- ---- packets and media types
 -- bytes that follow their number, which is spelled by `number`
 module _ (limit : ℕ) (number : ℕ → List ℕ) (free : PrefixFree (λ n. n < limit) number) (Is : List ℕ → Type 0)
@@ -63,8 +67,7 @@ module _ (limit : ℕ) (number : ℕ → List ℕ) (free : PrefixFree (λ n. n <
       part_found bytes rest p.0.now p.1.now n small all is (split_joins rest p.0.now p.1.now n cut) cut.3
 
 pub packet_short : (bytes : List ℕ) → length bytes < 4 → BeginsNone IsPacket packet_bytes bytes
-packet_short bytes l p rest h e =
-    omega (arith, l, ap length e, length-append (packet_bytes p) rest, length-append (u32_bytes (length p)) p, length-u32_bytes (length p))
+packet_short = none_short IsPacket packet_bytes 4 (λ p h. simp (length-append, length-u32_bytes) (omega arith))
 
 pub packet_split : (r : Option (Bor (List ℕ) × Bor (List ℕ))) (bytes rest : List ℕ) (n : ℕ) → n < 2 ^ 32 → AllByRecursion IsByte bytes → bytes ≡ u32_bytes n ++ rest
     → MatchOption r (length rest < n) (λ p. IsSplitAt rest n p.0.now p.1.now)
@@ -72,8 +75,7 @@ pub packet_split : (r : Option (Bor (List ℕ) × Bor (List ℕ))) (bytes rest :
 packet_split = part_split (2 ^ 32) u32_bytes same_u32 IsPacket (λ p h. h.fits) (λ p all small. record { bytes = all; fits = small })
 
 pub media_short : (bytes : List ℕ) → length bytes < 2 → BeginsNone IsMedia media_bytes bytes
-media_short bytes l p rest h e =
-    omega (arith, l, ap length e, length-append (media_bytes p) rest, length-append (u16_bytes (length p)) p, length-u16_bytes (length p))
+media_short = none_short IsMedia media_bytes 2 (λ p h. simp (length-append, length-u16_bytes) (omega arith))
 
 pub media_split : (r : Option (Bor (List ℕ) × Bor (List ℕ))) (bytes rest : List ℕ) (n : ℕ) → n < 2 ^ 16 → AllByRecursion IsByte bytes → bytes ≡ u16_bytes n ++ rest
     → MatchOption r (length rest < n) (λ p. IsSplitAt rest n p.0.now p.1.now)
@@ -84,17 +86,7 @@ media_split = part_split (2 ^ 16) u16_bytes same_u16 IsMedia (λ p h. h.fits) (�
 
 pub entry_short : (bytes : List ℕ) → length bytes < 12 → BeginsNone IsEntryOfFeed entry_bytes bytes
 unfolding entry_bytes
-entry_short bytes l entry rest h e =
-    omega (
-      arith,
-      l,
-      ap length e,
-      length-append (entry_bytes entry) rest,
-      length-append (u32_bytes entry.serial) (u64_bytes entry.position ++ packet_bytes entry.packet),
-      length-append (u64_bytes entry.position) (packet_bytes entry.packet),
-      length-u32_bytes entry.serial,
-      length-u64_bytes entry.position,
-    )
+entry_short = none_short IsEntryOfFeed entry_bytes 12 (λ entry h. simp (length-append, length-u32_bytes, length-u64_bytes) (omega arith))
 
 pub entry_cut : (bytes behind rest : List ℕ) (serial position : ℕ) → serial < 2 ^ 32 → position < 2 ^ 64 → bytes ≡ u32_bytes serial ++ behind → behind ≡ u64_bytes position ++ rest
     → BeginsNone IsPacket packet_bytes rest → BeginsNone IsEntryOfFeed entry_bytes bytes
@@ -183,24 +175,7 @@ stands (Some t) A P h refuted = search rules
 
 pub head_short : (bytes : List ℕ) → length bytes < 56 → BeginsNone IsSkeletonHead skeleton_head_bytes bytes
 unfolding skeleton_head_bytes
-head_short bytes l head rest h e =
-    omega (
-      arith,
-      l,
-      ap length e,
-      length-append (skeleton_head_bytes head) rest,
-      length-append (u32_bytes head.serial) (fraction_bytes head.presentation ++ (fraction_bytes head.base ++ head.utc)),
-      length-append (fraction_bytes head.presentation) (fraction_bytes head.base ++ head.utc),
-      length-append (fraction_bytes head.base) head.utc,
-      h.utc_length,
-      length-append (i64_bytes head.presentation.0) (i64_bytes head.presentation.1),
-      length-append (i64_bytes head.base.0) (i64_bytes head.base.1),
-      length-u32_bytes head.serial,
-      length-i64_bytes head.presentation.0,
-      length-i64_bytes head.presentation.1,
-      length-i64_bytes head.base.0,
-      length-i64_bytes head.base.1,
-    )
+head_short = none_short IsSkeletonHead skeleton_head_bytes 56 (λ head h. simp (length-append, length-u32_bytes, length-i64_bytes, h.utc_length) (omega arith))
 
 pub head_found : (bytes b1 b2 b3 more utc : List ℕ) (serial : ℕ) (presentation base : ℤ × ℤ)
     → serial < 2 ^ 32 → IsFraction presentation → IsFraction base → length utc ≡ 20 → AllByRecursion IsByte bytes
@@ -243,20 +218,7 @@ pub tail_short : (bytes rest media : List ℕ) → IsMedia media → bytes ≡ m
 unfolding tail_bytes
 tail_short bytes rest media hm is l tail more h e =
     let behind = front IsMedia media_bytes same_media media tail.media rest (fraction_bytes tail.rate ++ (i64_bytes tail.base_granule ++ (u32_bytes tail.preroll ++ tail.shift ∷ []))) more hm h.media (sym is ∙ e) in
-    omega (
-      arith,
-      l,
-      ap length behind.1,
-      length-append (fraction_bytes tail.rate ++ (i64_bytes tail.base_granule ++ (u32_bytes tail.preroll ++ tail.shift ∷ []))) more,
-      length-append (fraction_bytes tail.rate) (i64_bytes tail.base_granule ++ (u32_bytes tail.preroll ++ tail.shift ∷ [])),
-      length-append (i64_bytes tail.rate.0) (i64_bytes tail.rate.1),
-      length-append (i64_bytes tail.base_granule) (u32_bytes tail.preroll ++ tail.shift ∷ []),
-      length-append (u32_bytes tail.preroll) (tail.shift ∷ []),
-      length-i64_bytes tail.rate.0,
-      length-i64_bytes tail.rate.1,
-      length-i64_bytes tail.base_granule,
-      length-u32_bytes tail.preroll,
-    )
+    omega (arith, l, simp (length-append, length-i64_bytes, length-u32_bytes) at (ap length behind.1))
 
 pub tail_found : (bytes b1 b2 b3 b4 more media : List ℕ) (rate : ℤ × ℤ) (base_granule : ℤ) (preroll shift : ℕ)
     → IsMedia media → IsFraction rate → FitsSigned w64 base_granule → preroll < 2 ^ 32 → shift < 2 ^ 8
@@ -284,14 +246,7 @@ value_cut bytes rest name hn is none field more h e =
 -- their number, and then each of them
 module _ {X : Type 0} (Is : X → Type 0) (spell : X → List ℕ) (bytes more : List ℕ) (xs : List X) (e : bytes ≡ (u16_bytes (length xs) ++ flat_map spell xs) ++ more) where
   each_long : 2 ≤ length bytes
-  each_long =
-      omega (
-        arith,
-        ap length e,
-        length-append (u16_bytes (length xs) ++ flat_map spell xs) more,
-        length-append (u16_bytes (length xs)) (flat_map spell xs),
-        length-u16_bytes (length xs),
-      )
+  each_long = omega (arith, simp (length-append, length-u16_bytes) at (ap length e))
 
   each_stand : (rest : List ℕ) (n : ℕ) → n < 2 ^ 16 → bytes ≡ u16_bytes n ++ rest → length xs < 2 ^ 16 → AllByRecursion Is xs → Begins (AreMany Is n) (flat_map spell) rest more
   each_stand rest n small is few all =
@@ -358,16 +313,7 @@ behind_split v (Some p) bytes rest tail ht is (fields, hf, e) =
 -- the serial and the number of headers in front of a stream, and what follows them
 pub stream_long : (v : Version) (bytes : List ℕ) → Stands (IsStreamOfFeed v) (stream_bytes v) bytes → 6 ≤ length bytes
 stream_long v bytes (rest, (s, h, e)) =
-    let behind : List ℕ = flat_map packet_bytes s.headers ++ behind_bytes v (behind_of_stream s) in
-    omega (
-      arith,
-      ap length (e ∙ ap (λ l. l ++ rest) (stream_parts v s)),
-      length-append (u32_bytes s.serial ++ (u16_bytes (length s.headers) ++ behind)) rest,
-      length-append (u32_bytes s.serial) (u16_bytes (length s.headers) ++ behind),
-      length-append (u16_bytes (length s.headers)) behind,
-      length-u32_bytes s.serial,
-      length-u16_bytes (length s.headers),
-    )
+    omega (arith, simp (length-append, length-u32_bytes, length-u16_bytes) at (ap length (e ∙ ap (λ l. l ++ rest) (stream_parts v s))))
 
 pub stream_short : (v : Version) (bytes : List ℕ) → length bytes < 6 → BeginsNone (IsStreamOfFeed v) (stream_bytes v) bytes
 stream_short v bytes l s rest h e = let long = stream_long v bytes (rest, (s, h, e)) in omega (arith, l, long)

@@ -218,12 +218,7 @@ fn skip_entries(count: u16, bytes: &[u8]) -> Option<&[u8]>
     ensures { MatchOption result (BeginsNone (AreMany IsEntryOfFeed count) (flat_map entry_bytes) bytes.now)
         (λ rest. Begins (AreMany IsEntryOfFeed count) (flat_map entry_bytes) bytes.now rest.now) }
 {
-    let mut rest = bytes;
-    for _ in 0..count {
-        let (_, behind) = split_entry(rest)?;
-        rest = behind;
-    }
-    Some(rest)
+    (0..count).try_fold(bytes, |rest, _| split_entry(rest).map(|part| part.1))
 }
 
 /// What follows the first `count` headers.
@@ -231,12 +226,7 @@ fn skip_headers(count: u16, bytes: &[u8]) -> Option<&[u8]>
     ensures { MatchOption result (BeginsNone (AreMany IsPacket count) (flat_map packet_bytes) bytes.now)
         (λ rest. Begins (AreMany IsPacket count) (flat_map packet_bytes) bytes.now rest.now) }
 {
-    let mut rest = bytes;
-    for _ in 0..count {
-        let (_, behind) = split_packet(rest)?;
-        rest = behind;
-    }
-    Some(rest)
+    (0..count).try_fold(bytes, |rest, _| split_packet(rest).map(|part| part.1))
 }
 
 /// What follows the first `count` message fields.
@@ -244,12 +234,7 @@ fn skip_each_field(count: u16, bytes: &[u8]) -> Option<&[u8]>
     ensures { MatchOption result (BeginsNone (AreMany IsFieldOfFeed count) (flat_map field_bytes) bytes.now)
         (λ rest. Begins (AreMany IsFieldOfFeed count) (flat_map field_bytes) bytes.now rest.now) }
 {
-    let mut rest = bytes;
-    for _ in 0..count {
-        let (_, behind) = split_field(rest)?;
-        rest = behind;
-    }
-    Some(rest)
+    (0..count).try_fold(bytes, |rest, _| split_field(rest).map(|part| part.1))
 }
 
 /// What follows the message fields of a stream.
@@ -297,9 +282,5 @@ fn skip_streams(version: Version, count: u16, bytes: &[u8]) -> Option<&[u8]>
     ensures { MatchOption result (BeginsNone (AreMany (IsStreamOfFeed version) count) (flat_map (stream_bytes version)) bytes.now)
         (λ rest. Begins (AreMany (IsStreamOfFeed version) count) (flat_map (stream_bytes version)) bytes.now rest.now) }
 {
-    let mut rest = bytes;
-    for _ in 0..count {
-        rest = skip_stream(version, rest)?;
-    }
-    Some(rest)
+    (0..count).try_fold(bytes, |rest, _| skip_stream(version, rest))
 }

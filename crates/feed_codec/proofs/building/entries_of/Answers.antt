@@ -1,9 +1,9 @@
-use Rattle.std.proofs.Common.{◌≡◌, ◌<◌, ◌+◌, ◌++◌, List, [], ℕ, drop, length, sym, ap, ◌∙◌, subst, arith}
-use Rattle.std.specs.List.{flat_map}
+use Rattle.std.proofs.Common.{◌≡◌, ◌<◌, ◌++◌, List, [], ℕ, drop, length, sym, ap, ◌∙◌, subst}
 use Rattle.ogg_command.specs.declared.command.Entry.{Entry}
 use Rattle.feed_records.specs.Record.{entry_bytes}
-use Rattle.feed_codec.specs.Payload.{AreMany, IsEntryOfFeed, BeginsNone}
+use Rattle.feed_codec.specs.Payload.{IsEntryOfFeed, BeginsNone}
 use Rattle.feed_codec.proofs.Spellings.{same_entry}
+use Rattle.feed_codec.proofs.Built.{part_built}
 use Rattle.feed_codec.proofs.PayloadFacts.{stands, left_stands, left_behind, built_more}
 use Rattle.std.specs.Prelude.{slice_index, vec_capacity}
 use Rattle.std.proofs.lemmas.List.{drop-drop}
@@ -15,26 +15,20 @@ use Rattle.feed_codec.proofs.building.entries_of.Goals as goal
 pub unwrap-requires : goal.unwrap-requires
 unwrap-requires c =
     stands c.split_entry.result (BeginsNone IsEntryOfFeed entry_bytes c.loop.rest.now) _ c.split_entry.ensures
-    (left_stands IsEntryOfFeed entry_bytes c.loop.rest.now [] c.loop.counter c.args.count c.loop-test.true c.loop.invariant.2)
+    (left_stands IsEntryOfFeed entry_bytes c.loop.rest.now [] c.loop.counter c.args.count c.loop-test.true c.loop.invariant.0.2)
 
 pub loop-preserved : goal.loop-preserved
 loop-preserved c =
-    let bytes : List ℕ = c.args.bytes.now in
     let rest : List ℕ = c.loop.rest.now in
     let behind : List ℕ = c.unwrap.result.1.now in
     let with : List ℕ → Entry = λ packet. record { serial = c.unwrap.result.0.serial; position = c.unwrap.result.0.position; packet = packet } in
     let entry : Entry = with c.in_ok-packet.packet in
-    let (many, whole, left, len, room, rooms) = c.loop.invariant in
     let split = rw c.unwrap.ensures at c.split_entry.ensures in
     let one : IsEntryOfFeed entry = subst (λ p. IsEntryOfFeed (with p)) (sym c.in_ok-packet.ensures.ok) split.0 in
-    let front : rest ≡ entry_bytes entry ++ behind = split.1 ∙ ap (λ p. entry_bytes (with p) ++ behind) (sym c.in_ok-packet.ensures.ok) in
-    let built = built_more IsEntryOfFeed entry_bytes bytes rest behind c.loop.counter c.loop.entries.items entry many whole one front in (
-      subst (AreMany IsEntryOfFeed (c.loop.counter + 1)) (sym c.push_reserved.ensures.items) built.0,
-      subst (λ l. bytes ≡ flat_map entry_bytes l ++ behind) (sym c.push_reserved.ensures.items) built.1,
-      left_behind IsEntryOfFeed entry_bytes same_entry rest behind [] c.loop.counter c.args.count entry c.loop-test.true left one front,
-      omega (arith, c.push_reserved.ensures.len, len),
-      omega (arith, c.push_reserved.ensures.capacity, room),
-      c.packet_of.ensures.packets ∙ ap (λ l. drop 1 l) rooms ∙ drop-drop 1 c.loop.counter (rooms_of c.args.spare.now.packets.items),
+    let front : rest ≡ entry_bytes entry ++ behind = split.1 ∙ ap (λ p. entry_bytes (with p) ++ behind) (sym c.in_ok-packet.ensures.ok) in (
+      part_built IsEntryOfFeed entry_bytes same_entry c.args.count c.loop.counter c.args.bytes.now rest behind [] c.loop.entries c.push_reserved.new.self entry
+          c.loop-test.true c.loop.invariant.0 one front c.push_reserved.ensures.items c.push_reserved.ensures.len c.push_reserved.ensures.capacity,
+      c.packet_of.ensures.packets ∙ ap (λ l. drop 1 l) c.loop.invariant.1 ∙ drop-drop 1 c.loop.counter (rooms_of c.args.spare.now.packets.items),
     )
 
 pub returns-in_err-packet-clause-full : goal.returns-in_err-packet-clause-full
@@ -43,7 +37,7 @@ returns-in_err-packet-clause-full c =
     let rest : List ℕ = c.loop.rest.now in
     let behind : List ℕ = c.unwrap.result.1.now in
     let entry : Entry = record { serial = c.unwrap.result.0.serial; position = c.unwrap.result.0.position; packet = c.unwrap.result.0.packet.now } in
-    let (many, whole, left, len, room, rooms) = c.loop.invariant in
+    let ((many, whole, left, len, room), rooms) = c.loop.invariant in
     let split = rw c.unwrap.ensures at c.split_entry.ensures in
     let built = built_more IsEntryOfFeed entry_bytes bytes rest behind c.loop.counter c.loop.entries.items entry many whole split.0 split.1 in
     let later = left_behind IsEntryOfFeed entry_bytes same_entry rest behind [] c.loop.counter c.args.count entry c.loop-test.true left split.0 split.1 in
