@@ -31,11 +31,3 @@ longer links (PutOf put) size text e =
 longer links (EndOf serial) size text e =
     let chain : ChainState = chain_state_of links in
     ap (λ (s : ChainState). s.length_of) (end_state links serial size e) ∙ ap (λ n. chain.length_of + n) (sym (size_is_own chain (EndOf serial) size e))
-
--- the same of the states before and after
-pub states_longer : (links : List (List Page)) (command : Command) (size : ℕ) (old new : ChainState) → HasTime command → old ≡ chain_state_of links → new ≡ chain_state_of (links_after links command)
-    → decision old command ≡ Ok size → new.length_of ≡ old.length_of + size
-states_longer links command size old new text before after e =
-    ap (λ (s : ChainState). s.length_of) after
-    ∙ longer links command size text (ap (λ (s : ChainState). decision s command) (sym before) ∙ e)
-    ∙ ap (λ (s : ChainState). s.length_of + size) (sym before)

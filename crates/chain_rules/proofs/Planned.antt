@@ -6,7 +6,6 @@ use Rattle.std.proofs.lemmas.List.{length-map}
 use Rattle.ogg_page.specs.Page.{Page}
 use Rattle.ogg_command.specs.declared.command.Command.{Command}
 use Rattle.ogg_command.specs.declared.command.Command.TheVariants.{Begin as BeginOf, Put as PutOf, End as EndOf}
-use Rattle.ogg_command.specs.declared.command.Begin.{Begin}
 use Rattle.ogg_command.specs.declared.command.Put.{Put}
 use Rattle.ogg_command.specs.declared.command.Entry.{Entry}
 use Rattle.ogg_command.specs.declared.command.NewStream.{NewStream}
@@ -16,19 +15,18 @@ use Rattle.link_chain.specs.declared.stream_state.StreamState.{StreamState}
 use Rattle.link_chain.specs.ChainState.{ChainState, chain_state_of}
 use Rattle.link_chain.specs.Followed.{with_link, moved_on}
 use Rattle.link_chain.specs.Places.{HaveOwnSerials}
-use Rattle.link_chain.specs.Size.{size_of_pages}
 use Rattle.link_chain.specs.Progress.{next_in, change_at, advanced, ended_by}
 use Rattle.link_chain.specs.Laws.OwnSerials.{own_stay}
 use Rattle.link_chain.specs.Laws.StateBehind.{chain_of}
 use Rattle.chain_rules.specs.Begun.{new_state, states_of, skeleton_serial, has_more_pages}
 use Rattle.chain_rules.specs.Decision.{decision, size_of}
-use Rattle.chain_rules.specs.Encoding.{pages_of_begin, pages_of_command, links_after, pages_behind, run_serial, run_position, runs_of, with_run}
+use Rattle.chain_rules.specs.Encoding.{pages_of_command, links_after, pages_behind, run_serial, run_position, runs_of, with_run}
 use Rattle.chain_rules.specs.Limits.{longest_file}
 use Rattle.chain_rules.specs.Plan.{PlanState, IsPlanOf, streams_after, chain_by}
 use Rattle.chain_rules.proofs.BeginHeld.{can_begin}
 use Rattle.chain_rules.proofs.BeginState.{begin_state}
 use Rattle.chain_rules.proofs.EndState.{end_state}
-use Rattle.chain_rules.proofs.Kept.{kept_size, size_is_own, size_fits}
+use Rattle.chain_rules.proofs.Kept.{size_is_own, size_fits}
 use Rattle.chain_rules.proofs.Longer.{HasTime}
 use Rattle.chain_rules.proofs.OwnSerials.{own_begun, own_runs, states_serials}
 use Rattle.chain_rules.proofs.PutState.{put_state}
@@ -55,18 +53,6 @@ pub put_is_planned : (answer : Result ℕ Refusal) (chain : ChainState) (put : P
     IfOk answer (λ size. plan.size ≡ size) → IfOk answer (λ _. plan.streams ≡ fold with_run chain.streams (runs_of put.entries)) → IfOk answer (λ _. IsPlanOf chain (PutOf put) plan)
 put_is_planned (Ok size) chain put plan own decided same after = is_planned chain (PutOf put) plan size own (sym decided) same after
 put_is_planned (Err refusal) chain put plan own decided same after = tt
-
--- a new link that isn't refused, with its streams and the size of its pages
-pub begin_is_planned : (chain : ChainState) (begin : Begin) (streams : List StreamState) (size : ℕ) → IsOk (decision chain (BeginOf begin)) → streams ≡ states_of begin.skeleton begin.streams →
-    size ≡ size_of_pages (pages_of_begin begin.skeleton begin.streams) → IsPlanOf chain (BeginOf begin) (record { streams = streams; size = size })
-unfolding pages_of_command
-begin_is_planned chain begin streams size ok after same =
-    let kept = kept_size (decision chain (BeginOf begin)) ok in
-    record {
-      decided = kept.1 ∙ ap Ok (size_is_own chain (BeginOf begin) kept.0 kept.1 ∙ sym same);
-      after = after;
-      own = subst HaveOwnSerials (sym after) (own_begun begin.skeleton begin.streams (can_begin chain begin ok).distinct);
-    }
 
 -- ---- how many streams
 pub as_many : (streams : List StreamState) (runs : List (List Entry)) → length (fold with_run streams runs) ≡ length streams

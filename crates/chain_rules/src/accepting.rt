@@ -1,53 +1,16 @@
 //! What a command that is kept changes of the last link's streams.
-ghost use Rattle.std.specs.Prelude.{◌≡◌, ◌≤◌, ◌<◌, ◌+◌, ◌++◌, ◌^◌, ℕ, [], false, IfSome, length, map, sum_by, take, vec_len, vec_capacity};
-ghost use Rattle.std.specs.List.{list_any, fold};
+ghost use Rattle.std.specs.Prelude.{◌≡◌, ◌≤◌, ◌<◌, ◌+◌, ◌++◌, false, IfSome, length, map, sum_by};
+ghost use Rattle.std.specs.List.{list_any};
 ghost use Rattle.chain_rules.specs.Begun.{new_state, skeleton_state, skeleton_serial, states_of, has_other_headers, has_more_pages};
-ghost use Rattle.chain_rules.specs.Encoding.{runs_of, pages_of_runs, with_run};
-ghost use Rattle.link_chain.specs.Places.{HaveOwnSerials};
-ghost use Rattle.link_chain.specs.Followed.{moved_on};
 ghost use Rattle.arrayvec.specs.ArrayVec.{array_vec_len};
-ghost use Rattle.link_chain.specs.Size.{size_of_pages};
-ghost use Rattle.command_pages.specs.Fits.{header_bytes, has_many_headers, PutFits};
+ghost use Rattle.command_pages.specs.Fits.{header_bytes, has_many_headers};
 ghost use Rattle.command_pages.specs.Limits.{longest_batch, most_headers, most_streams};
-ghost use Rattle.ogg_command.specs.declared.command.NewStream.{NewStream as StreamOf};
 
 use arrayvec::ArrayVec;
-use command_pages::{FEW_STREAMS, size_of_runs, split_headers};
-use link_chain::{Chain, MOST_STREAMS, StreamState};
-use ogg_command::{NewStream, Put, SkeletonHead};
+use command_pages::split_headers;
+use link_chain::{MOST_STREAMS, StreamState};
+use ogg_command::{NewStream, SkeletonHead};
 use packetiser::pages_of_run;
-
-/// Moves a chain on after a put.
-pub fn add_put(chain: &mut Chain, put: &Put)
-    requires fits { PutFits chain.old.chain.streams put.now.entries }
-    requires long { chain.old.chain.length_of + size_of_pages (pages_of_runs chain.old.chain.streams (runs_of put.now.entries)) < 2 ^ 63 }
-    ensures { chain.new.chain ≡ moved_on chain.old.chain (fold with_run chain.old.chain.streams (runs_of put.now.entries))
-        (size_of_pages (pages_of_runs chain.old.chain.streams (runs_of put.now.entries))) }
-{
-    // Room is cleared before it is filled, so that a link of few streams takes little.
-    if chain.streams().len() <= FEW_STREAMS {
-        let mut copy = [StreamState::NOBODY; FEW_STREAMS];
-        add_by(&mut copy, chain, put);
-    } else {
-        let mut copy = [StreamState::NOBODY; MOST_STREAMS];
-        add_by(&mut copy, chain, put);
-    }
-}
-
-/// Moves a chain on after a put, with room for a copy of its streams.
-fn add_by(copy: &mut [StreamState], chain: &mut Chain, put: &Put)
-    requires streams { length chain.old.chain.streams ≤ length copy.old }
-    requires fits { PutFits chain.old.chain.streams put.now.entries }
-    requires long { chain.old.chain.length_of + size_of_pages (pages_of_runs chain.old.chain.streams (runs_of put.now.entries)) < 2 ^ 63 }
-    ensures { chain.new.chain ≡ moved_on chain.old.chain (fold with_run chain.old.chain.streams (runs_of put.now.entries))
-        (size_of_pages (pages_of_runs chain.old.chain.streams (runs_of put.now.entries))) }
-{
-    let streams = chain.streams();
-    let (copy, _) = copy.split_at_mut(streams.len());
-    copy.copy_from_slice(streams);
-    let size = size_of_runs(copy, put.entries.as_slice()).unwrap();
-    chain.go_on(copy, size);
-}
 
 /// The streams of a new link, after its pages.
 pub fn streams_of(

@@ -1,13 +1,13 @@
 //! The chain of the links so far.
-ghost use Rattle.std.specs.Prelude.{◌≡◌, ◌≤◌, ◌<◌, ◌+◌, ◌++◌, ◌^◌, ℕ, List, [], true, false, OnOk, OnErr, IfOk, IfSome, IsOk, Ok, Err, Option, Some, None, length, vec_len, vec_capacity};
+ghost use Rattle.std.specs.Prelude.{◌≡◌, ◌≤◌, ◌<◌, ◌+◌, ◌++◌, ◌^◌, ℕ, List, [], OnOk, OnErr, IfOk, IfSome, IsOk, Ok, Err, Option, Some, None, length, vec_len, vec_capacity};
 ghost use Rattle.ogg_page.specs.Page.{Page as PageValue, page_size};
 
 use crate::Memory;
-use crate::accepting::{add_put, has_more_pages, streams_of};
+use crate::accepting::{has_more_pages, streams_of};
 use crate::begin::stream_count;
 use crate::checks::{check_begin, check_end, check_put};
 use crate::plan::Plan;
-use command_pages::{CommandPages, lay_command, size_of_begin};
+use command_pages::{CommandPages, lay_command};
 use link_chain::{Chain, ChainFault, Serials, StreamState};
 use ogg_command::{Begin, Command, Put, Refusal};
 use ogg_page::Page;
@@ -29,7 +29,7 @@ impl Model for Shape {
 }
 
 impl Shape {
-    ghost use Rattle.link_chain.specs.ChainState.{ChainState, chain_state_of, is_open};
+    ghost use Rattle.link_chain.specs.ChainState.{chain_state_of};
     ghost use Rattle.chain_rules.specs.Decision.{decision};
     ghost use Rattle.chain_rules.specs.Limits.{longest_file};
     ghost use Rattle.chain_rules.specs.Plan.{IsPlanOf, chain_by};
@@ -37,7 +37,6 @@ impl Shape {
     ghost use Rattle.chain_rules.specs.Encoding.{command_bytes, links_after, pages_of_command};
     ghost use Rattle.link_chain.specs.Taking.{fault_of_page, links_with, unfinished_stream, HasRoomFor};
     ghost use Rattle.link_chain.specs.declared.chain_fault.ChainFault.{ChainFault as ChainFaultOf};
-    ghost use Rattle.ogg_page.specs.LogicalStream.{is_first};
 
     /// The chain of no links.
     pub fn new(alloc: Global) -> Self
@@ -210,10 +209,9 @@ impl Shape {
         ensures grows { (links : List (List PageValue)) (size : ℕ) → self.old.chain ≡ chain_state_of links → decision self.old.chain command.now ≡ Ok size
             → self.new.chain.length_of ≡ self.old.chain.length_of + size }
     {
-        match command {
-            Command::Begin(begin) => self.accept_begin(begin),
-            Command::Put(put) => self.accept_put(put),
-            Command::End(serial) => self.accept_end(*serial),
+        let mut plan = Plan::new();
+        if self.plan(command, &mut plan).is_ok() {
+            self.accept_plan(command, &plan);
         }
     }
 
@@ -245,35 +243,6 @@ impl Shape {
     {
         let has_data = has_more_pages(begin.skeleton, begin.streams.as_slice());
         self.chain.add_link(streams, has_data, size);
-    }
-
-    fn accept_end(&mut self, serial: u32)
-        requires { IsOk (decision self.old.chain (Command.End serial)) }
-        ensures { (links : List (List PageValue)) → self.old.chain ≡ chain_state_of links
-            → self.new.chain ≡ chain_state_of (links_after links (Command.End serial)) }
-    {
-        self.chain.end_stream(serial);
-    }
-
-    fn accept_put(&mut self, put: &Put)
-        requires { IsOk (decision self.old.chain (Command.Put put.now)) }
-        ensures { (links : List (List PageValue)) → self.old.chain ≡ chain_state_of links
-            → self.new.chain ≡ chain_state_of (links_after links (Command.Put put.now)) }
-    {
-        add_put(&mut self.chain, put);
-    }
-
-    fn accept_begin(&mut self, begin: &Begin)
-        requires kept { IsOk (decision self.old.chain (Command.Begin begin.now)) }
-        requires room { HasRoom self.old (Command.Begin begin.now) }
-        ensures links { (links : List (List PageValue)) → self.old.chain ≡ chain_state_of links
-            → self.new.chain ≡ chain_state_of (links_after links (Command.Begin begin.now)) }
-        ensures time { IfSome begin.now.skeleton (λ head. length head.utc ≡ 20) }
-    {
-        let new = begin.streams.as_slice();
-        let size = size_of_begin(begin.skeleton, new);
-        let streams = streams_of(begin.skeleton, new);
-        self.add_link(begin, streams.as_slice(), size);
     }
 
     /// Takes a page that was read into the chain, or reports why it may not follow: the first fault in this order. A

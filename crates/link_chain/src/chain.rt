@@ -1,16 +1,15 @@
 //! The chain of the links so far.
-ghost use Rattle.std.specs.Prelude.{◌≡◌, ◌≤◌, ◌<◌, ◌+◌, ◌^◌, ℕ, List, [], OnOk, OnErr, Err, Some, None, length};
+ghost use Rattle.std.specs.Prelude.{◌≡◌, ◌≤◌, ◌<◌, ◌+◌, ◌^◌, List, [], OnOk, OnErr, Err, Some, None, length};
 ghost use Rattle.ogg_page.specs.Page.{Page as PageValue, page_size};
-ghost use Rattle.ogg_page.specs.Sizes.{fixed_size};
 ghost use Rattle.link_chain.specs.Limits.{most_streams, most_links};
 
 use crate::Memory;
 use crate::chain_fault::ChainFault;
 use crate::serials::Serials;
 use crate::stream_state::StreamState;
-use crate::streams::{drop_packet, end_stream, first_unfinished, is_open};
+use crate::streams::{drop_packet, first_unfinished, is_open};
 use crate::taking::{add_serials, broken_by_page, follow, join_link, open_link};
-use ogg_page::{FIXED_SIZE, Page};
+use ogg_page::Page;
 use std::alloc::Global;
 use std::marker::Model;
 
@@ -52,8 +51,8 @@ impl Chain {
     ghost use Rattle.link_chain.specs.ChainState.{chain_state_of, is_open};
     ghost use Rattle.link_chain.specs.Places.{HaveOwnSerials};
     ghost use Rattle.link_chain.specs.Taking.{fault_of_page, links_with, unfinished_stream, HasRoomFor};
-    ghost use Rattle.link_chain.specs.Followed.{opened, joined, continued, with_link, moved_on, moved_by, dropped, after_page};
-    ghost use Rattle.link_chain.specs.Progress.{stream_in, next_in, ended_by};
+    ghost use Rattle.link_chain.specs.Followed.{opened, joined, continued, with_link, moved_on, dropped, after_page};
+    ghost use Rattle.link_chain.specs.Progress.{stream_in};
     ghost use Rattle.link_chain.specs.declared.chain_fault.ChainFault.{ChainFault as ChainFaultOf};
 
     /// The chain of no links.
@@ -232,17 +231,6 @@ impl Chain {
         self.streams.as_mut_slice().copy_from_slice(streams);
         self.has_data = true;
         self.bytes += bytes;
-    }
-
-    /// Ends the stream with this serial by a page without packets. It takes no memory.
-    pub fn end_stream(&mut self, serial: u32)
-        requires numbered { next_in self.old.chain.streams serial < 2 ^ 32 }
-        requires long { self.old.chain.length_of + fixed_size < 2 ^ 63 }
-        ensures { self.new.chain ≡ moved_by self.old.chain serial (ended_by (next_in self.old.chain.streams serial + 1)) fixed_size }
-    {
-        end_stream(self.streams.as_mut_slice(), serial);
-        self.has_data = true;
-        self.bytes += FIXED_SIZE as u64;
     }
 
     /// Drops the unfinished packet of the stream with this serial, of which its pages have `bytes` bytes. It takes no

@@ -1,7 +1,7 @@
 //! The streams of a link, searched.
-ghost use Rattle.std.specs.Prelude.{◌≡◌, ◌<◌, ◌+◌, ◌^◌, ℕ, not, map};
+ghost use Rattle.std.specs.Prelude.{◌≡◌, ◌<◌, not, map};
 ghost use Rattle.std.specs.List.{list_any, find};
-ghost use Rattle.link_chain.specs.Progress.{stream_in, next_in, change_at, ended_by, left_whole};
+ghost use Rattle.link_chain.specs.Progress.{stream_in, next_in, change_at, left_whole};
 ghost use Rattle.link_chain.specs.declared.stream_state.StreamState.{StreamState as State};
 
 use crate::stream_state::StreamState;
@@ -35,31 +35,6 @@ pub fn first_unfinished(streams: &[StreamState]) -> Option<StreamState>
     ensures { result ≡ find (λ (stream : State). not stream.finished) streams.now }
 {
     streams.iter().copied().find(|stream| !stream.finished)
-}
-
-/// Ends the stream with this serial by a page without packets.
-pub fn end_stream(streams: &mut [StreamState], serial: u32)
-    requires { next_in streams.old serial < 2 ^ 32 }
-    ensures { streams.new ≡ map (change_at serial (ended_by (next_in streams.old serial + 1))) streams.old }
-{
-    let sequence = next_sequence(streams, serial) + 1;
-    for stream in streams.iter_mut() {
-        *stream = ended(*stream, serial, sequence);
-    }
-}
-
-fn ended(stream: StreamState, serial: u32, sequence: u64) -> StreamState
-    ensures { result ≡ change_at serial (ended_by sequence) stream }
-{
-    if stream.serial == serial {
-        StreamState {
-            next_sequence: sequence,
-            ended: true,
-            ..stream
-        }
-    } else {
-        stream
-    }
 }
 
 /// Drops the unfinished packet of the stream with this serial.
