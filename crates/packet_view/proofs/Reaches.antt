@@ -1,5 +1,6 @@
 -- What the parts are from the next page on.
 use Rattle.std.proofs.Common.{◌≡◌, ◌≢◌, ℕ, ◌+◌, Bool, true, false, not, List, [], ◌∷◌, refl, sym, ◌∙◌, ap, Option, Some, None, Ok, Err}
+use Rattle.std.proofs.lemmas.Bool.{eq-eqb}
 use Rattle.std.specs.Prelude.{nat_eq, if◌then◌else◌}
 use Rattle.ogg_page.specs.Page.{Page, page_size}
 use Rattle.ogg_page.specs.Reading.{page_at}
@@ -9,7 +10,10 @@ use Rattle.ogg_page.specs.Window.{LentAt, NextLent}
 use Rattle.ogg_page.specs.declared.fault.PageFault.{PageFault}
 use Rattle.packet_view.specs.Packets.{misplaced, behind_page, position_in}
 use Rattle.packet_view.specs.StreamParts.{PartsLeft, page_parts, goes_on, no_part, after_parts, parts_from}
+use Rattle.packet_view.specs.Cut.{at_front, parts_then}
+use Rattle.packet_view.specs.Searching.{parts_ahead, with_behind}
 use Rattle.packet_view.specs.declared.place.Behind.{Behind}
+use Rattle.packet_view.specs.declared.reaching.Search.{Search}
 use Rattle.packet_view.specs.declared.fault.ViewFault.{ViewFault}
 use Rattle.packet_view.specs.declared.fault.ViewFault.TheVariants.{Page as PageIsAtFault, Unfinished}
 use Rattle.packet_view.proofs.Fronts.{pick_false}
@@ -42,11 +46,18 @@ parts-page serial behind unfinished at found m e place =
     by_cases (Some fault) = refl
     by_cases None = refl
 
-pub parts-no_values : (serial : ℕ) (unfinished : Bool) (page : Page) (found : List FoundPage) → page.lacing ≡ [] →
-    by_place serial unfinished page found None ≡ parts_from serial (behind_page page) unfinished found
+-- a page that may stand there
+pub parts-there : (s : Search) (at : LentAt) (behind : Behind) → at.1.serial ≡ s.serial → misplaced s.behind s.unfinished at.0 at.1 ≡ None → behind ≡ behind_page at.1 →
+    (found : List FoundPage) → parts_ahead s (Ok at ∷ found) ≡ parts_then s.serial (Some at) (at_front behind s.unfinished) found
+parts-there s at behind own fits is found =
+    parts-page s.serial s.behind s.unfinished at found None (eq-eqb at.1.serial s.serial own) fits
+    ∙ ap (λ (b : Behind). parts_then s.serial (Some at) (at_front b s.unfinished) found) (sym is)
+
+pub parts-no_values : (s : Search) (at : LentAt) (behind : Behind) → at.1.lacing ≡ [] →
+    (found : List FoundPage) → parts_then s.serial (Some at) (at_front behind s.unfinished) found ≡ parts_ahead (with_behind s behind) found
 unfolding page_parts goes_on
-parts-no_values serial unfinished page found e =
-    ap (λ l. after_parts (page_parts (position_in page) (not unfinished) 0 l page.body) (parts_from serial (behind_page page) (goes_on unfinished l) found)) e
+parts-no_values s at behind e found =
+    ap (λ l. after_parts (page_parts (position_in at.1) (not s.unfinished) 0 l at.1.body) (parts_from s.serial behind (goes_on s.unfinished l) found)) e
 
 pub parts-nothing : (serial : ℕ) (behind : Behind) (unfinished : Bool) (left : PagesLeft) → left.bytes ≡ [] →
     parts_from serial behind unfinished (found_in left.offset left.bytes) ≡ no_part (if unfinished then Some Unfinished else None)

@@ -1,5 +1,5 @@
 -- How far a stream has read the page that its window lends.
-use Rattle.std.specs.Prelude.{◌≡◌, ℕ, ◌+◌, ◌-◌, ◌<◌, ◌≤◌, Bool, true, false, not, Option, Some, None, Result, Ok, Err, List, [], ◌∷◌, length, take, drop, sum, IsSome, ⊤}
+use Rattle.std.specs.Prelude.{◌≡◌, ℕ, ◌+◌, ◌-◌, ◌<◌, ◌≤◌, Bool, not, Option, Some, None, Result, Ok, Err, List, [], ◌∷◌, length, take, drop, sum, IsSome, ⊤}
 use Rattle.ogg_page.specs.Page.{Page, IsPage}
 use Rattle.ogg_page.specs.Pages.{FoundPage, found_in}
 use Rattle.ogg_page.specs.Window.{LentAt, WindowState, KeepsSource, left_of}
@@ -7,7 +7,6 @@ use Rattle.ogg_page.specs.declared.fault.WindowFault.{WindowFault}
 use Rattle.packet_view.specs.Packets.{position_in}
 use Rattle.packet_view.specs.StreamParts.{PagePart, PartsLeft, page_parts, goes_on, no_part, after_parts, parts_from}
 use Rattle.packet_view.specs.Stream.{fault_of_window, HasReadCause}
-use Rattle.packet_view.specs.declared.fault.ViewFault.{ViewFault}
 use Rattle.packet_view.specs.declared.fault.StreamFault.{StreamFault}
 use Rattle.packet_view.specs.declared.fault.StreamFault.TheVariants.{Source, View}
 use Rattle.packet_view.specs.declared.place.Behind.{Behind}
@@ -90,25 +89,17 @@ pub record CutsFront (fault : Option WindowFault) (lent : Option LentAt) (old : 
   pub parts : left_in lent old.unfinished old.cut ≡ part ∷ left_in lent new.unfinished new.cut
   pub unfinished : goes_on_in lent new.unfinished new.cut ≡ goes_on_in lent old.unfinished old.cut
 
--- the parts that are still to come
+-- the parts that are still to come of the page that is lent, and of what is found after it
+abbrev pub parts_then : ℕ → Option LentAt → Progress → List FoundPage → PartsLeft
+parts_then serial lent p found =
+    after_parts (left_in lent p.unfinished p.cut) (parts_from serial p.behind (goes_on_in lent p.unfinished p.cut) found)
+
+-- the same, of a window
 abbrev pub parts_at : {S : Type 0} → (S → List ℕ) → ℕ → WindowState S → Progress → PartsLeft
-parts_at bytes serial w p =
-    after_parts (left_in w.lent p.unfinished p.cut)
-    (parts_from serial p.behind (goes_on_in w.lent p.unfinished p.cut) (found_in (left_of bytes w).offset (left_of bytes w).bytes))
+parts_at bytes serial w p = parts_then serial w.lent p (found_in (left_of bytes w).offset (left_of bytes w).bytes)
 
 abbrev pub calls_at : {S : Type 0} → WindowState S → Progress → ℕ
 calls_at w p = length (left_in w.lent p.unfinished p.cut) + (w.to - w.at)
-
--- A page is passed: the parts are those that it has and those after it, whatever is found there.
-abbrev pub Passes : ℕ → Behind → Bool → LentAt → Result (Behind × Bool) ViewFault → Type 0
-Passes serial behind unfinished at (Err fault) = (found : List FoundPage) →
-    parts_from serial behind unfinished (Ok at ∷ found) ≡ no_part (Some fault)
-Passes serial behind unfinished at (Ok (next, false)) = (found : List FoundPage) →
-    parts_from serial behind unfinished (Ok at ∷ found) ≡ parts_from serial next unfinished found
-Passes serial behind unfinished at (Ok (next, true)) = (0 < length at.1.lacing) × ((found : List FoundPage) →
-    parts_from serial behind unfinished (Ok at ∷ found)
-    ≡ after_parts (page_parts (position_in at.1) (not unfinished) 0 at.1.lacing at.1.body)
-    (parts_from serial next (goes_on unfinished at.1.lacing) found))
 
 -- nothing of a page is read
 abbrev pub at_front : Behind → Bool → Progress

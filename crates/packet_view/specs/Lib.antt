@@ -13,3 +13,4 @@ pub mod StreamFault
 pub mod StreamParts
 pub mod Stream
 pub mod Cut
+pub mod Searching

@@ -1,14 +1,15 @@
 //! From page to page of one stream, through a window.
 ghost use Rattle.std.specs.Prelude.{◌≡◌, ◌<◌, ◌↔◌, IsTrue, None, length};
-ghost use Rattle.packet_view.specs.Cut.{IsCut, HasReached, Passes, at_front};
+ghost use Rattle.packet_view.specs.Cut.{IsCut, HasReached, at_front};
 ghost use Rattle.packet_view.specs.Packets.{behind_page};
+ghost use Rattle.packet_view.specs.Searching.{start};
 ghost use Rattle.packet_view.specs.Stream.{fault_of_window};
 
 use crate::cut::{Cut, Progress};
 use crate::fault::{StreamFault, ViewFault};
 use crate::place::Behind;
 use crate::walking::misplaced;
-use ogg_page::{Page, PageSource, Window, WindowFault};
+use ogg_page::{Page, PageSource, PageVisitor, Visit, Window, WindowFault, walk};
 
 /// Goes to the stream's next page that has lacing values, if none are left of the page that is lent; `None` at the
 /// end of the range.
@@ -35,25 +36,60 @@ fn go_on<S: PageSource>(
     requires { progress.cut ≡ None }
     ensures { HasReached S.bytes S.is_honest S.size S.failures S.only_reads serial progress window.old result window.new }
 {
-    let unfinished = progress.unfinished;
-    let mut behind = progress.behind;
-    'pages: loop {
-        if let Err(fault) = window.advance() {
-            return Err(of_window(fault));
+    let mut search = start(serial, progress);
+    match walk(window, &mut search) {
+        Ok(_) => search.found.map_err(StreamFault::View),
+        Err(fault) => Err(of_window(fault)),
+    }
+}
+
+/// The search for the stream's next page that has lacing values.
+#[derive(Drop)]
+struct Search {
+    serial: u32,
+    /// What the stream's next page must fit.
+    behind: Behind,
+    /// Whether the pages so far leave a packet unfinished.
+    unfinished: bool,
+    /// What the search comes to if no further page is shown.
+    found: Result<Option<Progress>, ViewFault>,
+}
+
+impl PageVisitor for Search {
+    ghost use Rattle.packet_view.specs.Searching.{Passes};
+
+    ghost sees = { Passes };
+
+    fn see(&mut self, offset: u64, page: &Page<'_>) -> Visit {
+        if page.serial() != self.serial {
+            return Visit::GoesOn;
         }
-        match window.lent() {
-            Some((offset, page)) => match pass(&page, offset, serial, behind, unfinished) {
-                Err(fault) => return Err(StreamFault::View(fault)),
-                Ok((next, true)) => return Ok(Some(at_front(next, unfinished))),
-                Ok((next, false)) => behind = next,
-            },
-            None => {
-                if unfinished {
-                    return Err(StreamFault::View(ViewFault::Unfinished));
-                }
-                return Ok(None);
-            }
+        if let Some(fault) = misplaced(self.behind, self.unfinished, offset, page) {
+            self.found = Err(fault);
+            return Visit::Ends;
         }
+        self.behind = behind_page(page);
+        if !has_values(page) {
+            return Visit::GoesOn;
+        }
+        self.found = Ok(Some(at_front(self.behind, self.unfinished)));
+        Visit::Ends
+    }
+}
+
+/// A search that was shown no page.
+fn start(serial: u32, progress: Progress) -> Search
+    ensures { result ≡ start serial progress }
+{
+    Search {
+        serial,
+        behind: progress.behind,
+        unfinished: progress.unfinished,
+        found: if progress.unfinished {
+            Err(ViewFault::Unfinished)
+        } else {
+            Ok(None)
+        },
     }
 }
 
@@ -65,30 +101,6 @@ fn of_window(fault: WindowFault) -> StreamFault
         WindowFault::Source => StreamFault::Source,
         WindowFault::Page(offset, fault) => StreamFault::View(ViewFault::Page(offset, fault)),
     }
-}
-
-/// Passes a page: what the stream's next page must fit after it, and whether this is a page of the stream that has
-/// lacing values.
-fn pass(
-    page: &Page<'_>,
-    offset: u64,
-    serial: u32,
-    behind: Behind,
-    unfinished: bool,
-) -> Result<(Behind, bool), ViewFault>
-    ensures { Passes serial behind unfinished (offset, page.now) result }
-{
-    if page.serial() != serial {
-        return Ok((behind, false));
-    }
-    if let Some(fault) = misplaced(behind, unfinished, offset, page) {
-        return Err(fault);
-    }
-    let next = behind_page(page);
-    if has_values(page) {
-        return Ok((next, true));
-    }
-    Ok((next, false))
 }
 
 /// Whether a page has lacing values.
