@@ -1,7 +1,10 @@
 pub mod Adding
 pub mod Growth
 pub mod Index
+pub mod IndexLaws
 pub mod IndexFault
+pub mod Indexing
+pub mod IndexingLaws
 pub mod Listing
 pub mod Pieces
 pub mod Rows

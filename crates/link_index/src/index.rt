@@ -199,7 +199,7 @@ impl Index {
 }
 
 /// The fault of an index whose chain doesn't take the page at this offset.
-fn fault_at(offset: u64, fault: ChainFault) -> IndexFault
+pub(crate) fn fault_at(offset: u64, fault: ChainFault) -> IndexFault
     ensures { result ≡ fault_at offset fault }
 {
     match fault {
