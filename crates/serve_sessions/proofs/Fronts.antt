@@ -1,24 +1,25 @@
--- An index that goes on, page by page.
-use Rattle.std.proofs.Common.{◌≡◌, ◌≢◌, ◌⊎◌, ℕ, ◌-◌, ◌≤◌, ◌<◌, ◌^◌, Result, Ok, Err, Option, Some, None, List, [], ◌∷◌, ◌++◌, length, take, drop, refl, sym, ◌∙◌, ap, subst, arith, inl, inr, append_assoc, length-drop, length-append, take_all}
+-- An index that goes on: what a walk over a window's pages makes of it.
+use Rattle.std.proofs.Common.{◌≡◌, ℕ, ◌-◌, ◌≤◌, ◌<◌, ◌^◌, ◌+◌, Result, Ok, Err, Option, Some, List, [], ◌++◌, length, take, drop, refl, sym, ◌∙◌, ap, subst, arith, append_assoc, length-drop, length-append, take_all}
+use Rattle.std.specs.Prelude.{⊤, OnOk}
+use Rattle.std.specs.Borrow.{MutBor}
 use Rattle.std.proofs.lemmas.List.{append-nil, drop_at}
-use Rattle.ogg_page.specs.Page.{Page, IsPage, page_bytes, bytes_of_pages}
-use Rattle.ogg_page.specs.PageLaws.{pages_both, bytes_both}
-use Rattle.ogg_page.specs.Pages.{PagesLeft}
-use Rattle.ogg_page.specs.Reading.{page_at}
-use Rattle.ogg_page.specs.Window.{LentAt, NextLent}
+use Rattle.ogg_page.specs.Page.{Page, page_size, bytes_of_pages}
+use Rattle.ogg_page.specs.Visiting.{HasWalked, IsLast}
+use Rattle.ogg_page.specs.Window.{LentAt, WindowState, NextLent, left_of, window}
 use Rattle.ogg_page.specs.declared.fault.PageFault.{PageFault}
 use Rattle.ogg_page.specs.declared.fault.WindowFault.{WindowFault}
 use Rattle.ogg_page.specs.declared.fault.WindowFault.TheVariants.{Source as SourceOf, Page as PageAt}
-use Rattle.link_chain.specs.Laws.Walked.{no_fault_there, taken_more}
+use Rattle.ogg_page.specs.declared.visiting.Visit.{Visit}
+use Rattle.ogg_page.specs.declared.visiting.Visit.TheVariants.{GoesOn, Ends}
 use Rattle.link_chain.specs.ChainState.{ChainState}
 use Rattle.link_chain.specs.Links.{AreLinks}
-use Rattle.link_chain.specs.Taking.{links_with, fault_of_page}
 use Rattle.link_chain.specs.declared.chain_fault.ChainFault.{ChainFault}
-use Rattle.link_chain.specs.declared.chain_fault.ChainFault.TheVariants.{Memory as NoMemory}
 use Rattle.link_index.specs.Adding.{AddsPages, IndexState, IsIndexOf, IsLeft}
+use Rattle.link_index.specs.Indexing.{IndexesPage, IsRefused, IsFaultOf}
+use Rattle.link_index.specs.IndexingLaws.{AreAllAdded, AreIndexed, are_indexed, adds_on, same_added}
 use Rattle.link_index.specs.declared.fault.IndexFault.{IndexFault}
-use Rattle.link_index.specs.declared.fault.IndexFault.TheVariants.{Page as PageOf, Chain as ChainOf, Memory as MemoryOf}
-use Rattle.serve_sessions.specs.Indexing.{IsOfFront, fault_unadded as hub_fault}
+use Rattle.link_index.specs.declared.fault.IndexFault.TheVariants.{Page as PageOf, Chain as ChainOf, Memory as NoRoom}
+use Rattle.serve_sessions.specs.Indexing.{IsOfFront, LacksRoom, fault_unadded, result_of}
 use Rattle.serve_machine.specs.declared.fault.HubFault.{HubFault}
 use Rattle.serve_machine.specs.declared.fault.HubFault.TheVariants.{Source, Memory}
 
@@ -26,133 +27,162 @@ use Rattle.serve_machine.specs.declared.fault.HubFault.TheVariants.{Source, Memo
 pages_are : (front : List ℕ) (index : IndexState) (a : AddsPages [] front index (Ok tt)) → front ≡ bytes_of_pages a.pages
 pages_are front index a = a.spelled ∙ ap (λ (l : List ℕ). bytes_of_pages a.pages ++ l) a.left ∙ append-nil (bytes_of_pages a.pages)
 
-front_with : (bytes : List ℕ) (index next : IndexState) (page : Page) (more : List ℕ) (f : IsOfFront bytes index) → IsPage page → f.rest ≡ page_bytes page ++ more
-    → fault_of_page index.chain.chain page ≡ None → ((links : List (List Page)) → IsIndexOf links index → IsIndexOf (links_with links page) next) → IsOfFront bytes next
-front_with bytes index next page more f is stands none grows =
-    let a = f.added in
-    record {
-      front = f.front ++ page_bytes page;
-      rest = more;
-      split = f.split ∙ ap (λ (l : List ℕ). f.front ++ l) stands ∙ sym (append_assoc f.front (page_bytes page) more);
-      added = record {
-        pages = a.pages ++ page ∷ [];
-        rest = [];
-        after = links_with a.after page;
-        are_pages = pages_both a.pages (page ∷ []) a.are_pages (is, tt);
-        spelled = ap (λ (l : List ℕ). l ++ page_bytes page) (pages_are f.front index a)
-            ∙ ap (λ (l : List ℕ). bytes_of_pages a.pages ++ l) (sym (append-nil (page_bytes page)))
-            ∙ sym (bytes_both a.pages (page ∷ [])) ∙ sym (append-nil (bytes_of_pages (a.pages ++ page ∷ [])));
-        taken = taken_more [] a.pages page a.after a.taken (ap (λ (c : ChainState). fault_of_page c page) (sym a.is_index.chain_is) ∙ none);
-        is_index = grows a.after a.is_index;
-        left = refl;
-      };
-    }
-
-nothing : (rest : List ℕ) → length rest ≡ 0 → rest ≡ []
-nothing [] e = refl
-nothing (b ∷ rest) e = absurd (omega (arith, e))
-
-no_page : (offset : ℕ) (fault : PageFault) → ◌≡◌ {A = IndexFault} (PageOf offset fault) MemoryOf → ⊥
+-- ---- faults
+no_page : (offset : ℕ) (fault : PageFault) → ◌≡◌ {A = IndexFault} (PageOf offset fault) NoRoom → ⊥
 no_page offset fault e = cc
 
-no_chain : (offset : ℕ) (fault : ChainFault) → ◌≡◌ {A = IndexFault} (ChainOf offset fault) MemoryOf → ⊥
+no_chain : (offset : ℕ) (fault : ChainFault) → ◌≡◌ {A = IndexFault} (ChainOf offset fault) NoRoom → ⊥
 no_chain offset fault e = cc
 
-not_both : ◌≡◌ {A = Result (Unit {0}) HubFault} (Err Memory) (Err Source) → ⊥
-not_both e = cc
+-- the laws of the index: bytes that were added as a whole are links, and links are added, unless memory is refused
+abbrev Added : Type 0
+Added = (bytes : List ℕ) (index : IndexState) → AddsPages [] bytes index (Ok tt)
+    → (links : List (List Page)) × AreLinks bytes links × IsIndexOf links index × (index.chain.chain.length_of ≡ length bytes)
 
-err_same : (a b : ChainFault) → ◌≡◌ {A = Result (Unit {0}) ChainFault} (Err a) (Err b) → a ≡ b
-err_same a b e = cc
+abbrev Each : Type 0
+Each = (bytes : List ℕ) (links : List (List Page)) (index : IndexState) (fault : IndexFault) → AreLinks bytes links → AddsPages [] bytes index (Err fault) → fault ≡ NoRoom
 
--- the fault was that of the page
-pub of_page : (fault : ChainFault) → ◌≡◌ {A = Result (Unit {0}) HubFault} (Err (hub_fault fault)) (Err Source) → fault ≢ NoMemory
-of_page fault e is = absurd (not_both (ap (λ (f : ChainFault). Err (hub_fault f)) (sym is) ∙ e))
-
-module _
-    (law : (bytes : List ℕ) (index : IndexState) → AddsPages [] bytes index (Ok tt)
-    → (links : List (List Page)) × AreLinks bytes links × IsIndexOf links index × (index.chain.chain.length_of ≡ length bytes))
-    (bytes : List ℕ) (index : IndexState) (f : IsOfFront bytes index)
+module _ (law : Added) (bytes : List ℕ) (index : IndexState) (f : IsOfFront bytes index)
   where
     -- the index ends at the end of the front
-    pub ends : index.chain.chain.length_of ≡ length f.front
+    ends : index.chain.chain.length_of ≡ length f.front
     ends = (law f.front index f.added).3
 
     pub ends_inside : index.chain.chain.length_of ≤ length bytes
     ends_inside = let n = ap length f.split ∙ length-append f.front f.rest in omega (arith, n, ends)
 
     -- what a window has from there on
-    pub in_window : (at to : ℕ) → at ≡ index.chain.chain.length_of → to ≡ length bytes → take (to - at) (drop at bytes) ≡ f.rest
+    in_window : (at to : ℕ) → at ≡ index.chain.chain.length_of → to ≡ length bytes → take (to - at) (drop at bytes) ≡ f.rest
     in_window at to here end =
         take_all (to - at) (drop at bytes) (let n = length-drop at bytes in omega (arith, n, end))
         ∙ ap (drop at) f.split ∙ drop_at f.front f.rest at (sym ends ∙ sym here)
 
-    pub passes_on : (next : IndexState) (page : Page) (more : List ℕ) (at to : ℕ) → at ≡ index.chain.chain.length_of → to ≡ length bytes
-        → take (to - at) (drop at bytes) ≡ page_bytes page ++ more → IsPage page
-        → fault_of_page index.chain.chain page ≡ None → ((links : List (List Page)) → IsIndexOf links index → IsIndexOf (links_with links page) next) → IsOfFront bytes next
-    passes_on next page more at to here end stands is none grows =
-        front_with bytes index next page more f is (sym (in_window at to here end) ∙ stands) none grows
-
-    pub is_whole : length bytes ≤ index.chain.chain.length_of → (links : List (List Page)) × AreLinks bytes links × IsIndexOf links index
-    is_whole all =
-        let n = ap length f.split ∙ length-append f.front f.rest in
-        let none : f.rest ≡ [] = nothing f.rest (omega (arith, n, ends, all)) in
+    -- nothing is left
+    is_whole : f.rest ≡ [] → (links : List (List Page)) × AreLinks bytes links × IsIndexOf links index
+    is_whole none =
         let same : f.front ≡ bytes = sym (append-nil f.front) ∙ ap (λ (l : List ℕ). f.front ++ l) (sym none) ∙ sym f.split in
         let (links, are, is, long) = law f.front index f.added in
         (links, subst (λ (l : List ℕ). AreLinks l links) same are, is)
 
-    module _
-        (each : (bytes : List ℕ) (links : List (List Page)) (index : IndexState) (fault : IndexFault) → AreLinks bytes links → AddsPages [] bytes index (Err fault) → fault ≡ MemoryOf)
-        (links : List (List Page)) (are : AreLinks bytes links)
+-- what is left of links isn't added only for want of memory
+only_memory : (bytes : List ℕ) (index : IndexState) (f : IsOfFront bytes index) → Each
+    → (links : List (List Page)) → AreLinks bytes links → (fault : IndexFault) → IsLeft index.chain.chain f.rest (Err fault) → fault ≡ NoRoom
+only_memory bytes index f each links are fault left =
+    let a = f.added in
+    each bytes links index fault are (record {
+      pages = a.pages;
+      rest = f.rest;
+      after = a.after;
+      are_pages = a.are_pages;
+      spelled = f.split ∙ ap (λ (l : List ℕ). l ++ f.rest) (pages_are f.front index a);
+      taken = a.taken;
+      is_index = a.is_index;
+      left = subst (λ (c : ChainState). IsLeft c f.rest (Err fault)) a.is_index.chain_is left;
+    })
+
+-- ---- a walk of the visitor that adds the pages to the index
+-- from where the window was set
+pub walked_from : {S V : Type 0} {bytes : S → List ℕ} {honest : S → Type 0} {size failures : S → ℕ} {only_reads : S → S → Type 0} {sees : V → LentAt → Visit → V → Type 0}
+    {old new : WindowState S} {there source : S} {from to : ℕ} {before after : V} {result : Result Visit WindowFault} → HasWalked bytes honest size failures only_reads sees old before result new after
+    → old ≡ window there from to → there ≡ source → HasWalked bytes honest size failures only_reads sees (window source from to) before result new after
+walked_from {S} {V} {bytes} {honest} {size} {failures} {only_reads} {sees} {old} {new} {there} {source} {from} {to} {before} {after} {result} w set is =
+    subst (λ (o : WindowState S). HasWalked bytes honest size failures only_reads sees o before result new after) (set ∙ ap (λ (s : S). window s from to) is) w
+
+module _ {S V : Type 0} {bytes : S → List ℕ} {honest : S → Type 0} {size failures : S → ℕ} {only_reads : S → S → Type 0}
+    {index : V → MutBor IndexState} {kept : V → Option IndexFault} {source : S} {from to : ℕ} {new : WindowState S} {before after : V} {result : Result Visit WindowFault} {given : MutBor IndexState}
+    (w : HasWalked bytes honest size failures only_reads (IndexesPage index kept) (window source from to) before result new after)
+    (lent : index before ≡ given) (here : from ≡ given.now.chain.chain.length_of)
+  where
+    abbrev Last : Result Visit WindowFault → Type 0
+    Last r = IsLast bytes honest size failures only_reads (IndexesPage index kept) w.now w.mid r new after
+
+    abbrev found : IndexState
+    found = (index w.mid).now
+
+    indexed : AreIndexed index kept before w.pages w.mid
+    indexed = are_indexed index kept before w.mid from w.pages w.seen
+
+    place : w.now.at ≡ found.chain.chain.length_of
+    place = omega (arith, w.passed.place, here, indexed.added.grows, ap (λ (b : MutBor IndexState). b.now.chain.chain.length_of) lent)
+
+    pub same_reference : (index after).ghost_name ≡ given.ghost_name
+    same_reference = by result w.last ∙ indexed.same ∙ ap (λ (b : MutBor IndexState). b.ghost_name) lent
       where
-        -- a page of links is refused only for want of memory
-        only_memory : (fault : IndexFault) → IsLeft index.chain.chain f.rest (Err fault) → fault ≡ MemoryOf
-        only_memory fault left =
-            let a = f.added in
-            each bytes links index fault are (record {
-              pages = a.pages;
-              rest = f.rest;
-              after = a.after;
-              are_pages = a.are_pages;
-              spelled = f.split ∙ ap (λ (l : List ℕ). l ++ f.rest) (pages_are f.front index a);
-              taken = a.taken;
-              is_index = a.is_index;
-              left = subst (λ (c : ChainState). IsLeft c f.rest (Err fault)) a.is_index.chain_is left;
-            })
+        by : (r : Result Visit WindowFault) → Last r → (index after).ghost_name ≡ (index w.mid).ghost_name
+        by (Ok GoesOn) last = ap (λ (v : V). (index v).ghost_name) last.1
+        by (Ok Ends) (at, moved, lent, one) = one.same
+        by (Err fault) last = ap (λ (v : V). (index v).ghost_name) last.1
 
-        pub no_window_fault : (fault : WindowFault) (at to : ℕ) (right : PagesLeft) (C : Type 0) → at ≡ index.chain.chain.length_of → to ≡ length bytes
-            → NextLent (record { offset = at; bytes = take (to - at) (drop at bytes) }) (Err fault) right → (◌≡◌ {A = Result (Option LentAt) WindowFault} (Err fault) (Err SourceOf) → C) → C
-        no_window_fault SourceOf at to right C here end next cause = cause refl
-        no_window_fault (PageAt offset fault) at to right C here end next cause =
-            let rest = in_window at to here end in
-            absurd (no_page offset fault (only_memory (PageOf offset fault) (
-              next.0 ∙ here,
-              (λ none. next.1 (rest ∙ none)),
-              subst (λ (l : List ℕ). page_at l ≡ Err fault) rest next.2,
-            )))
+    -- `Memory` comes only from the index
+    pub lacks_room : to < 2 ^ 63 → result_of result (kept after) ≡ Err Memory → (page : Page) × (before : IndexState) × LacksRoom page before (index after).now
+    lacks_room short = by result w.last
+      where
+        refused : (at : LentAt) (fault : IndexFault) → found.chain.chain.length_of + page_size at.1 < 2 ^ 63 → ◌≡◌ {A = Result (Unit {0}) HubFault} (Err (fault_unadded (Some fault))) (Err Memory)
+            → IsRefused found at fault (index after).now → LacksRoom at.1 found (index after).now
+        refused at (PageOf offset fault) fits e r = absurd r.why
+        refused at (ChainOf offset fault) fits e r = absurd (cc e)
+        refused at NoRoom fits e r = record { lacks = λ none. (r.why fits).room; chain = r.chain; entries = r.entries }
 
-        pub no_chain_fault : (page : Page) (more : List ℕ) (at to : ℕ) (result : Result (Unit {0}) ChainFault) (fault : ChainFault) → at ≡ index.chain.chain.length_of → to ≡ length bytes
-            → take (to - at) (drop at bytes) ≡ page_bytes page ++ more → IsPage page → result ≡ Err fault → fault ≢ NoMemory
-            → ((fault : ChainFault) → fault_of_page index.chain.chain page ≡ Some fault → result ≡ Err fault)
-            → (fault_of_page index.chain.chain page ≡ None → result ≡ Err NoMemory) → ⊥
-        no_chain_fault page more at to result fault here end stands is e other refuses memory =
-            let rest = in_window at to here end in
-            other (err_same fault NoMemory (sym e ∙ memory (no_fault_there (fault_of_page index.chain.chain page) (λ found there.
-            no_chain at found (only_memory (ChainOf at found) (here, page, more, is, sym rest ∙ stands, there))))))
+        by : (r : Result Visit WindowFault) → Last r → result_of r (kept after) ≡ Err Memory → (page : Page) × (before : IndexState) × LacksRoom page before (index after).now
+        by (Ok GoesOn) last e = absurd (cc e)
+        by (Err fault) last e = absurd (cc e)
+        by (Ok Ends) (at, moved, lent, one) e =
+            let passes = moved.passes at refl in
+            let (fault, is, r) = one.indexed in
+            (at.1, found, refused at fault (omega (arith, passes.behind, passes.inside, moved.to, w.passed.to, short, place)) (ap (λ (k : Option IndexFault). let r : Result ⊤ HubFault = Err (fault_unadded k) in r) (sym is) ∙ e) r)
 
-pub ok_not_err : (done : Unit {0}) (fault : ChainFault) → ◌≡◌ {A = Result (Unit {0}) ChainFault} (Ok done) (Err fault) → ⊥
-ok_not_err done fault e = cc
+    -- what is known if the source is honest, and the index is that of pages at the front
+    pub record IsWorth (r : Result Visit WindowFault) : Type 0 where
+      pub front : IsOfFront (bytes source) (index after).now
+      pub whole : OnOk (result_of r (kept after)) ((links : List (List Page)) × AreLinks (bytes source) links × IsIndexOf links (index after).now)
+      pub cause : result_of r (kept after) ≡ Err Source → (links : List (List Page)) → AreLinks (bytes source) links → r ≡ Err SourceOf
 
-pub later_failed : (first before now : ℕ) → first ≤ before → (before < now) ⊎ (now ≡ 2 ^ 64 - 1) → (first < now) ⊎ (now ≡ 2 ^ 64 - 1)
-later_failed first before now le (inl rose) = inl (omega arith)
-later_failed first before now le (inr at) = inr at
+    module _ (sure : honest source) (f : IsOfFront (bytes source) given.now) (end : to ≡ length (bytes source)) (law : Added) (each : Each) where
+      abbrev on : IsOfFront (bytes source) found
+      on = record {
+        front = f.front ++ bytes_of_pages w.pages;
+        rest = (left_of bytes w.now).bytes;
+        split = f.split ∙ ap (λ (l : List ℕ). f.front ++ l) (sym (in_window law (bytes source) given.now f from to here end) ∙ w.passed.joined sure refl)
+            ∙ sym (append_assoc f.front (bytes_of_pages w.pages) (left_of bytes w.now).bytes);
+        added = adds_on [] f.front w.pages given.now found f.added w.passed.are_pages (subst (λ (b : MutBor IndexState). AreAllAdded b.now w.pages found) lent indexed.added);
+      }
 
--- what a window has of bytes that stay
-pub in_old : (more : List ℕ) (at to : ℕ) (old new : List ℕ) (page : Page) → new ≡ old → take (to - at) (drop at new) ≡ page_bytes page ++ more
-    → take (to - at) (drop at old) ≡ page_bytes page ++ more
-in_old more at to old new page same stands = ap (λ (l : List ℕ). take (to - at) (drop at l)) (sym same) ∙ stands
+      abbrev Next : Result (Option LentAt) WindowFault → Type 0
+      Next r = NextLent (left_of bytes w.now) r (left_of bytes new)
 
-pub next_in_old : (fault : WindowFault) (right : PagesLeft) (at to : ℕ) (old new : List ℕ) → new ≡ old
-    → NextLent (record { offset = at; bytes = take (to - at) (drop at new) }) (Err fault) right
-    → NextLent (record { offset = at; bytes = take (to - at) (drop at old) }) (Err fault) right
-next_in_old fault right at to old new same next =
-    subst (λ (l : List ℕ). NextLent (record { offset = at; bytes = take (to - at) (drop at l) }) (Err fault) right) same next
+      -- a page stands there, and it is added, unless the source fails or memory is refused
+      stands : (links : List (List Page)) → AreLinks (bytes source) links → (fault : WindowFault) → Next (Err fault) → fault ≡ SourceOf
+      stands links are SourceOf next = refl
+      stands links are (PageAt offset fault) next = absurd (no_page offset fault (only_memory (bytes source) found on each links are (PageOf offset fault) (next.0 ∙ place, next.1, next.2)))
+
+      adds : (links : List (List Page)) → AreLinks (bytes source) links → (at : LentAt) (fault : IndexFault) → Next (Ok (Some at)) → IsFaultOf found at fault
+          → ◌≡◌ {A = Result (Unit {0}) HubFault} (Err (fault_unadded (Some fault))) (Err Source) → ⊥
+      adds links are at (PageOf offset fault) next why e = why
+      adds links are at (ChainOf offset fault) next why e =
+          no_chain offset fault (only_memory (bytes source) found on each links are (ChainOf offset fault) (why.0 ∙ next.0 ∙ place, at.1, (left_of bytes new).bytes, next.1, next.2, why.2))
+      adds links are at NoRoom next why e = cc
+
+      pub is_worth : IsWorth result
+      is_worth = by result w.last
+        where
+          by : (r : Result Visit WindowFault) → Last r → IsWorth r
+          by (Ok GoesOn) last = record {
+            front = subst (λ (v : V). IsOfFront (bytes source) (index v).now) (sym last.1) on;
+            whole = subst (λ (v : V). (links : List (List Page)) × AreLinks (bytes source) links × IsIndexOf links (index v).now) (sym last.1)
+                (is_whole law (bytes source) found on (last.0.lent (w.passed.source.honest_same.0 sure) (w.passed.fresh refl)).0);
+            cause = λ e. absurd (cc e);
+          }
+          by (Ok Ends) (at, moved, lent, one) =
+              let (fault, is, r) = one.indexed in
+              record {
+                front = record { front = on.front; rest = on.rest; split = on.split; added = same_added [] on.front found (index after).now on.added r.chain r.entries };
+                whole = tt;
+                cause = λ e links are. absurd (adds links are at fault (moved.lent (w.passed.source.honest_same.0 sure) (w.passed.fresh refl)) r.why
+                    (ap (λ (k : Option IndexFault). let r : Result ⊤ HubFault = Err (fault_unadded k) in r) (sym is) ∙ e));
+              }
+          by (Err fault) last = record {
+            front = subst (λ (v : V). IsOfFront (bytes source) (index v).now) (sym last.1) on;
+            whole = tt;
+            cause = λ e links are. ap (λ (f : WindowFault). let r : Result Visit WindowFault = Err f in r)
+                (stands links are fault (last.0.lent (w.passed.source.honest_same.0 sure) (w.passed.fresh refl)));
+          }

@@ -1,5 +1,5 @@
 -- Why a listener couldn't join.
-use Rattle.std.proofs.Common.{◌≡◌, Result, Err, refl, sym, ◌∙◌, ap}
+use Rattle.std.proofs.Common.{◌≡◌, ◌⊎◌, ℕ, ◌-◌, ◌≤◌, ◌<◌, ◌^◌, Result, Err, refl, sym, ◌∙◌, ap, arith, inl, inr}
 use Rattle.serve_live.specs.Listening.{ListenerState}
 use Rattle.serve_live.specs.declared.fault.JoinFault.{JoinFault}
 use Rattle.serve_live.specs.declared.fault.JoinFault.TheVariants.{Source as JoinSource, Memory as JoinMemory}
@@ -18,3 +18,8 @@ join_is_source fault told is e = fault_is fault (ap (λ (f : HubFault). Err f) (
 -- two calls that give different things, and the same fault
 pub same_fault : {T U : Type 0} (a b : HubFault) → ◌≡◌ {A = Result T HubFault} (Err a) (Err b) → ◌≡◌ {A = Result U HubFault} (Err a) (Err b)
 same_fault a b e = ap (λ (f : HubFault). Err f) (let f : a ≡ b = cc in f)
+
+-- a failure since a later moment
+pub later_failed : (first before now : ℕ) → first ≤ before → (before < now) ⊎ (now ≡ 2 ^ 64 - 1) → (first < now) ⊎ (now ≡ 2 ^ 64 - 1)
+later_failed first before now le (inl rose) = inl (omega arith)
+later_failed first before now le (inr at) = inr at

@@ -183,7 +183,7 @@ same_id parts seen place r d same inside =
     ap (λ (s : Session). s.id) (ap (λ (l : List Session). get_or l place r) same ∙ get_or_default parts place r d inside)
 
 -- and so the order stays, if the stage is written through a slice of the vector
-module _ (n place : ℕ) (parts seen : List Session) (new r : Session) (rest : List Session) (same : seen ≡ parts) (long : n ≡ length parts) (own : new.id ≡ (get_or seen place r).id) where
+module _ {n : ℕ} {parts seen : List Session} (same : seen ≡ parts) (long : n ≡ length parts) (place : ℕ) (new r : Session) (rest : List Session) (own : new.id ≡ (get_or seen place r).id) where
   pub rise_back : IdsRise parts → IdsRise (take n (set seen place new ++ rest))
   rise_back rise =
       subst IdsRise (sym (written_back n place parts seen new rest same long))

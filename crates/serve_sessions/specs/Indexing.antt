@@ -1,9 +1,12 @@
 -- How far an index goes. Ours.
-use Rattle.std.specs.Prelude.{◌≡◌, ◌≤◌, ℕ, None, Ok, List, [], ◌++◌}
+use Rattle.std.specs.Prelude.{◌≡◌, ◌≤◌, ℕ, ⊤, Option, Some, None, Result, Ok, Err, List, [], ◌++◌}
 use Rattle.ogg_page.specs.Page.{Page}
-use Rattle.link_chain.specs.declared.chain_fault.ChainFault.{ChainFault}
-use Rattle.link_chain.specs.declared.chain_fault.ChainFault.TheVariants.{Memory as NoMemory}
+use Rattle.ogg_page.specs.declared.fault.WindowFault.{WindowFault}
+use Rattle.ogg_page.specs.declared.visiting.Visit.{Visit}
+use Rattle.ogg_page.specs.declared.visiting.Visit.TheVariants.{GoesOn, Ends}
 use Rattle.link_chain.specs.Taking.{HasRoomFor, fault_of_page}
+use Rattle.link_index.specs.declared.fault.IndexFault.{IndexFault}
+use Rattle.link_index.specs.declared.fault.IndexFault.TheVariants.{Memory as NoRoom}
 use Rattle.link_index.specs.Adding.{AddsPages, IndexState}
 use Rattle.serve_machine.specs.declared.fault.HubFault.{HubFault}
 use Rattle.serve_machine.specs.declared.fault.HubFault.TheVariants.{Source, Memory}
@@ -22,6 +25,12 @@ pub record LacksRoom (page : Page) (before after : IndexState) : Type 0 where
   pub entries : after.entries ≡ before.entries
 
 -- The fault if a page isn't added: in a file of links only memory can be lacking.
-abbrev pub fault_unadded : ChainFault → HubFault
-fault_unadded NoMemory = Memory
+abbrev pub fault_unadded : Option IndexFault → HubFault
+fault_unadded (Some NoRoom) = Memory
 fault_unadded fault = Source
+
+-- the result of a walk that added pages to an index, which had this fault at the page at which the walk ended
+abbrev pub result_of : Result Visit WindowFault → Option IndexFault → Result ⊤ HubFault
+result_of (Ok GoesOn) fault = Ok tt
+result_of (Ok Ends) fault = Err (fault_unadded fault)
+result_of (Err wrong) fault = Err Source

@@ -5,23 +5,26 @@ ghost use Rattle.ogg_page.specs.Window.{KeepsSource};
 ghost use Rattle.link_chain.specs.Links.{AreLinks};
 ghost use Rattle.link_index.specs.Adding.{IndexState, IsIndexOf};
 ghost use Rattle.serve_sending.specs.Sending.{HasFailed};
-ghost use Rattle.serve_sessions.specs.Indexing.{IsOfFront, LacksRoom, fault_unadded};
+ghost use Rattle.serve_sessions.specs.Indexing.{IsOfFront, LacksRoom, result_of};
 
-use link_chain::ChainFault;
-use link_index::{Index, links_are_indexed};
-use ogg_page::{PageSource, Window};
+use link_index::{Index, IndexFault, Indexer, links_are_indexed};
+use ogg_page::{PageSource, Visit, Window, WindowFault, walk};
 use serve_machine::HubFault;
 
 /// A file has fewer bytes than this.
 const LENGTHS: u64 = 1 << 63;
 
-/// The fault if a page isn't added.
-fn fault_unadded(fault: ChainFault) -> HubFault
-    ensures { result ≡ fault_unadded fault }
+/// The result if the walk over the pages ended so, with this fault of the index.
+fn result_of(walked: Result<Visit, WindowFault>, fault: Option<IndexFault>) -> Result<(), HubFault>
+    ensures { result ≡ result_of walked fault }
 {
-    match fault {
-        ChainFault::Memory => HubFault::Memory,
-        _ => HubFault::Source,
+    match walked {
+        Ok(Visit::GoesOn) => Ok(()),
+        Ok(Visit::Ends) => match fault {
+            Some(IndexFault::Memory) => Err(HubFault::Memory),
+            _ => Err(HubFault::Source),
+        },
+        Err(_) => Err(HubFault::Source),
     }
 }
 
@@ -53,17 +56,7 @@ pub(crate) fn bring_up<S: PageSource>(
         return Err(HubFault::Source);
     }
     window.set(index.end(), end);
-    'pages: while index.end() < end {
-        match window.advance() {
-            Ok(()) => match window.lent() {
-                Some((_, page)) => match index.add_page(&page) {
-                    Ok(()) => {}
-                    Err(fault) => return Err(fault_unadded(fault)),
-                },
-                None => return Err(HubFault::Source),
-            },
-            Err(_) => return Err(HubFault::Source),
-        }
-    }
-    Ok(())
+    let mut indexer = Indexer::of(index);
+    let walked = walk(window, &mut indexer);
+    result_of(walked, indexer.fault())
 }

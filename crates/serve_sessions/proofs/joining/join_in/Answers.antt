@@ -3,8 +3,7 @@ use Rattle.link_chain.specs.Links.{AreLinks}
 use Rattle.link_index.specs.Adding.{IsIndexOf}
 use Rattle.serve_live.specs.Hearing.{IsHearing}
 use Rattle.serve_machine.specs.declared.fault.HubFault.TheVariants.{Source}
-use Rattle.serve_sessions.proofs.Fronts.{later_failed}
-use Rattle.serve_sessions.proofs.Joined.{same_fault}
+use Rattle.serve_sessions.proofs.Joined.{later_failed, same_fault}
 use Rattle.serve_sessions.proofs.joining.join_in.Goals as goal
 
 pub returns-in-Ok-clause-joins : goal.returns-in-Ok-clause-joins

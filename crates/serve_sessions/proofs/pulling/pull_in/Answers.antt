@@ -1,63 +1,30 @@
-use Rattle.std.proofs.Common.{◌≡◌, Option, Some, None, true, Err, length, refl, sym, ◌∙◌, subst}
-use Rattle.link_chain.specs.Laws.Walked.{no_fault_there}
+use Rattle.std.proofs.Common.{Option, true, Err, length, refl, sym, subst}
 use Rattle.serve_machine.specs.Hub.{Phase, pull_step}
 use Rattle.serve_machine.specs.declared.fault.HubFault.TheVariants.{NoSession}
-use Rattle.serve_sessions.specs.Sessions.{place_in}
-use Rattle.serve_sessions.specs.Laws.Found.{found, not_found}
-use Rattle.serve_sessions.proofs.Listed.{written_back}
 use Rattle.serve_sessions.proofs.Ordered.{order_back, rise_back}
-use Rattle.serve_sessions.proofs.Steps.{phase_there, pull_ok, pull_err}
+use Rattle.serve_sessions.proofs.Steps.{none_there, of_phase, pull_ok, pull_err}
 use Rattle.serve_sessions.proofs.pulling.pull_in.Goals as goal
 
 pub returns-in_default-clause-step : goal.returns-in_default-clause-step
 returns-in_default-clause-step g c sure machine e are =
-    let at : place_in c.args.id c.args.sessions.now.items ≡ None = sym c.place_among.ensures.place ∙ no_fault_there c.place_among.result c.in_default.not-Some in (
-      machine.sessions,
-      are,
-      subst (λ (o : Option Phase). pull_step o true machine c.args.id (length c.args.buffer.now) (Err NoSession) machine) (sym (not_found machine.committed c.args.id c.args.sessions.now.items machine.sessions are at)) (refl, refl),
-    )
+    let none = none_there machine c.args.id _ are c.place_among.ensures.place c.in_default.not-Some in
+    (machine.sessions, are, subst (λ (o : Option Phase). pull_step o true machine c.args.id (length c.args.buffer.now) (Err NoSession) machine) (sym none) (refl, refl))
 
 pub returns-in-Ok-clause-step : goal.returns-in-Ok-clause-step
-returns-in-Ok-clause-step g c sure machine e are =
-    let s = g.S.PageSource in
-    let items = c.args.sessions.now.items in
-    let at : place_in c.args.id items ≡ Some c.in-Some.place = sym c.place_among.ensures.place ∙ c.in-Some.is in
-    let f = found machine.committed c.args.id c.in-Some.place items machine.sessions are at in
-    let d = c.index-as_mut_slice-place.result in
-    let b = s.bytes c.args.window.now.source in
-    pull_ok b machine e c.args.id c.in-Some.place items f d _ c.as_mut_slice.result.now c.as_mut_slice.ensures.value refl _
-    (written_back c.args.sessions.now.len c.in-Some.place items c.as_mut_slice.result.now _ _ c.as_mut_slice.ensures.value c.args.sessions.now.ok.0) (length c.args.buffer.now) _
-    (c.in-Ok.ensures.phase sure f.phase (phase_there b machine e c.args.id c.in-Some.place items f d c.as_mut_slice.result.now c.as_mut_slice.ensures.value))
+returns-in-Ok-clause-step g c sure machine e are = pull_ok machine e c.args.id are c.place_among.ensures.place c.in-Some.is c.as_mut_slice.ensures.value c.args.sessions.now.ok.0 c.index-as_mut_slice-place.result _ _ refl (c.in-Ok.ensures.phase sure)
 
 pub returns-in-Err-clause-step : goal.returns-in-Err-clause-step
 returns-in-Err-clause-step g c sure machine e are =
-    let s = g.S.PageSource in
-    let items = c.args.sessions.now.items in
-    let at : place_in c.args.id items ≡ Some c.in-Some.place = sym c.place_among.ensures.place ∙ c.in-Some.is in
-    let f = found machine.committed c.args.id c.in-Some.place items machine.sessions are at in
-    let d = c.index-as_mut_slice-place.result in
-    let b = s.bytes c.args.window.now.source in
-    pull_err b machine e c.args.id c.in-Some.place items f d _ c.as_mut_slice.result.now c.as_mut_slice.ensures.value refl c.end_after.new.sessions.items _
-    (written_back c.args.sessions.now.len c.in-Some.place items c.as_mut_slice.result.now _ _ c.as_mut_slice.ensures.value c.args.sessions.now.ok.0) c.in-Err.fault c.end_after.ensures.items (length c.args.buffer.now)
-    (c.in-Err.ensures.phase sure f.phase (phase_there b machine e c.args.id c.in-Some.place items f d c.as_mut_slice.result.now c.as_mut_slice.ensures.value))
+    pull_err machine e c.args.id are c.place_among.ensures.place c.in-Some.is c.as_mut_slice.ensures.value c.args.sessions.now.ok.0 c.index-as_mut_slice-place.result _ _ refl _ c.end_after.ensures.items (c.in-Err.ensures.phase sure)
 
 pub returns-in-Err-clause-cause : goal.returns-in-Err-clause-cause
-returns-in-Err-clause-cause g c is sure machine e are =
-    let s = g.S.PageSource in
-    let items = c.args.sessions.now.items in
-    let at : place_in c.args.id items ≡ Some c.in-Some.place = sym c.place_among.ensures.place ∙ c.in-Some.is in
-    let f = found machine.committed c.args.id c.in-Some.place items machine.sessions are at in
-    let d = c.index-as_mut_slice-place.result in
-    let b = s.bytes c.args.window.now.source in
-    c.in-Err.ensures.cause is sure f.phase (phase_there b machine e c.args.id c.in-Some.place items f d c.as_mut_slice.result.now c.as_mut_slice.ensures.value)
+returns-in-Err-clause-cause g c is sure machine e are = of_phase machine e c.args.id are c.place_among.ensures.place c.in-Some.is c.as_mut_slice.ensures.value _ c.index-as_mut_slice-place.result (c.in-Err.ensures.cause is sure)
 
 pub end_after-requires : goal.end_after-requires
-end_after-requires g c = rise_back c.args.sessions.now.len c.in-Some.place c.args.sessions.now.items c.as_mut_slice.result.now _ c.index-as_mut_slice-place.result _ c.as_mut_slice.ensures.value c.args.sessions.now.ok.0 refl c.requires.order
+end_after-requires g c = rise_back c.as_mut_slice.ensures.value c.args.sessions.now.ok.0 c.in-Some.place _ c.index-as_mut_slice-place.result _ refl c.requires.order
 
 pub returns-in-Ok-clause-order : goal.returns-in-Ok-clause-order
-returns-in-Ok-clause-order g c next order = order_back c.args.sessions.now.len c.in-Some.place c.args.sessions.now.items c.as_mut_slice.result.now _ c.index-as_mut_slice-place.result _ c.as_mut_slice.ensures.value c.args.sessions.now.ok.0 refl next order
+returns-in-Ok-clause-order g c = order_back c.as_mut_slice.ensures.value c.args.sessions.now.ok.0 c.in-Some.place _ c.index-as_mut_slice-place.result _ refl
 
 pub returns-in-Err-clause-order : goal.returns-in-Err-clause-order
-returns-in-Err-clause-order g c next order =
-    c.end_after.ensures.order next
-    (order_back c.args.sessions.now.len c.in-Some.place c.args.sessions.now.items c.as_mut_slice.result.now _ c.index-as_mut_slice-place.result _ c.as_mut_slice.ensures.value c.args.sessions.now.ok.0 refl next order)
+returns-in-Err-clause-order g c next order = c.end_after.ensures.order next (order_back c.as_mut_slice.ensures.value c.args.sessions.now.ok.0 c.in-Some.place _ c.index-as_mut_slice-place.result _ refl next order)
