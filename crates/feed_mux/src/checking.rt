@@ -137,8 +137,5 @@ pub fn check_feed_for<A: Ahead<R>, R: Read, S: Replies>(
 {
     let mut checker = Checker::new(alloc);
     let mut none = io::sink();
-    match run_feed_for::<A, Checker, R, Sink, S>(alloc, &mut checker, reader, &mut none, replies) {
-        Ok(tally) => Ok(tally),
-        Err(fault) => Err(fault),
-    }
+    run_feed_for::<A, Checker, R, Sink, S>(alloc, &mut checker, reader, &mut none, replies)
 }

@@ -121,8 +121,5 @@ pub fn mux_for<A: Ahead<R>, R: Read, P: Write, S: Replies>(
         (streams_to (R.remaining reader.new) (P.contents pages.new) (S.lines replies.new) S.waits (S.enough replies.new)) at_start behind) }
 {
     let mut multiplexer = Multiplexer::new(alloc);
-    match run_feed_for::<A, Multiplexer, R, P, S>(alloc, &mut multiplexer, reader, pages, replies) {
-        Ok(tally) => Ok(tally),
-        Err(fault) => Err(fault),
-    }
+    run_feed_for::<A, Multiplexer, R, P, S>(alloc, &mut multiplexer, reader, pages, replies)
 }

@@ -1,8 +1,9 @@
 -- What is out of lines that wait.
 use Rattle.std.proofs.Common.{◌≡◌, ◌<◌, ◌++◌, ◌∙◌, ℕ, List, Option, Some, None, sym, ap, subst, arith, take, drop, length, append_assoc, length-append, length-drop}
-use Rattle.std.proofs.KnownBytes.{Appends-nil, Appends-trans, Keeps-trans}
+use Rattle.std.proofs.KnownBytes.{Appends-trans, Keeps-trans}
 use Rattle.std.proofs.Math.Seq.{take-length}
 use Rattle.std.proofs.lemmas.List.{append_cancel_left, take-append-le}
+use Rattle.std.proofs.lemmas.Result.{on_err_weaker}
 use Rattle.std.specs.Prelude.{OnErr, Result, Ok, Err, codes}
 use Rattle.std.specs.Fmt.{decimal}
 use Rattle.std.specs.Io.KnownBytes.{Appends, Keeps, append_known}
@@ -22,9 +23,6 @@ all_out a b text all = (length text, omega arith, subst (Appends a b) (sym (take
 
 pub front_out : (a b : Option (List ℕ)) (text : List ℕ) (count : ℕ) → count < length text → Appends a b (take count text) → WritesPrefix a b text
 front_out a b text count less part = (count, omega (arith, less), part)
-
-pub none_out : (a : Option (List ℕ)) (text : List ℕ) → WritesPrefix a a text
-none_out a text = (0, omega arith, Appends-nil a)
 
 -- what is left of a text after a part of it
 pub some_left : (text : List ℕ) (count : ℕ) → count < length text → 0 < length (drop count text)
@@ -75,14 +73,16 @@ pub line_left : (a b : Option (List ℕ)) (one two : List ℕ) (reply : Reply) �
 line_left a b one two reply (n, within, out) kept =
     part_out a b (one ++ reply_line reply) (take n one) (two ++ reply_line reply) out (kept_more a b one two (reply_line reply) kept) (some_more two reply) (some_more one reply)
 
--- the line was put behind the others, and then not all of them went out
-pub lines_left : (a b c : Option (List ℕ)) (one two with left : List ℕ) (reply : Reply) → WritesPrefix a b one → Keeps (append_known a one) (append_known b two)
-    → with ≡ two ++ reply_line reply → WritesPrefix b c with → Keeps (append_known b with) (append_known c left) → (0 < length with → 0 < length left)
-    → WritesPart a c (one ++ reply_line reply)
-lines_left a b c one two with left reply (n, within, out) kept told (m, inside, more) sent some =
+-- the line was put behind the others, and then they are sent: if that fails, not all of them went out
+pub lines_left : {T E : Type 0} (result : Result T E) (a b c : Option (List ℕ)) (one two with left : List ℕ) (reply : Reply) → WritesPrefix a b one
+    → Keeps (append_known a one) (append_known b two) → with ≡ two ++ reply_line reply → WritesPrefix b c with → Keeps (append_known b with) (append_known c left)
+    → (0 < length with → OnErr result (0 < length left)) → OnErr result (WritesPart a c (one ++ reply_line reply))
+lines_left result a b c one two with left reply (n, within, out) kept told (m, inside, more) sent some =
     let line = reply_line reply in
     let before : Keeps (append_known a (one ++ line)) (append_known b with) =
     subst (λ (l : List ℕ). Keeps (append_known a (one ++ line)) (append_known b l)) (sym told) (kept_more a b one two line kept) in
     let full : 0 < length with = subst (λ (l : List ℕ). 0 < length l) (sym told) (some_more two reply) in
-    part_out a c (one ++ line) (take n one ++ take m with) left (Appends-trans a b c (take n one) (take m with) out more)
-    (Keeps-trans (append_known a (one ++ line)) (append_known b with) (append_known c left) before sent) (some full) (some_more one reply)
+    on_err_weaker result
+    (λ rest. part_out a c (one ++ line) (take n one ++ take m with) left (Appends-trans a b c (take n one) (take m with) out more)
+    (Keeps-trans (append_known a (one ++ line)) (append_known b with) (append_known c left) before sent) rest (some_more one reply))
+    (some full)

@@ -1,21 +1,15 @@
 -- What stays while nothing is written, and what then comes.
 use Rattle.std.proofs.Common.{◌≡◌, ◌++◌, ◌∙◌, ℕ, List, [], Option, Some, None, Bool, true, false, Ok, Err, refl, sym, ap, subst, inl, inr, take, drop, append_assoc, append-nil, take-append-drop, length, arith}
-use Rattle.std.proofs.KnownBytes.{Appends-nil, Keeps-refl, Keeps-trans}
+use Rattle.std.proofs.KnownBytes.{Appends-nil, Keeps-trans}
 use Rattle.std.proofs.Math.Seq.{take-length}
 use Rattle.std.specs.Io.KnownBytes.{Appends, Keeps, append_known}
 use Rattle.ogg_page.specs.Output.{WritesPart, WritesPrefix}
 use Rattle.feed_replies.specs.declared.fault.RunFault.TheVariants.{Feed, Write, TooMany}
 use Rattle.feed_records.specs.declared.version.Version.{Version}
-use Rattle.feed_codec.specs.Feed.{FeedState, GivesEnd}
-use Rattle.feed_run.specs.declared.next.Next.{Next}
-use Rattle.feed_run.specs.declared.next.Next.TheVariants.{Run, Close}
+use Rattle.feed_codec.specs.Feed.{GivesEnd}
 use Rattle.feed_replies.specs.Reply.{reply_line}
 use Rattle.feed_replies.specs.declared.reply.Reply.{Reply}
-use Rattle.feed_run.specs.Run.{Comes, EndsFeed, Leaves, Outcome, Stays, StopsAt, TellsPart}
-
-pub stays_refl : (waits : Bool) (a : Option (List ℕ)) → Stays waits a a
-stays_refl false a = refl
-stays_refl true a = Keeps-refl a
+use Rattle.feed_run.specs.Run.{EndsFeed, Leaves, Outcome, Stays, StopsAt, TellsPart}
 
 pub stays_trans : (waits : Bool) (a b c : Option (List ℕ)) → Stays waits a b → Stays waits b c → Stays waits a c
 stays_trans false a b c p q = q ∙ p
@@ -27,13 +21,6 @@ stays_appends true None b c text p q = tt
 stays_appends true (Some x) None c text p q = absurd p
 stays_appends true (Some x) (Some y) None text p q = absurd q
 stays_appends true (Some x) (Some y) (Some z) text p q = q ∙ ap (λ l. l ++ text) p
-
-pub appends_stays : (waits : Bool) (a b c : Option (List ℕ)) (text : List ℕ) → Appends a b text → Stays waits b c → Appends a c text
-appends_stays false a b c text p q = subst (λ x. Appends a x text) (sym q) p
-appends_stays true None b c text p q = tt
-appends_stays true (Some x) None c text p q = absurd p
-appends_stays true (Some x) (Some y) None text p q = absurd q
-appends_stays true (Some x) (Some y) (Some z) text p q = q ∙ p
 
 pub stays_prefix : (waits : Bool) (a b c : Option (List ℕ)) (text : List ℕ) → Stays waits a b → WritesPrefix b c text → WritesPrefix a c text
 stays_prefix waits a b c text p (n, within, q) = (n, within, stays_appends waits a b c _ p q)
@@ -49,14 +36,6 @@ stays_told true a b c line p told = stays_prefix true a b c line p told
 ends_for : (enough : Bool) (known : Option Version) (old new : Option (List ℕ)) → GivesEnd known old new → EndsFeed enough known old new
 ends_for false known old new end = end
 ends_for true known old new end = inl end
-
-pub comes_for : (next : Next) (was now : FeedState) (count : ℕ) (enough : Bool) (old new : Option (List ℕ))
-    → Comes next was now count false old new → Comes next was now count enough old new
-comes_for (Run given) was now count enough old new comes = comes
-comes_for (Close (Ok _)) was now count enough old new comes = ends_for enough was.version old new comes
-comes_for (Close (Err (Feed fault))) was now count enough old new comes = comes
-comes_for (Close (Err TooMany)) was now count enough old new comes = comes
-comes_for (Close (Err Write)) was now count enough old new comes = comes
 
 -- of bytes that wait, these were written, and the others wait
 pub drained : (a b : Option (List ℕ)) (text : List ℕ) (count : ℕ) → Appends a b (take count text)

@@ -139,10 +139,7 @@ impl<W: Write + Drop> Replies for Batched<W> {
         self.send_unless(has_room, pages)?;
         write_reply(reply, &mut self.waiting)?;
         let waits = self.may_wait(reply);
-        match self.send_unless(waits, pages) {
-            Ok(()) => Ok(()),
-            Err(fault) => Err(fault),
-        }
+        self.send_unless(waits, pages)
     }
 
     fn ready<P: Write>(&mut self, pages: &mut P)

@@ -12,21 +12,22 @@ returns-in_err-write_reply-clause-part g c =
     on_err c.from_residual-in_err-write_reply.result _
     (line_left (out before.out) (out sent.out) before.waiting.items sent.waiting.items c.args.reply.now c.in_ok-send_unless.ensures.out c.in_ok-send_unless.ensures.lines)
 
-pub returns-in-Err-clause-part : goal.returns-in-Err-clause-part
-returns-in-Err-clause-part g c =
+pub returns-clause-part : goal.returns-clause-part
+returns-clause-part g c =
     let out = g.W.Write.contents in
     let before = c.args.self.now in
     let sent = c.send_unless.new.self in
     let last = c.send_unless-2.new.self in
-    lines_left (out before.out) (out sent.out) (out last.out) before.waiting.items sent.waiting.items c.write_reply.new.writer.items last.waiting.items c.args.reply.now
-    c.in_ok-send_unless.ensures.out c.in_ok-send_unless.ensures.lines c.in_ok-write_reply.ensures.ok
-    c.in-Err.ensures.out c.in-Err.ensures.lines c.in-Err.ensures.left
+    lines_left c.send_unless-2.result (out before.out) (out sent.out) (out last.out) before.waiting.items sent.waiting.items c.write_reply.new.writer.items last.waiting.items
+    c.args.reply.now c.in_ok-send_unless.ensures.out c.in_ok-send_unless.ensures.lines c.in_ok-write_reply.ensures.ok
+    c.send_unless-2.ensures.out c.send_unless-2.ensures.lines c.send_unless-2.ensures.left
 
-pub returns-in-Err-clause-err : goal.returns-in-Err-clause-err
-returns-in-Err-clause-err g c =
+pub returns-clause-err : goal.returns-clause-err
+returns-clause-err g c =
     let out = g.W.Write.contents in
     let before = c.args.self.now in
     let last = c.send_unless-2.new.self in
-    told_so_far (append_known (out before.out) before.waiting.items) (out c.send_unless.new.self.out) (append_known (out last.out) last.waiting.items)
+    on_err c.send_unless-2.result _
+    (told_so_far (append_known (out before.out) before.waiting.items) (out c.send_unless.new.self.out) (append_known (out last.out) last.waiting.items)
     c.send_unless.new.self.waiting.items c.write_reply.new.writer.items (reply_line c.args.reply.now)
-    c.in_ok-send_unless.ensures.lines c.in_ok-write_reply.ensures.ok c.in-Err.ensures.lines
+    c.in_ok-send_unless.ensures.lines c.in_ok-write_reply.ensures.ok c.send_unless-2.ensures.lines)
