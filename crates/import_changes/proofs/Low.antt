@@ -5,9 +5,8 @@ use Rattle.std.specs.List.{AllZip, IsDistinct, list_any}
 use Rattle.std.specs.Map.{keys_of, values_of}
 use Rattle.std.proofs.lemmas.List.Folds.{list_any-append}
 use Rattle.ogg_command.specs.declared.command.NewStream.{NewStream}
-use Rattle.import_changes.specs.Changed.{ChangeState}
-use Rattle.import_changes.specs.Naming.{AreNamed, AreOnlyOf, IsLow, named, serials_of, stream_named}
-use Rattle.import_changes.specs.Steps.{AreNamedFor, IsDescribedUnder, Names}
+use Rattle.import_changes.specs.Naming.{AreNamed, AreOnlyOf, IsLow, serials_of, stream_named}
+use Rattle.import_changes.specs.Steps.{IsDescribedUnder}
 use Rattle.import_changes.proofs.Begins.{described_serials}
 use Rattle.import_changes.proofs.Renumbers.{names_are}
 use Rattle.import_changes.proofs.Steps.{named_serials}
@@ -43,8 +42,3 @@ low_described given serial names said stay now low once all only described is =
     subst (λ l. IsLow (given ++ serial ∷ l) [] low) (sym (described_serials names said stay now described))
     (subst (λ l. IsLow l [] low) (append_assoc given (serial ∷ []) (serials_of (map (stream_named names) stay)))
     (low_begun (given ++ serial ∷ []) names stay low once all only (low_given given (serial ∷ []) (values_of names) low is)))
-
--- streams that are named
-pub named_for : (old new : ChangeState) (streams : List NewStream) (low : ℕ) → Names old new streams
-    → IsLow new.given (values_of new.names) low → AreNamedFor new streams low
-named_for old new streams low by is = record { once = by.names.once; named = by.named; only = by.only; taken = is }

@@ -164,10 +164,6 @@ had_more earlier serials more n e =
 pub low_more : (given more : List ℕ) (low : ℕ) → IsLow given [] low → IsLow given more low
 low_more given more low is n less = had_more given [] more n (is n less)
 
--- what isn't avoided may be taken all the same
-pub low_beside : (given serials : List ℕ) (low : ℕ) → IsLow [] serials low → IsLow given serials low
-low_beside given serials low is n less = ap (λ b. list_any (nat_eq n) given || b) (is n less) ∙ or-true (list_any (nat_eq n) given)
-
 -- a serial more is taken, which was the first free one
 pub low_named : (given : List ℕ) (names : List (ℕ × ℕ)) (serial now : ℕ) → IsFirstFree 0 given (values_of names) now
     → IsLow given (values_of (names ++ (serial, now) ∷ [])) now

@@ -198,14 +198,8 @@ impl Changes {
             return Ok(Some(command));
         }
         match command {
-            Command::Begin(begin) => match self.begin(begin) {
-                Ok(now) => Ok(Some(now)),
-                Err(refused) => Err(refused),
-            },
-            Command::Put(put) => match self.put(put) {
-                Ok(now) => Ok(now),
-                Err(refused) => Err(refused),
-            },
+            Command::Begin(begin) => self.begin(begin).map(Some),
+            Command::Put(put) => self.put(put),
             Command::End(serial) => Ok(self.end(serial)),
         }
     }

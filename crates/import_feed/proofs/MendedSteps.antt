@@ -1,6 +1,6 @@
 -- What each step of a mended feed leaves.
 use Rattle.std.proofs.Common.{◌≡◌, ℕ, ◌+◌, Bool, true, false, if◌then◌else◌, Option, Ok, Err, List, [], ◌∷◌, ◌++◌, length, refl, sym, ◌∙◌, ap, subst, arith, append-nil, length-append}
-use Rattle.std.specs.Prelude.{Result, ◌-◌, ◌^◌, min, IfOk, IfErr}
+use Rattle.std.specs.Prelude.{OnOk, Result, ◌-◌, ◌^◌, min, IfOk, IfErr}
 use Rattle.std.specs.List.{AllByRecursion, filter, flat_map}
 use Rattle.std.specs.Io.KnownBytes.{Appends}
 use Rattle.std.proofs.lemmas.List.Concat.{flat_map-append}
@@ -18,7 +18,7 @@ use Rattle.import_changes.specs.Changed.{ChangeState, HasChanged, IsPlain}
 use Rattle.import_changes.specs.declared.options.ChangeOptions.{ChangeOptions}
 use Rattle.feed_records.specs.Record.{announcement}
 use Rattle.import_feed.specs.Feed.{Fits, GivesNot, feed_of, records_of}
-use Rattle.import_feed.specs.Mending.{AreJoined, AreSteps, AreTold, BreaksMended, ClosesWell, EndsMended, FinishesMended, GivesMended, GivesMendedNot, GivesNoMore}
+use Rattle.import_feed.specs.Mending.{AreJoined, AreSteps, AreTold, BreaksMended, ClosesMended, ClosesWell, EndsMended, FinishesMended, GivesMended, GivesMendedNot, GivesNoMore}
 use Rattle.import_feed.specs.Mending.{HasMended, HaveEnded, ImportStep, IsChangedAs, IsImportStep, IsMendedFeed, IsMendingStart, IsNextFault, MendsFeed, StillMends, StopsMended}
 use Rattle.import_feed.specs.Mending.{StopsReading, TakesAllMended, TakesStep, Telling, TurnsMended, begun_in, commands_of, has_page, mended_by, told_by, told_of}
 use Rattle.import_feed.specs.Turn.{of_input}
@@ -330,19 +330,6 @@ read_stops tells options Limit before now0 now1 unaware aware0 aware1 mending is
 read_stops tells options Write before now0 now1 unaware aware0 aware1 mending is stops feed = cc
 read_stops tells options Memory before now0 now1 unaware aware0 aware1 mending is stops feed = cc
 
-pub own_stops_mended : {M : Type 0} (tells : M → Telling → M → Type 0) (options : ChangeOptions) (fault : MakingFault) (before now : Option (List ℕ)) (unaware aware : M)
-    (mending : Mending) → of_input fault ≡ false → TakesAllMended tells options (Err fault) before now unaware aware mending
-    → StopsMended tells options fault before now unaware aware
-own_stops_mended tells options Limit before now unaware aware mending is stops = stops
-own_stops_mended tells options Write before now unaware aware mending is stops = stops
-own_stops_mended tells options Memory before now unaware aware mending is stops = stops
-own_stops_mended tells options (Read at) before now unaware aware mending is stops = cc
-own_stops_mended tells options (TooLong at) before now unaware aware mending is stops = cc
-own_stops_mended tells options (Page at fault) before now unaware aware mending is stops = cc
-own_stops_mended tells options (Chain at fault) before now unaware aware mending is stops = cc
-own_stops_mended tells options (PacketTooLong at) before now unaware aware mending is stops = cc
-own_stops_mended tells options (Unfinished at serial) before now unaware aware mending is stops = cc
-
 -- ---- which turn it was
 pub mended_true : {M : Type 0} (tells : M → Telling → M → Type 0) (options : ChangeOptions) (b : Bool) (before now : Option (List ℕ)) (unaware aware : M)
     (mending : Mending) → b ≡ true → TurnsMended tells options (Ok b) before now unaware aware mending
@@ -426,3 +413,10 @@ pub mended_stopped : {M : Type 0} (tells : M → Telling → M → Type 0) (opti
     (unaware aware : M) → FinishesMended tells options result before now unaware aware → IfErr result (λ fault. StopsMended tells options fault before now unaware aware)
 mended_stopped tells options (Ok made) before now unaware aware is = tt
 mended_stopped tells options (Err fault) before now unaware aware is = is
+
+-- the end, by what became of the last commands
+pub closes_by : {M : Type 0} (tells : M → Telling → M → Type 0) (options : ChangeOptions) (result : Result (Unit {0}) MakingFault) (before now : Option (List ℕ)) (unaware aware : M)
+    (steps : List ImportStep) (old new : Mending) → OnOk result (ClosesWell tells options before now unaware aware steps old new)
+    → IfErr result (λ fault. StopsMended tells options fault before now unaware aware) → ClosesMended tells options result before now unaware aware steps old new
+closes_by tells options (Ok done) before now unaware aware steps old new well stops = well
+closes_by tells options (Err fault) before now unaware aware steps old new well stops = stops

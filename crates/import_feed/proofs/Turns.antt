@@ -1,5 +1,5 @@
 -- What each turn leaves.
-use Rattle.std.proofs.Common.{◌≡◌, ◌≢◌, ℕ, ◌+◌, ◌<◌, Bool, true, false, if◌then◌else◌, Option, Some, None, Ok, Err, List, [], ◌∷◌, ◌++◌, length, take, refl, sym, ◌∙◌, ap, subst, arith, append_assoc, length-append}
+use Rattle.std.proofs.Common.{◌≡◌, ◌≢◌, ℕ, ◌+◌, ◌<◌, Bool, true, false, if◌then◌else◌, Option, Some, None, Result, Ok, Err, IfErr, OnOk, List, [], ◌∷◌, ◌++◌, length, take, refl, sym, ◌∙◌, ap, subst, arith, append_assoc, length-append}
 use Rattle.std.specs.List.{AllByRecursion}
 use Rattle.std.specs.Io.KnownBytes.{Appends, Consumes}
 use Rattle.std.proofs.KnownBytes.{Appends-nil, Appends-trans, Consumes-trans}
@@ -19,7 +19,7 @@ use Rattle.import_feed.specs.Source.{GoesFurther, HasSourced, Sourced, gathered_
 use Rattle.feed_records.specs.Record.{announcement}
 use Rattle.import_feed.specs.Feed.{Fits, GivesNot, HasTooLong, feed_of, record_bytes, records_of}
 use Rattle.import_feed.specs.Making.{Breaks, HasGiven, HasTaken, IsFaultOfInput}
-use Rattle.import_feed.specs.Turn.{EndsAt, Gives, GivesNoFurther, GoesOn, HasMade, IsFaultBehind, MeetsFault, NextOf, StillMakes, TakesPage, Turns}
+use Rattle.import_feed.specs.Turn.{Closes, EndsAt, Gives, GivesNoFurther, GivesRest, GivesRestNot, GoesOn, HasMade, IsFaultBehind, MeetsFault, NextOf, StillMakes, TakesPage, Turns}
 use Rattle.import_feed.specs.declared.maker.Maker.{Maker}
 use Rattle.import_feed.specs.declared.fault.MakingFault.{MakingFault}
 use Rattle.import_feed.specs.declared.fault.MakingFault.TheVariants.{Page, Chain, PacketTooLong, Unfinished, TooLong, Read, Limit, Write, Memory}
@@ -280,3 +280,9 @@ turn_breaks options fault from left0 left1 before now0 now1 old mid after links 
       };
     })
     (λ long all. long (subst (AllByRecursion Fits) (sym t.gathers.appended) (later_of Fits given more all)))
+
+-- the end, by what became of the last commands
+pub closes_by : (result : Result (Unit {0}) MakingFault) (old new : Maker) (before now : Option (List ℕ)) → OnOk result (GivesRest old new before now)
+    → IfErr result (λ fault. GivesRestNot fault old before now) → Closes result old new before now
+closes_by (Ok done) old new before now rest not = rest
+closes_by (Err fault) old new before now rest not = not

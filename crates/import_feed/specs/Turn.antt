@@ -11,7 +11,7 @@ use Rattle.link_chain.specs.Taking.{fault_of_page}
 use Rattle.ogg_command.specs.declared.command.Command.{Command}
 use Rattle.import_gather.specs.Kept.{is_too_long, waits}
 use Rattle.import_gather.specs.Gathered.{Gathered}
-use Rattle.import_feed.specs.Source.{Gathers, GoesFurther, HasSourced, Sourced, gathered_of}
+use Rattle.import_feed.specs.Source.{Gathers, GoesFurther, HasSourced, Sourced}
 use Rattle.import_feed.specs.Feed.{Fits, GivesNot, records_of}
 use Rattle.import_feed.specs.Making.{BeginsWith, Breaks, BreaksAtLimit, HasGiven, HasTaken, IsFaultOfInput, MakesFeed, Stops}
 use Rattle.import_feed.specs.declared.made.Made.{Made}

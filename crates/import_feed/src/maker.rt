@@ -122,10 +122,7 @@ impl Maker {
             Ok(commands) => self.commands = commands,
             Err(_) => return Err(MakingFault::Memory),
         }
-        match self.give(writer) {
-            Ok(()) => Ok(()),
-            Err(fault) => Err(fault),
-        }
+        self.give(writer)
     }
 }
 

@@ -129,9 +129,6 @@ impl Mending {
             Err(_) => return Err(MakingFault::Memory),
         };
         tell_end(mends, mend, commands.as_slice());
-        match self.give(commands, writer) {
-            Ok(()) => Ok(()),
-            Err(fault) => Err(fault),
-        }
+        self.give(commands, writer)
     }
 }

@@ -20,10 +20,6 @@ use Rattle.import_mend.proofs.Kept.{with_is_page, flagged, either_page, front_fi
 use Rattle.import_mend.proofs.Lacings.{full_sum, full_values, none_whole, some_both, whole_closed, whole_front, whole_later, whole_within}
 use Rattle.ogg_page.specs.Laws.PageBytes.{all_both}
 
--- ---- a page
-loses_flag : Page → Bool
-loses_flag page = is_continued page && not (ends_some page.lacing)
-
 pub cut_is_page : (page : Page) → IsPage page → IsPage (cut_page page)
 cut_is_page page is = flagged (cut_flags page) (with_values (whole_values page.lacing) page) (small (is_continued page && not (ends_some page.lacing))) (with_is_page (whole_values page.lacing) page is)
   where

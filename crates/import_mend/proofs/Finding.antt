@@ -1,5 +1,5 @@
 -- Bytes of no page are passed over, up to the next page.
-use Rattle.std.proofs.Common.{◌≡◌, ◌≢◌, ℕ, ◌+◌, ◌-◌, ◌^◌, ◌≤◌, ◌<◌, List, [], ◌∷◌, ◌++◌, Option, Some, None, Result, Err, refl, sym, ◌∙◌, subst, arith, inl, inr}
+use Rattle.std.proofs.Common.{◌≡◌, ◌≢◌, ℕ, ◌+◌, ◌-◌, ◌^◌, ◌≤◌, ◌<◌, List, [], ◌∷◌, ◌++◌, Option, Some, None, Result, Err, refl, sym, ◌∙◌, subst, arith, inl}
 use Rattle.std.specs.Prelude.{min, sum}
 use Rattle.std.proofs.lemmas.List.Sums.{sum_by-append, sum_by-cons}
 use Rattle.import_pages.specs.Reader.{HasAdvanced, GivesFault, PassesOver, ReaderState}
@@ -56,9 +56,3 @@ pub is_found : (old : ReaderState) (from : Option (List ℕ)) (state : ReaderSta
     → Passing old from state middle before junk turns → HasAdvanced state middle result new left → FindsNext old from result new left before junk
 is_found old from state middle before junk turns result new left p found =
     record { counts = p.counts; passed = state; rest = middle; passes = p.passes; junk = p.junk; found = inl found }
-
--- so many turns are never taken, but they end
-pub all_turns : (old : ReaderState) (from : Option (List ℕ)) (state : ReaderState) (left : Option (List ℕ)) (before junk turns : ℕ) (result : Result (Unit {0}) PageReaderFault)
-    → Passing old from state left before junk turns → 2 ^ 64 - 1 ≤ turns → FindsNext old from result state left before junk
-all_turns old from state left before junk turns result p many =
-    record { counts = p.counts; passed = state; rest = left; passes = p.passes; junk = p.junk; found = inr (omega (arith, p.turned, many)) }

@@ -1,4 +1,5 @@
 pub mod RunOn
+pub mod Stepped
 pub mod Turns
 pub mod Pushed
 pub mod Pushes

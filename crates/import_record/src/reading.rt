@@ -134,10 +134,7 @@ impl ImportRun {
             return Ok(Step::Flushed(runner.run_flush()));
         }
         match self.pages.advance(reader) {
-            Ok(()) => match self.take(runner, pages) {
-                Ok(step) => Ok(step),
-                Err(fault) => Err(fault),
-            },
+            Ok(()) => self.take(runner, pages),
             Err(PageReaderFault::Read) => Err(RecordFault::Read),
             Err(PageReaderFault::Page(_)) => {
                 self.junk = self.junk.saturating_add(self.pages.pass_over() as u64);

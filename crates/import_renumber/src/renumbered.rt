@@ -234,10 +234,7 @@ impl<T: Runner> Renumbered<T> {
             Ok(now) => now,
             Err(_) => return Ok(Reply::Refused(Refusal::Memory)),
         };
-        match self.below.run_command(&now, pages) {
-            Ok(reply) => Ok(reply),
-            Err(fault) => Err(fault),
-        }
+        self.below.run_command(&now, pages)
     }
 
     /// Has a stream ended under the serial that it has now.
@@ -255,10 +252,7 @@ impl<T: Runner> Renumbered<T> {
             Ok(now) => now,
             Err(_) => return Ok(Reply::Refused(Refusal::Memory)),
         };
-        match self.below.run_command(&now, pages) {
-            Ok(reply) => Ok(reply),
-            Err(fault) => Err(fault),
-        }
+        self.below.run_command(&now, pages)
     }
 }
 

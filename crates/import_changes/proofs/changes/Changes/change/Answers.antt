@@ -1,21 +1,36 @@
-use Rattle.std.proofs.Common.{sym, ◌∙◌, ap, subst}
-use Rattle.import_changes.specs.Changed.{IsPlain, ChangeState}
+use Rattle.std.proofs.Common.{◌≡◌, [], ◌∷◌, ◌++◌, sym, ◌∙◌, ap, subst, Result, Ok, Err, Option, Some, IfOk, IsOkAnd, MatchResult}
+use Rattle.std.proofs.lemmas.Result.{IfOk-weaker}
+use Rattle.ogg_command.specs.declared.command.Command.TheVariants.{Put as PutOf}
+use Rattle.import_changes.specs.Changed.{HasChangedBeside, IsPlain, ChangeState}
 use Rattle.import_changes.specs.Options.{is_none}
+use Rattle.import_changes.specs.Steps.{option_list}
 use Rattle.import_changes.proofs.Steps.{begin_changed, put_changed, end_changed, same_command}
 use Rattle.import_changes.proofs.changes.Changes.change.Goals as goal
 
-pub returns-in-Ok-clause-changed : goal.returns-in-Ok-clause-changed
-returns-in-Ok-clause-changed c = λ taken commands given h plain.
-    rw c.in-Begin.is
-    (begin_changed taken c.args.self.now c.begin.new.self c.in-Begin.begin c.in-Ok.now commands given
-    (ap (λ (s : ChangeState). is_none s.options) (sym c.self.view_is) ∙ sym c.is_none.ensures ∙ c.if-is_none.false)
-    (subst IsPlain c.in-Begin.is plain) c.in-Ok.ensures.begins h)
+-- what comes of a value that `Some` is put round
+some_of : {T E : Type 0} (made : Result T E) (result : Result (Option T) E) (P : T → Type 0) (Q : Option T → Type 0)
+    → MatchResult made (λ x. IsOkAnd result (λ y. y ≡ Some x)) (λ e. result ≡ Err e) → ((x : T) → P x → Q (Some x)) → IfOk made P → IfOk result Q
+some_of (Ok x) (Ok y) P Q is give p = subst Q (sym is) (give x p)
+some_of (Ok x) (Err e) P Q is give p = tt
+some_of (Err e) result P Q is give p = rw is tt
 
-pub returns-in-Ok-put-clause-changed : goal.returns-in-Ok-put-clause-changed
-returns-in-Ok-put-clause-changed c = λ taken commands given h plain.
-    rw (c.in-Put.is, c.in-Ok-put.ensures)
+pub returns-in-Begin-clause-changed : goal.returns-in-Begin-clause-changed
+returns-in-Begin-clause-changed c =
+    some_of c.begin.result c.map.result _ _ c.map.ensures.cases
+    (λ now begins taken commands given h plain. rw c.in-Begin.is
+    (begin_changed taken c.args.self.now c.begin.new.self c.in-Begin.begin now commands given
+    (ap (λ (s : ChangeState). is_none s.options) (sym c.self.view_is) ∙ sym c.is_none.ensures ∙ c.if-is_none.false)
+    (subst IsPlain c.in-Begin.is plain) begins h))
+    c.begin.ensures.begins
+
+pub returns-in-Put-clause-changed : goal.returns-in-Put-clause-changed
+returns-in-Put-clause-changed c =
+    IfOk-weaker c.put.result _ _
+    (λ now is taken commands given h plain. rw c.in-Put.is
+    (subst (λ o. HasChangedBeside taken c.args.self.now (commands ++ PutOf c.in-Put.put ∷ []) (given ++ option_list o)) (sym is)
     (put_changed taken c.args.self.now c.in-Put.put commands given
-    (ap (λ (s : ChangeState). is_none s.options) (sym c.self.view_is) ∙ sym c.is_none.ensures ∙ c.if-is_none.false) h)
+    (ap (λ (s : ChangeState). is_none s.options) (sym c.self.view_is) ∙ sym c.is_none.ensures ∙ c.if-is_none.false) h)))
+    c.put.ensures
 
 pub returns-in-End-clause-changed : goal.returns-in-End-clause-changed
 returns-in-End-clause-changed c = λ taken commands given h plain.
