@@ -1,5 +1,5 @@
 -- The end of a walk over pages.
-use Rattle.std.proofs.Common.{min, ◌≡◌, ◌≢◌, Bool, true, false, ℕ, ◌-◌, ◌<◌, List, [], ◌∷◌, ◌++◌, length, take, drop, get_or, refl, sym, ◌∙◌, ap, subst, arith, length-append, Ok, Err}
+use Rattle.std.proofs.Common.{min, ◌≡◌, ◌≢◌, Bool, true, false, ℕ, ◌-◌, ◌<◌, List, [], ◌∷◌, ◌++◌, length, take, drop, get_or, refl, sym, ◌∙◌, ap, subst, arith, length-append, Result, Ok, Err}
 use Rattle.std.specs.Prelude.{not, ⊤}
 use Rattle.std.proofs.lemmas.Grind.{common_steps}
 use Rattle.std.proofs.lemmas.List.{take_at, take_all}
@@ -8,6 +8,7 @@ use Rattle.disk_model.specs.Torn.{settled_image}
 use Rattle.ogg_page.specs.Page.{Page as PageValue, bytes_of_pages}
 use Rattle.ogg_page.specs.ReadingLaws.{fault_is_no_page}
 use Rattle.ogg_page.specs.declared.fault.PageFault.{PageFault}
+use Rattle.ogg_page.specs.declared.fault.WindowFault.{WindowFault}
 use Rattle.ogg_page.specs.declared.fault.WindowFault.TheVariants.{Page}
 use Rattle.gate_file.specs.Commit.{capture, IsTail, CommitsTo}
 use Rattle.gate_file.specs.CommitLaws.{commits}
@@ -78,10 +79,17 @@ damaged_there pages contents at size fault after long first more =
     }
 
 -- the place of a fault lies inside
-pub place_inside : (pages : List PageValue) (contents : List ℕ) (place size : ℕ) (fault : PageFault) → EndsAfter pages (all_of contents) (Err (Page place fault)) → length contents ≡ size
+place_inside : (pages : List PageValue) (contents : List ℕ) (place size : ℕ) (fault : PageFault) → EndsAfter pages (all_of contents) (Err (Page place fault)) → length contents ≡ size
     → (at : ℕ) → at ≡ min place size → at ≡ place
 place_inside pages contents place size fault after long at is =
     omega (arith, is, after.ended.0, long, ap length after.joined, length-append (bytes_of_pages pages) after.rest)
+
+-- a walk that met a faulty page ended there, after the pages in front of it
+pub ended_at : (pages : List PageValue) (contents : List ℕ) (walked : Result (Unit {0}) WindowFault) (wrong : WindowFault) (place at size : ℕ) (fault : PageFault) → walked ≡ Err wrong → wrong ≡ Page place fault
+    → EndsAfter pages (all_of contents) walked → length contents ≡ size → at ≡ min place size → EndsAfter pages (all_of contents) (Err (Page at fault))
+ended_at pages contents walked wrong place at size fault failed is after long least =
+    let told = subst (λ r. EndsAfter pages (all_of contents) r) (failed ∙ ap Err is) after in
+    subst (λ k. EndsAfter pages (all_of contents) (Err (Page k fault))) (sym (place_inside pages contents place size fault told long at least)) told
 
 some_rest : (rest : List ℕ) → rest ≢ [] → 0 < length rest
 some_rest [] some = absurd (some refl)

@@ -2,7 +2,6 @@
 use Rattle.std.proofs.Common.{◌≡◌, ℕ, ◌+◌, ◌<◌, ◌≤◌, ◌^◌, Bool, true, false, List, length, take, sym, subst, arith}
 use Rattle.std.proofs.lemmas.Grind.{common_steps}
 use Rattle.disk_model.specs.declared.disk.Disk.{Ghosts as DiskModel}
-use Rattle.disk_model.specs.Image.{DiskState}
 use Rattle.gate_file.specs.Gate.{IsStaged, IsStagedWhole, IsReadyAt}
 use Rattle.gate_file.specs.GateFile.{gate_state, IsKept}
 use Rattle.gate_file.proofs.Staged.{ready_staged}

@@ -3,7 +3,6 @@ use Rattle.std.proofs.Common.{ℕ, List, ◌≡◌, ◌≤◌, ◌<◌, ◌-◌,
 use Rattle.std.proofs.Math.Nat.{eq-or-lt_of_le}
 use Rattle.disk_model.specs.Fault.{Rises}
 use Rattle.disk_model.specs.declared.disk.Disk.{Ghosts as DiskModel}
-use Rattle.disk_model.specs.Image.{DiskState}
 use Rattle.disk_model.specs.Clock.{HasImages}
 use Rattle.disk_model.specs.Leaving.{LeavesOnly}
 

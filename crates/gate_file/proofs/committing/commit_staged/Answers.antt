@@ -3,8 +3,7 @@ use Rattle.std.proofs.lemmas.Result.{on_ok_weaker}
 use Rattle.disk_model.specs.Leaving.{weakened, and_then}
 use Rattle.gate_file.specs.Commit.{CommitsToEither}
 use Rattle.gate_file.specs.Gate.{staged_in}
-use Rattle.gate_file.proofs.Crash.{front_cut}
-use Rattle.gate_file.proofs.Moment.{contents_have}
+use Rattle.gate_file.proofs.Crash.{front_stays}
 use Rattle.gate_file.proofs.Staged.{all_image, opened_image, all_grown, has_grown}
 use Rattle.gate_file.proofs.committing.commit_staged.Goals as goal
 
@@ -31,17 +30,13 @@ returns-clause-any_moment g c = λ honest.
 
 pub returns-in_err-settle-clause-front : goal.returns-in_err-settle-clause-front
 returns-in_err-settle-clause-front g c = λ honest.
-    let d = g.D.Disk in
     let still = c.settle.ensures.frame.honest.0 honest in
-    front_cut _ _ _ _ (c.requires.staged honest).long
-    (contents_have d _ _ _ (g.met.D.Disk.laws c.settle.new.disk still) (returns-in_err-settle-clause-any_moment g c honest))
+    front_stays g.D.Disk _ _ _ _ _ (g.met.D.Disk.laws _ still) (c.requires.staged honest).long (returns-in_err-settle-clause-any_moment g c honest)
 
 pub returns-clause-front : goal.returns-clause-front
 returns-clause-front g c = λ honest.
-    let d = g.D.Disk in
     let still = c.write_synced.ensures.frame.honest.0 (c.settle.ensures.frame.honest.0 honest) in
-    front_cut _ _ _ _ (c.requires.staged honest).long
-    (contents_have d _ _ _ (g.met.D.Disk.laws c.write_synced.new.disk still) (returns-clause-any_moment g c honest))
+    front_stays g.D.Disk _ _ _ _ _ (g.met.D.Disk.laws _ still) (c.requires.staged honest).long (returns-clause-any_moment g c honest)
 
 pub returns-clause-grown : goal.returns-clause-grown
 returns-clause-grown g c = on_ok_weaker c.write_synced.result (λ wrote honest.

@@ -1,9 +1,8 @@
-use Rattle.std.proofs.Common.{inl, [], take}
+use Rattle.std.proofs.Common.{take}
 use Rattle.disk_model.specs.Leaving.{started, goes_on}
 use Rattle.disk_model.specs.Torn.{image_within}
 use Rattle.gate_file.specs.Commit.{CommitsTo}
-use Rattle.gate_file.proofs.Crash.{front_cut}
-use Rattle.gate_file.proofs.Moment.{contents_have}
+use Rattle.gate_file.proofs.Crash.{front_kept}
 use Rattle.gate_file.proofs.Seal.{cut_commits, stood}
 use Rattle.gate_file.proofs.sealing.cut_behind.Goals as goal
 
@@ -29,14 +28,10 @@ returns-clause-any_moment g c = λ honest.
 
 pub returns-in_err-cut-clause-front : goal.returns-in_err-cut-clause-front
 returns-in_err-cut-clause-front g c = λ honest.
-    let d = g.D.Disk in
     let still = c.cut.ensures.honest.0 honest in
-    front_cut _ [] _ _ (c.requires honest).long
-    (inl (contents_have d _ _ _ (g.met.D.Disk.laws c.cut.new.self still) (returns-in_err-cut-clause-any_moment g c honest)))
+    front_kept g.D.Disk _ _ _ _ (g.met.D.Disk.laws _ still) (c.requires honest).long (returns-in_err-cut-clause-any_moment g c honest)
 
 pub returns-clause-front : goal.returns-clause-front
 returns-clause-front g c = λ honest.
-    let d = g.D.Disk in
     let still = c.sync.ensures.honest.0 (c.cut.ensures.honest.0 honest) in
-    front_cut _ [] _ _ (c.requires honest).long
-    (inl (contents_have d _ _ _ (g.met.D.Disk.laws c.sync.new.self still) (returns-clause-any_moment g c honest)))
+    front_kept g.D.Disk _ _ _ _ (g.met.D.Disk.laws _ still) (c.requires honest).long (returns-clause-any_moment g c honest)

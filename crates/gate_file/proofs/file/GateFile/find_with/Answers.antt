@@ -1,8 +1,12 @@
-use Rattle.std.proofs.Common.{inl, inr, ⊎_elim, ◌≡◌, ◌≤◌, ℕ, List, length, sym, ◌∙◌, ap, subst, arith}
-use Rattle.disk_model.specs.Fault.{Rises}
+use Rattle.std.proofs.Common.{⊎_elim, ◌≡◌, ◌≤◌, ℕ, List, length, sym, ◌∙◌, ap, subst, subst₂, arith, Result}
+use Rattle.disk_model.specs.declared.disk.Disk.{Ghosts as DiskModel}
+use Rattle.disk_model.specs.Clock.{HasImages}
+use Rattle.disk_model.specs.Frame.{Frame}
 use Rattle.disk_model.specs.Image.{DiskState, IsImage, IsSettled}
 use Rattle.disk_model.specs.Leaving.{LeavesOnly, and_then}
-use Rattle.ogg_page.specs.Window.{left_of, window}
+use Rattle.ogg_page.specs.Window.{HasSourceCause, left_of, window}
+use Rattle.ogg_page.specs.declared.fault.WindowFault.{WindowFault}
+use Rattle.gate_file.specs.DiskSource.{SourceState, source_state}
 use Rattle.gate_file.specs.Found.{IsDamagedAt, found_bytes}
 use Rattle.gate_file.specs.Opening.{Opens}
 use Rattle.gate_file.specs.Reading.{OnlyReads, reads_then}
@@ -11,72 +15,64 @@ use Rattle.gate_file.proofs.Ends.{settled_before, whole_left}
 use Rattle.gate_file.proofs.Moment.{rises_over}
 use Rattle.gate_file.proofs.file.GateFile.find_with.Goals as goal
 
+-- the pass, from the disk that was measured to the one that the source gives back
+passed_over : {D : Type 0} (model : DiskModel D) (first back : D) (size : ℕ) (old new : SourceState D) (walked : Result (Unit {0}) WindowFault) → old ≡ source_state first size → back ≡ new.disk
+    → OnlyReads model old.disk new.disk → HasSourceCause (model.failures old.disk) (model.failures new.disk) walked → OnlyReads model first back × HasSourceCause (model.failures first) (model.failures back) walked
+passed_over model first back size old new walked from to only cause =
+    subst₂ (λ x y. OnlyReads model x y × HasSourceCause (model.failures x) (model.failures y) walked) (ap (λ s. s.disk) from) (sym to) (only, cause)
+
+-- after the sync it only reads
+still_opens : {D was : Type 0} {size : ℕ} (model : DiskModel D) (disk first last : D) → (model.is_honest disk → HasImages (model.state disk) (model.moment disk) (model.images_since disk))
+    → (model.is_honest disk → IsSettled (model.state first) × ((model.state first).contents ≡ (model.state disk).contents) × (length (model.state disk).contents ≡ size))
+    → (model.is_honest disk → LeavesOnly model disk first (IsImage (model.state disk))) → Frame model disk first was → OnlyReads model first last → model.failures first ≤ model.failures last
+    → Opens model (IsImage (model.state disk)) disk last
+still_opens model disk first last laws synced leaves start reads later = record {
+  any_moment = λ honest. and_then model disk first last _ _ (IsImage (model.state disk)) (leaves honest) (reads.any_moment (start.honest.0 honest))
+      (λ image is. is) (λ image is. settled_before _ _ image (laws honest).contents_is_image (synced honest).0 (synced honest).1 is);
+  frame = record {
+    honest = ((λ h. reads.honest.0 (start.honest.0 h)), (λ h. start.honest.1 (reads.honest.1 h)));
+    later = omega (arith, start.later, later);
+    cause = λ no. absurd no;
+  };
+}
+
 pub returns-in-Err-end_of-clause-gives_back : goal.returns-in-Err-end_of-clause-gives_back
 returns-in-Err-end_of-clause-gives_back g c =
     let d = g.D.Disk in
     let first = c.measure.new.disk in
-    let src = ap (λ w. w.source) c.new-window.ensures ∙ c.of.ensures in
-    let from : c.new-window.result.source.disk ≡ first = ap (λ s. s.disk) src in
-    let to : c.pass_all-walked.new.window.source.disk ≡ c.into_disk-disk.result = ap (λ s. s.disk) (sym c.into_parts-source.ensures.source) ∙ sym c.into_disk-disk.ensures in
-    let walked = subst (λ x. OnlyReads d first x) to
-    (subst (λ x. OnlyReads d x c.pass_all-walked.new.window.source.disk) from c.pass_all-walked.ensures.source.only) in
-    let reads = reads_then d _ _ _ walked c.end_of.ensures.reads in
+    let last = c.end_of.new.disk in
     let start = c.measure.ensures.frame in
-    let later = subst (λ x. d.failures first ≤ d.failures x) to
-    (subst (λ x. d.failures x ≤ d.failures c.pass_all-walked.new.window.source.disk) from c.pass_all-walked.ensures.cause.0) in
-    let leaves : d.is_honest c.args.disk → LeavesOnly d c.args.disk c.end_of.new.disk (IsImage (d.state c.args.disk)) = λ honest.
-    let ok = c.in-Ok.ensures.ok honest in
-    and_then d _ _ _ _ _ (IsImage (d.state c.args.disk)) (c.measure.ensures.any_moment honest) (reads.any_moment (start.honest.0 honest))
-    (λ image is. is) (λ image is. settled_before _ _ image (g.met.D.Disk.laws c.args.disk honest).contents_is_image ok.0 ok.1 is) in
-    let e = c.in-Err-end_of in
-    let same : d.is_honest c.args.disk → (d.state c.end_of.new.disk).contents ≡ (d.state c.args.disk).contents =
-    λ honest. ap (λ (s : DiskState). s.contents) (reads.same (start.honest.0 honest)) ∙ (c.in-Ok.ensures.ok honest).1 in
+    let ok = c.in-Ok.ensures.ok in
+    let (walked, cause) = passed_over d _ _ c.in-Ok.size _ c.pass_all-walked.new.window.source c.pass_all-walked.result (ap (λ w. w.source) c.new-window.ensures ∙ c.of.ensures)
+    (c.into_disk-disk.ensures ∙ ap (λ s. s.disk) c.into_parts-source.ensures.source) c.pass_all-walked.ensures.source.only c.pass_all-walked.ensures.cause in
+    let reads = reads_then d _ _ _ walked c.end_of.ensures.reads in
+    let opens = still_opens d c.args.disk first last (g.met.D.Disk.laws c.args.disk) ok c.measure.ensures.any_moment start reads (omega (arith, cause.0, c.end_of.ensures.later)) in
     record {
-      any_moment = leaves;
+      any_moment = opens.any_moment;
       frame = record {
-        honest = ((λ h. reads.honest.0 (start.honest.0 h)), (λ h. start.honest.1 (reads.honest.1 h)));
-        later = omega (arith, start.later, later, c.end_of.ensures.later);
+        honest = opens.frame.honest;
+        later = opens.frame.later;
         cause = λ is. ⊎_elim
-            (λ failed. rises_over _ _ _ _ start.later later c.end_of.ensures.later
-            (subst (λ x. Rises (d.failures first) (d.failures x)) to
-            (subst (λ x. Rises (d.failures x) (d.failures c.pass_all-walked.new.window.source.disk)) from (c.pass_all-walked.ensures.cause.1 failed))))
-            (λ failed. rises_over _ _ _ (d.failures c.end_of.new.disk) (omega (arith, start.later, later)) c.end_of.ensures.later (omega arith) failed)
-            (e.ensures.cause is);
+            (λ source. rises_over _ _ _ _ start.later cause.0 c.end_of.ensures.later (cause.1 source))
+            (λ rises. rises_over _ _ _ (d.failures last) (omega (arith, start.later, cause.0)) c.end_of.ensures.later (omega arith) rises)
+            (c.in-Err-end_of.ensures.cause is);
       };
-      untouched = λ _ honest. same honest;
+      untouched = λ _ honest. ap (λ (s : DiskState). s.contents) (reads.same (start.honest.0 honest)) ∙ (ok honest).1;
       damaged = λ offset why is honest.
           let here = start.honest.0 honest in
-          subst (λ (l : List ℕ). IsDamagedAt l offset why) (ap (λ (s : DiskState). s.contents) (walked.same here) ∙ (c.in-Ok.ensures.ok honest).1)
-          (e.ensures.damaged offset why is (walked.honest.0 here));
-      settled = λ offset why is honest. subst IsSettled (sym (reads.same (start.honest.0 honest))) (c.in-Ok.ensures.ok honest).0;
+          subst (λ (l : List ℕ). IsDamagedAt l offset why) (ap (λ (s : DiskState). s.contents) (walked.same here) ∙ (ok honest).1)
+          (c.in-Err-end_of.ensures.damaged offset why is (walked.honest.0 here));
+      settled = λ offset why is honest. subst IsSettled (sym (reads.same (start.honest.0 honest))) (ok honest).0;
     }
 
 pub returns-in-Ok-end_of-clause-opens : goal.returns-in-Ok-end_of-clause-opens
 returns-in-Ok-end_of-clause-opens g c =
     let d = g.D.Disk in
-    let first = c.measure.new.disk in
-    let src = ap (λ w. w.source) c.new-window.ensures ∙ c.of.ensures in
-    let from : c.new-window.result.source.disk ≡ first = ap (λ s. s.disk) src in
-    let to : c.pass_all-walked.new.window.source.disk ≡ c.into_disk-disk.result = ap (λ s. s.disk) (sym c.into_parts-source.ensures.source) ∙ sym c.into_disk-disk.ensures in
-    let walked = subst (λ x. OnlyReads d first x) to
-    (subst (λ x. OnlyReads d x c.pass_all-walked.new.window.source.disk) from c.pass_all-walked.ensures.source.only) in
-    let reads = reads_then d _ _ _ walked c.end_of.ensures.reads in
-    let start = c.measure.ensures.frame in
-    let later = subst (λ x. d.failures first ≤ d.failures x) to
-    (subst (λ x. d.failures x ≤ d.failures c.pass_all-walked.new.window.source.disk) from c.pass_all-walked.ensures.cause.0) in
-    let leaves : d.is_honest c.args.disk → LeavesOnly d c.args.disk c.end_of.new.disk (IsImage (d.state c.args.disk)) = λ honest.
-    let ok = c.in-Ok.ensures.ok honest in
-    and_then d _ _ _ _ _ (IsImage (d.state c.args.disk)) (c.measure.ensures.any_moment honest) (reads.any_moment (start.honest.0 honest))
-    (λ image is. is) (λ image is. settled_before _ _ image (g.met.D.Disk.laws c.args.disk honest).contents_is_image ok.0 ok.1 is) in
+    let (walked, cause) = passed_over d _ _ c.in-Ok.size _ c.pass_all-walked.new.window.source c.pass_all-walked.result (ap (λ w. w.source) c.new-window.ensures ∙ c.of.ensures)
+    (c.into_disk-disk.ensures ∙ ap (λ s. s.disk) c.into_parts-source.ensures.source) c.pass_all-walked.ensures.source.only c.pass_all-walked.ensures.cause in
     subst (λ x. Opens d (IsImage (d.state c.args.disk)) c.args.disk x) (sym (ap (λ f. f.disk) c.at.ensures))
-    (record {
-      any_moment = leaves;
-      frame = record {
-        honest = ((λ h. reads.honest.0 (start.honest.0 h)), (λ h. start.honest.1 (reads.honest.1 h)));
-        later = omega (arith, start.later, later, c.end_of.ensures.later);
-        cause = λ no. absurd no;
-      };
-    })
+    (still_opens d c.args.disk c.measure.new.disk c.end_of.new.disk (g.met.D.Disk.laws c.args.disk) c.in-Ok.ensures.ok c.measure.ensures.any_moment c.measure.ensures.frame
+    (reads_then d _ _ _ walked c.end_of.ensures.reads) (omega (arith, cause.0, c.end_of.ensures.later)))
 
 pub returns-in-Ok-end_of-clause-seen : goal.returns-in-Ok-end_of-clause-seen
 returns-in-Ok-end_of-clause-seen g c = λ honest.
@@ -84,10 +80,8 @@ returns-in-Ok-end_of-clause-seen g c = λ honest.
     let first = c.measure.new.disk in
     let size = c.in-Ok.size in
     let src = ap (λ w. w.source) c.new-window.ensures ∙ c.of.ensures in
-    let from : c.new-window.result.source.disk ≡ first = ap (λ s. s.disk) src in
-    let to : c.pass_all-walked.new.window.source.disk ≡ c.into_disk-disk.result = ap (λ s. s.disk) (sym c.into_parts-source.ensures.source) ∙ sym c.into_disk-disk.ensures in
-    let walked = subst (λ x. OnlyReads d first x) to
-    (subst (λ x. OnlyReads d x c.pass_all-walked.new.window.source.disk) from c.pass_all-walked.ensures.source.only) in
+    let walked = (passed_over d first _ size _ c.pass_all-walked.new.window.source c.pass_all-walked.result src
+    (c.into_disk-disk.ensures ∙ ap (λ s. s.disk) c.into_parts-source.ensures.source) c.pass_all-walked.ensures.source.only c.pass_all-walked.ensures.cause).0 in
     let ok = c.in-Ok.ensures.ok honest in
     let still = c.measure.ensures.frame.honest.0 honest in
     let long : length (d.state first).contents ≡ size = ap length ok.1 ∙ ok.2 in
