@@ -18,8 +18,8 @@ use Rattle.ogg_command.specs.declared.refusal.Refusal.{Refusal}
 use Rattle.ogg_command.specs.declared.refusal.Refusal.TheVariants.{Failed, Memory, Disk}
 use Rattle.history.specs.World.{World, Step, happens, run}
 use Rattle.history.specs.History.{AreSteps}
-use Rattle.ogg_recorder.specs.declared.commanding.Outcome.{Outcome}
-use Rattle.ogg_recorder.specs.declared.commanding.Outcome.TheVariants.{Held as WasHeld, Kept as WasKept}
+use Rattle.feed_replies.specs.declared.outcome.Outcome.{Outcome}
+use Rattle.feed_replies.specs.declared.outcome.Outcome.TheVariants.{Held as WasHeld, Kept as WasKept}
 use Rattle.ogg_recorder.specs.Recovery.{Links, Shows, Accepts}
 use Rattle.ogg_recorder.specs.Recorder.{RecorderState, IsIn, recorder_state, committed, staged, IsRecorderStep}
 use Rattle.ogg_recorder.specs.Answer.{Tells, kept_by, call_of, command_step, flush_step}

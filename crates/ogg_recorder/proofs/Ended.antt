@@ -1,18 +1,20 @@
 -- The records of a run, whichever way it ended, are answered in turn.
-use Rattle.std.proofs.Common.{◌≡◌, ◌↔◌, inl, inr, ℕ, ◌≤◌, List, [], ◌∷◌, ◌++◌, refl, sym, ap, ◌∙◌, subst, arith, append_assoc, Option, Err, Bool}
+use Rattle.std.proofs.Common.{◌≡◌, inl, inr, ℕ, List, [], ◌∷◌, ◌++◌, sym, ap, ◌∙◌, subst, arith, Option, Result, Ok, Err, Bool}
+use Rattle.std.specs.Prelude.{IfOk, IfErr}
 use Rattle.std.proofs.lemmas.List.{append-nil}
 use Rattle.disk_model.specs.declared.disk.Disk.{Ghosts as DiskModel}
-use Rattle.disk_model.specs.Image.{DiskState}
+use Rattle.disk_model.specs.Frame.{Frame}
 use Rattle.feed_replies.specs.declared.fault.RunFault.{RunFault}
 use Rattle.feed_replies.specs.declared.fault.RunFault.TheVariants.{Feed, Write, TooMany}
 use Rattle.feed_records.specs.declared.item.Record.{Record}
 use Rattle.feed_records.specs.declared.item.Record.TheVariants.{Flush}
 use Rattle.feed_replies.specs.declared.reply.Reply.{Reply}
+use Rattle.feed_replies.specs.declared.tally.Tally.{Tally}
 use Rattle.feed_run.specs.Answering.{AnswersAll}
 use Rattle.feed_run.specs.Laws.InTurn.{one_more}
-use Rattle.feed_run.specs.Run.{Streams, Outcome, RunsTo, StopsAt, EndsBy, IsClosed}
+use Rattle.feed_run.specs.Run.{Streams, Outcome, RunsTo, RunsWhole, StopsAt, EndsBy, IsClosed}
 use Rattle.ogg_recorder.specs.Recorder.{RecorderState}
-use Rattle.ogg_recorder.specs.Running.{Progress, Answers}
+use Rattle.ogg_recorder.specs.Running.{Progress, Answers, waiting_in}
 use Rattle.ogg_recorder.specs.Recorded.{Answered, answered_with, answered_by}
 
 module _ {S : Type 0} (answers : S → Record → Reply → List ℕ → S → Type 0) where
@@ -60,20 +62,24 @@ module _ {S : Type 0} (answers : S → Record → Reply → List ℕ → S → T
 -- what holds from each recorder to the next, whether its disk is honest or not
 module _ {D : Type 0} (model : DiskModel D) where
   honest_all : (before after : Progress D) (records : List Record) (replies : List Reply) (bytes : List ℕ)
-      → AnswersAll (Answers model) before records replies bytes after
-      → (model.is_honest before.now.file.disk ↔ model.is_honest after.now.file.disk) × (model.failures before.now.file.disk ≤ model.failures after.now.file.disk)
+      → AnswersAll (Answers model) before records replies bytes after → Frame model before.now.file.disk after.now.file.disk ⊥
   honest_all before after [] [] bytes (none, same) =
-      subst (λ (p : Progress D). (model.is_honest before.now.file.disk ↔ model.is_honest p.now.file.disk) × (model.failures before.now.file.disk ≤ model.failures p.now.file.disk)) (sym same)
-      ((λ h. h, λ h. h), omega arith)
+      subst (λ (p : Progress D). Frame model before.now.file.disk p.now.file.disk ⊥) (sym same) (record { honest = (λ h. h, λ h. h); later = omega arith; cause = λ no. absurd no })
   honest_all before after [] (reply ∷ replies) bytes all = absurd all
   honest_all before after (given ∷ records) [] bytes all = absurd all
   honest_all before after (given ∷ records) (reply ∷ replies) bytes (next, own, later, answer, rest, whole) =
-      let (others, rises) = honest_all next after records replies later rest in
-      ((λ h. others.0 (answer.honest.0 h), λ h. answer.honest.1 (others.1 h)), omega (arith, answer.later, rises))
+      let others = honest_all next after records replies later rest in
+      record { honest = (λ h. others.honest.0 (answer.honest.0 h), λ h. answer.honest.1 (others.honest.1 h)); later = omega (arith, answer.later, others.later); cause = λ no. absurd no }
 
-  pub kept_between : (before after : Progress D) (recorder : RecorderState D) (records : List Record) (replies : List Reply) → after.now ≡ recorder
-      → All (Answers model) before records replies after
-      → (model.is_honest before.now.file.disk ↔ model.is_honest recorder.file.disk) × (model.failures before.now.file.disk ≤ model.failures recorder.file.disk)
-  kept_between before after recorder records replies is all =
-      subst (λ (r : RecorderState D). (model.is_honest before.now.file.disk ↔ model.is_honest r.file.disk) × (model.failures before.now.file.disk ≤ model.failures r.file.disk)) is
-      (honest_all before after records replies all.0 all.1)
+  between : (before after : Progress D) (recorder : RecorderState D) (records : List Record) (replies : List Reply) → after.now ≡ recorder
+      → All (Answers model) before records replies after → Frame model before.now.file.disk recorder.file.disk ⊥
+  between before after recorder records replies is all =
+      subst (λ (r : RecorderState D). Frame model before.now.file.disk r.file.disk ⊥) is (honest_all before after records replies all.0 all.1)
+
+  -- from the first to the last recorder of a run
+  pub over_run : (start now : Streams) (before : Progress D) (recorder : RecorderState D) (result : Result Tally RunFault)
+      → IfOk result (λ tally. (after : Progress D) × (after.now ≡ recorder) × RunsWhole (Answers model) waiting_in start now before after after.now.file.end tally)
+      → IfErr result (λ fault. (after : Progress D) × (after.now ≡ recorder) × EndsBy (Answers model) waiting_in fault start now before after)
+      → Frame model before.now.file.disk recorder.file.disk ⊥
+  over_run start now before recorder (Ok tally) (after, is, run) err = between before after recorder _ _ is (run_to (Answers model) waiting_in (Ok tt) start now before after run.run)
+  over_run start now before recorder (Err fault) ok (after, is, run) = between before after recorder _ _ is (ended (Answers model) waiting_in fault start now before after run)

@@ -2,7 +2,6 @@
 use Rattle.std.proofs.Common.{◌≡◌, inl, ℕ, ◌+◌, ◌<◌, ◌≤◌, ◌^◌, Bool, true, false, nat_lt, List, ◌++◌, length, take, refl, sym, ◌∙◌, ap, subst, arith, append_assoc, Ok, Err, Result}
 use Rattle.std.proofs.lemmas.Bool.Decides.{nat_tests}
 use Rattle.disk_model.specs.declared.disk.Disk.{Ghosts as DiskModel}
-use Rattle.disk_model.specs.Image.{DiskState}
 use Rattle.disk_model.specs.Clock.{HasImages}
 use Rattle.disk_model.specs.Leaving.{LeavesOnly, and_then, started}
 use Rattle.gate_file.specs.Commit.{CommitsTo, CommitsToEither}
@@ -52,30 +51,35 @@ same_front end now contents b same front = ap (λ (n : ℕ). take n contents) sa
 
 module _ {D : Type 0} (model : DiskModel D) (old : RecorderState D) (file : GateState D) (chain : ChainState) (command : Command) (size : ℕ) (was : IsRecorder model old)
     (good : old.file.failed ≡ false) (packets : AddsPackets) (some : AddsSome) (sized : length (command_bytes old.chain command) ≡ size) (is : IsCommand command) (kept : decision old.chain command ≡ Ok size)
-    (room : old.chain.length_of + size < 2 ^ 40) (accept : (links : Links) → old.chain ≡ chain_state_of links → chain ≡ chain_state_of (links_after links command)) (grows : chain.length_of ≡ old.chain.length_of + size)
+    (room : old.chain.length_of + size < 2 ^ 40) (planned : ChainState) (same : planned ≡ old.chain)
+    (accept : (links : Links) → planned ≡ chain_state_of links → chain ≡ chain_state_of (links_after links command))
+    (grows : (links : Links) (size : ℕ) → planned ≡ chain_state_of links → decision planned command ≡ Ok size → chain.length_of ≡ planned.length_of + size)
     (still : file.failed ≡ false) (before : model.is_honest file.disk → model.is_honest old.file.disk) (images : model.is_honest file.disk → EachImage (model.state file.disk) (CommitsTo (G.committed model.state file))) where
   size_some : 0 < size
   size_some = omega (arith, sized, command_long some old.chain command size was.chain is kept)
 
   whole_chain : IsWholeChain chain
-  whole_chain = (was.chain.0 ++ command_bytes old.chain command, chain_grows packets was.chain.0 old.chain chain command size was.chain.1 is kept accept)
+  whole_chain = (was.chain.0 ++ command_bytes old.chain command, chain_grows packets was.chain.0 old.chain chain command size was.chain.1 is kept (λ links here. accept links (same ∙ here)))
+
+  longer : chain.length_of ≡ old.chain.length_of + size
+  longer = grows was.chain.1.links size (same ∙ was.chain.1.chain_is) (ap (λ (s : ChainState). decision s command) same ∙ kept) ∙ ap (λ (s : ChainState). s.length_of + size) same
 
   all_now : model.is_honest old.file.disk → HoldsChain ((committed model.state old ++ staged model.state old) ++ command_bytes old.chain command) chain
-  all_now honest = chain_grows packets (committed model.state old ++ staged model.state old) old.chain chain command size (was.all good honest) is kept accept
+  all_now honest = chain_grows packets (committed model.state old ++ staged model.state old) old.chain chain command size (was.all good honest) is kept (λ links here. accept links (same ∙ here))
 
   -- it waits
   pub is_waiting : old.held + 1 < old.most → file.whole ≡ true → (model.is_honest old.file.disk → G.committed model.state file ≡ committed model.state old)
       → (model.is_honest old.file.disk → G.staged_bytes model.state file ≡ staged model.state old ++ command_bytes old.chain command) → IsRecorder model (recorder_state file chain old.tail old.kept (old.held + 1) old.most)
-  is_waiting few whole same more = record {
+  is_waiting few whole front more = record {
     few = few;
-    count = omega (arith, grows, size_some, was.count);
+    count = omega (arith, longer, size_some, was.count);
     fits = omega (arith, room, size_some, was.count);
     chain = whole_chain;
     none = λ bad. absurd (never (sym still ∙ bad));
     empty = λ _ none. absurd (omega (arith, none));
     whole = λ _ _. whole;
     all = λ _ now. subst (λ (l : List ℕ). HoldsChain l chain)
-        (append_assoc (committed model.state old) (staged model.state old) (command_bytes old.chain command) ∙ (λ i. sym (same (before now)) i ++ sym (more (before now)) i)) (all_now (before now));
+        (append_assoc (committed model.state old) (staged model.state old) (command_bytes old.chain command) ∙ (λ i. sym (front (before now)) i ++ sym (more (before now)) i)) (all_now (before now));
     images = λ _ now. images now;
   }
 
@@ -84,7 +88,7 @@ module _ {D : Type 0} (model : DiskModel D) (old : RecorderState D) (file : Gate
       → 0 < old.most → IsRecorder model (recorder_state file chain old.tail (old.kept + (old.held + 1)) 0 old.most)
   is_kept none grown few = record {
     few = few;
-    count = omega (arith, grows, size_some, was.count);
+    count = omega (arith, longer, size_some, was.count);
     fits = omega (arith, room, size_some, was.count);
     chain = whole_chain;
     none = λ bad. refl;

@@ -45,10 +45,11 @@ module _ {D : Type 0} (model : DiskModel D) (old new : D) where
   images_earlier before leaves = weakened model old new _ _ leaves (as_before before)
 
   -- up to its sync, and then a making ready
-  pub opened_earlier : (mid : D) (before : DiskState) (b source : List ℕ) → IsImage before source → CommitsTo b source → LeavesOnly model old mid (IsImage before)
+  pub opened_earlier : (mid : D) (before : DiskState) (b contents : List ℕ) → IsImage before before.contents → contents ≡ before.contents → CommitsTo b contents → LeavesOnly model old mid (IsImage before)
       → LeavesOnly model mid new (CommitsTo b) → LeavesOnly model old new (IsAsBefore Commits before)
-  opened_earlier mid before b source is was found ready =
-      and_then model old mid new _ _ _ found ready (as_before before) (λ image commits. commits_as_before before b source image is was commits)
+  opened_earlier mid before b contents is same was found ready =
+      and_then model old mid new _ _ _ found ready (as_before before)
+      (λ image commits. commits_as_before before b before.contents image is (subst (λ (l : List ℕ). CommitsTo b l) same was) commits)
 
   -- what each image since a moment has, each image has now
   pub images_have : (state : D → DiskState) (P : List ℕ → Type 0) → HasImages (state new) (model.moment new) (model.images_since new) → LeavesOnly model old new P → EachImage (state new) P

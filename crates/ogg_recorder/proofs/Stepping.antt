@@ -1,9 +1,8 @@
 -- Commands and flushes as steps of a history.
-use Rattle.std.proofs.Common.{◌≡◌, inl, ℕ, ◌+◌, ◌≤◌, Bool, true, false, not, nat_lt, if◌then◌else◌, List, [], ◌∷◌, ◌++◌, length, refl, sym, ◌∙◌, ap, subst, append_assoc, length-append, Ok}
+use Rattle.std.proofs.Common.{◌≡◌, inl, ℕ, ◌+◌, ◌≤◌, Bool, true, false, not, nat_lt, if◌then◌else◌, List, [], ◌∷◌, ◌++◌, length, take, refl, sym, ◌∙◌, ap, subst, append_assoc, length-append, Ok}
 use Rattle.std.proofs.lemmas.Grind.{fold-append}
 use Rattle.std.specs.List.{fold}
 use Rattle.disk_model.specs.declared.disk.Disk.{Ghosts as DiskModel}
-use Rattle.disk_model.specs.Image.{DiskState}
 use Rattle.disk_model.specs.Leaving.{LeavesOnly, weakened}
 use Rattle.gate_file.specs.Commit.{CommitsTo, CommitsToEither}
 use Rattle.gate_file.specs.Gate.{EachImage}
@@ -26,6 +25,7 @@ use Rattle.ogg_recorder.specs.Recorder.{RecorderState, IsIn, recorder_state, com
 use Rattle.ogg_recorder.specs.Answer.{call_of, refused_step}
 use Rattle.ogg_recorder.proofs.Refused.{is_refused}
 use Rattle.ogg_recorder.proofs.Growing.{AddsPackets, holds_grow, accepts_here}
+use Rattle.ogg_recorder.proofs.Lasting.{same_front, staged_then}
 use Rattle.ogg_recorder.proofs.Opened.{none_staged}
 
 opened_if : (open_now : Bool) → false ≡ not open_now → open_now ≡ true
@@ -150,33 +150,6 @@ module _ {D : Type 0} (model : DiskModel D) (first : Recording) (w : World Comma
           },
         )
 
-    pub kept_step : (chain_now : ChainState) → file.failed ≡ false → file.staged ≡ 0 → G.committed model.state file ≡ committed model.state old ++ (staged model.state old ++ command_bytes old.chain command)
-        → LeavesOnly model old.file.disk file.disk (CommitsToEither (committed model.state old) (staged model.state old ++ command_bytes old.chain command))
-        → EachImage (model.state file.disk) (CommitsTo (committed model.state old ++ (staged model.state old ++ command_bytes old.chain command)))
-        → Steps (Kept command) file.disk × Stands (recorder_state file chain_now old.tail (old.kept + (old.held + 1)) 0 old.most) (happens w (Kept command))
-    kept_step chain_now still none grown leaves only =
-        let holds = with_command law command size is_in good honest chain is kept in
-        let after : fold add (now_in add first w) (w.held ++ command ∷ []) ≡ now_in add first (happens w (Kept command)) = sym (fold-append add first w.acknowledged (w.held ++ command ∷ [])) in
-        let here : Holds (G.committed model.state file) (now_in add first (happens w (Kept command))) = subst (λ (l : List ℕ). Holds l (now_in add first (happens w (Kept command)))) (sym grown)
-        (subst (λ (r : Recording). Holds (committed model.state old ++ (staged model.state old ++ command_bytes old.chain command)) r) after holds) in (
-          (
-            (is_open is_in good, accepted command size is_in good honest chain is kept),
-            (
-              lift_group Commits Holds model old.file.disk file.disk (committed model.state old) (staged model.state old ++ command_bytes old.chain command) (now_in add first w)
-                  (fold add (now_in add first w) (w.held ++ command ∷ [])) (is_in.kept honest) holds leaves,
-              recovers_only Commits Holds (model.state file.disk) (committed model.state old ++ (staged model.state old ++ command_bytes old.chain command)) (fold add (now_in add first w) (w.held ++ command ∷ [])) holds only,
-            ),
-            now,
-          ),
-          record {
-            failed = still;
-            none = λ _. refl;
-            count = λ _. refl;
-            kept = λ _. here;
-            all = λ _ _. subst (λ (l : List ℕ). Holds l (now_in add first (happens w (Kept command)))) (sym (none_staged model.state file none)) here;
-          },
-        )
-
     -- a fault while the group's pages were staged
     pub faulted_staging : (chain_now : ChainState) → file.failed ≡ true → G.committed model.state file ≡ committed model.state old → LeavesOnly model old.file.disk file.disk (CommitsTo (committed model.state old))
         → Steps (Faulted (call_of old.most w command)) file.disk × Stands (recorder_state file chain_now old.tail old.kept 0 old.most) (happens w (Faulted (call_of old.most w command)))
@@ -196,19 +169,55 @@ module _ {D : Type 0} (model : DiskModel D) (first : Recording) (w : World Comma
           now,
         )
 
-    -- a fault while the whole group was committed
-    pub faulted_commit : (chain_now : ChainState) → nat_lt (length w.held + 1) old.most ≡ false → file.failed ≡ true → G.committed model.state file ≡ committed model.state old
-        → LeavesOnly model old.file.disk file.disk (CommitsToEither (committed model.state old) (staged model.state old ++ command_bytes old.chain command))
-        → Steps (Faulted (call_of old.most w command)) file.disk × Stands (recorder_state file chain_now old.tail old.kept 0 old.most) (happens w (Faulted (call_of old.most w command)))
-    faulted_commit chain_now whole bad same leaves = (
-      subst (λ (waits : Bool). Steps (Faulted (if waits then Staging command else Committing command)) file.disk) (sym whole) step,
-      is_in_closed (group_in_doubt w (call_of old.most w command)) file chain_now old.kept 0 old.most is_in honest bad same,
-    )
-      where
-        step : Steps (Faulted (Committing command)) file.disk
-        step = (
-          (is_open is_in good, accepted command size is_in good honest chain is kept),
-          lift_group Commits Holds model old.file.disk file.disk (committed model.state old) (staged model.state old ++ command_bytes old.chain command) (now_in add first w)
-              (fold add (now_in add first w) (w.held ++ command ∷ [])) (is_in.kept honest) (with_command law command size is_in good honest chain is kept) leaves,
-          now,
-        )
+    -- the command's pages were staged, and then the whole group was committed, or the disk failed
+    module _ (mid : GateState D) (front : G.committed model.state mid ≡ committed model.state old) (more : G.staged_bytes model.state mid ≡ staged model.state old ++ command_bytes old.chain command)
+        (leaves : LeavesOnly model old.file.disk mid.disk (CommitsTo (committed model.state old)))
+        (either : LeavesOnly model mid.disk file.disk (CommitsToEither (G.committed model.state mid) (G.staged_bytes model.state mid))) where
+      all_staged : G.committed model.state mid ++ G.staged_bytes model.state mid ≡ committed model.state old ++ (staged model.state old ++ command_bytes old.chain command)
+      all_staged = λ i. front i ++ more i
+
+      both_leave : LeavesOnly model old.file.disk file.disk (CommitsToEither (committed model.state old) (staged model.state old ++ command_bytes old.chain command))
+      both_leave = staged_then model old.file.disk mid.disk file.disk _ _ _ _ front more leaves either
+
+      pub kept_step : (chain_now : ChainState) → file.failed ≡ false → file.staged ≡ 0 → G.committed model.state file ≡ G.committed model.state mid ++ G.staged_bytes model.state mid
+          → EachImage (model.state file.disk) (CommitsTo (G.committed model.state mid ++ G.staged_bytes model.state mid))
+          → Steps (Kept command) file.disk × Stands (recorder_state file chain_now old.tail (old.kept + (old.held + 1)) 0 old.most) (happens w (Kept command))
+      kept_step chain_now still none grown only =
+          let holds = with_command law command size is_in good honest chain is kept in
+          let after : fold add (now_in add first w) (w.held ++ command ∷ []) ≡ now_in add first (happens w (Kept command)) = sym (fold-append add first w.acknowledged (w.held ++ command ∷ [])) in
+          let here : Holds (G.committed model.state file) (now_in add first (happens w (Kept command))) = subst (λ (l : List ℕ). Holds l (now_in add first (happens w (Kept command)))) (sym (grown ∙ all_staged))
+          (subst (λ (r : Recording). Holds (committed model.state old ++ (staged model.state old ++ command_bytes old.chain command)) r) after holds) in (
+            (
+              (is_open is_in good, accepted command size is_in good honest chain is kept),
+              (
+                lift_group Commits Holds model old.file.disk file.disk (committed model.state old) (staged model.state old ++ command_bytes old.chain command) (now_in add first w)
+                    (fold add (now_in add first w) (w.held ++ command ∷ [])) (is_in.kept honest) holds both_leave,
+                recovers_only Commits Holds (model.state file.disk) (committed model.state old ++ (staged model.state old ++ command_bytes old.chain command)) (fold add (now_in add first w) (w.held ++ command ∷ []))
+                    holds (subst (λ (l : List ℕ). EachImage (model.state file.disk) (CommitsTo l)) all_staged only),
+              ),
+              now,
+            ),
+            record {
+              failed = still;
+              none = λ _. refl;
+              count = λ _. refl;
+              kept = λ _. here;
+              all = λ _ _. subst (λ (l : List ℕ). Holds l (now_in add first (happens w (Kept command)))) (sym (none_staged model.state file none)) here;
+            },
+          )
+
+      -- a fault while it was committed
+      pub faulted_commit : (chain_now : ChainState) → nat_lt (length w.held + 1) old.most ≡ false → file.failed ≡ true → file.end ≡ mid.end → take mid.end (model.state file.disk).contents ≡ G.committed model.state mid
+          → Steps (Faulted (call_of old.most w command)) file.disk × Stands (recorder_state file chain_now old.tail old.kept 0 old.most) (happens w (Faulted (call_of old.most w command)))
+      faulted_commit chain_now whole bad end same = (
+        subst (λ (waits : Bool). Steps (Faulted (if waits then Staging command else Committing command)) file.disk) (sym whole) step,
+        is_in_closed (group_in_doubt w (call_of old.most w command)) file chain_now old.kept 0 old.most is_in honest bad (same_front mid.end file.end _ _ end same ∙ front),
+      )
+        where
+          step : Steps (Faulted (Committing command)) file.disk
+          step = (
+            (is_open is_in good, accepted command size is_in good honest chain is kept),
+            lift_group Commits Holds model old.file.disk file.disk (committed model.state old) (staged model.state old ++ command_bytes old.chain command) (now_in add first w)
+                (fold add (now_in add first w) (w.held ++ command ∷ [])) (is_in.kept honest) (with_command law command size is_in good honest chain is kept) both_leave,
+            now,
+          )

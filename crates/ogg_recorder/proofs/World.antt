@@ -2,13 +2,13 @@
 use Rattle.std.proofs.Common.{◌≡◌, inl, ℕ, false, List, [], ◌∷◌, ◌++◌, sym, ap, ◌∙◌, subst, append_assoc}
 use Rattle.std.proofs.lemmas.List.{append-nil}
 use Rattle.disk_model.specs.declared.disk.Disk.{Ghosts as DiskModel}
-use Rattle.disk_model.specs.Image.{DiskState}
 use Rattle.disk_model.specs.Leaving.{LeavesOnly}
 use Rattle.feed_records.specs.declared.item.Record.{Record}
 use Rattle.feed_replies.specs.declared.reply.Reply.{Reply}
 use Rattle.gate_file.specs.Commit.{CommitsTo}
 use Rattle.gate_file.specs.Gate.{EachImage}
 use Rattle.link_chain.specs.Recording.{Recording, Holds}
+use Rattle.feed_run.specs.Answering.{AnswersAll}
 use Rattle.feed_run.specs.Counting.{kept_after}
 use Rattle.chain_rules.specs.Commands.{bytes_of_commands}
 use Rattle.chain_rules.specs.Recording.{add}
@@ -20,8 +20,9 @@ use Rattle.history.specs.Recovery.{recovers_only}
 use Rattle.history.specs.Runs.{ShowsSome, AreCommands, accepted}
 use Rattle.ogg_recorder.specs.Recovery.{Links, Commits, Shows, Accepts}
 use Rattle.ogg_recorder.specs.Recorder.{RecorderState, committed, IsRecorderStep}
-use Rattle.ogg_recorder.specs.Running.{Progress}
+use Rattle.ogg_recorder.specs.Running.{Progress, Answers}
 use Rattle.ogg_recorder.specs.Recorded.{answered, HasWaiting, HasSteps, HasRecorded, Stands}
+use Rattle.ogg_recorder.proofs.Ended.{All}
 
 acknowledges : {D : Type 0} (w : World Command) (steps : List (Step Command × D)) → AreCommands steps → (run w steps).acknowledged ≡ w.acknowledged ++ acknowledged w steps
 acknowledges w [] are = sym (append-nil w.acknowledged)
@@ -47,6 +48,15 @@ module _ {D : Type 0} (model : DiskModel D) where
   StandsAfter = (first : Recording) (w : World Command) (step : Step Command) (old new : D) → StandsIn Shows add first w (model.state old)
       → IsRecorderStep model first w step old new → StandsIn Shows add first (happens w step) (model.state new)
 
+  -- the laws of records: `records_are_steps`
+  abbrev pub AreStepsInTurn : Type 0
+  AreStepsInTurn = (before after : Progress D) (records : List Record) (replies : List Reply) (bytes : List ℕ) → AnswersAll (Answers model) before records replies bytes after → HasSteps model before after records replies
+
+  abbrev pub GrowInTurn : Type 0
+  GrowInTurn = (before after : Progress D) (records : List Record) (replies : List Reply) (bytes : List ℕ) → AnswersAll (Answers model) before records replies bytes after
+      → model.is_honest before.now.file.disk → (links : Links) (waiting : List Command) → HasWaiting model.state links waiting before.now
+      → committed model.state after.now ≡ committed model.state before.now ++ bytes_of_commands links (kept_after waiting records replies)
+
   stands_after : StandsAfter → (first : Recording) (w : World Command) (disk : D) (steps : List (Step Command × D)) → StandsIn Shows add first w (model.state disk) → Are first w disk steps
       → StandsIn Shows add first (run w steps) (model.state (disk_after disk steps))
   stands_after law first w disk [] stands are = stands
@@ -62,17 +72,16 @@ module _ {D : Type 0} (model : DiskModel D) where
   shows_only before images (honest, is_in) good =
       recovers_only Commits Holds (model.state before.now.file.disk) (committed model.state before.now) (now_in add before.first before.world) (is_in.kept honest) (images good honest)
 
-  -- what records have recorded that are steps
-  pub has_recorded : ShowsFirstOnes → StandsAfter → (before after : Progress D) (records : List Record) (replies : List Reply) → Commit before.now
-      → (model.is_honest before.now.file.disk → (links : Links) (waiting : List Command) → HasWaiting model.state links waiting before.now
-      → committed model.state after.now ≡ committed model.state before.now ++ bytes_of_commands links (kept_after waiting records replies))
-      → HasSteps model before after records replies → HasRecorded model before after (answered records replies)
-  has_recorded law later before after records replies images grows are =
+  -- what records have recorded that were answered in turn
+  pub has_recorded : ShowsFirstOnes → StandsAfter → AreStepsInTurn → GrowInTurn → (before after : Progress D) (records : List Record) (replies : List Reply) → Commit before.now
+      → All (Answers model) before records replies after → HasRecorded model before after (answered records replies)
+  has_recorded law later steps grows before after records replies images (bytes, all) =
+      let are = steps before after records replies bytes all in
       let w : World Command = before.world in
       let disk : D = before.now.file.disk in
       let Some : List Command → List ℕ → Type 0 = λ all image. ShowsSome Shows add before.first all image in
       record {
-        grows = grows;
+        grows = grows before after records replies bytes all;
         same = are.same;
         keeps = ap (λ (v : World Command). v.acknowledged) (sym are.leads) ∙ acknowledges w are.steps are.are_commands ∙ ap (λ (l : List Command). w.acknowledged ++ l) are.keeps;
         stands = are.stands;

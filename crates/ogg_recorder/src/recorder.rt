@@ -241,10 +241,7 @@ impl<D: Disk> Recorder<D> {
         ensures frame { IfOk result (λ disk. Frame D.Disk self.file.disk disk ⊥) }
         ensures frame_err { IfErr result (λ e. Frame D.Disk self.file.disk e.1 ⊤) }
     {
-        match self.file.seal() {
-            Ok(disk) => Ok(disk),
-            Err(fault) => Err(fault),
-        }
+        self.file.seal()
     }
 
     /// The disk as it stands. What waits is lost.

@@ -94,8 +94,5 @@ pub fn record_feed_for<A: Ahead<R>, D: Disk, R: Read, S: Replies>(
     disks_stand_in_their_world::<D, Recorded>();
     let _end = recorder.end();
     let mut none = io::sink();
-    match run_feed_for::<A, Recorder<D>, R, Sink, S>(alloc, recorder, reader, &mut none, replies) {
-        Ok(tally) => Ok(tally),
-        Err(fault) => Err(fault),
-    }
+    run_feed_for::<A, Recorder<D>, R, Sink, S>(alloc, recorder, reader, &mut none, replies)
 }

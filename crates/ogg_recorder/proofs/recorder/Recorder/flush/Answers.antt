@@ -34,7 +34,7 @@ returns-in-Err-clause-step g c =
     let in_ = c.self.inside in
     let file = c.commit.new.self in
     rw (← c.self.view_is)
-    (λ first w is_in opened honest. faulted_flush d first w (recorder_state in_.file in_.shape.chain in_.tail in_.kept in_.held in_.most) is_in opened honest file
+    (λ first w is_in opened honest. faulted_flush d first w _ is_in opened honest file
     (c.commit.ensures.frame.honest.0 honest) (c.in-Err.ensures.failed.1 refl)
     (same_front in_.file.end file.end (d.state file.disk).contents (committed d.state in_.file) c.in-Err.ensures.end_err (c.commit.ensures.front honest)) (c.commit.ensures.any_moment honest))
 
@@ -44,7 +44,7 @@ returns-clause-step g c =
     let in_ = c.self.inside in
     let file = c.commit.new.self in
     rw (← c.self.view_is)
-    (λ first w is_in opened honest. flushed d first w (recorder_state in_.file in_.shape.chain in_.tail in_.kept in_.held in_.most) is_in opened honest
+    (λ first w is_in opened honest. flushed d first w _ is_in opened honest
     (recorder_state file in_.shape.chain in_.tail (in_.kept + in_.held) 0 in_.most) (c.commit.ensures.frame.honest.0 honest)
     (not_failed file.failed (λ bad. never (c.in-Ok.ensures.failed.0 bad))) c.in-Ok.ensures.none refl (c.in-Ok.ensures.grown honest) (c.commit.ensures.any_moment honest) (c.in-Ok.ensures.only honest))
 

@@ -1,5 +1,4 @@
 use Rattle.std.proofs.Common.{◌∙◌}
-use Rattle.ogg_recorder.specs.Recorder.{committed, staged}
 use Rattle.ogg_recorder.proofs.Lengths.{as_long}
 use Rattle.ogg_recorder.proofs.recorder.Recorder.length.Goals as goal
 

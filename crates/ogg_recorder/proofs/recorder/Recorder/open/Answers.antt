@@ -32,11 +32,8 @@ returns-in-Ok-ready-clause-opens g c =
         cause = λ no. absurd no;
       };
       any_moment = λ honest.
-          let d = g.D.Disk in
-          let found = c.in-Ok.found.found in
-          let was : CommitsTo (found_bytes d.state found) (d.state c.args.disk).contents = subst (λ (l : List ℕ). CommitsTo (found_bytes d.state found) l) (c.in-Ok.ensures.same honest) (c.in-Ok.ensures.ends honest).ends.commits in
-          opened_earlier d c.args.disk c.in-Ok-ready.file.disk found.disk (d.state c.args.disk) (found_bytes d.state found) (d.state c.args.disk).contents
-          (g.met.D.Disk.laws c.args.disk honest).contents_is_image was (c.in-Ok.ensures.opens.any_moment honest) (c.in-Ok-ready.ensures.any_moment (c.in-Ok.ensures.opens.frame.honest.0 honest));
+          opened_earlier g.D.Disk c.args.disk c.in-Ok-ready.file.disk c.in-Ok.found.found.disk (g.D.Disk.state c.args.disk) _ _ (g.met.D.Disk.laws c.args.disk honest).contents_is_image (c.in-Ok.ensures.same honest)
+          (c.in-Ok.ensures.ends honest).ends.commits (c.in-Ok.ensures.opens.any_moment honest) (c.in-Ok-ready.ensures.any_moment (first.honest.0 honest));
     }
 
 pub returns-in-Ok-ready-clause-step : goal.returns-in-Ok-ready-clause-step
@@ -50,9 +47,7 @@ returns-in-Ok-ready-clause-step g c = λ first w stands closed honest.
     let b = found_bytes d.state found in
     let was : CommitsTo b (d.state c.args.disk).contents = subst (λ (l : List ℕ). CommitsTo b l) (c.in-Ok.ensures.same honest) (c.in-Ok.ensures.ends honest).ends.commits in
     let chain = c.in-Ok.ensures.chain honest in
-    let leaves = shows_earlier d c.args.disk file.disk (d.state c.args.disk)
-    (opened_earlier d c.args.disk file.disk found.disk (d.state c.args.disk) b (d.state c.args.disk).contents laws.contents_is_image was (c.in-Ok.ensures.opens.any_moment honest)
-    (c.in-Ok-ready.ensures.any_moment here)) in
+    let leaves = shows_earlier d c.args.disk file.disk (d.state c.args.disk) ((returns-in-Ok-ready-clause-opens g c).any_moment honest) in
     let each = images_have d found.disk file.disk d.state (CommitsTo b) (g.met.D.Disk.laws file.disk now) (c.in-Ok-ready.ensures.any_moment here) in
     let opened = c.disks_stand_in_their_world.ensures.opened first w c.args.disk file.disk chain.recording stands leaves
     (finds (d.state c.args.disk) (d.state file.disk) b chain.recording laws.contents_is_image was each (holds_of b c.in-Ok.found.shape.chain chain)) in (
@@ -63,19 +58,6 @@ returns-in-Ok-ready-clause-step g c = λ first w stands closed honest.
           (λ _. subst (λ (l : List ℕ). Holds l chain.recording) (sym (c.in-Ok-ready.ensures.same here)) (holds_of b c.in-Ok.found.shape.chain chain)) opened.1,
     )
 
-pub returns-in-Err-ready-clause-step_err : goal.returns-in-Err-ready-clause-step_err
-returns-in-Err-ready-clause-step_err g c = λ first w closed honest.
-    let d = g.D.Disk in
-    let found = c.in-Ok.found.found in
-    let here = c.in-Ok.ensures.opens.frame.honest.0 honest in
-    let was : CommitsTo (found_bytes d.state found) (d.state c.args.disk).contents = subst (λ (l : List ℕ). CommitsTo (found_bytes d.state found) l) (c.in-Ok.ensures.same honest) (c.in-Ok.ensures.ends honest).ends.commits in (
-      closed,
-      shows_earlier d c.args.disk c.in-Err-ready.fault.1 (d.state c.args.disk)
-          (opened_earlier d c.args.disk c.in-Err-ready.fault.1 found.disk (d.state c.args.disk) (found_bytes d.state found) (d.state c.args.disk).contents
-          (g.met.D.Disk.laws c.args.disk honest).contents_is_image was (c.in-Ok.ensures.opens.any_moment honest) (c.in-Err-ready.ensures.any_moment_err here)),
-      c.in-Err-ready.ensures.frame_err.honest.0 here,
-    )
-
 pub returns-in-Err-ready-clause-gives_back : goal.returns-in-Err-ready-clause-gives_back
 returns-in-Err-ready-clause-gives_back g c =
     let first = c.in-Ok.ensures.opens.frame in
@@ -83,11 +65,8 @@ returns-in-Err-ready-clause-gives_back g c =
     let is_disk = c.in-Err-ready.ensures.fault in
     record {
       any_moment = λ honest.
-          let d = g.D.Disk in
-          let found = c.in-Ok.found.found in
-          let was : CommitsTo (found_bytes d.state found) (d.state c.args.disk).contents = subst (λ (l : List ℕ). CommitsTo (found_bytes d.state found) l) (c.in-Ok.ensures.same honest) (c.in-Ok.ensures.ends honest).ends.commits in
-          opened_earlier d c.args.disk c.in-Err-ready.fault.1 found.disk (d.state c.args.disk) (found_bytes d.state found) (d.state c.args.disk).contents
-          (g.met.D.Disk.laws c.args.disk honest).contents_is_image was (c.in-Ok.ensures.opens.any_moment honest) (c.in-Err-ready.ensures.any_moment_err (c.in-Ok.ensures.opens.frame.honest.0 honest));
+          opened_earlier g.D.Disk c.args.disk c.in-Err-ready.fault.1 c.in-Ok.found.found.disk (g.D.Disk.state c.args.disk) _ _ (g.met.D.Disk.laws c.args.disk honest).contents_is_image (c.in-Ok.ensures.same honest)
+          (c.in-Ok.ensures.ends honest).ends.commits (c.in-Ok.ensures.opens.any_moment honest) (c.in-Err-ready.ensures.any_moment_err (first.honest.0 honest));
       frame = record {
         honest = ((λ h. second.honest.0 (first.honest.0 h)), (λ h. first.honest.1 (second.honest.1 h)));
         later = omega (arith, first.later, second.later);
@@ -97,6 +76,14 @@ returns-in-Err-ready-clause-gives_back g c =
       damaged = λ offset why is _. absurd (no_page offset why (sym is_disk ∙ is));
       settled = λ offset why is _. absurd (no_page offset why (sym is_disk ∙ is));
     }
+
+pub returns-in-Err-ready-clause-step_err : goal.returns-in-Err-ready-clause-step_err
+returns-in-Err-ready-clause-step_err g c = λ first w closed honest.
+    let d = g.D.Disk in (
+      closed,
+      shows_earlier d c.args.disk c.in-Err-ready.fault.1 (d.state c.args.disk) ((returns-in-Err-ready-clause-gives_back g c).any_moment honest),
+      c.in-Err-ready.ensures.frame_err.honest.0 (c.in-Ok.ensures.opens.frame.honest.0 honest),
+    )
 
 pub returns-in-Err-clause-reopens : goal.returns-in-Err-clause-reopens
 returns-in-Err-clause-reopens g c = λ first w stands honest.

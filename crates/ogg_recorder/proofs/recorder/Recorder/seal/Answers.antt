@@ -1,16 +1,20 @@
-use Rattle.std.proofs.Common.{◌∙◌, ap}
+use Rattle.std.proofs.Common.{◌∙◌, ap, Result, Ok, Err, MatchResult}
 use Rattle.ogg_recorder.specs.Recorder.{recorder_state}
 use Rattle.ogg_recorder.proofs.Stepping.{sealed}
 use Rattle.ogg_recorder.proofs.recorder.Recorder.seal.Goals as goal
 
-pub returns-in-Ok-clause-step : goal.returns-in-Ok-clause-step
-returns-in-Ok-clause-step g c =
+both : {T E : Type 0} {P Q R : T → Type 0} {S U V : E → Type 0} (r : Result T E) → MatchResult r P S → MatchResult r Q U → ((x : T) → P x → Q x → R x) → ((e : E) → S e → U e → V e) → MatchResult r R V
+both (Ok x) p q ok err = ok x p q
+both (Err e) p q ok err = err e p q
+
+pub returns-clause-step : goal.returns-clause-step
+returns-clause-step g c =
     let d = g.D.Disk in
     let in_ = c.self.inside in
     let good = ap (λ r. r.file.failed) c.self.view_is ∙ c.requires.good in
     rw (← c.self.view_is)
-    (λ first w is_in honest. (sealed d first w (recorder_state in_.file in_.shape.chain in_.tail in_.kept in_.held in_.most) is_in good honest c.in-Ok.disk
-    (c.in-Ok.ensures.frame.honest.0 honest) (c.in-Ok.ensures.any_moment honest)).0)
+    (both c.seal.result c.seal.ensures.frame c.seal.ensures.any_moment
+    (λ disk frame leaves first w is_in honest. (sealed d first w (recorder_state in_.file in_.shape.chain in_.tail in_.kept in_.held in_.most) is_in good honest disk (frame.honest.0 honest) (leaves honest)).0) (λ _ _ _. tt))
 
 pub returns-clause-step_err : goal.returns-clause-step_err
 returns-clause-step_err g c =
@@ -18,5 +22,5 @@ returns-clause-step_err g c =
     let in_ = c.self.inside in
     let good = ap (λ r. r.file.failed) c.self.view_is ∙ c.requires.good in
     rw (← c.self.view_is)
-    (λ first w is_in honest. (sealed d first w (recorder_state in_.file in_.shape.chain in_.tail in_.kept in_.held in_.most) is_in good honest c.in-Err.fault.1
-    (c.in-Err.ensures.frame_err.honest.0 honest) (c.in-Err.ensures.any_moment_err honest)).1)
+    (both c.seal.result c.seal.ensures.frame_err c.seal.ensures.any_moment_err (λ _ _ _. tt)
+    (λ e frame leaves first w is_in honest. (sealed d first w (recorder_state in_.file in_.shape.chain in_.tail in_.kept in_.held in_.most) is_in good honest e.1 (frame.honest.0 honest) (leaves honest)).1))
