@@ -43,14 +43,6 @@ all_noted ends old new offset all (Ok GoesOn) visit shown is = all_seen ends old
 all_noted ends old new offset all (Ok Ends) visit (front, page, back, mid, split, seen, one) is = absurd (never one.goes_on)
 all_noted ends old new offset all (Err fault) visit shown is = absurd (ok_err visit fault is)
 
-err_ok : (visit : Visit) (fault : WindowFault) → (let r : Result Visit WindowFault = Ok visit in r) ≡ Err fault → ⊥
-err_ok visit fault e = cc
-
-pub note_fault : {V : Type 0} (ends : V → MutBor (List StreamEnd)) (old new : V) (offset : ℕ) (all : List Page) (result : Result Visit WindowFault) (fault : WindowFault)
-    → HasShown (NotesPage ends) old offset all result new → result ≡ Err fault → result ≡ Err Source
-note_fault ends old new offset all (Ok visit) fault shown is = absurd (err_ok visit fault is)
-note_fault ends old new offset all (Err given) fault shown is = ap (λ (f : WindowFault). let r : Result Visit WindowFault = Err f in r) shown.2
-
 -- ---- pages that are written
 -- what is written of a page is no longer than the page
 one_size : (page : Page) → length (bytes_of_pages (page ∷ [])) ≤ page_size page

@@ -1,13 +1,14 @@
 -- Where the index says that a link stands, it stands.
 use Rattle.std.proofs.Common.{◌≡◌, ◌≤◌, ℕ, zero, suc, ◌+◌, true, false, Some, Ok, Err, Result, List, [], ◌∷◌, ◌++◌, length, take, drop, refl, sym, ◌∙◌, ap, subst, arith, append_assoc, length-append}
-use Rattle.std.specs.Prelude.{slice_get, ◌↔◌, ◌||◌, Bool, nat_eq, map}
-use Rattle.std.specs.List.{AllByRecursion, flat_map, list_any}
+use Rattle.std.specs.Prelude.{IfErr, slice_get, ◌↔◌, ◌||◌, Bool, nat_eq, map}
+use Rattle.std.specs.List.{AllByRecursion, list_any}
 use Rattle.std.proofs.Math.Seq.{take-append_seam, drop-append_seam}
 use Rattle.std.proofs.lemmas.Option.{slice_get_within}
-use Rattle.ogg_page.specs.Page.{Page, IsPage, bytes_of_pages}
+use Rattle.ogg_page.specs.Page.{Page, bytes_of_pages}
 use Rattle.link_chain.specs.Links.{AreLinks, IsLink, has_stream, serials_of}
 use Rattle.link_index.specs.Adding.{IndexState}
 use Rattle.link_index.specs.Index.{LinkEntry, link_entry, index_from, index_of, stream_info}
+use Rattle.link_index.specs.IndexLaws.{Between, between}
 use Rattle.link_index.specs.declared.info.LinkInfo.{LinkInfo}
 use Rattle.ogg_split.specs.Asked.{AreIndexed, IsMissing, LacksStream, StandsIn, has_serial}
 use Rattle.ogg_split.specs.Copying.{IsThere}
@@ -17,40 +18,10 @@ use Rattle.ogg_split.specs.declared.fault.SplitFault.TheVariants.{NoLink, NoStre
 pub inside : {A : Type 0} (x y : A) → Some x ≡ Some y → x ≡ y
 inside x y e = cc
 
-record Placed (links : List (List Page)) (number start : ℕ) (pages : List Page) : Type 0 where
-  pub before : List ℕ
-  pub behind : List ℕ
-  pub joined : flat_map bytes_of_pages links ≡ before ++ (bytes_of_pages pages ++ behind)
-  pub entry : slice_get (index_from start links) number ≡ Some (link_entry (start + length before) pages)
-  pub are : AllByRecursion IsPage pages
-
-placed : (links : List (List Page)) (number start : ℕ) (pages : List Page) → AllByRecursion (AllByRecursion IsPage) links → slice_get links number ≡ Some pages
-    → Placed links number start pages
-placed [] number start pages are e = cc
-placed (first ∷ links) zero start pages are e =
-    let same : first ≡ pages = inside first pages e in
-    record {
-      before = [];
-      behind = flat_map bytes_of_pages links;
-      joined = ap (λ (l : List Page). bytes_of_pages l ++ flat_map bytes_of_pages links) same;
-      entry = ap (λ (l : List Page). Some (link_entry start l)) same ∙ ap (λ n. Some (link_entry n pages)) (omega arith);
-      are = subst (AllByRecursion IsPage) same are.0;
-    }
-placed (first ∷ links) (suc number) start pages are e =
-    let own : List ℕ = bytes_of_pages first in
-    let more : Placed links number (start + length own) pages = placed links number (start + length own) pages are.1 e in
-    record {
-      before = own ++ more.before;
-      behind = more.behind;
-      joined = ap (λ (l : List ℕ). own ++ l) more.joined ∙ sym (append_assoc own more.before (bytes_of_pages pages ++ more.behind));
-      entry = more.entry ∙ ap (λ n. Some (link_entry n pages)) (omega (arith, length-append own more.before));
-      are = more.are;
-    }
-
 pub stands_in : (links : List (List Page)) (index : IndexState) (bytes : List ℕ) (number : ℕ) (pages : List Page) (entry : LinkEntry) → AreIndexed links index bytes
     → slice_get links number ≡ Some pages → slice_get index.entries number ≡ Some entry → StandsIn bytes entry.info pages
 stands_in links index bytes number pages entry are e there =
-    let p : Placed links number 0 pages = placed links number 0 pages are.are_links.pages e in
+    let p : Between links number 0 pages = between links number 0 pages are.are_links.pages e in
     let same : link_entry (0 + length p.before) pages ≡ entry =
     inside (link_entry (0 + length p.before) pages) entry (sym p.entry ∙ ap (λ (l : List LinkEntry). slice_get l number) (sym are.is_index.entries_are) ∙ there) in
     let own : List ℕ = bytes_of_pages pages in
@@ -61,7 +32,7 @@ stands_in links index bytes number pages entry are e there =
           ∙ ap (λ (l : List ℕ). p.before ++ l) (append_assoc own p.behind are.rest);
       start = ap (λ (x : LinkEntry). x.info.start) (sym same) ∙ omega arith;
       whole = ap (λ (x : LinkEntry). x.info.length) (sym same);
-      are_pages = p.are;
+      are_pages = p.are_pages;
     }
 
 -- a link that the index has is one of the links
@@ -96,8 +67,9 @@ link_is_there result entries number entry is there =
     (λ e. absurd (is.link e), λ le. absurd (omega (arith, le, slice_get_within entries number entry there)))
 
 -- a fault of reading doesn't say that something is missing
-pub read_in_vain : {T : Type 0} (result : Result T SplitFault) (fault : SplitFault) → result ≡ Err fault → fault ≡ Source → IsThere result
-read_in_vain result fault is why = record { link = λ e. cc; stream = λ e. cc }
+pub nothing_missing : {T : Type 0} (result : Result T SplitFault) → IfErr result (λ fault. fault ≡ Source) → IsThere result
+nothing_missing (Ok value) why = record { link = λ e. cc; stream = λ e. cc }
+nothing_missing (Err fault) why = record { link = λ e. cc; stream = λ e. cc }
 
 one_has : (entries : List LinkEntry) (number : ℕ) (entry other : LinkEntry) (serial : ℕ) → slice_get entries number ≡ Some entry → slice_get entries number ≡ Some other
     → has_serial entry.streams serial ≡ true → has_serial other.streams serial ≡ false → ⊥
@@ -142,9 +114,6 @@ pub fits : (bytes : List ℕ) (link : LinkInfo) (pages : List Page) → StandsIn
 fits bytes link pages s =
     omega (arith, s.start, s.whole, ap length s.joined, length-append s.before (bytes_of_pages pages ++ s.behind), length-append (bytes_of_pages pages) s.behind)
 
-pub answered : {T : Type 0} (value : T) → IsThere (Ok value)
-answered value = record { link = λ e. cc; stream = λ e. cc }
-
 -- ---- the streams of a link
 serials_told : (link : List Page) (serials : List ℕ) (serial : ℕ) → has_serial (map (stream_info link) serials) serial ≡ list_any (nat_eq serial) serials
 serials_told link [] serial = refl
@@ -153,6 +122,6 @@ serials_told link (first ∷ serials) serial = ap (λ (b : Bool). nat_eq serial 
 pub same_streams : (bytes : List ℕ) (links : List (List Page)) (number serial : ℕ) (pages : List Page) (entry : LinkEntry) → AreLinks bytes links
     → slice_get links number ≡ Some pages → slice_get (index_of links) number ≡ Some entry → has_serial entry.streams serial ≡ has_stream pages serial
 same_streams bytes links number serial pages entry are e there =
-    let p : Placed links number 0 pages = placed links number 0 pages are.pages e in
+    let p : Between links number 0 pages = between links number 0 pages are.pages e in
     let same : link_entry (0 + length p.before) pages ≡ entry = inside (link_entry (0 + length p.before) pages) entry (sym p.entry ∙ there) in
     ap (λ (x : LinkEntry). has_serial x.streams serial) (sym same) ∙ serials_told pages (serials_of pages) serial

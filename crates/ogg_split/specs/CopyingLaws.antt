@@ -10,7 +10,7 @@ use Rattle.ogg_page.specs.OutputLaws.{prefix_on}
 use Rattle.ogg_page.specs.Page.{Page, page_bytes, page_size, bytes_of_pages}
 use Rattle.ogg_page.specs.PageLaws.{length-page_bytes}
 use Rattle.ogg_page.specs.Visiting.{AreSeen, HasShown}
-use Rattle.ogg_page.specs.Window.{WindowState, left_of}
+use Rattle.ogg_page.specs.Window.{LentAt, WindowState, left_of}
 use Rattle.ogg_page.specs.declared.fault.WindowFault.{WindowFault}
 use Rattle.ogg_page.specs.declared.fault.WindowFault.TheVariants.{Source}
 use Rattle.ogg_page.specs.declared.visiting.Visit.{Visit}
@@ -100,11 +100,8 @@ some_written {V} contents out count part old new offset all text result shown wh
 no_fault : (visit : Visit) (fault : WindowFault) → (let r : Result Visit WindowFault = Ok visit in r) ≡ Err fault → ⊥
 no_fault visit fault e = cc
 
-same_fault : (fault given : WindowFault) → (let r : Result Visit WindowFault = Err given in r) ≡ Err fault → fault ≡ given
-same_fault fault given e = cc
-
--- over joined pages a window's fault is that of the source
-pub fault_of_source : {V W : Type 0} (contents : W → Option (List ℕ)) (out : V → MutBor W) (count : V → ℕ) (part : V → Page → List ℕ) (old new : V) (offset : ℕ) (all : List Page)
-    (result : Result Visit WindowFault) (fault : WindowFault) → HasShown (CopiesPart contents out count part) old offset all result new → result ≡ Err fault → result ≡ Err Source
-fault_of_source contents out count part old new offset all (Ok visit) fault shown is = absurd (no_fault visit fault is)
-fault_of_source contents out count part old new offset all (Err given) fault shown is = ap (λ (f : WindowFault). let r : Result Visit WindowFault = Err f in r) shown.2
+-- over joined pages a window's fault is that of the source, whoever is shown them
+pub fault_of_source : {V : Type 0} (sees : V → LentAt → Visit → V → Type 0) (old new : V) (offset : ℕ) (all : List Page) (result : Result Visit WindowFault) (fault : WindowFault)
+    → HasShown sees old offset all result new → result ≡ Err fault → result ≡ Err Source
+fault_of_source sees old new offset all (Ok visit) fault shown is = absurd (no_fault visit fault is)
+fault_of_source sees old new offset all (Err given) fault shown is = ap (λ (f : WindowFault). let r : Result Visit WindowFault = Err f in r) shown.2

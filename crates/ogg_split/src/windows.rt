@@ -170,13 +170,8 @@ pub fn seek_link<S: PageSource>(
     ensures source { window.new.source ≡ window.old.source }
     ensures same { result ≡ Err SplitFault.NoLink → window.new ≡ window.old }
 {
-    match find_link(index, link) {
-        Ok(found) => match set_range(window, found) {
-            Ok(()) => Ok(()),
-            Err(fault) => Err(fault),
-        },
-        Err(fault) => Err(fault),
-    }
+    let found = find_link(index, link)?;
+    set_range(window, found)
 }
 
 /// Writes the link's bytes.

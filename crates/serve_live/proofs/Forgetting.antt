@@ -1,7 +1,7 @@
 -- Boundaries that are forgotten, one after the other.
-use Rattle.std.proofs.Common.{◌≡◌, ℕ, ◌-◌, Bool, true, false, None, Some, List, [], ◌∷◌, refl, sym, ◌∙◌, ap, drop}
+use Rattle.std.proofs.Common.{◌≡◌, ℕ, ◌-◌, Bool, false, Some, List, [], ◌∷◌, refl, sym, ◌∙◌, ap}
 use Rattle.std.specs.Prelude.{nat_le, slice_get}
-use Rattle.std.proofs.lemmas.Bool.{cond-true, cond-false}
+use Rattle.std.proofs.lemmas.Bool.{cond-false}
 use Rattle.serve_live.specs.Boundaries.{ahead, forgotten, may_forget}
 
 -- the second of the boundaries decides
@@ -12,16 +12,6 @@ decides end place (a ∷ []) far is e = cc
 decides end place (a ∷ b ∷ kept) far is e =
     let same : b ≡ place = cc in
     e ∙ ap (λ n. nat_le 65536 (end - n)) (sym same)
-
-pub none_decides : (end : ℕ) (kept : List ℕ) → slice_get kept 1 ≡ None → may_forget end kept ≡ false
-none_decides end [] is = refl
-none_decides end (a ∷ []) is = refl
-none_decides end (a ∷ b ∷ kept) is = cc
-
-pub forgets : (end : ℕ) (kept : List ℕ) → may_forget end kept ≡ true → forgotten end (drop 1 kept) ≡ forgotten end kept
-forgets end [] e = refl
-forgets end (a ∷ []) e = cc
-forgets end (a ∷ b ∷ kept) e = sym (cond-true (nat_le ahead (end - b)) (forgotten end (b ∷ kept)) (a ∷ b ∷ kept) e)
 
 pub keeps : (end : ℕ) (kept : List ℕ) → may_forget end kept ≡ false → kept ≡ forgotten end kept
 keeps end [] e = refl

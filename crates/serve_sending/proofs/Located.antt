@@ -11,9 +11,11 @@ use Rattle.ogg_page.specs.Page.{Page, IsPage, page_size, bytes_of_pages}
 use Rattle.ogg_page.specs.PageLaws.{length-page_bytes}
 use Rattle.ogg_page.specs.Page.{page_bytes}
 use Rattle.link_chain.specs.ChainState.{chain_state_of}
+use Rattle.link_chain.specs.Laws.Lengths.{sizes_are}
 use Rattle.link_chain.specs.Links.{AreLinks, has_stream, pages_with, serials_of}
 use Rattle.link_index.specs.Adding.{IndexState, IsIndexOf}
 use Rattle.link_index.specs.Index.{LinkEntry, link_entry, index_from, index_of, stream_info}
+use Rattle.link_index.specs.IndexLaws.{Between, between}
 use Rattle.link_index.specs.Listing.{listing}
 use Rattle.link_index.specs.declared.info.LinkInfo.{LinkInfo}
 use Rattle.serve_responses.specs.Response.{Content, Pages, content_of, stream_in_link, bytes_of_links}
@@ -23,16 +25,6 @@ use Rattle.serve_sending.specs.Answering.{AreFound, IsFound, bytes_with}
 use Rattle.serve_sending.specs.declared.finding.Found.TheVariants.{File, Pages as PagesOf}
 
 -- ---- sizes
-size_is : (pages : List Page) → sum_by page_size pages ≡ length (bytes_of_pages pages)
-size_is [] = refl
-size_is (page ∷ pages) =
-    omega (arith, sum_by-cons page_size page pages, size_is pages, length-page_bytes page, length-append (page_bytes page) (bytes_of_pages pages))
-
-sizes_are : (links : List (List Page)) → (chain_state_of links).length_of ≡ length (flat_map bytes_of_pages links)
-sizes_are [] = refl
-sizes_are (link ∷ links) =
-    omega (arith, sum_by-cons (λ (l : List Page). sum_by page_size l) link links, sizes_are links, size_is link, length-append (bytes_of_pages link) (flat_map bytes_of_pages links))
-
 pub end_is : (committed : List ℕ) (links : List (List Page)) (index : IndexState) → AreLinks committed links → IsIndexOf links index
     → index.chain.chain.length_of ≡ length committed
 end_is committed links index are is = ap (λ c. c.length_of) is.chain_is ∙ sizes_are links ∙ ap length (sym are.spelled)
@@ -71,37 +63,6 @@ none_of : {A B : Type 0} (f : A → B) (o : Option A) → option_map f o ≡ Non
 none_of f None e = refl
 none_of f (Some x) e = cc
 
--- the link with this number, between those before it and those after it
-record Between (links : List (List Page)) (number first : ℕ) (link : List Page) : Type 0 where
-  pub front : List ℕ
-  pub behind : List ℕ
-  pub split : flat_map bytes_of_pages links ≡ front ++ (bytes_of_pages link ++ behind)
-  pub entry : slice_get (index_from first links) number ≡ Some (link_entry (first + length front) link)
-  pub are_pages : AllByRecursion IsPage link
-
-between : (links : List (List Page)) (number first : ℕ) (link : List Page) → AllByRecursion (AllByRecursion IsPage) links → slice_get links number ≡ Some link
-    → Between links number first link
-between [] number first link are found = cc
-between (l ∷ links) zero first link are found =
-    let same : l ≡ link = same_value l link found in
-    record {
-      front = [];
-      behind = flat_map bytes_of_pages links;
-      split = ap (λ (x : List Page). bytes_of_pages x ++ flat_map bytes_of_pages links) same;
-      entry = ap (λ (x : List Page). Some (link_entry first x)) same ∙ ap (λ k. Some (link_entry k link)) (let e : first ≡ first + 0 = omega arith in e);
-      are_pages = subst (λ (x : List Page). AllByRecursion IsPage x) same are.0;
-    }
-between (l ∷ links) (suc number) first link are found =
-    let b = between links number (first + length (bytes_of_pages l)) link are.1 found in
-    let long = length-append (bytes_of_pages l) b.front in
-    record {
-      front = bytes_of_pages l ++ b.front;
-      behind = b.behind;
-      split = ap (λ x. bytes_of_pages l ++ x) b.split ∙ sym (append_assoc (bytes_of_pages l) b.front (bytes_of_pages link ++ b.behind));
-      entry = b.entry ∙ ap (λ k. Some (link_entry k link)) (let e : first + length (bytes_of_pages l) + length b.front ≡ first + length (bytes_of_pages l ++ b.front) = omega (arith, long) in e);
-      are_pages = b.are_pages;
-    }
-
 -- a link that isn't there has no entry
 no_entry : (links : List (List Page)) (number first : ℕ) → slice_get links number ≡ None → slice_get (index_from first links) number ≡ None
 no_entry [] number first e = refl
@@ -111,23 +72,23 @@ no_entry (l ∷ links) (suc number) first e = no_entry links number (first + len
 -- what the index says of it
 record Told (committed : List ℕ) (links : List (List Page)) (number : ℕ) (link : List Page) (entry : LinkEntry) : Type 0 where
   pub between : Between links number 0 link
-  pub start : entry.info.start ≡ length between.front
+  pub start : entry.info.start ≡ length between.before
   pub length_is : entry.info.length ≡ length (bytes_of_pages link)
   pub streams : entry.streams ≡ map (stream_info link) (serials_of link)
-  pub split : committed ≡ between.front ++ (bytes_of_pages link ++ between.behind)
+  pub split : committed ≡ between.before ++ (bytes_of_pages link ++ between.behind)
 
 told : (committed : List ℕ) (links : List (List Page)) (index : IndexState) (number : ℕ) (link : List Page) (entry : LinkEntry) → AreLinks committed links → IsIndexOf links index
     → slice_get links number ≡ Some link → slice_get index.entries number ≡ Some entry → Told committed links number link entry
 told committed links index number link entry are is e there =
     let b = between links number 0 link are.pages e in
-    let same : link_entry (0 + length b.front) link ≡ entry =
-    same_value (link_entry (0 + length b.front) link) entry (sym b.entry ∙ ap (λ (l : List LinkEntry). slice_get l number) (sym is.entries_are) ∙ there) in
+    let same : link_entry (0 + length b.before) link ≡ entry =
+    same_value (link_entry (0 + length b.before) link) entry (sym b.entry ∙ ap (λ (l : List LinkEntry). slice_get l number) (sym is.entries_are) ∙ there) in
     record {
       between = b;
-      start = ap (λ (x : LinkEntry). x.info.start) (sym same) ∙ (let z : 0 + length b.front ≡ length b.front = omega arith in z);
+      start = ap (λ (x : LinkEntry). x.info.start) (sym same) ∙ (let z : 0 + length b.before ≡ length b.before = omega arith in z);
       length_is = ap (λ (x : LinkEntry). x.info.length) (sym same);
       streams = ap (λ (x : LinkEntry). x.streams) (sym same);
-      split = are.spelled ∙ b.split;
+      split = are.spelled ∙ b.joined;
     }
 
 -- it lies in the file
@@ -155,15 +116,15 @@ link_found committed text links index number end info are is at short there = by
     by (Some link) e =
         let (entry, found, same) = some_of (λ (x : LinkEntry). x.info) (slice_get index.entries number) info there in
         let t = told committed links index number link entry are is e found in
-        let start : info.start ≡ length t.between.front = ap (λ (i : LinkInfo). i.start) (sym same) ∙ t.start in
+        let start : info.start ≡ length t.between.before = ap (λ (i : LinkInfo). i.start) (sym same) ∙ t.start in
         let long : info.length ≡ length (bytes_of_pages link) = ap (λ (i : LinkInfo). i.length) (sym same) ∙ t.length_is in
-        let within = inside_file committed t.between.front (bytes_of_pages link) t.between.behind t.split in
+        let within = inside_file committed t.between.before (bytes_of_pages link) t.between.behind t.split in
         let all = at ∙ end_is committed links index are is in (
           record {
             length_is = sym long;
             cuts = λ skip count inside. (
               (let z : info.start + skip + count ≤ length committed = omega (arith, within, inside, start) in z),
-              part_of committed t.between.front (bytes_of_pages link) t.between.behind skip count t.split inside ∙ ap (λ k. part_at (k + skip) count committed) (sym start),
+              part_of committed t.between.before (bytes_of_pages link) t.between.behind skip count t.split inside ∙ ap (λ k. part_at (k + skip) count committed) (sym start),
             );
             short = omega (arith, within, all, start, long, short);
           },
@@ -178,7 +139,7 @@ no_link committed text links index number f is are none = by (slice_get links nu
     by None e = tt
     by (Some link) e =
         let b = between links number 0 link are.pages e in
-        let lost : None ≡ Some (link_entry (0 + length b.front) link) = sym none ∙ ap (λ (l : List LinkEntry). slice_get l number) is.entries_are ∙ b.entry in
+        let lost : None ≡ Some (link_entry (0 + length b.before) link) = sym none ∙ ap (λ (l : List LinkEntry). slice_get l number) is.entries_are ∙ b.entry in
         cc
 
 pub no_whole_link : (committed text : List ℕ) (links : List (List Page)) (index : IndexState) (number : ℕ) → IsIndexOf links index → AreLinks committed links
@@ -189,7 +150,7 @@ no_whole_link committed text links index number is are none = by (slice_get link
     by None e = tt
     by (Some link) e =
         let b = between links number 0 link are.pages e in
-        let lost : None ≡ Some (link_entry (0 + length b.front) link) =
+        let lost : None ≡ Some (link_entry (0 + length b.before) link) =
         sym (none_of (λ (x : LinkEntry). x.info) (slice_get index.entries number) none) ∙ ap (λ (l : List LinkEntry). slice_get l number) is.entries_are ∙ b.entry in
         cc
 
@@ -243,7 +204,7 @@ stream_found committed text links index number serial entry are is there = by (s
               (record {
                 length_is = refl;
                 cuts = λ skip count inside. record {
-                  front = t.between.front;
+                  front = t.between.before;
                   pages = link;
                   behind = t.between.behind;
                   split = t.split;

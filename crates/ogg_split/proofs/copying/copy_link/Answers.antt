@@ -1,7 +1,7 @@
-use Rattle.std.proofs.Common.{ℕ, List, refl, subst, Err}
+use Rattle.std.proofs.Common.{ℕ, List, subst, Err}
 use Rattle.ogg_split.specs.Copying.{IsCopy}
 use Rattle.std.proofs.lemmas.Bool.{false≢true}
-use Rattle.ogg_split.proofs.Placed.{stands_in, some_link, link_is_there, read_in_vain}
+use Rattle.ogg_split.proofs.Placed.{stands_in, some_link, link_is_there, nothing_missing}
 use Rattle.ogg_split.proofs.copying.copy_link.Goals as goal
 
 pub returns-in-Ok-bytes_of_link-clause-copied : goal.returns-in-Ok-bytes_of_link-clause-copied
@@ -19,7 +19,7 @@ returns-in-Ok-bytes_of_link-clause-no_link g c =
 pub returns-in-Err-bytes_of_link-clause-no_link : goal.returns-in-Err-bytes_of_link-clause-no_link
 returns-in-Err-bytes_of_link-clause-no_link g c =
     let (entry, there, is) = c.in-Ok.ensures.ok in
-    link_is_there (Err c.in-Err-bytes_of_link.fault) c.args.index.now.entries c.args.link entry (read_in_vain (Err c.in-Err-bytes_of_link.fault) _ refl c.in-Err-bytes_of_link.ensures.err) there
+    link_is_there (Err c.in-Err-bytes_of_link.fault) c.args.index.now.entries c.args.link entry (nothing_missing (Err c.in-Err-bytes_of_link.fault) c.in-Err-bytes_of_link.ensures.err) there
 
 pub returns-in-Err-bytes_of_link-clause-no_source : goal.returns-in-Err-bytes_of_link-clause-no_source
 returns-in-Err-bytes_of_link-clause-no_source g c links are why =

@@ -1,6 +1,6 @@
 use Rattle.std.proofs.Common.{refl, Err}
 use Rattle.std.proofs.lemmas.Bool.{false≢true}
-use Rattle.ogg_split.proofs.Placed.{stands_in, some_link, link_is_there, stream_is_there, link_is_missing, stream_is_missing, read_in_vain}
+use Rattle.ogg_split.proofs.Placed.{stands_in, some_link, link_is_there, stream_is_there, link_is_missing, stream_is_missing, nothing_missing}
 use Rattle.ogg_split.proofs.copying.copy_stream.Goals as goal
 
 pub returns-in-Ok-bytes_of_link-clause-copied : goal.returns-in-Ok-bytes_of_link-clause-copied
@@ -28,12 +28,12 @@ returns-in-Ok-bytes_of_link-clause-no_source g c links are why =
 pub returns-in-Err-bytes_of_link-clause-no_link : goal.returns-in-Err-bytes_of_link-clause-no_link
 returns-in-Err-bytes_of_link-clause-no_link g c =
     let (entry, there, is, has) = c.in-Ok.ensures.ok in
-    link_is_there (Err c.in-Err-bytes_of_link.fault) c.args.index.now.entries c.args.link entry (read_in_vain (Err c.in-Err-bytes_of_link.fault) _ refl c.in-Err-bytes_of_link.ensures.err) there
+    link_is_there (Err c.in-Err-bytes_of_link.fault) c.args.index.now.entries c.args.link entry (nothing_missing (Err c.in-Err-bytes_of_link.fault) c.in-Err-bytes_of_link.ensures.err) there
 
 pub returns-in-Err-bytes_of_link-clause-no_stream : goal.returns-in-Err-bytes_of_link-clause-no_stream
 returns-in-Err-bytes_of_link-clause-no_stream g c =
     let (entry, there, is, has) = c.in-Ok.ensures.ok in
-    stream_is_there (Err c.in-Err-bytes_of_link.fault) c.args.index.now.entries c.args.link c.args.serial entry (read_in_vain (Err c.in-Err-bytes_of_link.fault) _ refl c.in-Err-bytes_of_link.ensures.err) there has
+    stream_is_there (Err c.in-Err-bytes_of_link.fault) c.args.index.now.entries c.args.link c.args.serial entry (nothing_missing (Err c.in-Err-bytes_of_link.fault) c.in-Err-bytes_of_link.ensures.err) there has
 
 pub returns-in-Err-bytes_of_link-clause-no_source : goal.returns-in-Err-bytes_of_link-clause-no_source
 returns-in-Err-bytes_of_link-clause-no_source g c links are why =

@@ -5,7 +5,7 @@ use Rattle.packet_view.specs.Packets.{PacketsLeft, packets_of}
 use Rattle.ogg_split.specs.Unfinished.{IsUnfinishedAtMost}
 use Rattle.ogg_split.proofs.Unfinished.{unfinished_at_most}
 use Rattle.std.proofs.lemmas.Bool.{false≢true}
-use Rattle.ogg_split.proofs.Placed.{stands_in, some_link, whole_link, link_is_there, stream_is_there, link_is_missing, stream_is_missing, read_in_vain, answered}
+use Rattle.ogg_split.proofs.Placed.{stands_in, some_link, whole_link, link_is_there, stream_is_there, link_is_missing, stream_is_missing, nothing_missing}
 use Rattle.ogg_split.proofs.copying.packets_of.Goals as goal
 
 pub returns-in-Ok-bytes_of_link-clause-packets : goal.returns-in-Ok-bytes_of_link-clause-packets
@@ -27,22 +27,22 @@ returns-in-Ok-bytes_of_link-clause-unfinished c links are =
 pub returns-in-Ok-bytes_of_link-clause-no_link : goal.returns-in-Ok-bytes_of_link-clause-no_link
 returns-in-Ok-bytes_of_link-clause-no_link c =
     let (entry, there, is, has) = c.in-Ok.ensures.ok in
-    link_is_there (Ok c.of.result) c.args.index.now.entries c.args.link entry (answered c.of.result) there
+    link_is_there (Ok c.of.result) c.args.index.now.entries c.args.link entry (nothing_missing (Ok c.of.result) tt) there
 
 pub returns-in-Ok-bytes_of_link-clause-no_stream : goal.returns-in-Ok-bytes_of_link-clause-no_stream
 returns-in-Ok-bytes_of_link-clause-no_stream c =
     let (entry, there, is, has) = c.in-Ok.ensures.ok in
-    stream_is_there (Ok c.of.result) c.args.index.now.entries c.args.link c.args.serial entry (answered c.of.result) there has
+    stream_is_there (Ok c.of.result) c.args.index.now.entries c.args.link c.args.serial entry (nothing_missing (Ok c.of.result) tt) there has
 
 pub returns-in-Err-bytes_of_link-clause-no_link : goal.returns-in-Err-bytes_of_link-clause-no_link
 returns-in-Err-bytes_of_link-clause-no_link c =
     let (entry, there, is, has) = c.in-Ok.ensures.ok in
-    link_is_there (Err c.in-Err-bytes_of_link.fault) c.args.index.now.entries c.args.link entry (read_in_vain (Err c.in-Err-bytes_of_link.fault) _ refl c.in-Err-bytes_of_link.ensures.err) there
+    link_is_there (Err c.in-Err-bytes_of_link.fault) c.args.index.now.entries c.args.link entry (nothing_missing (Err c.in-Err-bytes_of_link.fault) c.in-Err-bytes_of_link.ensures.err) there
 
 pub returns-in-Err-bytes_of_link-clause-no_stream : goal.returns-in-Err-bytes_of_link-clause-no_stream
 returns-in-Err-bytes_of_link-clause-no_stream c =
     let (entry, there, is, has) = c.in-Ok.ensures.ok in
-    stream_is_there (Err c.in-Err-bytes_of_link.fault) c.args.index.now.entries c.args.link c.args.serial entry (read_in_vain (Err c.in-Err-bytes_of_link.fault) _ refl c.in-Err-bytes_of_link.ensures.err) there has
+    stream_is_there (Err c.in-Err-bytes_of_link.fault) c.args.index.now.entries c.args.link c.args.serial entry (nothing_missing (Err c.in-Err-bytes_of_link.fault) c.in-Err-bytes_of_link.ensures.err) there has
 
 pub returns-in-Err-bytes_of_link-clause-no_source : goal.returns-in-Err-bytes_of_link-clause-no_source
 returns-in-Err-bytes_of_link-clause-no_source c links are why =

@@ -1,5 +1,6 @@
 use Rattle.std.proofs.Common.{refl, ◌∙◌, ap, rules, Ok}
 use Rattle.ogg_page.specs.VisitingLaws.{has_shown}
+use Rattle.ogg_split.specs.Copying.{CopiesPart, stream_bytes}
 use Rattle.ogg_split.specs.CopyingLaws.{few_left, all_written, some_written, fault_of_source}
 use Rattle.ogg_split.proofs.Copied.{stream_text, stream_fits}
 use Rattle.ogg_split.proofs.walking.copy_lent.Goals as goal
@@ -29,4 +30,4 @@ pub returns-in-Err-clause-cause : goal.returns-in-Err-clause-cause
 returns-in-Err-clause-cause g c pages sure are is why =
     let s = g.S.PageSource in
     let shown = has_shown s.bytes s.is_honest s.size s.failures s.only_reads _ _ _ _ _ _ pages c.walk.ensures.walked c.requires.fresh sure are is in
-    (c.walk.ensures.cause c.requires.fresh).1 (fault_of_source g.W.Write.contents _ _ _ _ _ _ pages c.walk.result c.in-Err.field-0 shown c.in-Err.is)
+    (c.walk.ensures.cause c.requires.fresh).1 (fault_of_source (CopiesPart g.W.Write.contents (λ c. c.out) (λ c. c.count) (λ c. stream_bytes c.serial)) _ _ _ pages c.walk.result c.in-Err.field-0 shown c.in-Err.is)

@@ -10,7 +10,7 @@ use Rattle.link_index.specs.declared.info.LinkInfo.{LinkInfo}
 use Rattle.ogg_split.specs.Asked.{StandsIn}
 use Rattle.ogg_split.specs.LinkParts.{window_of_link}
 use Rattle.ogg_split.proofs.Parted.{gives_link, parts_of_link}
-use Rattle.ogg_split.proofs.Placed.{inside, stands_in, some_link, whole_link, link_at, link_is_there, link_is_missing, stream_is_missing, read_in_vain, answered}
+use Rattle.ogg_split.proofs.Placed.{inside, stands_in, some_link, whole_link, link_at, link_is_there, link_is_missing, stream_is_missing, nothing_missing}
 use Rattle.ogg_split.proofs.windows.parts_of.Given.{Over}
 use Rattle.ogg_split.proofs.windows.parts_of.Goals as goal
 
@@ -49,13 +49,13 @@ returns-in-Ok-set_range-clause-unfinished g c links are =
 pub returns-in-Ok-set_range-clause-no_link : goal.returns-in-Ok-set_range-clause-no_link
 returns-in-Ok-set_range-clause-no_link g c =
     let (entry, there, is, has) = c.in-Ok.ensures.ok in
-    link_is_there (Ok c.of.result) c.args.index.now.entries c.args.link entry (answered c.of.result) there
+    link_is_there (Ok c.of.result) c.args.index.now.entries c.args.link entry (nothing_missing (Ok c.of.result) tt) there
 
 pub returns-in-Err-set_range-clause-no_link : goal.returns-in-Err-set_range-clause-no_link
 returns-in-Err-set_range-clause-no_link g c =
     let (entry, there, is, has) = c.in-Ok.ensures.ok in
     link_is_there (Err c.in-Err-set_range.fault) c.args.index.now.entries c.args.link entry
-    (read_in_vain (Err c.in-Err-set_range.fault) _ refl c.in-Err-set_range.ensures.err) there
+    (nothing_missing (Err c.in-Err-set_range.fault) c.in-Err-set_range.ensures.err) there
 
 pub returns-in-Err-set_range-clause-no_source : goal.returns-in-Err-set_range-clause-no_source
 returns-in-Err-set_range-clause-no_source g c links sure are why =
