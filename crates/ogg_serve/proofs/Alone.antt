@@ -12,8 +12,8 @@ use Rattle.ogg_command.specs.declared.command.Command.{Command}
 use Rattle.ogg_command.specs.declared.refusal.Refusal.{Refusal}
 use Rattle.ogg_command.specs.declared.refusal.Refusal.TheVariants.{Failed, Memory, Disk}
 use Rattle.ogg_recorder.specs.Running.{reply_of, reply_of_flush}
-use Rattle.ogg_recorder.specs.declared.commanding.Outcome.{Outcome}
-use Rattle.ogg_recorder.specs.declared.commanding.Outcome.TheVariants.{Held as WasHeld, Kept as WasKept}
+use Rattle.feed_replies.specs.declared.outcome.Outcome.{Outcome}
+use Rattle.feed_replies.specs.declared.outcome.Outcome.TheVariants.{Held as WasHeld, Kept as WasKept}
 use Rattle.serve_hub.specs.Running.{Progress, Answers}
 use Rattle.serve_machine.specs.Hub.{HubState, command_step, flush_step, reopen_step}
 use Rattle.serve_machine.specs.Own.{KeepsFile}

@@ -22,8 +22,8 @@ use Rattle.ogg_recorder.specs.Answer.{call_of, command_step, flush_step}
 use Rattle.ogg_recorder.specs.Recorder.{RecorderState, IsRecorderStep}
 use Rattle.ogg_recorder.specs.Recovery.{Shows as ShowsRecording, Accepts}
 use Rattle.ogg_recorder.specs.Running.{reply_of, reply_of_flush}
-use Rattle.ogg_recorder.specs.declared.commanding.Outcome.{Outcome}
-use Rattle.ogg_recorder.specs.declared.commanding.Outcome.TheVariants.{Held as WasHeld, Kept as WasKept}
+use Rattle.feed_replies.specs.declared.outcome.Outcome.{Outcome}
+use Rattle.feed_replies.specs.declared.outcome.Outcome.TheVariants.{Held as WasHeld, Kept as WasKept}
 use Rattle.serve_hub.specs.declared.opening.Lost.{Lost}
 use Rattle.serve_hub.specs.Images.{IfFile, Flushes, OpensIn, Reads, Records, Reopens, disk_in}
 use Rattle.serve_hub.specs.Parts.{HubParts, OnlyFile}

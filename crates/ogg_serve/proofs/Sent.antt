@@ -1,5 +1,5 @@
 -- How far a session's response has been written.
-use Rattle.std.proofs.Common.{◌≡◌, ◌⊎◌, ℕ, ◌+◌, ◌*◌, ◌^◌, ◌<◌, ◌≤◌, suc, Bool, false, Option, Some, None, Ok, Err, List, [], ◌++◌, length, take, drop, refl, sym, ◌∙◌, ap, subst, inl, inr, arith, append_assoc, length-append}
+use Rattle.std.proofs.Common.{◌≡◌, ◌⊎◌, ℕ, ◌+◌, ◌*◌, ◌<◌, ◌≤◌, suc, Bool, Option, Some, None, Ok, Err, List, [], ◌++◌, length, take, drop, refl, sym, ◌∙◌, ap, subst, inl, inr, arith, append_assoc, length-append}
 use Rattle.std.specs.Io.KnownBytes.{Appends, Consumes}
 use Rattle.std.proofs.KnownBytes.{Appends-nil, Appends-trans}
 use Rattle.std.proofs.lemmas.List.{take_at, take-append-drop, take-append-le, length-take-le, length-drop}
@@ -254,9 +254,6 @@ pub tried_all : (failed : Bool) (committed : List ℕ) (served : Served) → Has
 tried_all failed committed Whole tried = tried
 tried_all failed committed NoHead tried = tried
 tried_all failed committed Cut tried = inl tried
-
-pub tried_fault : (failed : Bool) (committed : List ℕ) (fault : HubFault) → HasTried failed (Err fault) → HasTriedAll failed committed (Err fault)
-tried_fault failed committed fault tried = tried
 
 -- the same, with an answer that is equal
 pub tried_as : (failed : Bool) (some other : Option Served) → some ≡ other → HasTried failed (Ok some) → HasTried failed (Ok other)

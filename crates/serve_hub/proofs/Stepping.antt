@@ -21,8 +21,8 @@ use Rattle.feed_replies.specs.declared.reply.Kept.{Kept}
 use Rattle.ogg_recorder.specs.Answer.{Tells, kept_by as kept_by_recorder}
 use Rattle.ogg_recorder.specs.Recorder.{RecorderState, IsRecorder, recorder_state, committed, staged}
 use Rattle.ogg_recorder.specs.Taking.{HoldsChain}
-use Rattle.ogg_recorder.specs.declared.commanding.Outcome.{Outcome}
-use Rattle.ogg_recorder.specs.declared.commanding.Outcome.TheVariants.{Held as WasHeld, Kept as WasKept}
+use Rattle.feed_replies.specs.declared.outcome.Outcome.{Outcome}
+use Rattle.feed_replies.specs.declared.outcome.Outcome.TheVariants.{Held as WasHeld, Kept as WasKept}
 use Rattle.serve_machine.specs.Hub.{HubState, IsAccepted, IsRefused, is_failed, holding, committing, doubting, command_step, flush_step}
 use Rattle.serve_hub.specs.Showing.{ShowsFile, KeepsSessions}
 
