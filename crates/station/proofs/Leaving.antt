@@ -1,11 +1,9 @@
 -- A source that leaves the air, and of which something is lost.
-use Rattle.std.proofs.Common.{◌≡◌, ◌≢◌, ◌⊎◌, ◌||◌, Bool, true, Option, Some, None, if◌then◌else◌, sym, ◌∙◌, ap, subst, inl, inr}
+use Rattle.std.proofs.Common.{◌≡◌, ◌⊎◌, ◌||◌, Bool, true, Option, Some, None, if◌then◌else◌, sym, ◌∙◌, ap, subst, inl, inr}
 use Rattle.gate_file.specs.declared.fault.OpenFault.{OpenFault}
 use Rattle.import_record.specs.declared.fault.RecordFault.{RecordFault}
 use Rattle.serve_clients.specs.Client.{ClientState}
-use Rattle.serve_clients.specs.declared.client.Stage.TheVariants.{Cut, Ending, Waiting}
 use Rattle.serve_sources.specs.declared.body.Body.{Body}
-use Rattle.serve_sources.specs.declared.outcome.Outcome.{Outcome}
 use Rattle.serve_sources.specs.declared.outcome.Outcome.TheVariants.{Lost}
 use Rattle.station_sources.specs.Air.{outcome_of, parting_answer, wants_answer}
 use Rattle.station.specs.Parting.{HasParted}
@@ -15,12 +13,6 @@ use Rattle.station.specs.declared.stepping.Done.TheVariants.{Failed, GivenUp, Lo
 
 pub same_air : (one other : OnAir) → Some one ≡ Some other → one ≡ other
 same_air one other e = cc
-
-ending_waits : Ending ≡ Waiting → ⊥
-ending_waits e = cc
-
-cut_waits : Cut ≡ Waiting → ⊥
-cut_waits e = cc
 
 -- what it is answered depends on its body alone
 pub lost_answer : (one other : OnAir) (client after : ClientState) → one.body ≡ other.body → HasParted (parting_answer true one) client after
@@ -33,12 +25,6 @@ pub resumed : (before lost after air : OnAir) → before ≡ air → lost ≡ re
     → after ≡ record air { import = after.import; lost = true }
 resumed before lost after air same is resumes =
     resumes ∙ ap (λ (one : OnAir). record one { import = after.import }) (is ∙ ap (λ (one : OnAir). record one { lost = true }) same)
-
--- it doesn't wait for the air any more
-pub parted_is_apart : (answer : Option Outcome) (client after : ClientState) → HasParted answer client after → after.stage ≢ Waiting
-parted_is_apart None client after parted waits = ending_waits (sym (ap (λ (one : ClientState). one.stage) parted) ∙ waits)
-parted_is_apart (Some outcome) client after (inl told) waits = ending_waits (sym (ap (λ (one : ClientState). one.stage) told) ∙ waits)
-parted_is_apart (Some outcome) client after (inr cut) waits = cut_waits (sym (ap (λ (one : ClientState). one.stage) cut) ∙ waits)
 
 -- a source that is resumed doesn't wait, and the file was opened
 reopened_failed : Reopened ≡ Failed → ⊥

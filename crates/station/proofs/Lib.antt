@@ -2,4 +2,6 @@ mod Found
 mod Hearing
 mod Leaving
 mod Reopening
+mod Succeeding
 mod Turned
+mod Unread

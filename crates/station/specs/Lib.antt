@@ -1,5 +1,6 @@
 pub mod Offering
 pub mod Parting
+pub mod Succeeding
 pub mod Stepping
 pub mod Lines
 pub mod Telling

@@ -1,7 +1,8 @@
 -- What a step of a station has done, of the source that had the air and in numbers. Ours.
-use Rattle.std.specs.Prelude.{◌≡◌, ⊤, ℕ, Bool, false, true, Option, Some, List}
+use Rattle.std.specs.Prelude.{◌≡◌, ⊤, ℕ, Bool, false, true, Option, Some, []}
 use Rattle.disk_model.specs.declared.disk.Disk.{Ghosts as DiskModel}
-use Rattle.disk_model.specs.Image.{DiskState}
+use Rattle.feed_records.specs.declared.item.Record.TheVariants.{Flush}
+use Rattle.feed_replies.specs.declared.reply.Reply.{Reply}
 use Rattle.import_mend.specs.declared.mend.Mend.{Mend}
 use Rattle.import_record.specs.declared.intake.Taken.{Taken}
 use Rattle.import_record.specs.declared.reading.ImportRun.{ImportRun}
@@ -16,8 +17,9 @@ use Rattle.station_sources.specs.Taking.{TakesEnd, TakesStep}
 use Rattle.station_sources.specs.declared.air.OnAir.{OnAir}
 use Rattle.station_sources.specs.declared.counting.Counts.{Counts}
 use Rattle.station.specs.Parting.{FeederParts}
+use Rattle.station.specs.Succeeding.{IsSucceeded}
 use Rattle.station.specs.declared.stepping.Done.{Done}
-use Rattle.station.specs.declared.stepping.Done.TheVariants.{Bytes, Ended, Failed, GivenUp, Lost, Reopened, Stepped}
+use Rattle.station.specs.declared.stepping.Done.TheVariants.{Bytes, Ended, Failed, Flushed, GivenUp, Lost, Reopened, Stepped}
 
 -- ---- in numbers
 abbrev pub with_done : Done → Counts → Counts
@@ -34,6 +36,14 @@ reopens (Lost fault) = true
 reopens Failed = true
 reopens (GivenUp fault) = true
 reopens done = false
+
+-- ---- of what waited
+-- it was committed, or couldn't be, as the recorder answers a flush
+pub record HasFlushed {D : Type 0} (model : DiskModel D) (done : Done) (old new : LiveHub D) : Type 0 where
+  pub reply : Reply
+  pub flushed : done ≡ Flushed reply
+  pub answered : (before : Progress D) → IsIn model before old.hub → (after : Progress D)
+      × Answers model before Flush reply [] after × IsIn model after new.hub
 
 -- ---- of the source that had the air
 module _ {D : Type 0} (model : DiskModel D) where
@@ -78,3 +88,9 @@ abbrev pub PartsBy : Done → Bool → OnAir → Slab ClientState → Slab Clien
 PartsBy (Ended offset junk taken) failed air old new = FeederParts (parting_answer failed (noted taken air)) air old new
 PartsBy (GivenUp fault) failed air old new = FeederParts (parting_answer true air) air old new
 PartsBy done failed air old new = ⊤
+
+-- If the source has left the air, the first one that waited is on it, or couldn't take it.
+abbrev pub IsSucceededBy : Done → Slab ClientState → Slab ClientState → Option OnAir → Type 0
+IsSucceededBy (Ended offset junk taken) old new air = IsSucceeded old new air
+IsSucceededBy (GivenUp fault) old new air = IsSucceeded old new air
+IsSucceededBy done old new air = ⊤

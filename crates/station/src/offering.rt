@@ -1,14 +1,17 @@
 //! A source is offered: it is refused, or goes on the air.
-ghost use Rattle.std.specs.Prelude.{◌≡◌, ◌≢◌, ◌++◌, ℕ, Some, OnOk, true};
+ghost use Rattle.std.specs.Prelude.{◌≡◌, ◌++◌, ◌⊎◌, ℕ, None, Some, OnErr, OnOk, false};
 ghost use Rattle.slab.specs.Slab.{get};
 ghost use Rattle.httparse.specs.Grammar.{RequestHead};
 ghost use Rattle.serve_clients.specs.Client.{ClientState};
 ghost use Rattle.serve_clients.specs.Clients.{OthersStay};
-ghost use Rattle.serve_clients.specs.declared.client.Stage.TheVariants.{Waiting as WaitingOf};
 ghost use Rattle.serve_sources.specs.Asking.{HasHead};
+ghost use Rattle.serve_sources.specs.Offer.{IsUnread};
 ghost use Rattle.serve_sources.specs.declared.password.Password.{Password as PasswordOf};
+ghost use Rattle.station_sources.specs.Air.{feeder_in};
 ghost use Rattle.station_sources.specs.Counting.{counted};
+ghost use Rattle.station_sources.specs.declared.air.Feeder.TheVariants.{Peer};
 ghost use Rattle.station.specs.Offering.{IsRefusal, IsUnauthorized};
+ghost use Rattle.station.specs.Succeeding.{IsSucceeded, WasOffered, waits};
 
 use crate::Memory;
 use crate::station::Station;
@@ -21,6 +24,7 @@ use station_sources::{Feeder, OnAir, counted};
 /// What comes of a source's head, as far as it has come. A head without the password is refused.
 fn offered(head: &[u8], password: &Password) -> Offer
     ensures unauthorized { (request : RequestHead) → HasHead head.now request → IsUnauthorized password.now request → IsRefusal result }
+    ensures more { result ≡ Offer.More → IsUnread head.now Offer.More }
 {
     // For the proof alone.
     sources_are_refused();
@@ -34,6 +38,10 @@ impl<D: Disk + Drop> Station<D> {
         ensures unauthorized { (client : ClientState) (request : RequestHead) (password : PasswordOf) → get self.old.clients.slots key ≡ Some client
             → self.old.options.password ≡ Some password → HasHead (client.head ++ bytes.now) request → IsUnauthorized password request
             → self.new.air ≡ self.old.air }
+        // It has the air from now on, or who had it before has. If the air was free, it waits no longer, or its head hasn't
+        // come whole.
+        ensures offered { self.old.air ≡ None → WasOffered (get self.new.clients.slots key) }
+        ensures feeder { (feeder_in self.new.air ≡ Some (Peer key)) ⊎ (feeder_in self.new.air ≡ feeder_in self.old.air) }
         ensures others { OthersStay key self.old.clients self.new.clients }
         ensures live { self.new.live ≡ self.old.live }
     {
@@ -45,6 +53,8 @@ impl<D: Disk + Drop> Station<D> {
             return;
         }
         let Some(password) = &self.options.password else {
+            // No connection may send a stream.
+            client.stage = Stage::Cut;
             return;
         };
         match offered(client.head.as_slice(), password) {
@@ -66,6 +76,7 @@ impl<D: Disk + Drop> Station<D> {
     /// A source is refused: it is told so, and counted.
     pub(crate) fn refuse(&mut self, key: usize, refused: Refused)
         ensures counts { self.new.counts ≡ record self.old.counts { sources_refused = counted self.old.counts.sources_refused 1 } }
+        ensures told { waits (get self.new.clients.slots key) ≡ false }
         ensures others { OthersStay key self.old.clients self.new.clients }
         ensures live { self.new.live ≡ self.old.live }
         ensures air { self.new.air ≡ self.old.air }
@@ -78,8 +89,8 @@ impl<D: Disk + Drop> Station<D> {
 
     /// The air is free: the first source that waits for it takes it.
     pub(crate) fn offer_again(&mut self, now: u64)
-        ensures others { (key : ℕ) (client : ClientState) → get self.old.clients.slots key ≡ Some client → client.stage ≢ WaitingOf
-            → get self.new.clients.slots key ≡ Some client }
+        ensures succeeded { self.old.air ≡ None → IsSucceeded self.old.clients.slots self.new.clients.slots self.new.air }
+        ensures others { (key : ℕ) → waits (get self.old.clients.slots key) ≡ false → get self.new.clients.slots key ≡ get self.old.clients.slots key }
         ensures live { self.new.live ≡ self.old.live }
     {
         for key in 0..self.clients.slots.capacity() {
@@ -92,7 +103,7 @@ impl<D: Disk + Drop> Station<D> {
 
     /// Whether this connection is a source that waits for the air.
     fn waits(&self, key: usize) -> bool
-        ensures { result ≡ true → (client : ClientState) × (get self.now.clients.slots key ≡ Some client) × (client.stage ≡ WaitingOf) }
+        ensures { result ≡ waits (get self.now.clients.slots key) }
     {
         match self.clients.slots.get(key) {
             Some(client) => client.stage == Stage::Waiting,
@@ -104,6 +115,8 @@ impl<D: Disk + Drop> Station<D> {
     fn cut(&mut self, key: usize)
         ensures others { OthersStay key self.old.clients self.new.clients }
         ensures live { self.new.live ≡ self.old.live }
+        ensures feeder { feeder_in self.new.air ≡ feeder_in self.old.air }
+        ensures cut { waits (get self.new.clients.slots key) ≡ false }
     {
         if let Some(client) = self.clients.slots.get_mut(key) {
             client.stage = Stage::Cut;
@@ -122,6 +135,8 @@ impl<D: Disk + Drop> Station<D> {
     ) -> Result<(), Memory>
         ensures others { OthersStay key self.old.clients self.new.clients }
         ensures live { self.new.live ≡ self.old.live }
+        ensures feeder { (feeder_in self.new.air ≡ Some (Peer key)) ⊎ (feeder_in self.new.air ≡ feeder_in self.old.air) }
+        ensures ok { OnOk result (waits (get self.new.clients.slots key) ≡ false) }
     {
         self.begin_air(Feeder::Peer(key), Some(body), now)?;
         let Some(client) = self.clients.slots.get_mut(key) else {
@@ -146,6 +161,8 @@ impl<D: Disk + Drop> Station<D> {
         ensures clients { self.new.clients ≡ self.old.clients }
         ensures live { self.new.live ≡ self.old.live }
         ensures options { self.new.options ≡ self.old.options }
+        ensures ok { OnOk result (feeder_in self.new.air ≡ Some feeder) }
+        ensures err { OnErr result (self.new.air ≡ self.old.air) }
         ensures counts { OnOk result (self.new.counts ≡ record self.old.counts { sources = counted self.old.counts.sources 1 }) }
     {
         let options = ChangeOptions {

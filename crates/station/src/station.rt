@@ -11,7 +11,7 @@ ghost use Rattle.serve_clients.specs.Client.{ClientState, HasWritten, fresh, giv
 ghost use Rattle.serve_clients.specs.Line.{moved_on};
 ghost use Rattle.station_hub.specs.Asking.{stage_after};
 ghost use Rattle.serve_clients.specs.declared.client.Stage.TheVariants.{Reading as ReadingOf, Waiting as WaitingOf};
-ghost use Rattle.station_sources.specs.Air.{HoldsMore, IsFedBy, IsShort};
+ghost use Rattle.station_sources.specs.Air.{HoldsMore, IsFedBy, IsShort, feeder_in};
 ghost use Rattle.station_sources.specs.declared.air.OnAir.{OnAir as OnAirOf};
 ghost use Rattle.station_sources.specs.Counting.{counted};
 ghost use Rattle.station_hub.specs.Giving.{Gives};
@@ -110,7 +110,9 @@ impl<D: Disk + Drop> Station<D> {
     }
 
     /// Who sends the stream that is recorded, if there is one.
-    pub fn feeder(&self) -> Option<Feeder> {
+    pub fn feeder(&self) -> Option<Feeder>
+        ensures { result ≡ feeder_in self.now.air }
+    {
         match &self.air {
             Some(air) => Some(air.feeder()),
             None => None,
@@ -425,6 +427,7 @@ impl<D: Disk + Drop> Station<D> {
         ensures clients { self.new.clients ≡ self.old.clients }
         ensures live { self.new.live ≡ self.old.live }
         ensures options { self.new.options ≡ self.old.options }
+        ensures feeder { feeder_in self.new.air ≡ feeder_in self.old.air }
     {
         if let Some(air) = &mut self.air {
             if air.feeder() == feeder {

@@ -1,5 +1,5 @@
 //! What is recorded, step by step.
-ghost use Rattle.std.specs.Prelude.{◌≡◌, ◌≢◌, ◌⊎◌, ◌||◌, None, Some, length, true};
+ghost use Rattle.std.specs.Prelude.{◌≡◌, ◌≢◌, ◌⊎◌, ◌||◌, None, Some, length, true, false};
 ghost use Rattle.station_hub.specs.Waking.{woken_at};
 ghost use Rattle.slab.specs.Slab.{get};
 ghost use Rattle.serve_clients.specs.Client.{ClientState};
@@ -11,8 +11,9 @@ ghost use Rattle.serve_hub.specs.Parts.{failed_in};
 ghost use Rattle.station_sources.specs.Air.{parting_answer};
 ghost use Rattle.station.specs.Parting.{FeederParts, HasParted};
 ghost use Rattle.station_sources.specs.declared.air.OnAir.{OnAir as OnAirOf};
-ghost use Rattle.station_hub.specs.Patience.{until_due};
-ghost use Rattle.station.specs.Stepping.{GoesOnWithLoss, PartsBy, TakesFromSource, reopens, with_done};
+ghost use Rattle.station_hub.specs.Patience.{is_due, until_due};
+ghost use Rattle.station.specs.Stepping.{GoesOnWithLoss, HasFlushed, IsSucceededBy, PartsBy, TakesFromSource, reopens, with_done};
+ghost use Rattle.station.specs.Succeeding.{IsSucceeded, SameWait};
 ghost use Rattle.serve_hub.specs.Showing.{Shows};
 ghost use Rattle.serve_machine.specs.Hub.{HubState};
 
@@ -67,6 +68,11 @@ impl<D: Disk + Drop> Station<D> {
         // A fault of the disk comes before anything of the source that follows, and is noted.
         ensures failed { failed_in self.old.live.hub.file ≡ true → reopens result ≡ true }
         ensures noted { (air : OnAirOf) → self.old.air ≡ Some air → result ≡ Done.Reopened → GoesOnWithLoss air self.new.air }
+        // Once a source has left the air, the first one that waited is on it, or couldn't take it.
+        ensures succeeded { IsSucceededBy result self.old.clients.slots self.new.clients.slots self.new.air }
+        // What waits is committed once it is due, and answered as the recorder does.
+        ensures commits { (machine : HubState) → Shows D.Disk self.old.live.hub machine → failed_in self.old.live.hub.file ≡ false
+            → is_due machine.waiting self.old.waiting_since now ≡ true → HasFlushed D.Disk result self.old.live self.new.live }
         // If more is committed, listeners are woken now, or it is remembered that they are to be.
         ensures wakes { (before after : HubState) → Shows D.Disk self.old.live.hub before → Shows D.Disk self.new.live.hub after
             → length before.committed ≢ length after.committed → (self.new.waking ≡ woken_at now) ⊎ (self.new.waking.unheard ≡ true) }
@@ -103,8 +109,11 @@ impl<D: Disk + Drop> Station<D> {
             → TakesFromSource D.Disk result air self.new.air self.old.live self.new.live }
         ensures parts { (air : OnAirOf) → self.old.air ≡ Some air
             → PartsBy result (failed_in self.new.live.hub.file) air self.old.clients.slots self.new.clients.slots }
+        ensures succeeded { IsSucceededBy result self.old.clients.slots self.new.clients.slots self.new.air }
         ensures failed { failed_in self.old.live.hub.file ≡ true → reopens result ≡ true }
         ensures noted { (air : OnAirOf) → self.old.air ≡ Some air → result ≡ Done.Reopened → GoesOnWithLoss air self.new.air }
+        ensures commits { (machine : HubState) → Shows D.Disk self.old.live.hub machine → failed_in self.old.live.hub.file ≡ false
+            → is_due machine.waiting self.old.waiting_since now ≡ true → HasFlushed D.Disk result self.old.live self.new.live }
     {
         if self.live.hub().is_failed() {
             return self.reopen(now);
@@ -126,6 +135,7 @@ impl<D: Disk + Drop> Station<D> {
             → TakesFromSource D.Disk result air self.new.air self.old.live self.new.live }
         ensures parts { (air : OnAirOf) → self.old.air ≡ Some air
             → PartsBy result (failed_in self.new.live.hub.file) air self.old.clients.slots self.new.clients.slots }
+        ensures succeeded { IsSucceededBy result self.old.clients.slots self.new.clients.slots self.new.air }
         ensures goes_on { result ≢ Done.Reopened }
     {
         let Some(air) = &mut self.air else {
@@ -161,6 +171,7 @@ impl<D: Disk + Drop> Station<D> {
     fn leave_the_air(&mut self, given_up: bool, now: u64)
         ensures parts { (air : OnAirOf) → self.old.air ≡ Some air
             → FeederParts (parting_answer (given_up || failed_in self.new.live.hub.file) air) air self.old.clients.slots self.new.clients.slots }
+        ensures succeeded { self.old.air ≢ None → IsSucceeded self.old.clients.slots self.new.clients.slots self.new.air }
     {
         let Some(air) = self.air.take() else {
             return;
@@ -182,6 +193,7 @@ impl<D: Disk + Drop> Station<D> {
     /// A source has left the air. If a connection sent it, that gets its last bytes.
     fn answer_feeder(&mut self, air: &OnAir, lost: bool)
         ensures parts { FeederParts (parting_answer lost air.now) air.now self.old.clients.slots self.new.clients.slots }
+        ensures waits { SameWait self.old.clients.slots self.new.clients.slots }
         ensures live { self.new.live ≡ self.old.live }
         ensures air { self.new.air ≡ self.old.air }
     {
@@ -194,6 +206,7 @@ impl<D: Disk + Drop> Station<D> {
     fn part(&mut self, key: usize, answer: Option<Outcome>)
         ensures parts { (client : ClientState) → get self.old.clients.slots key ≡ Some client → client.stage ≡ FeedingOf
             → (after : ClientState) × (get self.new.clients.slots key ≡ Some after) × HasParted answer client after }
+        ensures waits { SameWait self.old.clients.slots self.new.clients.slots }
         ensures others { OthersStay key self.old.clients self.new.clients }
         ensures live { self.new.live ≡ self.old.live }
         ensures air { self.new.air ≡ self.old.air }
@@ -222,6 +235,7 @@ impl<D: Disk + Drop> Station<D> {
         ensures noted { (air : OnAirOf) → self.old.air ≡ Some air → result ≡ Done.Reopened → GoesOnWithLoss air self.new.air }
         ensures parts { (air : OnAirOf) (fault : RecordFaultOf) → self.old.air ≡ Some air → result ≡ Done.GivenUp fault
             → FeederParts (parting_answer true air) air self.old.clients.slots self.new.clients.slots }
+        ensures succeeded { IsSucceededBy result self.old.clients.slots self.new.clients.slots self.new.air }
         ensures waits { result ≡ Done.Failed → self.new ≡ self.old }
         ensures lost { (fault : OpenFaultOf) → result ≡ Done.Lost fault → (self.new.air ≡ self.old.air) × (self.new.clients ≡ self.old.clients) }
         ensures reopens { reopens result ≡ true }
@@ -242,6 +256,7 @@ impl<D: Disk + Drop> Station<D> {
         ensures noted { (air : OnAirOf) → self.old.air ≡ Some air → result ≡ Done.Reopened → GoesOnWithLoss air self.new.air }
         ensures parts { (air : OnAirOf) → self.old.air ≡ Some air → result ≢ Done.Reopened
             → FeederParts (parting_answer true air) air self.old.clients.slots self.new.clients.slots }
+        ensures succeeded { IsSucceededBy result self.old.clients.slots self.new.clients.slots self.new.air }
         ensures none { self.old.air ≡ None → (result ≡ Done.Reopened) × (self.new ≡ self.old) }
         ensures reopens { reopens result ≡ true }
         ensures becomes { (result ≡ Done.Reopened) ⊎ ((fault : RecordFaultOf) × (result ≡ Done.GivenUp fault)) }

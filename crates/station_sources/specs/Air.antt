@@ -19,6 +19,11 @@ pub record IsStarved (air : OnAir) : Type 0 where
   pub none : air.decoded ≡ 0
   pub waits : page_at air.import.pages.unread ≡ Err Short
 
+-- who sends the stream that is recorded, if a source is on the air
+abbrev pub feeder_in : Option OnAir → Option Feeder
+feeder_in None = None
+feeder_in (Some air) = Some air.feeder
+
 -- bytes of this feeder are taken now
 abbrev pub IsFedBy : Feeder → Option OnAir → Type 0
 IsFedBy feeder None = ⊥

@@ -100,7 +100,9 @@ impl OnAir {
         body: Option<Body>,
         options: ChangeOptions,
         serials: &[u32],
-    ) -> Result<OnAir, Memory> {
+    ) -> Result<OnAir, Memory>
+        ensures { IfOk result (λ air. air.feeder ≡ feeder) }
+    {
         let import = ImportRun::new(alloc, ROOM, options, serials)?;
         Ok(OnAir {
             feeder,

@@ -4,7 +4,9 @@ use Rattle.serve_hub.specs.Parts.{failed_in}
 use Rattle.station.specs.Parting.{HasParted}
 use Rattle.station_sources.specs.Air.{parting_answer}
 use Rattle.station_sources.specs.declared.air.OnAir.{OnAir}
-use Rattle.station.proofs.Leaving.{parted_is_apart, same_air}
+use Rattle.station.specs.Succeeding.{IsSucceeded, waits}
+use Rattle.station.proofs.Leaving.{same_air}
+use Rattle.station.proofs.Succeeding.{parted_waits, succeeded}
 use Rattle.station.proofs.station.Station.leave_the_air.Goals as goal
 
 pub returns : goal.returns
@@ -17,8 +19,13 @@ returns g c = record {
       let lost : told ≡ (c.args.given_up || failed_in c.offer_again.new.self.live.hub.file) =
       c.is_lost-lost.ensures ∙ ap (λ live. c.args.given_up || failed_in live.hub.file) (sym (c.offer_again.ensures.live ∙ c.answer_feeder.ensures.live)) in (
         after,
-        c.offer_again.ensures.others key after left (parted_is_apart (parting_answer told c.in-Some.air) client after parted),
+        c.offer_again.ensures.others key (ap waits left ∙ parted_waits (parting_answer told c.in-Some.air) client after parted) ∙ left,
         subst (λ (b : Bool). HasParted (parting_answer b air) client after) lost
             (subst (λ (one : OnAir). HasParted (parting_answer told one) client after) same parted),
       );
+  succeeded = λ was.
+      let before = c.end_open.new.self.clients.slots in
+      subst (λ slots. IsSucceeded slots c.offer_again.new.self.clients.slots c.offer_again.new.self.air) (ap (λ s. s.clients.slots) c.end_open.ensures)
+      (succeeded before c.answer_feeder.new.self.clients.slots c.offer_again.new.self.clients.slots c.offer_again.new.self.air c.answer_feeder.ensures.waits
+      (c.offer_again.ensures.succeeded (c.answer_feeder.ensures.air ∙ ap (λ s. s.air) c.end_open.ensures ∙ c.take.ensures.after)));
 }

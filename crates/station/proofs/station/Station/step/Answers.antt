@@ -1,31 +1,51 @@
-use Rattle.std.proofs.Common.{Option, sym, ◌∙◌, ap, subst}
+use Rattle.std.proofs.Common.{◌≡◌, Option, sym, ◌∙◌, ap, subst}
+use Rattle.serve_clients.specs.declared.clients.Clients.{Clients}
+use Rattle.slab.specs.Slab.{get}
 use Rattle.station_hub.specs.declared.live_hub.LiveHub.{LiveHub}
 use Rattle.station_sources.specs.declared.air.OnAir.{OnAir}
-use Rattle.station.specs.Stepping.{GoesOnWithLoss, TakesFromSource}
+use Rattle.station.specs.Stepping.{GoesOnWithLoss, IsSucceededBy, TakesFromSource}
+use Rattle.station.specs.Succeeding.{StayOffered, WasOffered}
+use Rattle.station.proofs.Succeeding.{still_by}
+use Rattle.station.proofs.station.Station.step.Given.{Over}
 use Rattle.station.proofs.station.Station.step.Goals as goal
 use Rattle.station.proofs.station.Station.step.Goals.{then-end, else-end}
 
-pub returns-clause-takes : goal.returns-clause-takes
-returns-clause-takes g c air is =
-    let air_is = ap (λ s. s.air) c.wake_feeder.ensures ∙ c.wake_listeners.ensures.air
+-- what is counted after the step leaves these as they were
+air_is : (g : Over) (c : goal.After-wake_feeder g) → c.wake_feeder.new.self.air ≡ c.step_once-done.new.self.air
+air_is g c = ap (λ s. s.air) c.wake_feeder.ensures.rest ∙ c.wake_listeners.ensures.air
     ∙ elim c.if-end.branch [
       | then-end w ↦ ap (λ s. s.air) w.self-is ∙ ap (λ s. s.air) c.count.ensures
       | else-end w ↦ ap (λ s. s.air) w.self-is ∙ ap (λ s. s.air) c.count.ensures
-    ] in
-    let live_is = ap (λ s. s.live) c.wake_feeder.ensures ∙ c.wake_listeners.ensures.live
+    ]
+
+clients_are : (g : Over) (c : goal.After-wake_feeder g) → c.if-end.self.clients ≡ c.step_once-done.new.self.clients
+clients_are g c = elim c.if-end.branch [
+  | then-end w ↦ ap (λ s. s.clients) w.self-is ∙ ap (λ s. s.clients) c.count.ensures
+  | else-end w ↦ ap (λ s. s.clients) w.self-is ∙ ap (λ s. s.clients) c.count.ensures
+]
+
+pub returns-clause-takes : goal.returns-clause-takes
+returns-clause-takes g c air is =
+    let live_is = ap (λ s. s.live) c.wake_feeder.ensures.rest ∙ c.wake_listeners.ensures.live
     ∙ elim c.if-end.branch [
       | then-end w ↦ ap (λ s. s.live) w.self-is ∙ ap (λ s. s.live) c.count.ensures
       | else-end w ↦ ap (λ s. s.live) w.self-is ∙ ap (λ s. s.live) c.count.ensures
     ] in
-    subst (λ (now : Option OnAir). TakesFromSource g.D.Disk c.step_once-done.result air now c.args.self.now.live c.wake_feeder.new.self.live) (sym air_is)
+    subst (λ (now : Option OnAir). TakesFromSource g.D.Disk c.step_once-done.result air now c.args.self.now.live c.wake_feeder.new.self.live) (sym (air_is g c))
     (subst (λ (live : LiveHub _). TakesFromSource g.D.Disk c.step_once-done.result air c.step_once-done.new.self.air c.args.self.now.live live) (sym live_is)
     (c.step_once-done.ensures.takes air is))
 
 pub returns-clause-noted : goal.returns-clause-noted
-returns-clause-noted g c air is told =
-    let air_is = ap (λ s. s.air) c.wake_feeder.ensures ∙ c.wake_listeners.ensures.air
-    ∙ elim c.if-end.branch [
-      | then-end w ↦ ap (λ s. s.air) w.self-is ∙ ap (λ s. s.air) c.count.ensures
-      | else-end w ↦ ap (λ s. s.air) w.self-is ∙ ap (λ s. s.air) c.count.ensures
-    ] in
-    subst (GoesOnWithLoss air) (sym air_is) (c.step_once-done.ensures.noted air is told)
+returns-clause-noted g c air is told = subst (GoesOnWithLoss air) (sym (air_is g c)) (c.step_once-done.ensures.noted air is told)
+
+pub returns-clause-succeeded : goal.returns-clause-succeeded
+returns-clause-succeeded g c =
+    let done = c.step_once-done.result in
+    let old = c.args.self.now.clients.slots in
+    let after = c.step_once-done.new.self.clients in
+    let new = c.wake_feeder.new.self in
+    let stay : StayOffered after.slots new.clients.slots =
+    λ key was. c.wake_feeder.ensures.offered key (c.wake_listeners.ensures.offered key
+    (subst (λ (clients : Clients). WasOffered (get clients.slots key)) (sym (clients_are g c)) was)) in
+    still_by done old after.slots new.clients.slots new.air stay
+    (subst (IsSucceededBy done old after.slots) (sym (air_is g c)) c.step_once-done.ensures.succeeded)

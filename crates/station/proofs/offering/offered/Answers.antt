@@ -1,0 +1,6 @@
+use Rattle.serve_sources.specs.Password.{password_bytes}
+use Rattle.station.proofs.Unread.{is_unread}
+use Rattle.station.proofs.offering.offered.Goals as goal
+
+pub returns-clause-more : goal.returns-clause-more
+returns-clause-more c more = is_unread (password_bytes c.args.password.now) c.args.head.now c.of.result more c.of.ensures.each
