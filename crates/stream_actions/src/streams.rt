@@ -1,6 +1,5 @@
 //! The commands that read a feed from standard input.
 
-use crate::files::output;
 use crate::mends::MendLines;
 use crate::recorders::{open_recorder, seal_file};
 use disk_model::{FileDisk, FileMode};
@@ -12,7 +11,7 @@ use import_feed::{ChangeOptions, make_feed, make_mended_feed};
 use import_renumber::Renumbered;
 use ogg_page::write_whole;
 use ogg_recorder::{Recorder, end_open_streams, record_feed_for};
-use std::io::{self, BufReader, IsTerminal, Stdin, Write};
+use std::io::{self, BufReader, BufWriter, IsTerminal, Stdin, Write};
 use text_line::Line;
 
 /// How many bytes of the feed are read at once.
@@ -31,7 +30,9 @@ type ReplyLines<W> = FirstRefusal<Batched<W>>;
 /// refused, and in a strict run `Refused`. The pages and the replies of the records before are written then.
 pub fn mux(rt: &HostRuntime, strict: bool) -> Result<(), Fault> {
     let mut feed = input(rt)?;
-    let mut pages = output(rt, TOGETHER)?;
+    let Ok(mut pages) = BufWriter::with_capacity(rt.alloc(), TOGETHER, rt.stdout()) else {
+        return Err(Fault::Memory);
+    };
     let mut replies = reply_lines(rt, rt.stderr(), Together::Ahead, strict)?;
     let ran = mux_for::<Buffered, _, _, _>(rt.alloc(), &mut feed, &mut pages, &mut replies);
     sum_up(rt, ended(ran, &replies)?);
@@ -75,33 +76,60 @@ pub fn record(
     let mut recorder = open_recorder(rt, file, FileMode::Create)?;
     // `clap` has checked that `most` lies in this range, and nothing waits yet.
     recorder.group(most.clamp(1, 1024));
+    record_by(rt, recorder, ends, strict)
+}
+
+/// Records the feed on standard input by this recorder, and writes the replies to standard output.
+fn record_by(
+    rt: &HostRuntime,
+    recorder: Recorder<FileDisk>,
+    ends: RecordEnds,
+    strict: bool,
+) -> Result<(), Fault> {
     let mut feed = input(rt)?;
     let mut replies = reply_lines(rt, rt.stdout(), Together::Groups, strict)?;
-    let ends_open = ends.end_open || ends.renumber;
-    if ends_open && end_open_streams(&mut recorder, &mut replies).is_err() {
-        return Err(Fault::Write);
-    }
-    let (recorder, ran) = if ends.renumber {
-        record_renumbered(rt, recorder, &mut feed, &mut replies)?
-    } else {
-        let ran = record_feed_for::<Buffered, _, _, _>(
-            rt.alloc(),
-            &mut feed,
-            &mut replies,
-            &mut recorder,
-        );
-        (recorder, ran)
-    };
-    sum_up(rt, ended(ran, &replies)?);
-    if recorder.is_failed() {
-        return Err(Fault::Failed);
-    }
+    let recorder = record_from(rt, recorder, ends, &mut feed, &mut replies)?;
     outcome(&replies)?;
     if ends.seal {
         seal_file(recorder)
     } else {
         Ok(())
     }
+}
+
+/// Ends what is to be ended first, records the feed, and gives the recorder back.
+fn record_from<W: Write + Drop>(
+    rt: &HostRuntime,
+    mut recorder: Recorder<FileDisk>,
+    ends: RecordEnds,
+    feed: &mut BufReader<Stdin>,
+    replies: &mut ReplyLines<W>,
+) -> Result<Recorder<FileDisk>, Fault> {
+    let ends_open = ends.end_open || ends.renumber;
+    if ends_open && end_open_streams(&mut recorder, replies).is_err() {
+        return Err(Fault::Write);
+    }
+    let (recorder, ran) = run_feed(rt, recorder, ends.renumber, feed, replies)?;
+    sum_up(rt, ended(ran, replies)?);
+    if recorder.is_failed() {
+        return Err(Fault::Failed);
+    }
+    Ok(recorder)
+}
+
+/// Records the feed, under serials that the file doesn't have if it is renumbered, and gives the recorder back.
+fn run_feed<W: Write + Drop>(
+    rt: &HostRuntime,
+    mut recorder: Recorder<FileDisk>,
+    renumber: bool,
+    feed: &mut BufReader<Stdin>,
+    replies: &mut ReplyLines<W>,
+) -> Result<(Recorder<FileDisk>, Result<Tally, RunFault>), Fault> {
+    if renumber {
+        return record_renumbered(rt, recorder, feed, replies);
+    }
+    let ran = record_feed_for::<Buffered, _, _, _>(rt.alloc(), feed, replies, &mut recorder);
+    Ok((recorder, ran))
 }
 
 /// Records the feed under serials that the file doesn't have, and gives the recorder back.

@@ -37,23 +37,38 @@ pub fn archive(rt: &HostRuntime, file: &str, options: ArchiveOptions) -> Result<
     if is_input(rt, file) {
         return Err(Fault::Archive(RecordFault::Read));
     }
+    let recorder = open_ended(rt, file, options.most)?;
+    archive_by(rt, recorder, options)
+}
+
+/// Opens the file, which is made if there is none, and ends what an earlier run left open in it.
+fn open_ended(rt: &HostRuntime, file: &str, most: u32) -> Result<Recorder<FileDisk>, Fault> {
     let mut recorder = open_recorder(rt, file, FileMode::Create)?;
     // `clap` has checked that `most` lies in this range, and nothing waits yet.
-    recorder.group(options.most.clamp(1, 1024));
+    recorder.group(most.clamp(1, 1024));
     end_open(&mut recorder)?;
+    Ok(recorder)
+}
+
+/// Records the Ogg stream on standard input by this recorder, in whose file nothing is open.
+fn archive_by(
+    rt: &HostRuntime,
+    recorder: Recorder<FileDisk>,
+    options: ArchiveOptions,
+) -> Result<(), Fault> {
     let mut import = import_of(rt, &recorder, options.skeletons)?;
     let mut told = Told::new(rt, options.strict, recorder.end());
     let recorded = record_all(rt, recorder, &mut import, &mut told, options);
     told.close();
-    let recorder = recorded?;
-    if let Some(fault) = told.fault() {
+    close(recorded?, told.fault(), options.seal)
+}
+
+/// Returns what was told of, if that is a fault. Else the file is sealed, if that is asked for.
+fn close(recorder: Recorder<FileDisk>, told: Option<Fault>, seal: bool) -> Result<(), Fault> {
+    if let Some(fault) = told {
         return Err(fault);
     }
-    if options.seal {
-        seal_file(recorder)
-    } else {
-        Ok(())
-    }
+    if seal { seal_file(recorder) } else { Ok(()) }
 }
 
 /// Whether standard input is this file. A run that read what it writes would never end.
