@@ -1,21 +1,16 @@
 //! A file that is recorded and served, for any number of connections.
 
-use crate::hearing::{HeardDisk, open_heard};
+use crate::hearing::{HeardDisk, open_hub};
 use crate::logging::Log;
+use crate::password::read_password;
 use crate::running::Running;
 use crate::sockets::Sockets;
 use fault_lines::Fault;
-use file_actions::{Told, seal_file};
 use import_feed::Skeletons;
-use ogg_serve::Hub;
-use station::{Options as StationOptions, Password, Station};
-use std::fs::File;
-use std::io::Read;
+use station::{Options as StationOptions, Station};
 use std::net::SocketAddr;
 use std::time::Instant;
-
-/// The greatest number of bytes of a password file that are read.
-const MOST_PASSWORD: usize = 4096;
+use stream_actions::{Told, seal_file};
 
 /// What a station is asked to do.
 #[derive(Clone, Copy)]
@@ -37,31 +32,47 @@ pub struct Options<'a> {
 /// until the input has ended, if the file is to be sealed then.
 pub fn station(rt: &HostRuntime, options: Options<'_>) -> Result<(), Fault> {
     let mut running = open(rt, options)?;
-    let ran = running.run();
-    running.told.close();
-    ran?;
-    if let Some(fault) = running.told.fault() {
-        return Err(fault);
-    }
-    match running.station.into_hub().into_recorder() {
+    running.run_to_end()?;
+    close(running.into_station())
+}
+
+/// Seals the file of a station that has come to its end, unless the file was lost.
+fn close(station: Station<HeardDisk>) -> Result<(), Fault> {
+    match station.into_hub().into_recorder() {
         Ok(recorder) => seal_file(recorder),
         Err(_) => Ok(()),
     }
 }
 
-/// Opens a station, listens, and tells where it can be reached.
+/// Opens a station that listens.
 fn open<'a>(rt: &'a HostRuntime, options: Options<'_>) -> Result<Running<'a>, Fault> {
     let address: SocketAddr = options.address.parse().map_err(|_| Fault::Net)?;
     let station = open_station(rt, options)?;
+    let sockets = listen(rt, address)?;
+    begin(rt, station, sockets, options.log)
+}
+
+/// Listens to the address, and tells where the station can be reached.
+fn listen(rt: &HostRuntime, address: SocketAddr) -> Result<Sockets, Fault> {
     let sockets = Sockets::new(rt, address).map_err(|_| Fault::Net)?;
-    let start = Instant::now(rt).map_err(|_| Fault::Net)?;
     if let Ok(address) = sockets.listener.local_addr() {
         let _ = eprintln!(rt; "serving http://{address}/");
     }
+    Ok(sockets)
+}
+
+/// A station that begins to run now.
+fn begin<'a>(
+    rt: &'a HostRuntime,
+    station: Station<HeardDisk>,
+    sockets: Sockets,
+    log: bool,
+) -> Result<Running<'a>, Fault> {
+    let start = Instant::now(rt).map_err(|_| Fault::Net)?;
     Ok(Running {
         rt,
         told: Told::new(rt, false, station.hub().end()),
-        log: Log::new(rt, options.log, station.counts()),
+        log: Log::new(rt, log, station.counts()),
         station,
         sockets,
         start,
@@ -87,34 +98,4 @@ fn open_station(rt: &HostRuntime, options: Options<'_>) -> Result<Station<HeardD
     let mut station = Station::new(rt.alloc(), hub, options).map_err(|_| Fault::Memory)?;
     station.end_open();
     Ok(station)
-}
-
-/// A hub over the file, with room for so many sessions. The station commits what waits.
-fn open_hub(rt: &HostRuntime, file: &str, most: usize) -> Result<Hub<HeardDisk>, Fault> {
-    let recorder = open_heard(rt, file)?;
-    let Ok(mut hub) = Hub::with_room(rt.alloc(), recorder, most) else {
-        return Err(Fault::Memory);
-    };
-    hub.group(1024);
-    look_through(&mut hub);
-    Ok(hub)
-}
-
-/// Has the hub find where all links lie, as for a listing, so that the first request needn't wait for that.
-fn look_through(hub: &mut Hub<HeardDisk>) {
-    if let Ok(id) = hub.connect() {
-        let _ = hub.receive(id, b"HEAD / HTTP/1.0\r\n\r\n");
-        let _ = hub.close(id);
-    }
-}
-
-/// The password that stands in a file. A longer file isn't cut, but refused.
-fn read_password(rt: &HostRuntime, file: &str) -> Result<Password, Fault> {
-    let mut bytes = [0; MOST_PASSWORD + 1];
-    let mut file = File::open(rt, file).map_err(|_| Fault::File)?;
-    let count = file.read(&mut bytes).map_err(|_| Fault::File)?;
-    if count > MOST_PASSWORD {
-        return Err(Fault::File);
-    }
-    Password::new(rt.alloc(), &bytes[..count]).map_err(|_| Fault::File)
 }

@@ -1,10 +1,10 @@
 //! The log of a station: a line for each connection at its end, and two for each source.
 
-use file_actions::Told;
 use station::{Counts, Done, FULL, Visit};
 use std::alloc::AllocError;
 use std::net::SocketAddr;
 use std::time::{SystemTime, UNIX_EPOCH};
+use stream_actions::Told;
 
 /// What is told of connections and of sources, if anything is. Nobody is told where memory is refused.
 #[derive(Drop)]

@@ -7,6 +7,7 @@
 mod broadcasting;
 mod hearing;
 mod logging;
+mod password;
 mod running;
 mod server;
 mod sockets;
@@ -14,12 +15,12 @@ mod telling;
 
 use command_line::{Action, Error, Skeletons, action_of, not_text};
 use fault_lines::{Fault, write_fault};
-use file_actions::{ArchiveOptions, RecordEnds};
 use import_feed::{ChangeOptions, Skeletons as SkeletonsOf};
 use std::alloc::AllocError;
 use std::fs::File;
 use std::process::ExitCode;
 use std::{env, io};
+use stream_actions::{ArchiveOptions, RecordEnds};
 
 fn main(rt: HostRuntime) -> ExitCode {
     // Held to the end: see `folder`.
@@ -79,7 +80,7 @@ fn run(rt: &HostRuntime, action: Action<'_>) -> Result<(), Fault> {
                 strict,
                 seal,
             };
-            file_actions::archive(rt, file, options)
+            stream_actions::archive(rt, file, options)
         }
         Action::Station {
             file,
@@ -105,9 +106,9 @@ fn run(rt: &HostRuntime, action: Action<'_>) -> Result<(), Fault> {
             mend,
             renumber,
             skeletons,
-        } => file_actions::feed(rt, mend, changes(renumber, skeletons)),
-        Action::Mux { strict } => file_actions::mux(rt, strict),
-        Action::Check { strict } => file_actions::check(rt, strict),
+        } => stream_actions::feed(rt, mend, changes(renumber, skeletons)),
+        Action::Mux { strict } => stream_actions::mux(rt, strict),
+        Action::Check { strict } => stream_actions::check(rt, strict),
         Action::Record {
             file,
             end_open,
@@ -121,7 +122,7 @@ fn run(rt: &HostRuntime, action: Action<'_>) -> Result<(), Fault> {
                 renumber,
                 seal,
             };
-            file_actions::record(rt, file, ends, most, strict)
+            stream_actions::record(rt, file, ends, most, strict)
         }
         Action::Links { file } => file_actions::links(rt, file),
         Action::Split { file, link, serial } => file_actions::split(rt, file, link, serial),

@@ -5,12 +5,12 @@ use crate::logging::Log;
 use crate::sockets::{Connection, Sockets, trouble};
 use crate::telling::tell_done;
 use fault_lines::Fault;
-use file_actions::Told;
 use import_record::RecordFault;
 use station::{After, Done, FULL, Feeder, Station, Trouble, station_line};
 use std::io::{self, Read, Write};
 use std::net::{Shutdown, SocketAddr};
 use std::time::Instant;
+use stream_actions::Told;
 
 /// How many connections are accepted in one round, and how many steps of the recording are taken.
 const IN_ROUND: u32 = 64;
@@ -29,8 +29,24 @@ pub struct Running<'a> {
 }
 
 impl Running<'_> {
+    /// Runs until a fault, or until the station has come to its end. A fault that was told is the last to be returned.
+    pub fn run_to_end(&mut self) -> Result<(), Fault> {
+        let ran = self.run();
+        self.told.close();
+        ran?;
+        match self.told.fault() {
+            Some(fault) => Err(fault),
+            None => Ok(()),
+        }
+    }
+
+    /// The station. Its connections are gone.
+    pub fn into_station(self) -> Station<HeardDisk> {
+        self.station
+    }
+
     /// Round after round, until a fault, or until the station has come to its end.
-    pub fn run(&mut self) -> Result<(), Fault> {
+    fn run(&mut self) -> Result<(), Fault> {
         let mut busy = true;
         for _ in 0..u64::MAX {
             self.wait(busy).map_err(|_| Fault::Net)?;

@@ -4,12 +4,12 @@ ghost use Rattle.std.specs.Prelude.{◌≡◌, IfOk, IfSome, IsSome};
 use disk_model::{FileDisk, FileMode};
 use fault_lines::Fault;
 use feed_replies::{FeedFault, RunFault};
-use file_actions::{open_recorder, seal_file};
 use ogg_serve::{Hub, LiveFeed, Step, live_one, serve_one};
 use std::fs::File;
 use std::io::{self, BufReader, Read, Write};
 use std::net::{TcpListener, TcpStream};
 use std::time::Duration;
+use stream_actions::{open_recorder, seal_file};
 
 /// How many bytes of the feed are read at once.
 const AHEAD: usize = 65536;
@@ -31,16 +31,22 @@ struct Opened {
 pub fn serve(rt: &HostRuntime, file: &str, address: &str, count: u32) -> Result<(), Fault> {
     let Opened { mut hub, sealed } = open_hub(rt, file)?;
     let listener = listen(rt, address)?;
+    let met = serve_each(&mut hub, &listener, count);
+    close(hub, sealed, met)
+}
+
+/// Serves this many connections. Returns the first fault.
+fn serve_each(hub: &mut Hub<FileDisk>, listener: &TcpListener, count: u32) -> Option<Fault> {
     let mut met = None;
     for _ in 0..count {
         // A connection that isn't accepted, or is cut, is no fault.
-        if let Ok(stream) = accept(&listener) {
-            if let Err(fault) = serve_one(&mut hub, &mut &stream, &mut &stream) {
+        if let Ok(stream) = accept(listener) {
+            if let Err(fault) = serve_one(hub, &mut &stream, &mut &stream) {
                 met = met.or(Some(Fault::Serve(fault)));
             }
         }
     }
-    close(hub, sealed, met)
+    met
 }
 
 /// Serves the file for this many connections to the address, and records the feed into it meanwhile.
@@ -58,10 +64,20 @@ pub fn live(
     let input = open_feed(rt, feed)?;
     let listener = listen(rt, address)?;
     let mut feed = LiveFeed::new(rt.alloc(), input, rt.stdout());
-    let met = serve_live(&mut hub, &listener, &mut feed, count);
-    record_rest(&mut hub, &mut feed);
-    let met = met.or(fault_in(feed.ended()));
+    let met = run_live(&mut hub, &listener, &mut feed, count);
     close(hub, sealed, met)
+}
+
+/// Serves this many connections, and records all of the feed. Returns the first fault.
+fn run_live<R: Read, W: Write + Drop>(
+    hub: &mut Hub<FileDisk>,
+    listener: &TcpListener,
+    feed: &mut LiveFeed<R, W>,
+    count: u32,
+) -> Option<Fault> {
+    let met = serve_live(hub, listener, feed, count);
+    record_rest(hub, feed);
+    met.or(fault_in(feed.ended()))
 }
 
 /// The feed that is recorded.

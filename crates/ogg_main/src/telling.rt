@@ -2,9 +2,9 @@
 
 use crate::hearing::HeardDisk;
 use fault_lines::Fault;
-use file_actions::Told;
 use ogg_serve::Hub;
 use station::Done;
+use stream_actions::Told;
 
 /// The station of this hub has done this, and it is told. It is a fault if the file is lost.
 pub fn tell_done(told: &mut Told<'_>, done: &Done, hub: &Hub<HeardDisk>) -> Result<(), Fault> {
