@@ -1,5 +1,5 @@
 -- A visitor that adds the pages it is shown to an index. Ours.
-use Rattle.std.specs.Prelude.{◌≡◌, ℕ, ◌+◌, ◌≤◌, ◌<◌, ◌^◌, true, Option, Some, None, List}
+use Rattle.std.specs.Prelude.{◌≡◌, ◌+◌, ◌≤◌, ◌<◌, ◌^◌, true, Option, Some, None, List}
 use Rattle.std.specs.Borrow.{MutBor}
 use Rattle.ogg_page.specs.Page.{Page, page_size}
 use Rattle.ogg_page.specs.LogicalStream.{is_first}

@@ -3,7 +3,7 @@ use Rattle.std.proofs.Common.{◌≡◌, ℕ, suc, ◌+◌, ◌≤◌, ◌<◌, 
 use Rattle.std.specs.Io.KnownBytes.{Appends}
 use Rattle.std.proofs.KnownBytes.{Appends-trans}
 use Rattle.std.proofs.lemmas.List.{take-append-le}
-use Rattle.ogg_page.specs.Output.{WritesPart, WritesPrefix}
+use Rattle.ogg_page.specs.Output.{WritesPrefix}
 
 front_of : (written more : List ℕ) (n : ℕ) → take (length written + n) (written ++ more) ≡ written ++ take n more
 front_of [] more n = ap (λ k. take k more) (let none : 0 + n ≡ n = omega arith in none)
@@ -15,10 +15,6 @@ front_of (byte ∷ written) more n =
 pub front_part : (all written part rest : List ℕ) (n : ℕ) → all ≡ written ++ (part ++ rest) → n ≤ length part → take (length written + n) all ≡ written ++ take n part
 front_part all written part rest n e le =
     ap (take (length written + n)) e ∙ front_of written (part ++ rest) n ∙ ap (λ l. written ++ l) (take-append-le n part rest le)
-
--- a part of the text is a prefix of it
-pub prefix_of_part : (old new : Option (List ℕ)) (text : List ℕ) → WritesPart old new text → WritesPrefix old new text
-prefix_of_part old new text (n, less, part) = (n, omega (arith, less), part)
 
 -- after what was written, a prefix of the next part is a prefix of the whole text
 pub prefix_on : (old mid now : Option (List ℕ)) (text written part rest : List ℕ) → text ≡ written ++ (part ++ rest) → Appends old mid written → WritesPrefix mid now part
