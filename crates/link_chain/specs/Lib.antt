@@ -10,6 +10,8 @@ pub mod Room
 pub mod Progress
 pub mod Places
 pub mod Taking
+pub mod Taker
+pub mod TakerLaws
 pub mod Followed
 pub mod Walk
 pub mod LinkLaws

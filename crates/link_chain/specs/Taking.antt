@@ -1,13 +1,13 @@
 -- Which page may follow the pages so far (RFC 3533, sections 4 to 6). The order of the rules is ours.
-use Rattle.std.specs.Prelude.{◌≡◌, ◌≤◌, ◌+◌, ℕ, Bool, true, false, not, ◌&&◌, nat_eq, nat_lt, nat_le, is_none, is_some, if◌then◌else◌, Option, None, List, [], ◌∷◌, ◌++◌, length}
+use Rattle.std.specs.Prelude.{◌≡◌, ◌⊎◌, ◌≤◌, ◌+◌, ℕ, Bool, true, false, not, ◌&&◌, nat_eq, nat_lt, nat_le, is_none, is_some, if◌then◌else◌, Option, Some, None, List, [], ◌∷◌, ◌++◌, length}
 use Rattle.std.specs.List.{find}
 use Rattle.std.specs.Option.{option_map, option_map_or}
-use Rattle.ogg_page.specs.Page.{Page}
+use Rattle.ogg_page.specs.Page.{Page, page_size}
 use Rattle.ogg_page.specs.Lacing.{ends_open}
 use Rattle.ogg_page.specs.LogicalStream.{is_first, is_last, is_continued}
 use Rattle.link_chain.specs.declared.stream_state.StreamState.{StreamState}
 use Rattle.link_chain.specs.declared.chain_fault.ChainFault.{ChainFault}
-use Rattle.link_chain.specs.declared.chain_fault.ChainFault.TheVariants.{Sequence, Continued, BosPlace, BosShape, SerialTwice, NoStream, AfterEos, BosWhileOpen, TooMany, EosUnfinished}
+use Rattle.link_chain.specs.declared.chain_fault.ChainFault.TheVariants.{Sequence, Continued, BosPlace, BosShape, SerialTwice, NoStream, AfterEos, BosWhileOpen, TooMany, EosUnfinished, Memory}
 use Rattle.link_chain.specs.Progress.{stream_in}
 use Rattle.link_chain.specs.ChainState.{ChainState, chain_state_of, is_open}
 use Rattle.link_chain.specs.Links.{with_pages}
@@ -88,3 +88,19 @@ HasRoomFor shape page =
 -- the serial of the first stream of the last link that has an unfinished packet
 abbrev pub unfinished_stream : ChainState → Option ℕ
 unfinished_stream chain = option_map (λ (stream : StreamState). stream.serial) (find (λ (stream : StreamState). not stream.finished) chain.streams)
+
+-- ---- what takes pages in turn: a chain, or an index of one
+-- why a page isn't taken: a rule that it breaks; or none, and room is lacking
+abbrev pub IsFaultOf : ChainState → Page → Type 0 → ChainFault → Type 0
+IsFaultOf chain page lacks fault = (fault_of_page chain page ≡ Some fault) ⊎ ((fault ≡ Memory) × (fault_of_page chain page ≡ None) × lacks)
+
+-- The page isn't taken into the chain, which stays as it is, except for its room.
+pub record IsRefused (old : ChainWithRoom) (page : Page) (fault : ChainFault) (new : ChainWithRoom) : Type 0 where
+  pub why : IsFaultOf old.chain page (HasRoomFor old page → ⊥) fault
+  pub same : new.chain ≡ old.chain
+
+-- The page may follow, and is taken: what was of some links is of the links with the page.
+pub record IsTaken {T : Type 0} (is_of : List (List Page) → T → Type 0) (size : T → ℕ) (old : T) (page : Page) (new : T) : Type 0 where
+  pub follows : (links : List (List Page)) → is_of links old → fault_of_page (chain_state_of links) page ≡ None
+  pub links : (links : List (List Page)) → is_of links old → is_of (links_with links page) new
+  pub grows : size new ≡ size old + page_size page
