@@ -1,8 +1,9 @@
 -- What a `Found` shows.
 use Rattle.std.specs.Prelude.{◌≡◌, ◌≢◌, ℕ, ◌+◌, ◌<◌, ◌^◌, List, length, take, Bool, true, slice_index, Err}
+use Rattle.std.specs.List.{AllByRecursion}
 use Rattle.disk_model.specs.declared.disk.Disk.{Ghosts as DiskModel}
 use Rattle.disk_model.specs.Image.{DiskState, IsSettled}
-use Rattle.ogg_page.specs.Page.{Page as PageValue, bytes_of_pages}
+use Rattle.ogg_page.specs.Page.{Page as PageValue, IsPage, bytes_of_pages}
 use Rattle.ogg_page.specs.Reading.{page_at}
 use Rattle.ogg_page.specs.Pages.{BeginsWithPages}
 use Rattle.ogg_page.specs.Window.{LentAt}
@@ -56,5 +57,6 @@ pub record IsDamagedAt (contents : List ℕ) (offset : ℕ) (fault : PageFault) 
 -- the visitor was shown the pages of these bytes, one after the other, up to the one at which it ended
 pub record HasSeen {V : Type 0} (sees : V → LentAt → Visit → V → Type 0) (old new : V) (bytes : List ℕ) : Type 0 where
   pub pages : List PageValue
+  pub are_pages : AllByRecursion IsPage pages
   pub joined : bytes ≡ bytes_of_pages pages
   pub shown : AreShown sees old 0 pages new

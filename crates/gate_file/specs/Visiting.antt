@@ -1,20 +1,18 @@
 -- What a pass over all pages of a file passes, and what the visitor has seen.
-use Rattle.std.specs.Prelude.{◌≡◌, ◌≢◌, ◌⊎◌, ℕ, ◌+◌, Result, Ok, Err, List, [], ◌∷◌, ◌++◌, length, ⊤}
+use Rattle.std.specs.Prelude.{◌≡◌, ◌≢◌, ℕ, ◌+◌, Result, Ok, Err, List, [], ◌++◌, length, ⊤}
 use Rattle.std.specs.List.{AllByRecursion}
-use Rattle.ogg_page.specs.Page.{Page as PageValue, IsPage, page_size, bytes_of_pages}
+use Rattle.ogg_page.specs.Page.{Page as PageValue, IsPage, bytes_of_pages}
 use Rattle.ogg_page.specs.Reading.{page_at}
 use Rattle.ogg_page.specs.Pages.{PagesLeft}
+use Rattle.ogg_page.specs.Visiting.{HasShown}
 use Rattle.ogg_page.specs.Window.{LentAt}
 use Rattle.ogg_page.specs.declared.fault.WindowFault.{WindowFault}
 use Rattle.ogg_page.specs.declared.fault.WindowFault.TheVariants.{Source, Page}
 use Rattle.ogg_page.specs.declared.visiting.Visit.{Visit}
-use Rattle.ogg_page.specs.declared.visiting.Visit.TheVariants.{GoesOn, Ends}
 
 -- these pages were shown up to the one at which the visitor ended, one after the other, the first of them at this offset
 abbrev pub AreShown : {V : Type 0} → (V → LentAt → Visit → V → Type 0) → V → ℕ → List PageValue → V → Type 0
-AreShown sees old offset [] new = new ≡ old
-AreShown sees old offset (page ∷ pages) new =
-    sees old (offset, page) Ends new ⊎ ((mid : _) × sees old (offset, page) GoesOn mid × AreShown sees mid (offset + page_size page) pages new)
+AreShown sees old offset pages new = (visit : Visit) × HasShown sees old offset pages (Ok visit) new
 
 -- why no page follows: no byte is left, or no page begins there, or the source failed and nothing is known
 abbrev pub IsEnd : List ℕ → ℕ → Result (Unit {0}) WindowFault → Type 0
@@ -29,11 +27,12 @@ pub record EndsAfter (pages : List PageValue) (left : PagesLeft) (result : Resul
   pub joined : left.bytes ≡ bytes_of_pages pages ++ rest
   pub ended : IsEnd rest (left.offset + length (bytes_of_pages pages)) result
 
--- the pages in front were passed and shown
-pub record HasPassed {V : Type 0} (sees : V → LentAt → Visit → V → Type 0) (old new : V) (left : PagesLeft) (result : Result (Unit {0}) WindowFault) : Type 0 where
+-- Pages were passed and shown. If the source is honest, they are those in front.
+pub record HasPassed {V : Type 0} (sees : V → LentAt → Visit → V → Type 0) (old new : V) (is_honest : Type 0) (left : PagesLeft) (result : Result (Unit {0}) WindowFault) : Type 0 where
   pub pages : List PageValue
-  pub ends : EndsAfter pages left result
+  pub are_pages : AllByRecursion IsPage pages
   pub shown : AreShown sees old left.offset pages new
+  pub ends : is_honest → EndsAfter pages left result
 
 -- a pass over all of these bytes
 abbrev pub all_of : List ℕ → PagesLeft

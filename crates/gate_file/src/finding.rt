@@ -1,14 +1,15 @@
 //! The end of a file's committed bytes, found by one sync and one pass over its pages.
 ghost use Rattle.std.specs.Prelude.{◌≡◌, ◌≢◌, ◌↔◌, ◌⊎◌, ◌+◌, ◌-◌, ◌^◌, ◌<◌, ◌≤◌, ℕ, length, take, drop, slice_index, OnOk, IfOk, IfErr, IsTrue, List, Err, IsErr};
+ghost use Rattle.std.specs.List.{AllByRecursion};
 ghost use Rattle.disk_model.specs.Image.{IsImage, IsSettled};
 ghost use Rattle.disk_model.specs.Leaving.{LeavesOnly};
 ghost use Rattle.disk_model.specs.Fault.{HasCause, Rises};
 ghost use Rattle.disk_model.specs.Frame.{Frame};
 ghost use Rattle.ogg_page.specs.declared.fault.PageFault.{PageFault as PageFaultOf};
-ghost use Rattle.ogg_page.specs.Page.{Page as PageValue, bytes_of_pages};
+ghost use Rattle.ogg_page.specs.Page.{Page as PageValue, IsPage, bytes_of_pages};
 ghost use Rattle.ogg_page.specs.declared.fault.WindowFault.TheVariants.{Source as SourceVariant};
 ghost use Rattle.gate_file.specs.Reading.{OnlyReads};
-ghost use Rattle.gate_file.specs.Visiting.{EndsAfter, all_of};
+ghost use Rattle.gate_file.specs.Visiting.{AreShown, EndsAfter, all_of};
 ghost use Rattle.gate_file.specs.Found.{HasEnd, HasSeen, IsDamagedAt, found_bytes};
 ghost use Rattle.gate_file.specs.Opening.{Opens, GivesBack};
 
@@ -57,6 +58,9 @@ impl<D: Disk> GateFile<D> {
             → (D.state found.0.disk).contents ≡ (D.state disk).contents) }
         ensures seen { IfOk result (λ found. D.is_honest disk
             → HasSeen V.sees visitor.old visitor.new (found_bytes D.state found.0)) }
+        // Of a disk that isn't honest it was shown pages too.
+        ensures shown { OnOk result ((pages : List PageValue) × AllByRecursion IsPage pages
+            × AreShown V.sees visitor.old 0 pages visitor.new) }
         ensures faults { IfErr result (λ e. (e.0 ≡ FindFault.Disk)
             ⊎ ((offset : ℕ) × (fault : PageFaultOf) × (e.0 ≡ FindFault.Page offset fault))) }
         ensures opens { IfOk result (λ found. Opens D.Disk (IsImage (D.state disk)) disk found.0.disk) }

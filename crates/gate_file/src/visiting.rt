@@ -1,6 +1,7 @@
 //! The one pass over the pages of a file that finds where they end, and whoever is shown them in it.
 ghost use Rattle.std.specs.Prelude.{◌≡◌, None, List};
-ghost use Rattle.ogg_page.specs.Page.{Page as PageValue};
+ghost use Rattle.std.specs.List.{AllByRecursion};
+ghost use Rattle.ogg_page.specs.Page.{Page as PageValue, IsPage};
 ghost use Rattle.ogg_page.specs.Window.{KeepsSource, HasSourceCause, left_of};
 ghost use Rattle.gate_file.specs.Visiting.{EndsAfter, HasPassed};
 
@@ -28,8 +29,7 @@ pub(crate) fn pass_all<S: PageSource, V: PageVisitor>(
     visitor: &mut V,
 ) -> Result<(), WindowFault>
     requires fresh { window.old.fault ≡ None }
-    ensures passed { S.is_honest window.old.source
-        → HasPassed V.sees visitor.old visitor.new (left_of S.bytes window.old) result }
+    ensures passed { HasPassed V.sees visitor.old visitor.new (S.is_honest window.old.source) (left_of S.bytes window.old) result }
     ensures source { KeepsSource S.bytes S.is_honest S.size S.only_reads window.old.source window.new.source }
     ensures cause { HasSourceCause (S.failures window.old.source) (S.failures window.new.source) result }
 {
@@ -45,8 +45,8 @@ pub(crate) fn pass_all<S: PageSource, V: PageVisitor>(
 /// Passes the pages that are left.
 fn pass_rest<S: PageSource>(window: &mut Window<S>) -> Result<(), WindowFault>
     requires fresh { window.old.fault ≡ None }
-    ensures ends { S.is_honest window.old.source
-        → (pages : List PageValue) × EndsAfter pages (left_of S.bytes window.old) result }
+    ensures ends { (pages : List PageValue) × AllByRecursion IsPage pages
+        × (S.is_honest window.old.source → EndsAfter pages (left_of S.bytes window.old) result) }
     ensures source { KeepsSource S.bytes S.is_honest S.size S.only_reads window.old.source window.new.source }
     ensures cause { HasSourceCause (S.failures window.old.source) (S.failures window.new.source) result }
 {

@@ -4,13 +4,15 @@ use Rattle.disk_model.specs.Clock.{HasImages}
 use Rattle.disk_model.specs.Frame.{Frame}
 use Rattle.disk_model.specs.Image.{DiskState, IsImage, IsSettled}
 use Rattle.disk_model.specs.Leaving.{LeavesOnly, and_then}
-use Rattle.ogg_page.specs.Window.{HasSourceCause, left_of, window}
+use Rattle.ogg_page.specs.Page.{Page as PageValue}
+use Rattle.ogg_page.specs.Window.{HasSourceCause, LentAt, left_of, window}
 use Rattle.ogg_page.specs.declared.fault.WindowFault.{WindowFault}
+use Rattle.ogg_page.specs.declared.visiting.Visit.{Visit}
 use Rattle.gate_file.specs.DiskSource.{SourceState, source_state}
 use Rattle.gate_file.specs.Found.{IsDamagedAt, found_bytes}
 use Rattle.gate_file.specs.Opening.{Opens}
 use Rattle.gate_file.specs.Reading.{OnlyReads, reads_then}
-use Rattle.gate_file.specs.Visiting.{HasPassed, all_of}
+use Rattle.gate_file.specs.Visiting.{AreShown, EndsAfter, all_of}
 use Rattle.gate_file.proofs.Ends.{settled_before, whole_left}
 use Rattle.gate_file.proofs.Moment.{rises_over}
 use Rattle.gate_file.proofs.file.GateFile.find_with.Goals as goal
@@ -35,6 +37,9 @@ still_opens model disk first last laws synced leaves start reads later = record 
     cause = λ no. absurd no;
   };
 }
+
+shown_from_start : {V : Type 0} (sees : V → LentAt → Visit → V → Type 0) {old new : V} {offset : ℕ} {pages : List PageValue} → AreShown sees old offset pages new → offset ≡ 0 → AreShown sees old 0 pages new
+shown_from_start sees {old} {new} {offset} {pages} shown start = subst (λ (k : ℕ). AreShown sees old k pages new) start shown
 
 pub returns-in-Err-end_of-clause-gives_back : goal.returns-in-Err-end_of-clause-gives_back
 returns-in-Err-end_of-clause-gives_back g c =
@@ -89,9 +94,16 @@ returns-in-Ok-end_of-clause-seen g c = λ honest.
     let left : left_of (λ s. (d.state s.disk).contents) c.new-window.result ≡ all_of (d.state c.into_disk-disk.result).contents =
     ap (left_of (λ s. (d.state s.disk).contents)) c.new-window.ensures ∙ (λ i. left_of (λ s. (d.state s.disk).contents) (window (c.of.ensures i) 0 size))
     ∙ ap all_of (whole_left (d.state first).contents size long) ∙ ap (λ (s : DiskState). all_of s.contents) (sym (walked.same still)) in
-    let passed = subst (λ l. HasPassed g.V.PageVisitor.sees c.args.visitor.now c.pass_all-walked.new.visitor l c.pass_all-walked.result) left (c.pass_all-walked.ensures.passed sure) in
+    let passed = c.pass_all-walked.ensures.passed in
     record {
       pages = passed.pages;
-      joined = ap (found_bytes d.state) c.at.ensures ∙ c.in-Ok-end_of.ensures.pages (walked.honest.0 still) passed.pages passed.ends;
-      shown = passed.shown;
+      are_pages = passed.are_pages;
+      joined = ap (found_bytes d.state) c.at.ensures
+          ∙ c.in-Ok-end_of.ensures.pages (walked.honest.0 still) passed.pages (subst (λ l. EndsAfter passed.pages l c.pass_all-walked.result) left (passed.ends sure));
+      shown = shown_from_start g.V.PageVisitor.sees passed.shown (ap (λ w. w.at) c.new-window.ensures);
     }
+
+pub returns-in-Ok-end_of-clause-shown : goal.returns-in-Ok-end_of-clause-shown
+returns-in-Ok-end_of-clause-shown g c =
+    let passed = c.pass_all-walked.ensures.passed in
+    (passed.pages, passed.are_pages, shown_from_start g.V.PageVisitor.sees passed.shown (ap (λ w. w.at) c.new-window.ensures))
