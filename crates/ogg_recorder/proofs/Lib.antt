@@ -8,7 +8,6 @@ pub mod Refused
 mod Reopened
 mod Small
 pub mod Stepping
-pub mod Taken
 pub mod Walked
 pub mod Bytes
 pub mod Ended

@@ -1,42 +1,9 @@
--- What an opening says of the pages that have passed.
-use Rattle.std.proofs.Common.{◌≡◌, ◌≢◌, ◌⊎◌, inl, inr, ⊎_elim, ℕ, ◌<◌, ◌^◌, None, Some, List, [], length, take, refl, sym, ◌∙◌, ap, subst, arith}
-use Rattle.std.proofs.lemmas.Grind.{common_steps}
-use Rattle.ogg_page.specs.Page.{Page, bytes_of_pages}
-use Rattle.disk_model.specs.Image.{DiskState, IsImage}
-use Rattle.gate_file.specs.Found.{HasSeen}
+-- What an opening reports of a page that wasn't taken.
+use Rattle.std.proofs.Common.{◌≡◌, ◌≢◌, ◌⊎◌, inl, inr, ⊎_elim, ℕ, refl, sym, ◌∙◌, ap}
 use Rattle.gate_file.specs.declared.fault.OpenFault.TheVariants.{Memory as NoMemory, Chain, Unfinished}
-use Rattle.link_chain.specs.ChainState.{chain_state_of}
-use Rattle.link_chain.specs.Links.{AreLinks}
-use Rattle.link_chain.specs.LinkLaws.{in_turn}
 use Rattle.link_chain.specs.declared.chain_fault.ChainFault.{ChainFault}
 use Rattle.link_chain.specs.declared.chain_fault.ChainFault.TheVariants.{Sequence, Continued, BosPlace, BosShape, SerialTwice, NoStream, AfterEos, BosWhileOpen, TooMany, EosUnfinished, Memory}
-use Rattle.link_chain.specs.Taking.{AreTaken}
-use Rattle.ogg_recorder.specs.Recovery.{Links}
-use Rattle.ogg_recorder.specs.Taking.{TakerState, Sees, IsBrokenAt, open_fault}
-use Rattle.ogg_recorder.proofs.Walked.{shown_all, HasWalked, has_walked, seen_pages}
-
--- all pages of the bytes have passed
-pub record HavePassed (bytes : List ℕ) (new : TakerState) : Type 0 where
-  pub taken : new.broken ≡ None → (links : Links) × AreLinks bytes links × (new.chain.chain ≡ chain_state_of links)
-  pub broken : (offset : ℕ) (fault : ChainFault) → new.broken ≡ Some (offset, fault) → IsBrokenAt bytes offset fault ⊎ (fault ≡ Memory)
-
-from_walk : (pages : List Page) (new : TakerState) → HasWalked pages new → ((links : Links) → AreTaken [] pages links → AreLinks (bytes_of_pages pages) links) → HavePassed (bytes_of_pages pages) new
-from_walk pages new walked are = record {
-  taken = λ none. let taken = walked.taken none in (taken.0, are taken.0 taken.1, taken.2);
-  broken = walked.broken;
-}
-
-pub have_passed : (old new : TakerState) (bytes : List ℕ) → old.chain.chain ≡ chain_state_of [] → old.broken ≡ None → length bytes < 2 ^ 63 → HasSeen Sees old new bytes → HavePassed bytes new
-have_passed old new bytes is none short seen =
-    let all = shown_all old new 0 seen.pages seen.shown in
-    let are = seen_pages old new 0 seen.pages all in
-    let walked = has_walked [] [] old new 0 seen.pages seen.pages refl are refl is none refl (ap (λ chain. chain.length_of) is) (omega (arith, short, ap length seen.joined)) all in
-    subst (λ (l : List ℕ). HavePassed l new) (sym seen.joined)
-    (from_walk seen.pages new walked (λ links taken. (in_turn seen.pages links are).0 taken))
-
--- a disk is no longer than 2^63 - 1
-pub front_short : (disk : DiskState) (n : ℕ) → IsImage disk disk.contents → disk.greatest < 2 ^ 63 → length (take n disk.contents) < 2 ^ 63
-front_short disk n is fits = let short : length disk.contents < 2 ^ 63 = omega (arith, is.no_longer, fits) in grind (arith, common_steps)
+use Rattle.ogg_recorder.specs.Taking.{open_fault}
 
 -- want of memory, or the fault itself
 fault_told : (fault : ChainFault) → (fault ≡ Memory) ⊎ ((offset : ℕ) → open_fault (offset, fault) ≡ Chain offset fault)

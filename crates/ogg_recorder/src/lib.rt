@@ -23,7 +23,6 @@ mod recorder;
 mod recording;
 mod running;
 mod staging;
-mod taking;
 
 pub use ending::end_open_streams;
 pub use feed_replies::{Kept, Outcome, RunFault, Tally};

@@ -1,17 +1,21 @@
 //! A file is opened: one pass finds the end of its committed bytes and takes their pages into a chain.
-ghost use Rattle.std.specs.Prelude.{◌≡◌, ◌≢◌, ◌↔◌, ◌⊎◌, ◌+◌, ◌-◌, ◌^◌, ◌<◌, ◌≤◌, ℕ, length, take, IfOk, IfErr};
+ghost use Rattle.std.specs.Prelude.{◌≡◌, ◌≢◌, ◌↔◌, ◌⊎◌, ◌+◌, ◌-◌, ◌^◌, ◌<◌, ◌≤◌, ℕ, List, Some, None, length, take, IfOk, IfErr};
 ghost use Rattle.disk_model.specs.Image.{IsImage};
+ghost use Rattle.link_chain.specs.ChainState.{chain_state_of};
+ghost use Rattle.link_chain.specs.Links.{AreLinks};
+ghost use Rattle.link_chain.specs.Taking.{unfinished_stream};
 ghost use Rattle.link_chain.specs.declared.chain_fault.ChainFault.{ChainFault as ChainFaultOf};
 ghost use Rattle.gate_file.specs.Found.{HasEnd, found_bytes};
 ghost use Rattle.gate_file.specs.Gate.{EndsAt};
 ghost use Rattle.gate_file.specs.Opening.{Opens, GivesBack};
-ghost use Rattle.ogg_recorder.specs.Taking.{HoldsChain, IsWholeChain, IsBrokenAt, IsUnfinished};
+ghost use Rattle.ogg_recorder.specs.Recovery.{Links};
+ghost use Rattle.ogg_recorder.specs.Taking.{HoldsChain, IsWholeChain, IsBrokenAt, IsUnfinished, open_fault};
 
 use crate::staging::SmallPage;
-use crate::taking::PageTaker;
 use chain_rules::Shape;
 use disk_model::Disk;
 use gate_file::{Found, GateFile, Memory, OpenFault};
+use link_chain::{Chain, ChainFault, PageTaker, links_left_whole_hold_a_recording};
 use ogg_page::PageBuffer;
 use std::alloc::Global;
 
@@ -49,14 +53,16 @@ pub(crate) fn find_chain<D: Disk>(alloc: Global, disk: D) -> Result<FoundChain<D
         Ok(small) => small,
         Err(Memory) => return Err((OpenFault::Memory, disk)),
     };
-    let mut taker = PageTaker::new(alloc);
+    let mut chain = Chain::new(alloc);
+    let mut taker = PageTaker::of(&mut chain);
     let (found, buffer) = match GateFile::find_with(disk, buffer, &mut taker) {
         Ok(found) => found,
         Err((fault, disk)) => return Err((OpenFault::from(fault), disk)),
     };
     // For the proof alone.
     let _end = found.end();
-    match taker.into_shape() {
+    let broken = taker.broken();
+    match shape_of(chain, broken) {
         Ok(shape) => Ok(FoundChain {
             found,
             shape,
@@ -64,5 +70,34 @@ pub(crate) fn find_chain<D: Disk>(alloc: Global, disk: D) -> Result<FoundChain<D
             small,
         }),
         Err(fault) => Err((fault, found.give_back())),
+    }
+}
+
+/// The chain of all pages; or why a page wasn't taken; or which stream's last packet is unfinished.
+fn shape_of(chain: Chain, broken: Option<(u64, ChainFault)>) -> Result<Shape, OpenFault>
+    ensures whole { IfOk result (λ shape. broken ≡ None) }
+    ensures each { IfOk result (λ shape. (bytes : List ℕ) (links : Links) → AreLinks bytes links
+        → chain.chain ≡ chain_state_of links → HoldsChain bytes shape.chain) }
+    ensures faults { IfErr result (λ fault. ((place : ℕ × _) × (broken ≡ Some place) × (fault ≡ open_fault place))
+        ⊎ ((serial : ℕ) × (broken ≡ None) × (unfinished_stream chain.chain ≡ Some serial) × (fault ≡ OpenFault.Unfinished serial))) }
+{
+    // For the proof alone.
+    links_left_whole_hold_a_recording();
+    if let Some(place) = broken {
+        return Err(fault_at(place));
+    }
+    if let Some(serial) = chain.unfinished() {
+        return Err(OpenFault::Unfinished(serial));
+    }
+    Ok(Shape::of(chain))
+}
+
+/// How an opening reports that a page wasn't taken.
+fn fault_at(place: (u64, ChainFault)) -> OpenFault
+    ensures { result ≡ open_fault place }
+{
+    match place {
+        (_, ChainFault::Memory) => OpenFault::Memory,
+        (offset, fault) => OpenFault::Chain(offset, fault),
     }
 }
