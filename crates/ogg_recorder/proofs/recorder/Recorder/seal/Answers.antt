@@ -24,3 +24,21 @@ returns-clause-step_err g c =
     rw (← c.self.view_is)
     (both c.seal.result c.seal.ensures.frame_err c.seal.ensures.any_moment_err (λ _ _ _. tt)
     (λ e frame leaves first w is_in honest. (sealed d first w (recorder_state in_.file in_.shape.chain in_.tail in_.kept in_.held in_.most) is_in good honest e.1 (frame.honest.0 honest) (leaves honest)).1))
+
+pub returns-clause-sealed : goal.returns-clause-sealed
+returns-clause-sealed g c = rw (← c.self.view_is) c.seal.ensures.sealed
+
+pub returns-clause-front : goal.returns-clause-front
+returns-clause-front g c = rw (← c.self.view_is) c.seal.ensures.front
+
+pub returns-clause-any_moment : goal.returns-clause-any_moment
+returns-clause-any_moment g c = rw (← c.self.view_is) c.seal.ensures.any_moment
+
+pub returns-clause-any_moment_err : goal.returns-clause-any_moment_err
+returns-clause-any_moment_err g c = rw (← c.self.view_is) c.seal.ensures.any_moment_err
+
+pub returns-clause-frame : goal.returns-clause-frame
+returns-clause-frame g c = rw (← c.self.view_is) c.seal.ensures.frame
+
+pub returns-clause-frame_err : goal.returns-clause-frame_err
+returns-clause-frame_err g c = rw (← c.self.view_is) c.seal.ensures.frame_err
