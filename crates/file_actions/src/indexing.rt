@@ -2,7 +2,7 @@
 use disk_model::Disk;
 use fault_lines::Fault;
 use gate_file::{Found, GateFile, OpenFault};
-use link_index::{Index, Indexer};
+use link_index::{Index, PageTaker, fault_at};
 use ogg_page::PageBuffer;
 use std::alloc::Global;
 
@@ -21,17 +21,17 @@ pub(crate) fn find_index<D: Disk + Drop>(alloc: Global, disk: D) -> Result<Index
         return Err(Fault::Memory);
     };
     let mut index = Index::new(alloc);
-    let mut indexer = Indexer::of(&mut index);
-    let (found, buffer) = match GateFile::find_with(disk, buffer, &mut indexer) {
+    let mut taker = PageTaker::of(&mut index);
+    let (found, buffer) = match GateFile::find_with(disk, buffer, &mut taker) {
         Ok(found) => found,
         Err((fault, _)) => return Err(Fault::Open(OpenFault::from(fault))),
     };
-    match indexer.fault() {
+    match taker.broken() {
         None => Ok(Indexed {
             found,
             index,
             buffer,
         }),
-        Some(fault) => Err(Fault::Index(fault)),
+        Some((offset, fault)) => Err(Fault::Index(fault_at(offset, fault))),
     }
 }

@@ -1,5 +1,5 @@
 -- Pages that are added one by one while bytes are walked through.
-use Rattle.std.proofs.Common.{◌≡◌, ◌≢◌, ℕ, ◌≤◌, List, [], ◌∷◌, ◌++◌, refl, sym, ◌∙◌, ap, subst, append_assoc, Option, Some, None, Result, Ok, Err, IsOk}
+use Rattle.std.proofs.Common.{◌≡◌, ◌≢◌, ℕ, List, [], ◌∷◌, ◌++◌, refl, sym, ◌∙◌, ap, subst, append_assoc, Option, Some, None, Result, Err, IsOk}
 use Rattle.std.proofs.Common.{cond}
 use Rattle.std.specs.Prelude.{⊤, Bool, true, false}
 use Rattle.std.proofs.lemmas.Bool.{cond_both}
@@ -9,14 +9,13 @@ use Rattle.ogg_page.specs.Page.{Page, IsPage, page_bytes, bytes_of_pages}
 use Rattle.ogg_page.specs.PageLaws.{pages_both, bytes_both}
 use Rattle.ogg_page.specs.LogicalStream.{is_first}
 use Rattle.link_chain.specs.ChainState.{ChainState, is_open}
-use Rattle.link_chain.specs.Laws.Walked.{taken_more, no_fault_there}
+use Rattle.link_chain.specs.Laws.Walked.{taken_more}
 use Rattle.link_chain.specs.Rules.{Rule, first_broken}
-use Rattle.link_chain.specs.Taking.{AreTaken, HasRoomFor, links_with, fault_of_page, rules_for_page, opening_rules, joining_rules, later_rules}
+use Rattle.link_chain.specs.Taking.{AreTaken, links_with, fault_of_page, rules_for_page, opening_rules, joining_rules, later_rules}
 use Rattle.link_chain.specs.declared.chain_fault.ChainFault.TheVariants.{Sequence, Continued, BosPlace, BosShape, SerialTwice, NoStream, AfterEos, BosWhileOpen, TooMany, EosUnfinished, Memory as NoMemory}
 use Rattle.link_chain.specs.declared.chain_fault.ChainFault.{ChainFault}
 use Rattle.link_index.specs.declared.fault.IndexFault.{IndexFault}
-use Rattle.link_index.specs.declared.fault.IndexFault.TheVariants.{Chain as ChainOf, Memory}
-use Rattle.link_index.specs.Indexing.{IsShort, IsFaultOf}
+use Rattle.link_index.specs.declared.fault.IndexFault.TheVariants.{Chain as ChainOf}
 use Rattle.link_index.specs.Adding.{IndexState, IsIndexOf, IsLeft, AddsPages, fault_at}
 
 -- the bytes begin with these pages, which were added in turn, and then the rest is left
@@ -92,7 +91,7 @@ said chain page =
     (λ _. (λ e. cc, (λ e. cc, tt))))
     (λ _. (λ e. cc, (λ e. cc, (λ e. cc, (λ e. cc, (λ e. cc, (λ e. cc, tt)))))))
 
-pub no_memory : (chain : ChainState) (page : Page) → fault_of_page chain page ≢ Some NoMemory
+no_memory : (chain : ChainState) (page : Page) → fault_of_page chain page ≢ Some NoMemory
 unfolding fault_of_page
 no_memory chain page e = never_said (rules_for_page chain page) (said chain page) e
 
@@ -110,14 +109,12 @@ told offset TooMany ne = refl
 told offset EosUnfinished ne = refl
 told offset NoMemory ne = absurd (ne refl)
 
--- The fault of a page that wasn't added is that of the chain; or the page may follow, it is a stream's first, and
--- memory was refused.
-pub by_fault : (Is : IndexFault → Type 0) (chain : ChainState) (page : Page) (offset : ℕ) (result : Result ⊤ ChainFault) (fault : ChainFault) → result ≡ Err fault
-    → ((f : ChainFault) → fault_of_page chain page ≡ Some f → result ≡ Err f) → (fault_of_page chain page ≡ None → result ≡ Err NoMemory)
-    → (is_first page ≡ false → fault_of_page chain page ≡ None → IsOk result)
-    → ((f : ChainFault) → fault_of_page chain page ≡ Some f → Is (ChainOf offset f)) → (fault_of_page chain page ≡ None → is_first page ≡ true → Is Memory)
-    → Is (fault_at offset fault)
-by_fault Is chain page offset result fault was broken memory later follows lacks = by (fault_of_page chain page) refl
+-- why nothing more is added of what is left
+pub left_at : (chain : ChainState) (rest more : List ℕ) (page : Page) (offset : ℕ) → offset ≡ chain.length_of → IsPage page → rest ≡ page_bytes page ++ more
+    → (result : Result ⊤ ChainFault) (fault : ChainFault) → result ≡ Err fault → ((f : ChainFault) → fault_of_page chain page ≡ Some f → result ≡ Err f)
+    → (fault_of_page chain page ≡ None → result ≡ Err NoMemory) → (is_first page ≡ false → fault_of_page chain page ≡ None → IsOk result)
+    → IsLeft chain rest (Err (fault_at offset fault))
+left_at chain rest more page offset at is split result fault was broken memory later = by (fault_of_page chain page) refl
   where
     same : (f g : ChainFault) → result ≡ Err f → result ≡ Err g → f ≡ g
     same f g a b = cc
@@ -129,32 +126,9 @@ by_fault Is chain page offset result fault was broken memory later follows lacks
     some : (f g : ChainFault) → fault_of_page chain page ≡ Some f → f ≡ g → fault_of_page chain page ≡ Some g
     some f g e s = e ∙ ap Some s
 
-    by : (o : Option ChainFault) → fault_of_page chain page ≡ o → Is (fault_at offset fault)
-    by None e = subst (λ (f : ChainFault). Is (fault_at offset f)) (same NoMemory fault (memory e) was) (lacks e (first (is_first page) (λ b. later b e)))
+    by : (o : Option ChainFault) → fault_of_page chain page ≡ o → IsLeft chain rest (Err (fault_at offset fault))
+    by None e = subst (λ (f : ChainFault). IsLeft chain rest (Err (fault_at offset f))) (same NoMemory fault (memory e) was)
+        (page, more, is, split, e, first (is_first page) (λ b. later b e))
     by (Some f) e =
         let there : fault_of_page chain page ≡ Some fault = some f fault e (same f fault (broken f e) was) in
-        subst Is (sym (told offset fault (λ is. no_memory chain page (there ∙ ap Some is)))) (follows fault there)
-
-pub left_at : (chain : ChainState) (rest more : List ℕ) (page : Page) (offset : ℕ) → offset ≡ chain.length_of → IsPage page → rest ≡ page_bytes page ++ more
-    → (result : Result ⊤ ChainFault) (fault : ChainFault) → result ≡ Err fault → ((f : ChainFault) → fault_of_page chain page ≡ Some f → result ≡ Err f)
-    → (fault_of_page chain page ≡ None → result ≡ Err NoMemory) → (is_first page ≡ false → fault_of_page chain page ≡ None → IsOk result)
-    → IsLeft chain rest (Err (fault_at offset fault))
-left_at chain rest more page offset at is split result fault was broken memory later =
-    by_fault (λ (f : IndexFault). IsLeft chain rest (Err f)) chain page offset result fault was broken memory later
-    (λ f e. (at, page, more, is, split, e)) (λ none first. (page, more, is, split, none, first))
-
--- a page that was added has no fault
-pub follows_if : (found : Option ChainFault) (result : Result ⊤ ChainFault) (done : ⊤) → result ≡ Ok done → ((f : ChainFault) → found ≡ Some f → result ≡ Err f) → found ≡ None
-follows_if found result done was broken = no_fault_there found (λ f e. never f (sym was ∙ broken f e))
-  where
-    never : (f : ChainFault) → ◌≡◌ {A = Result ⊤ ChainFault} (Ok done) (Err f) → ⊥
-    never f e = cc
-
--- why a page isn't added
-pub refused_at : (index : IndexState) (page : Page) (offset : ℕ) → IsShort index page
-    → (result : Result ⊤ ChainFault) (fault : ChainFault) → result ≡ Err fault → ((f : ChainFault) → fault_of_page index.chain.chain page ≡ Some f → result ≡ Err f)
-    → (fault_of_page index.chain.chain page ≡ None → (result ≡ Err NoMemory) × (HasRoomFor index.chain page → 1 ≤ index.link_room → 1 ≤ index.stream_room → ⊥))
-    → (is_first page ≡ false → fault_of_page index.chain.chain page ≡ None → IsOk result) → IsFaultOf index (offset, page) (fault_at offset fault)
-refused_at index page offset short result fault was broken memory later =
-    by_fault (IsFaultOf index (offset, page)) index.chain.chain page offset result fault was broken (λ none. (memory none).0) later
-    (λ f e. (refl, short, e)) (λ none first _. record { follows = none; first = first; room = (memory none).1 })
+        subst (λ (f : IndexFault). IsLeft chain rest (Err f)) (sym (told offset fault (λ is. no_memory chain page (there ∙ ap Some is)))) (at, page, more, is, split, there)

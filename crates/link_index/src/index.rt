@@ -9,7 +9,7 @@ use crate::fault::IndexFault;
 use crate::info::{LinkInfo, StreamInfo};
 use crate::listing::append_listing;
 use crate::rows::{Row, continue_link, join_link, open_link, streams_of};
-use link_chain::{Chain, ChainFault, StreamState, is_open};
+use link_chain::{Chain, ChainFault, StreamState, TakesInTurn, is_open};
 use ogg_page::{Page, split_page};
 use std::alloc::Global;
 use std::marker::Model;
@@ -198,8 +198,27 @@ impl Index {
     }
 }
 
+impl TakesInTurn for Index {
+    ghost use Rattle.link_index.specs.Adding.{IsIndexOf};
+    ghost use Rattle.link_index.specs.Indexing.{IsRefused};
+
+    ghost is_of = { IsIndexOf };
+
+    ghost size = { λ index. index.chain.chain.length_of };
+
+    ghost refuses = { IsRefused };
+
+    fn size(&self) -> u64 {
+        self.end()
+    }
+
+    fn take(&mut self, page: &Page<'_>) -> Result<(), ChainFault> {
+        self.add_page(page)
+    }
+}
+
 /// The fault of an index whose chain doesn't take the page at this offset.
-pub(crate) fn fault_at(offset: u64, fault: ChainFault) -> IndexFault
+pub fn fault_at(offset: u64, fault: ChainFault) -> IndexFault
     ensures { result ≡ fault_at offset fault }
 {
     match fault {

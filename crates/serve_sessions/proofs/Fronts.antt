@@ -1,5 +1,5 @@
 -- An index that goes on: what a walk over a window's pages makes of it.
-use Rattle.std.proofs.Common.{◌≡◌, ℕ, ◌-◌, ◌≤◌, ◌<◌, ◌^◌, ◌+◌, Result, Ok, Err, Option, Some, List, [], ◌++◌, length, take, drop, refl, sym, ◌∙◌, ap, subst, arith, append_assoc, length-drop, length-append, take_all}
+use Rattle.std.proofs.Common.{◌≡◌, inl, inr, ⊎_elim, ℕ, ◌-◌, ◌≤◌, ◌<◌, ◌^◌, ◌+◌, Result, Ok, Err, Option, Some, None, List, [], ◌++◌, length, take, drop, refl, sym, ◌∙◌, ap, subst, arith, append_assoc, length-drop, length-append, take_all}
 use Rattle.std.specs.Prelude.{⊤, OnOk}
 use Rattle.std.specs.Borrow.{MutBor}
 use Rattle.std.proofs.lemmas.List.{append-nil, drop_at}
@@ -14,9 +14,12 @@ use Rattle.ogg_page.specs.declared.visiting.Visit.TheVariants.{GoesOn, Ends}
 use Rattle.link_chain.specs.ChainState.{ChainState}
 use Rattle.link_chain.specs.Links.{AreLinks}
 use Rattle.link_chain.specs.declared.chain_fault.ChainFault.{ChainFault}
+use Rattle.link_chain.specs.declared.chain_fault.ChainFault.TheVariants.{Memory as NoRoomFor}
+use Rattle.link_chain.specs.Taker.{HandsPage, IsLeft as IsLeftOut}
+use Rattle.link_chain.specs.TakerLaws.{AreAllTaken, AreHanded, are_handed}
 use Rattle.link_index.specs.Adding.{AddsPages, IndexState, IsIndexOf, IsLeft}
-use Rattle.link_index.specs.Indexing.{IndexesPage, IsRefused, IsFaultOf}
-use Rattle.link_index.specs.IndexingLaws.{AreAllAdded, AreIndexed, are_indexed, adds_on, same_added}
+use Rattle.link_index.specs.Indexing.{indexing}
+use Rattle.link_index.specs.IndexingLaws.{adds_on, same_added}
 use Rattle.link_index.specs.declared.fault.IndexFault.{IndexFault}
 use Rattle.link_index.specs.declared.fault.IndexFault.TheVariants.{Page as PageOf, Chain as ChainOf, Memory as NoRoom}
 use Rattle.serve_sessions.specs.Indexing.{IsOfFront, LacksRoom, fault_unadded, result_of}
@@ -33,6 +36,22 @@ no_page offset fault e = cc
 
 no_chain : (offset : ℕ) (fault : ChainFault) → ◌≡◌ {A = IndexFault} (ChainOf offset fault) NoRoom → ⊥
 no_chain offset fault e = cc
+
+follows_not : (fault : ChainFault) → Some fault ≡ None → ⊥
+follows_not fault e = cc
+
+-- a page that wasn't added leaves the index as it was, except for its room
+stays : (old new : IndexState) (page : Page) (fault : ChainFault) → IsLeftOut indexing old page fault new → (new.chain.chain ≡ old.chain.chain) × (new.entries ≡ old.entries)
+stays old new page fault (inl (short, refused)) = (refused.chain, refused.entries)
+stays old new page fault (inr (long, memory, same)) = (ap (λ (i : IndexState). i.chain.chain) same, ap (λ (i : IndexState). i.entries) same)
+
+-- want of memory is no fault of the source
+no_source : (kept : Option (ℕ × ChainFault)) (offset : ℕ) (fault : ChainFault) → kept ≡ Some (offset, fault) → fault ≡ NoRoomFor
+    → ◌≡◌ {A = Result (Unit {0}) HubFault} (Err (fault_unadded kept)) (Err Source) → ⊥
+no_source kept offset fault is memory e =
+    let told : ◌≡◌ {A = Result (Unit {0}) HubFault} (Err Memory) (Err Source) =
+    sym (ap (λ (k : Option (ℕ × ChainFault)). let r : Result ⊤ HubFault = Err (fault_unadded k) in r) (is ∙ ap (λ (f : ChainFault). Some (offset, f)) memory)) ∙ e in
+    cc
 
 -- the laws of the index: bytes that were added as a whole are links, and links are added, unless memory is refused
 abbrev Added : Type 0
@@ -89,24 +108,24 @@ walked_from {S} {V} {bytes} {honest} {size} {failures} {only_reads} {sees} {old}
     subst (λ (o : WindowState S). HasWalked bytes honest size failures only_reads sees o before result new after) (set ∙ ap (λ (s : S). window s from to) is) w
 
 module _ {S V : Type 0} {bytes : S → List ℕ} {honest : S → Type 0} {size failures : S → ℕ} {only_reads : S → S → Type 0}
-    {index : V → MutBor IndexState} {kept : V → Option IndexFault} {source : S} {from to : ℕ} {new : WindowState S} {before after : V} {result : Result Visit WindowFault} {given : MutBor IndexState}
-    (w : HasWalked bytes honest size failures only_reads (IndexesPage index kept) (window source from to) before result new after)
+    {index : V → MutBor IndexState} {kept : V → Option (ℕ × ChainFault)} {source : S} {from to : ℕ} {new : WindowState S} {before after : V} {result : Result Visit WindowFault} {given : MutBor IndexState}
+    (w : HasWalked bytes honest size failures only_reads (HandsPage indexing index kept) (window source from to) before result new after)
     (lent : index before ≡ given) (here : from ≡ given.now.chain.chain.length_of)
   where
     abbrev Last : Result Visit WindowFault → Type 0
-    Last r = IsLast bytes honest size failures only_reads (IndexesPage index kept) w.now w.mid r new after
+    Last r = IsLast bytes honest size failures only_reads (HandsPage indexing index kept) w.now w.mid r new after
 
     abbrev found : IndexState
     found = (index w.mid).now
 
-    indexed : AreIndexed index kept before w.pages w.mid
-    indexed = are_indexed index kept before w.mid from w.pages w.seen
+    handed : AreHanded indexing index kept before w.pages w.mid
+    handed = are_handed indexing index kept before w.mid from w.pages w.seen
 
     place : w.now.at ≡ found.chain.chain.length_of
-    place = omega (arith, w.passed.place, here, indexed.added.grows, ap (λ (b : MutBor IndexState). b.now.chain.chain.length_of) lent)
+    place = omega (arith, w.passed.place, here, handed.all.grows, ap (λ (b : MutBor IndexState). b.now.chain.chain.length_of) lent)
 
     pub same_reference : (index after).ghost_name ≡ given.ghost_name
-    same_reference = by result w.last ∙ indexed.same ∙ ap (λ (b : MutBor IndexState). b.ghost_name) lent
+    same_reference = by result w.last ∙ handed.same ∙ ap (λ (b : MutBor IndexState). b.ghost_name) lent
       where
         by : (r : Result Visit WindowFault) → Last r → (index after).ghost_name ≡ (index w.mid).ghost_name
         by (Ok GoesOn) last = ap (λ (v : V). (index v).ghost_name) last.1
@@ -117,19 +136,22 @@ module _ {S V : Type 0} {bytes : S → List ℕ} {honest : S → Type 0} {size f
     pub lacks_room : to < 2 ^ 63 → result_of result (kept after) ≡ Err Memory → (page : Page) × (before : IndexState) × LacksRoom page before (index after).now
     lacks_room short = by result w.last
       where
-        refused : (at : LentAt) (fault : IndexFault) → found.chain.chain.length_of + page_size at.1 < 2 ^ 63 → ◌≡◌ {A = Result (Unit {0}) HubFault} (Err (fault_unadded (Some fault))) (Err Memory)
-            → IsRefused found at fault (index after).now → LacksRoom at.1 found (index after).now
-        refused at (PageOf offset fault) fits e r = absurd r.why
-        refused at (ChainOf offset fault) fits e r = absurd (cc e)
-        refused at NoRoom fits e r = record { lacks = λ none. (r.why fits).room; chain = r.chain; entries = r.entries }
+        left_out : (page : Page) (fault : ChainFault) → found.chain.chain.length_of + page_size page < 2 ^ 63 → IsLeftOut indexing found page fault (index after).now
+            → LacksRoom page found (index after).now
+        left_out page fault fits (inl (_, r)) = record {
+          lacks = λ none room links streams. ⊎_elim (λ told. follows_not fault (sym told ∙ none)) (λ (memory, follows, lacks). lacks.room room links streams) r.why;
+          chain = r.chain;
+          entries = r.entries;
+        }
+        left_out page fault fits (inr (long, memory, same)) = absurd (long fits)
 
         by : (r : Result Visit WindowFault) → Last r → result_of r (kept after) ≡ Err Memory → (page : Page) × (before : IndexState) × LacksRoom page before (index after).now
         by (Ok GoesOn) last e = absurd (cc e)
         by (Err fault) last e = absurd (cc e)
         by (Ok Ends) (at, moved, lent, one) e =
             let passes = moved.passes at refl in
-            let (fault, is, r) = one.indexed in
-            (at.1, found, refused at fault (omega (arith, passes.behind, passes.inside, moved.to, w.passed.to, short, place)) (ap (λ (k : Option IndexFault). let r : Result ⊤ HubFault = Err (fault_unadded k) in r) (sym is) ∙ e) r)
+            let (fault, is, left) = one.handed in
+            (at.1, found, left_out at.1 fault (omega (arith, passes.behind, passes.inside, moved.to, w.passed.to, short, place)) left)
 
     -- what is known if the source is honest, and the index is that of pages at the front
     pub record IsWorth (r : Result Visit WindowFault) : Type 0 where
@@ -144,7 +166,7 @@ module _ {S V : Type 0} {bytes : S → List ℕ} {honest : S → Type 0} {size f
         rest = (left_of bytes w.now).bytes;
         split = f.split ∙ ap (λ (l : List ℕ). f.front ++ l) (sym (in_window law (bytes source) given.now f from to here end) ∙ w.passed.joined sure refl)
             ∙ sym (append_assoc f.front (bytes_of_pages w.pages) (left_of bytes w.now).bytes);
-        added = adds_on [] f.front w.pages given.now found f.added w.passed.are_pages (subst (λ (b : MutBor IndexState). AreAllAdded b.now w.pages found) lent indexed.added);
+        added = adds_on [] f.front w.pages given.now found f.added w.passed.are_pages (subst (λ (b : MutBor IndexState). AreAllTaken indexing b.now w.pages found) lent handed.all);
       }
 
       abbrev Next : Result (Option LentAt) WindowFault → Type 0
@@ -155,12 +177,14 @@ module _ {S V : Type 0} {bytes : S → List ℕ} {honest : S → Type 0} {size f
       stands links are SourceOf next = refl
       stands links are (PageAt offset fault) next = absurd (no_page offset fault (only_memory (bytes source) found on each links are (PageOf offset fault) (next.0 ∙ place, next.1, next.2)))
 
-      adds : (links : List (List Page)) → AreLinks (bytes source) links → (at : LentAt) (fault : IndexFault) → Next (Ok (Some at)) → IsFaultOf found at fault
-          → ◌≡◌ {A = Result (Unit {0}) HubFault} (Err (fault_unadded (Some fault))) (Err Source) → ⊥
-      adds links are at (PageOf offset fault) next why e = why
-      adds links are at (ChainOf offset fault) next why e =
-          no_chain offset fault (only_memory (bytes source) found on each links are (ChainOf offset fault) (why.0 ∙ next.0 ∙ place, at.1, (left_of bytes new).bytes, next.1, next.2, why.2))
-      adds links are at NoRoom next why e = cc
+      adds : (links : List (List Page)) → AreLinks (bytes source) links → (at : LentAt) (fault : ChainFault) → Next (Ok (Some at)) → IsLeftOut indexing found at.1 fault (index after).now
+          → kept after ≡ Some (at.0, fault) → ◌≡◌ {A = Result (Unit {0}) HubFault} (Err (fault_unadded (kept after))) (Err Source) → ⊥
+      adds links are at fault next (inl (_, r)) is e =
+          ⊎_elim
+          (λ told. no_chain at.0 fault (only_memory (bytes source) found on each links are (ChainOf at.0 fault) (next.0 ∙ place, at.1, (left_of bytes new).bytes, next.1, next.2, told)))
+          (λ (memory, follows, lacks). no_source (kept after) at.0 fault is memory e)
+          r.why
+      adds links are at fault next (inr (long, memory, same)) is e = no_source (kept after) at.0 fault is memory e
 
       pub is_worth : IsWorth result
       is_worth = by result w.last
@@ -173,12 +197,12 @@ module _ {S V : Type 0} {bytes : S → List ℕ} {honest : S → Type 0} {size f
             cause = λ e. absurd (cc e);
           }
           by (Ok Ends) (at, moved, lent, one) =
-              let (fault, is, r) = one.indexed in
+              let (fault, is, left) = one.handed in
+              let same = stays found (index after).now at.1 fault left in
               record {
-                front = record { front = on.front; rest = on.rest; split = on.split; added = same_added [] on.front found (index after).now on.added r.chain r.entries };
+                front = record { front = on.front; rest = on.rest; split = on.split; added = same_added [] on.front found (index after).now on.added same.0 same.1 };
                 whole = tt;
-                cause = λ e links are. absurd (adds links are at fault (moved.lent (w.passed.source.honest_same.0 sure) (w.passed.fresh refl)) r.why
-                    (ap (λ (k : Option IndexFault). let r : Result ⊤ HubFault = Err (fault_unadded k) in r) (sym is) ∙ e));
+                cause = λ e links are. absurd (adds links are at fault (moved.lent (w.passed.source.honest_same.0 sure) (w.passed.fresh refl)) left is e);
               }
           by (Err fault) last = record {
             front = subst (λ (v : V). IsOfFront (bytes source) (index v).now) (sym last.1) on;

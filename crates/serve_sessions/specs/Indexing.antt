@@ -5,8 +5,8 @@ use Rattle.ogg_page.specs.declared.fault.WindowFault.{WindowFault}
 use Rattle.ogg_page.specs.declared.visiting.Visit.{Visit}
 use Rattle.ogg_page.specs.declared.visiting.Visit.TheVariants.{GoesOn, Ends}
 use Rattle.link_chain.specs.Taking.{HasRoomFor, fault_of_page}
-use Rattle.link_index.specs.declared.fault.IndexFault.{IndexFault}
-use Rattle.link_index.specs.declared.fault.IndexFault.TheVariants.{Memory as NoRoom}
+use Rattle.link_chain.specs.declared.chain_fault.ChainFault.{ChainFault}
+use Rattle.link_chain.specs.declared.chain_fault.ChainFault.TheVariants.{Memory as NoRoom}
 use Rattle.link_index.specs.Adding.{AddsPages, IndexState}
 use Rattle.serve_machine.specs.declared.fault.HubFault.{HubFault}
 use Rattle.serve_machine.specs.declared.fault.HubFault.TheVariants.{Source, Memory}
@@ -25,12 +25,12 @@ pub record LacksRoom (page : Page) (before after : IndexState) : Type 0 where
   pub entries : after.entries ≡ before.entries
 
 -- The fault if a page isn't added: in a file of links only memory can be lacking.
-abbrev pub fault_unadded : Option IndexFault → HubFault
-fault_unadded (Some NoRoom) = Memory
-fault_unadded fault = Source
+abbrev pub fault_unadded : Option (ℕ × ChainFault) → HubFault
+fault_unadded (Some (offset, NoRoom)) = Memory
+fault_unadded broken = Source
 
--- the result of a walk that added pages to an index, which had this fault at the page at which the walk ended
-abbrev pub result_of : Result Visit WindowFault → Option IndexFault → Result ⊤ HubFault
-result_of (Ok GoesOn) fault = Ok tt
-result_of (Ok Ends) fault = Err (fault_unadded fault)
-result_of (Err wrong) fault = Err Source
+-- the result of a walk that added pages to an index, if the page at which it ended wasn't added for this fault
+abbrev pub result_of : Result Visit WindowFault → Option (ℕ × ChainFault) → Result ⊤ HubFault
+result_of (Ok GoesOn) broken = Ok tt
+result_of (Ok Ends) broken = Err (fault_unadded broken)
+result_of (Err wrong) broken = Err Source

@@ -7,21 +7,25 @@ ghost use Rattle.link_index.specs.Adding.{IndexState, IsIndexOf};
 ghost use Rattle.serve_sending.specs.Sending.{HasFailed};
 ghost use Rattle.serve_sessions.specs.Indexing.{IsOfFront, LacksRoom, result_of};
 
-use link_index::{Index, IndexFault, Indexer, links_are_indexed};
+use link_chain::{ChainFault, PageTaker};
+use link_index::{Index, links_are_indexed};
 use ogg_page::{PageSource, Visit, Window, WindowFault, walk};
 use serve_machine::HubFault;
 
 /// A file has fewer bytes than this.
 const LENGTHS: u64 = 1 << 63;
 
-/// The result if the walk over the pages ended so, with this fault of the index.
-fn result_of(walked: Result<Visit, WindowFault>, fault: Option<IndexFault>) -> Result<(), HubFault>
-    ensures { result ≡ result_of walked fault }
+/// The result if the walk over the pages ended so, and this is the page that wasn't added.
+fn result_of(
+    walked: Result<Visit, WindowFault>,
+    broken: Option<(u64, ChainFault)>,
+) -> Result<(), HubFault>
+    ensures { result ≡ result_of walked broken }
 {
     match walked {
         Ok(Visit::GoesOn) => Ok(()),
-        Ok(Visit::Ends) => match fault {
-            Some(IndexFault::Memory) => Err(HubFault::Memory),
+        Ok(Visit::Ends) => match broken {
+            Some((_, ChainFault::Memory)) => Err(HubFault::Memory),
             _ => Err(HubFault::Source),
         },
         Err(_) => Err(HubFault::Source),
@@ -56,7 +60,7 @@ pub(crate) fn bring_up<S: PageSource>(
         return Err(HubFault::Source);
     }
     window.set(index.end(), end);
-    let mut indexer = Indexer::of(index);
-    let walked = walk(window, &mut indexer);
-    result_of(walked, indexer.fault())
+    let mut taker = PageTaker::of(index);
+    let walked = walk(window, &mut taker);
+    result_of(walked, taker.broken())
 }

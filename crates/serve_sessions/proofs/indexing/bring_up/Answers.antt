@@ -18,18 +18,18 @@ pub returns-clause-front : goal.returns-clause-front
 returns-clause-front g c sure f =
     let s = g.S.PageSource in
     let w = walked_from c.walk-walked.ensures.walked c.set.ensures c.source_mut.ensures.value in
-    let same = same_reference w c.of-indexer.ensures.index c.end-2.ensures in
+    let same = same_reference w c.of-taker.ensures.taken c.end-2.ensures in
     let end = c.end-end.ensures ∙ ap s.size c.source_mut.ensures.value ∙ sym (g.met.S.PageSource.fits c.args.window.now.source sure) in
-    let worth = is_worth w c.of-indexer.ensures.index c.end-2.ensures sure f end c.links_are_indexed.ensures.added c.links_are_indexed.ensures.each in
+    let worth = is_worth w c.of-taker.ensures.taken c.end-2.ensures sure f end c.links_are_indexed.ensures.added c.links_are_indexed.ensures.each in
     search rules
 
 pub returns-clause-whole : goal.returns-clause-whole
 returns-clause-whole g c sure f =
     let s = g.S.PageSource in
     let w = walked_from c.walk-walked.ensures.walked c.set.ensures c.source_mut.ensures.value in
-    let same = same_reference w c.of-indexer.ensures.index c.end-2.ensures in
+    let same = same_reference w c.of-taker.ensures.taken c.end-2.ensures in
     let end = c.end-end.ensures ∙ ap s.size c.source_mut.ensures.value ∙ sym (g.met.S.PageSource.fits c.args.window.now.source sure) in
-    let worth = is_worth w c.of-indexer.ensures.index c.end-2.ensures sure f end c.links_are_indexed.ensures.added c.links_are_indexed.ensures.each in
+    let worth = is_worth w c.of-taker.ensures.taken c.end-2.ensures sure f end c.links_are_indexed.ensures.added c.links_are_indexed.ensures.each in
     search rules
 
 pub returns-clause-cause : goal.returns-clause-cause
@@ -37,15 +37,15 @@ returns-clause-cause g c e sure short f links are =
     let s = g.S.PageSource in
     let w = walked_from c.walk-walked.ensures.walked c.set.ensures c.source_mut.ensures.value in
     let end = c.end-end.ensures ∙ ap s.size c.source_mut.ensures.value ∙ sym (g.met.S.PageSource.fits c.args.window.now.source sure) in
-    let worth = is_worth w c.of-indexer.ensures.index c.end-2.ensures sure f end c.links_are_indexed.ensures.added c.links_are_indexed.ensures.each in
-    let why = worth.cause (ap (result_of c.walk-walked.result) (sym c.fault.ensures) ∙ sym c.result_of.ensures ∙ e) links are in
+    let worth = is_worth w c.of-taker.ensures.taken c.end-2.ensures sure f end c.links_are_indexed.ensures.added c.links_are_indexed.ensures.each in
+    let why = worth.cause (ap (result_of c.walk-walked.result) (sym c.broken.ensures) ∙ sym c.result_of.ensures ∙ e) links are in
     search rules
 
 pub returns-clause-memory : goal.returns-clause-memory
 returns-clause-memory g c e =
     let s = g.S.PageSource in
     let w = walked_from c.walk-walked.ensures.walked c.set.ensures c.source_mut.ensures.value in
-    let same = same_reference w c.of-indexer.ensures.index c.end-2.ensures in
-    let (page, before, lacks) = lacks_room w c.of-indexer.ensures.index c.end-2.ensures (omega (arith, c.if-end-ge-LENGTHS.false))
-    (ap (result_of c.walk-walked.result) (sym c.fault.ensures) ∙ sym c.result_of.ensures ∙ e) in
+    let same = same_reference w c.of-taker.ensures.taken c.end-2.ensures in
+    let (page, before, lacks) = lacks_room w c.of-taker.ensures.taken c.end-2.ensures (omega (arith, c.if-end-ge-LENGTHS.false))
+    (ap (result_of c.walk-walked.result) (sym c.broken.ensures) ∙ sym c.result_of.ensures ∙ e) in
     search rules
