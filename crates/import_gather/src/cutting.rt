@@ -22,6 +22,8 @@ pub fn cut_page(
 {
     // For the proof alone.
     let _bytes = page.whole();
+    // A long packet has its room at once, so that it isn't moved as it grows.
+    grower.reserve(rest, first_size(page))?;
     cut(grower, rest, page.lacing(), page.body())
 }
 

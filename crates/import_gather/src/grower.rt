@@ -77,6 +77,18 @@ impl Grower {
         Ok(())
     }
 
+    /// Makes room for so many more bytes. After `Memory` there was no room for them.
+    pub fn reserve(&mut self, list: &mut Vec<u8>, more: usize) -> Result<(), Memory>
+        ensures items { list.new.items ≡ list.old.items }
+        ensures full { OnErr result (vec_capacity list.old < vec_len list.old + more) }
+        ensures noted { IsNoted result self.old self.new }
+    {
+        if let Err(_) = list.reserve(more) {
+            return Err(self.note());
+        }
+        Ok(())
+    }
+
     /// The chain takes a page that may follow. After `Memory` it is as it was, and had no room for the page.
     pub fn take_page(&mut self, chain: &mut Chain, page: &Page<'_>) -> Result<(), Memory>
         requires fits { fault_of_page chain.old.chain page.now ≡ None }
