@@ -89,7 +89,7 @@ PartsBy (Ended offset junk taken) failed air old new = FeederParts (parting_answ
 PartsBy (GivenUp fault) failed air old new = FeederParts (parting_answer true air) air old new
 PartsBy done failed air old new = ⊤
 
--- If the source has left the air, the first one that waited is on it, or couldn't take it.
+-- If the source has left the air, it was offered to those that waited for it, in turn, until one of them had it.
 abbrev pub IsSucceededBy : Done → Slab ClientState → Slab ClientState → Option OnAir → Type 0
 IsSucceededBy (Ended offset junk taken) old new air = IsSucceeded old new air
 IsSucceededBy (GivenUp fault) old new air = IsSucceeded old new air

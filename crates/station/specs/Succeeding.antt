@@ -1,5 +1,5 @@
 -- Which source is on the air after one that has left it. Ours.
-use Rattle.std.specs.Prelude.{◌≡◌, ◌⊎◌, ◌<◌, ⊤, ℕ, Bool, false, true, Option, None, Some}
+use Rattle.std.specs.Prelude.{◌≡◌, ◌⊎◌, ◌<◌, ◌≤◌, ◌+◌, ⊤, ℕ, Bool, false, true, Option, None, Some}
 use Rattle.serve_clients.specs.Client.{ClientState}
 use Rattle.serve_clients.specs.declared.client.Stage.{Stage}
 use Rattle.serve_clients.specs.declared.client.Stage.TheVariants.{Waiting}
@@ -24,32 +24,38 @@ waits (Some client) = is_waiting client.stage
 abbrev pub SameWait : Slab ClientState → Slab ClientState → Type 0
 SameWait old new = (key : ℕ) → waits (get new key) ≡ waits (get old key)
 
--- none with a lower key does
-abbrev pub NoneBefore : Slab ClientState → ℕ → Type 0
-NoneBefore slots key = (lower : ℕ) → lower < key → waits (get slots lower) ≡ false
-
--- this is the first one that does, by its key; or nobody does
-abbrev pub IsFirst : Slab ClientState → Option ℕ → Type 0
-IsFirst slots (Some key) = (waits (get slots key) ≡ true) × NoneBefore slots key
-IsFirst slots None = (key : ℕ) → waits (get slots key) ≡ false
-
 -- ---- who is on it next
 -- the connection was offered the air: it waits no longer, or its head hasn't come whole
 abbrev pub WasOffered : Option ClientState → Type 0
 WasOffered None = ⊤
 WasOffered (Some client) = (is_waiting client.stage ≡ false) ⊎ IsUnread client.head More
 
--- so were these, whatever has become of them
-abbrev pub StayOffered : Slab ClientState → Slab ClientState → Type 0
-StayOffered old new = (key : ℕ) → WasOffered (get old key) → WasOffered (get new key)
+-- so was each one that waited and has a key before this one
+abbrev pub AreOffered : Slab ClientState → Slab ClientState → ℕ → Type 0
+AreOffered old new key = (lower : ℕ) → lower < key → waits (get old lower) ≡ true → WasOffered (get new lower)
 
--- This one has it; or it was offered it, and nobody has.
-abbrev pub HasAir : Option ℕ → Slab ClientState → Option OnAir → Type 0
-HasAir (Some key) slots air = (feeder_in air ≡ Some (Peer key)) ⊎ ((air ≡ None) × WasOffered (get slots key))
-HasAir None slots air = air ≡ None
+-- from this key on the same ones wait
+abbrev pub WaitOn : Slab ClientState → Slab ClientState → ℕ → Type 0
+WaitOn old new key = (other : ℕ) → key ≤ other → waits (get new other) ≡ waits (get old other)
 
--- The first one that waited is on the air, or was offered it and couldn't take it. Nobody is if none waited.
+-- This one waited, and has the air: it was offered to those before it first, and those behind it wait on. Or nobody has
+-- it, and all that waited were offered it.
+abbrev pub HasAir : Option ℕ → Slab ClientState → Slab ClientState → Option OnAir → Type 0
+HasAir (Some key) old new air =
+    (waits (get old key) ≡ true) × (feeder_in air ≡ Some (Peer key)) × AreOffered old new (key + 1) × WaitOn old new (key + 1)
+HasAir None old new air = (air ≡ None) × ((key : ℕ) → waits (get old key) ≡ true → WasOffered (get new key))
+
+-- The air was free: it was offered to those that waited, in turn, until one of them had it.
 pub record IsSucceeded (old new : Slab ClientState) (air : Option OnAir) : Type 0 where
   pub next : Option ℕ
-  pub first : IsFirst old next
-  pub has_air : HasAir next new air
+  pub has_air : HasAir next old new air
+
+-- ---- turns
+-- a connection that has got a turn, at most, is at its stage, and as much of its head has come
+abbrev pub IsStill : Option ClientState → Option ClientState → Type 0
+IsStill None new = new ≡ None
+IsStill (Some old) new = (client : ClientState) × (new ≡ Some client) × (client.stage ≡ old.stage) × (client.head ≡ old.head)
+
+-- some connections have got a turn, and nothing else has become of them
+abbrev pub HaveTurns : Slab ClientState → Slab ClientState → Type 0
+HaveTurns old new = (key : ℕ) → IsStill (get old key) (get new key)

@@ -87,16 +87,18 @@ impl<D: Disk + Drop> Station<D> {
         self.counts.sources_refused = counted(self.counts.sources_refused, 1);
     }
 
-    /// The air is free: the first source that waits for it takes it.
+    /// The air is free: it is offered to the sources that wait for it, in turn, until one of them has it.
     pub(crate) fn offer_again(&mut self, now: u64)
         ensures succeeded { self.old.air ≡ None → IsSucceeded self.old.clients.slots self.new.clients.slots self.new.air }
         ensures others { (key : ℕ) → waits (get self.old.clients.slots key) ≡ false → get self.new.clients.slots key ≡ get self.old.clients.slots key }
         ensures live { self.new.live ≡ self.old.live }
     {
         for key in 0..self.clients.slots.capacity() {
+            if self.air.is_some() {
+                return;
+            }
             if self.waits(key) {
                 self.offer(key, &[], now);
-                return;
             }
         }
     }

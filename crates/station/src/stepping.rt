@@ -5,6 +5,7 @@ ghost use Rattle.slab.specs.Slab.{get};
 ghost use Rattle.serve_clients.specs.Client.{ClientState};
 ghost use Rattle.serve_clients.specs.Clients.{OthersStay};
 ghost use Rattle.serve_clients.specs.declared.client.Stage.TheVariants.{Feeding as FeedingOf};
+ghost use Rattle.feed_replies.specs.declared.reply.Reply.{Reply as ReplyOf};
 ghost use Rattle.gate_file.specs.declared.fault.OpenFault.{OpenFault as OpenFaultOf};
 ghost use Rattle.import_record.specs.declared.fault.RecordFault.{RecordFault as RecordFaultOf};
 ghost use Rattle.serve_hub.specs.Parts.{failed_in};
@@ -68,11 +69,15 @@ impl<D: Disk + Drop> Station<D> {
         // A fault of the disk comes before anything of the source that follows, and is noted.
         ensures failed { failed_in self.old.live.hub.file ≡ true → reopens result ≡ true }
         ensures noted { (air : OnAirOf) → self.old.air ≡ Some air → result ≡ Done.Reopened → GoesOnWithLoss air self.new.air }
-        // Once a source has left the air, the first one that waited is on it, or couldn't take it.
+        // Once a source has left the air, it is offered to those that wait for it, in turn, until one of them has it.
         ensures succeeded { IsSucceededBy result self.old.clients.slots self.new.clients.slots self.new.air }
         // What waits is committed once it is due, and answered as the recorder does.
         ensures commits { (machine : HubState) → Shows D.Disk self.old.live.hub machine → failed_in self.old.live.hub.file ≡ false
             → is_due machine.waiting self.old.waiting_since now ≡ true → HasFlushed D.Disk result self.old.live self.new.live }
+        // Nothing is committed before it is due.
+        ensures rests { (machine : HubState) (reply : ReplyOf) → Shows D.Disk self.old.live.hub machine → result ≡ Done.Flushed reply
+            → is_due machine.waiting self.old.waiting_since now ≡ true }
+        ensures nothing { result ≡ Done.Nothing → (self.new.live ≡ self.old.live) × (self.new.air ≡ self.old.air) }
         // If more is committed, listeners are woken now, or it is remembered that they are to be.
         ensures wakes { (before after : HubState) → Shows D.Disk self.old.live.hub before → Shows D.Disk self.new.live.hub after
             → length before.committed ≢ length after.committed → (self.new.waking ≡ woken_at now) ⊎ (self.new.waking.unheard ≡ true) }
@@ -114,6 +119,9 @@ impl<D: Disk + Drop> Station<D> {
         ensures noted { (air : OnAirOf) → self.old.air ≡ Some air → result ≡ Done.Reopened → GoesOnWithLoss air self.new.air }
         ensures commits { (machine : HubState) → Shows D.Disk self.old.live.hub machine → failed_in self.old.live.hub.file ≡ false
             → is_due machine.waiting self.old.waiting_since now ≡ true → HasFlushed D.Disk result self.old.live self.new.live }
+        ensures rests { (machine : HubState) (reply : ReplyOf) → Shows D.Disk self.old.live.hub machine → result ≡ Done.Flushed reply
+            → is_due machine.waiting self.old.waiting_since now ≡ true }
+        ensures nothing { result ≡ Done.Nothing → (self.new.live ≡ self.old.live) × (self.new.air ≡ self.old.air) }
     {
         if self.live.hub().is_failed() {
             return self.reopen(now);
@@ -137,6 +145,8 @@ impl<D: Disk + Drop> Station<D> {
             → PartsBy result (failed_in self.new.live.hub.file) air self.old.clients.slots self.new.clients.slots }
         ensures succeeded { IsSucceededBy result self.old.clients.slots self.new.clients.slots self.new.air }
         ensures goes_on { result ≢ Done.Reopened }
+        ensures rests { (reply : ReplyOf) → result ≢ Done.Flushed reply }
+        ensures nothing { result ≡ Done.Nothing → (self.new.live ≡ self.old.live) × (self.new.air ≡ self.old.air) }
     {
         let Some(air) = &mut self.air else {
             return Done::Nothing;

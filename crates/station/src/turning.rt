@@ -10,7 +10,7 @@ ghost use Rattle.serve_clients.specs.declared.client.After.TheVariants.{Closes};
 ghost use Rattle.station_hub.specs.Patience.{until_due as until_commit};
 ghost use Rattle.station.specs.Telling.{listeners_in};
 ghost use Rattle.station.specs.Ending.{gathers, has_finished, is_over};
-ghost use Rattle.station.specs.Succeeding.{StayOffered};
+ghost use Rattle.station.specs.Succeeding.{HaveTurns};
 ghost use Rattle.station.specs.Turning.{GoesOn, IsRead};
 ghost use Rattle.station.specs.Waiting.{sooner, until_next};
 ghost use Rattle.station_hub.specs.Waking.{is_due, until_due, woken_at};
@@ -129,7 +129,7 @@ impl<D: Disk + Drop> Station<D> {
         ensures due { is_due (gathers self.old.air self.old.ending) self.old.waking now ≡ true
             → (self.new.waking ≡ woken_at now) × AreWoken self.old.clients self.new.clients }
         ensures waits { is_due (gathers self.old.air self.old.ending) self.old.waking now ≡ false → self.new ≡ self.old }
-        ensures offered { StayOffered self.old.clients.slots self.new.clients.slots }
+        ensures turns { HaveTurns self.old.clients.slots self.new.clients.slots }
         ensures live { self.new.live ≡ self.old.live }
         ensures air { self.new.air ≡ self.old.air }
     {
@@ -156,7 +156,7 @@ impl<D: Disk + Drop> Station<D> {
     /// Bytes of the source are wanted again.
     pub(crate) fn wake_feeder(&mut self)
         ensures rest { self.new ≡ record self.old { clients = self.new.clients } }
-        ensures offered { StayOffered self.old.clients.slots self.new.clients.slots }
+        ensures turns { HaveTurns self.old.clients.slots self.new.clients.slots }
     {
         if let Some(Feeder::Peer(key)) = self.feeder() {
             if self.reads(key) {

@@ -1,32 +1,47 @@
-use Rattle.std.proofs.Common.{None, Some, sym, ◌∙◌, ap, arith}
-use Rattle.slab.specs.Slab.{get}
-use Rattle.station.specs.Succeeding.{waits}
-use Rattle.station.proofs.Succeeding.{has_air, nobody, one_more}
+use Rattle.std.proofs.Common.{◌≡◌, ◌+◌, None, sym, ◌∙◌, subst, arith}
+use Rattle.station.proofs.Succeeding.{HasTried, OthersStand, StayFrom, all_tried, is_free, is_other, is_taken, one_has, stay_behind, tries, tries_past}
 use Rattle.station.proofs.station.Station.offer_again.Goals as goal
+use Rattle.station.proofs.station.Station.offer_again.Goals.{then-waits, else-waits}
+
+pub returns-then-is_some-clause-succeeded : goal.returns-then-is_some-clause-succeeded
+returns-then-is_some-clause-succeeded g c free =
+    one_has c.args.self.now.clients.slots c.loop-key.self.clients.slots c.loop-key.self.air c.loop-key.key
+    (is_taken c.loop-key.self.air (sym c.is_some.ensures ∙ c.if-is_some.true)) (c.loop-key.invariant.0 free)
+
+pub returns-clause-succeeded : goal.returns-clause-succeeded
+returns-clause-succeeded g c free =
+    all_tried c.args.self.now.clients.slots c.loop-key.self.clients.slots c.loop-key.self.air c.loop-key.key
+    (omega (arith, c.loop-key.invariant.4, c.capacity-key-end.ensures.slots, c.loop-key-test.false)) (c.loop-key.invariant.0 free)
 
 pub loop-key-preserved : goal.loop-key-preserved
 loop-key-preserved g c =
-    let same = c.loop-key.invariant.0 in
-    let key = c.loop-key.key in (
-      same,
-      one_more c.args.self.now.clients.slots key c.loop-key.invariant.1
-          (ap (λ s. waits (get s.clients.slots key)) (sym same) ∙ sym c.waits.ensures ∙ c.if-waits.false),
-      c.loop-key.invariant.2,
-    )
-
-pub returns-then-waits-clause-succeeded : goal.returns-then-waits-clause-succeeded
-returns-then-waits-clause-succeeded g c free =
-    let same = c.loop-key.invariant.0 in
-    let key = c.loop-key.key in record {
-      next = Some key;
-      first = (ap (λ s. waits (get s.clients.slots key)) (sym same) ∙ sym c.waits.ensures ∙ c.if-waits.true, c.loop-key.invariant.1);
-      has_air = has_air key c.offer.new.self.clients.slots c.loop-key.self.air c.offer.new.self.air (ap (λ s. s.air) same ∙ free)
-          (c.offer.ensures.offered (ap (λ s. s.air) same ∙ free)) c.offer.ensures.feeder;
-    }
-
-pub returns-clause-succeeded : goal.returns-clause-succeeded
-returns-clause-succeeded g c free = record {
-  next = None;
-  first = nobody c.args.self.now.clients.slots c.loop-key.key c.loop-key.invariant.1 (omega (arith, c.capacity-key-end.ensures.slots, c.loop-key-test.false));
-  has_air = ap (λ s. s.air) c.loop-key.invariant.0 ∙ free;
-}
+    let old = c.args.self.now.clients.slots in
+    let key = c.loop-key.key in
+    let was = c.loop-key.self in
+    let (tried, stay, others, live, bound) = c.loop-key.invariant in
+    let free : was.air ≡ None = is_free was.air (sym c.is_some.ensures ∙ c.if-is_some.false) in
+    elim c.if-waits.branch [
+      | then-waits w ↦
+          let new = w.offer.new.self in
+          let waited = sym c.waits.ensures ∙ w.if-waits.true in
+          subst (λ self.
+          (c.args.self.now.air ≡ None → HasTried old self.clients.slots self.air (key + 1)) × StayFrom old self.clients.slots (key + 1)
+          × OthersStand old self.clients.slots × (self.live ≡ c.args.self.now.live) × (c.capacity-key-end.result ≡ old.capacity)) (sym w.self-is) (
+            λ start. tries old was.clients.slots new.clients.slots was.air new.air key free (tried start) stay waited w.offer.ensures.others
+                (w.offer.ensures.offered free) w.offer.ensures.feeder,
+            stay_behind old was.clients.slots new.clients.slots key stay w.offer.ensures.others,
+            λ other isnt. w.offer.ensures.others other (is_other old was.clients.slots key other (others other isnt) isnt waited) ∙ others other isnt,
+            w.offer.ensures.live ∙ live,
+            bound,
+          )
+      | else-waits w ↦
+          subst (λ self.
+          (c.args.self.now.air ≡ None → HasTried old self.clients.slots self.air (key + 1)) × StayFrom old self.clients.slots (key + 1)
+          × OthersStand old self.clients.slots × (self.live ≡ c.args.self.now.live) × (c.capacity-key-end.result ≡ old.capacity)) (sym w.self-is) (
+            λ start. tries_past old was.clients.slots was.air key free (tried start) stay (sym c.waits.ensures ∙ w.if-waits.false),
+            λ other above. stay other (omega (arith, above)),
+            others,
+            live,
+            bound,
+          )
+    ]

@@ -1,11 +1,10 @@
 use Rattle.std.proofs.Common.{◌≡◌, Option, sym, ◌∙◌, ap, subst}
 use Rattle.serve_clients.specs.declared.clients.Clients.{Clients}
-use Rattle.slab.specs.Slab.{get}
 use Rattle.station_hub.specs.declared.live_hub.LiveHub.{LiveHub}
 use Rattle.station_sources.specs.declared.air.OnAir.{OnAir}
 use Rattle.station.specs.Stepping.{GoesOnWithLoss, IsSucceededBy, TakesFromSource}
-use Rattle.station.specs.Succeeding.{StayOffered, WasOffered}
-use Rattle.station.proofs.Succeeding.{still_by}
+use Rattle.station.specs.Succeeding.{HaveTurns}
+use Rattle.station.proofs.Succeeding.{still_by, turns_then}
 use Rattle.station.proofs.station.Station.step.Given.{Over}
 use Rattle.station.proofs.station.Station.step.Goals as goal
 use Rattle.station.proofs.station.Station.step.Goals.{then-end, else-end}
@@ -44,8 +43,9 @@ returns-clause-succeeded g c =
     let old = c.args.self.now.clients.slots in
     let after = c.step_once-done.new.self.clients in
     let new = c.wake_feeder.new.self in
-    let stay : StayOffered after.slots new.clients.slots =
-    λ key was. c.wake_feeder.ensures.offered key (c.wake_listeners.ensures.offered key
-    (subst (λ (clients : Clients). WasOffered (get clients.slots key)) (sym (clients_are g c)) was)) in
-    still_by done old after.slots new.clients.slots new.air stay
+    let turns : HaveTurns after.slots new.clients.slots =
+    turns_then after.slots c.wake_listeners.new.self.clients.slots new.clients.slots
+    (subst (λ (clients : Clients). HaveTurns clients.slots c.wake_listeners.new.self.clients.slots) (clients_are g c) c.wake_listeners.ensures.turns)
+    c.wake_feeder.ensures.turns in
+    still_by done old after.slots new.clients.slots new.air turns
     (subst (IsSucceededBy done old after.slots) (sym (air_is g c)) c.step_once-done.ensures.succeeded)

@@ -5,7 +5,7 @@ use Rattle.station.proofs.station.Station.wake_feeder.Goals as goal
 false_true : false ≡ true → ⊥
 false_true e = cc
 
-pub returns-then-reads-clause-offered : goal.returns-then-reads-clause-offered
-returns-then-reads-clause-offered g c =
+pub returns-then-reads-clause-turns : goal.returns-then-reads-clause-turns
+returns-then-reads-clause-turns g c =
     woken_one c.args.self.now.clients c.wake.new.self.clients c.in-Some-Peer.key (λ none. false_true (sym (c.reads.ensures.none none) ∙ c.if-reads.true))
     c.wake.ensures.turn c.wake.ensures.others
