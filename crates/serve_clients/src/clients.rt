@@ -89,6 +89,7 @@ impl Clients {
         ensures turn { IfSome result (λ key. self.old.turns.items ≡ key ∷ self.new.turns.items) }
         ensures begins { IfSome result (λ key. (client : ClientState) → get self.old.slots key ≡ Some client
             → get self.new.slots key ≡ Some (with_line (taken_off client.line) client)) }
+        ensures gone { IfSome result (λ key. get self.old.slots key ≡ None → get self.new.slots key ≡ None) }
         ensures others { IfSome result (λ key. OthersStay key self.old self.new) }
     {
         match take_first(&mut self.turns) {
@@ -104,6 +105,7 @@ impl Clients {
     fn begin_turn(&mut self, key: usize)
         ensures begins { (client : ClientState) → get self.old.slots key ≡ Some client
             → get self.new.slots key ≡ Some (with_line (taken_off client.line) client) }
+        ensures none { get self.old.slots key ≡ None → self.new ≡ self.old }
         ensures others { OthersStay key self.old self.new }
         ensures turns { self.new.turns ≡ self.old.turns }
     {
@@ -128,6 +130,7 @@ impl Clients {
     pub fn read_failed(&mut self, key: usize, trouble: Trouble)
         ensures failed { (client : ClientState) → get self.old.slots key ≡ Some client
             → get self.new.slots key ≡ Some (unread_by trouble client) }
+        ensures none { get self.old.slots key ≡ None → self.new ≡ self.old }
         ensures others { OthersStay key self.old self.new }
         ensures turns { self.new.turns ≡ self.old.turns }
     {
@@ -144,6 +147,7 @@ impl Clients {
     pub fn write_failed(&mut self, key: usize, bytes: &[u8], trouble: Trouble)
         ensures failed { (client : ClientState) → get self.old.slots key ≡ Some client
             → (kept : ClientState) × HasWritten bytes.now 0 client kept × (get self.new.slots key ≡ Some (unwritten_by trouble kept)) }
+        ensures none { get self.old.slots key ≡ None → self.new ≡ self.old }
         ensures others { OthersStay key self.old self.new }
         ensures turns { self.new.turns ≡ self.old.turns }
     {
