@@ -1,3 +1,5 @@
+mod Going
+mod Lasting
 mod Marked
 mod Owed
 mod Tracked

@@ -1,14 +1,16 @@
 -- What a connection asks for, and how it is taken. Ours.
-use Rattle.std.specs.Prelude.{◌≡◌, ℕ, Some, Result, Ok, Err, []}
+use Rattle.std.specs.Prelude.{◌≡◌, ◌⊎◌, ℕ, Bool, true, false, Some, Result, Ok, Err, []}
 use Rattle.serve_machine.specs.Calls.{Steps}
 use Rattle.serve_machine.specs.Hub.{HubState, Connect, Receive}
 use Rattle.serve_machine.specs.declared.answers.Progress.{Progress}
 use Rattle.serve_machine.specs.declared.answers.Progress.TheVariants.{More, Ready}
 use Rattle.serve_machine.specs.declared.fault.HubFault.{HubFault}
 use Rattle.serve_hub.specs.Parts.{HubParts}
-use Rattle.serve_clients.specs.Client.{ClientState}
+use Rattle.serve_clients.specs.Client.{ClientState, cut, told, with_stage}
+use Rattle.serve_live.specs.Listening.{ListenerState}
+use Rattle.serve_sources.specs.declared.answers.TheConstants.{LIVE}
 use Rattle.serve_clients.specs.declared.client.Stage.{Stage}
-use Rattle.serve_clients.specs.declared.client.Stage.TheVariants.{Reading, Sending, Cut}
+use Rattle.serve_clients.specs.declared.client.Stage.TheVariants.{Reading, Sending, Hearing, Ending, Cut}
 
 -- the stage of a connection whose session has taken bytes with this answer
 abbrev pub stage_after : Result Progress HubFault → Stage
@@ -24,3 +26,15 @@ pub record IsConnected {D : Type 0} (shows : HubParts D → HubState → Type 0)
   pub connects : Steps shows old between (λ machine. Connect (Ok id))
   pub receives : Steps shows between new (λ machine. Receive id before.head progress)
   pub client : after ≡ record before { stage = stage_after progress; session = Some id; head = [] }
+
+-- what has come of the connection's head isn't kept any longer
+abbrev pub headless : ClientState → ClientState
+headless client = record client { head = [] }
+
+-- A connection listens: it gets the head of the answer, and hears what follows by a listener, unless the head alone was asked
+-- for. Without memory, and after a fault of the file, it is cut.
+abbrev pub Listens : Bool → ClientState → ClientState → Type 0
+Listens true old new = (new ≡ with_stage Ending (told LIVE.now (headless old))) ⊎ (new ≡ cut (headless old))
+Listens false old new =
+    ((listener : ListenerState) × (new ≡ record (told LIVE.now (headless old)) { stage = Hearing; listener = Some listener }))
+    ⊎ (new ≡ record (cut (headless old)) { listener = new.listener })

@@ -10,7 +10,7 @@ use Rattle.serve_live.specs.Live.{Moment}
 use Rattle.serve_hub.specs.Listening.{HearsMore}
 use Rattle.serve_hub.specs.Parts.{HubParts}
 use Rattle.serve_clients.specs.declared.client.Stage.{Stage}
-use Rattle.serve_clients.specs.declared.client.Stage.TheVariants.{Sending as SendingOf, Hearing, Ending}
+use Rattle.serve_clients.specs.declared.client.Stage.TheVariants.{Sending as SendingOf, Hearing, Ending, Cut}
 
 -- A pull of the connection's session had this answer: so many bytes of the buffer are the session's next ones, and once
 -- nothing is left they are its last. After a fault the connection is cut.
@@ -56,3 +56,8 @@ pub record Gives {D : Type 0} (shows : HubParts D → HubState → Type 0) (old 
       → shows old machine → client.listener ≡ Some listener → (hearing : IsHearing moment machine.committed listener heard)
       → HasHeard moment machine.committed heard hearing.rest size client count buffer after
   pub nothing : client.unsent ≡ [] → client.stage ≢ SendingOf → client.stage ≢ Hearing → (count ≡ 0) × (new ≡ old) × (after ≡ client)
+  pub unconnected : client.unsent ≡ [] → client.stage ≡ SendingOf → client.session ≡ None → (count ≡ 0) × (new ≡ old) × (after ≡ client)
+  -- what a listener is given is no step of the machine
+  pub keeps : client.stage ≡ Hearing → (machine : HubState) → shows old machine → shows new machine
+  pub goes_on : client.stage ≡ Hearing → (after.stage ≡ Hearing) ⊎ (after.stage ≡ Cut)
+  pub rest : after ≡ record client { stage = after.stage; listener = after.listener }

@@ -1,5 +1,6 @@
 pub mod Giving
 pub mod Asking
+pub mod Going
 pub mod Places
 pub mod Marking
 pub mod Tracking

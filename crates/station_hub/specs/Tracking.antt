@@ -5,6 +5,7 @@ use Rattle.link_chain.specs.ChainState.{chain_state_of, is_open}
 use Rattle.link_chain.specs.Links.{AreLinks}
 use Rattle.ogg_command.specs.declared.command.Command.{Command}
 use Rattle.chain_rules.specs.Decision.{is_begin}
+use Rattle.serve_live.specs.Boundaries.{place_to_join}
 use Rattle.serve_live.specs.Hearing.{IsHearing}
 use Rattle.serve_live.specs.Listening.{ListenerState}
 use Rattle.serve_live.specs.Live.{Moment}
@@ -56,3 +57,11 @@ JoinsAt None committed listener = IsHearing (waiting_at committed) committed lis
 JoinsAt (Some place) committed listener =
     (links : List (List Page)) × (moment : Moment) × AreLinks committed links × IsPlaceIn links moment place
     × IsHearing moment committed listener []
+
+-- the moment at which a listener joins: that of the place, or if there is none, that at which these bytes are committed
+abbrev pub IsMomentAt : Option JoinPlace → List ℕ → Moment → Type 0
+IsMomentAt None committed moment = moment ≡ waiting_at committed
+IsMomentAt (Some place) committed moment = (links : List (List Page)) × AreLinks committed links × IsPlaceIn links moment place
+
+abbrev pub IsJoinMoment : PlacesState → List ℕ → Moment → Type 0
+IsJoinMoment places committed moment = IsMomentAt (place_to_join places.boundaries) committed moment

@@ -4,12 +4,13 @@ ghost use Rattle.serve_live.specs.Boundaries.{place_to_join};
 ghost use Rattle.serve_live.specs.Listening.{ListenerState};
 ghost use Rattle.serve_clients.specs.declared.client.Stage.TheVariants.{Hearing as HearingOf};
 ghost use Rattle.serve_hub.specs.Images.{IfFile, Reads};
+ghost use Rattle.serve_hub.specs.Listening.{KeepsMachine};
 ghost use Rattle.serve_hub.specs.Showing.{Shows};
 ghost use Rattle.serve_machine.specs.Calls.{Steps};
 ghost use Rattle.serve_machine.specs.Hub.{HubState, Receive};
 ghost use Rattle.serve_machine.specs.declared.answers.Progress.{Progress as ProgressOf};
 ghost use Rattle.serve_machine.specs.declared.fault.HubFault.{HubFault as HubFaultOf};
-ghost use Rattle.station_hub.specs.Asking.{IsConnected, stage_after};
+ghost use Rattle.station_hub.specs.Asking.{IsConnected, Listens, stage_after};
 ghost use Rattle.station_hub.specs.Marking.{Start};
 ghost use Rattle.station_hub.specs.Tracking.{JoinsAt, Tracks};
 ghost use Rattle.serve_clients.specs.Client.{cut, with_stage};
@@ -73,6 +74,8 @@ impl<D: Disk + Drop> LiveHub<D> {
         ensures joins { (start : Start) (machine : HubState) → Shows D.Disk self.old.hub machine → Tracks start machine self.old.places
             → client.new.stage ≡ HearingOf → (listener : ListenerState) × (client.new.listener ≡ Some listener)
             × JoinsAt (place_to_join self.old.places.boundaries) machine.committed listener }
+        ensures becomes { Listens head client.old client.new }
+        ensures machine { KeepsMachine D.Disk self.old.hub self.new.hub }
         ensures disk { (self.new.hub.file ≡ self.old.hub.file)
             ⊎ IfFile (Reads D.Disk) self.old.hub.file self.new.hub.file }
         ensures places { self.new.places ≡ self.old.places }
@@ -98,6 +101,7 @@ impl<D: Disk + Drop> LiveHub<D> {
     fn join(&mut self) -> Result<Listener, HubFault>
         ensures joins { (start : Start) (machine : HubState) → Shows D.Disk self.old.hub machine → Tracks start machine self.old.places
             → IfOk result (λ listener. JoinsAt (place_to_join self.old.places.boundaries) machine.committed listener) }
+        ensures machine { KeepsMachine D.Disk self.old.hub self.new.hub }
         ensures disk { (self.new.hub.file ≡ self.old.hub.file)
             ⊎ IfFile (Reads D.Disk) self.old.hub.file self.new.hub.file }
         ensures places { self.new.places ≡ self.old.places }

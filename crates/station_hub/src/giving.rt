@@ -10,7 +10,7 @@ ghost use Rattle.serve_hub.specs.Images.{IfFile, Reads};
 ghost use Rattle.serve_hub.specs.Listening.{KeepsMachine};
 ghost use Rattle.serve_hub.specs.Showing.{Shows};
 ghost use Rattle.station_hub.specs.Giving.{HasHeard, HasPulled};
-ghost use Rattle.serve_clients.specs.declared.client.Stage.TheVariants.{Ending as EndingOf, Hearing as HearingOf, Sending as SendingOf};
+ghost use Rattle.serve_clients.specs.declared.client.Stage.TheVariants.{Cut as CutOf, Ending as EndingOf, Hearing as HearingOf, Sending as SendingOf};
 
 use crate::live_hub::LiveHub;
 use disk_model::Disk;
@@ -33,6 +33,7 @@ fn pull<D: Disk + Drop>(hub: &mut Hub<D>, id: u64, client: &mut Client, buffer: 
     ensures pulled { (answer : Result GivenOf HubFaultOf)
         × Steps (Shows D.Disk) hub.old hub.new (λ after. Pull id (length buffer.old) answer)
         × HasPulled answer client.old result buffer.new client.new }
+    ensures rest { client.new ≡ record client.old { stage = client.new.stage } }
     ensures disk { (hub.new.file ≡ hub.old.file) ⊎ IfFile (Reads D.Disk) hub.old.file hub.new.file }
     ensures within { result ≤ length buffer.new }
 {
@@ -62,6 +63,8 @@ fn hear<D: Disk + Drop>(hub: &mut Hub<D>, client: &mut Client, buffer: &mut [u8]
         → HasHeard moment machine.committed given hearing.rest (length buffer.old) client.old result buffer.new client.new }
     ensures machine { KeepsMachine D.Disk hub.old hub.new }
     ensures none { client.old.listener ≡ None → (result ≡ 0) × (hub.new ≡ hub.old) × (client.new ≡ client.old) }
+    ensures rest { client.new ≡ record client.old { stage = client.new.stage; listener = client.new.listener } }
+    ensures goes_on { (client.new.stage ≡ client.old.stage) ⊎ (client.new.stage ≡ CutOf) }
     ensures disk { (hub.new.file ≡ hub.old.file) ⊎ IfFile (Reads D.Disk) hub.old.file hub.new.file }
     ensures within { result ≤ length buffer.new }
 {
@@ -95,6 +98,10 @@ impl<D: Disk + Drop> LiveHub<D> {
         ensures keeps { client.old.stage ≡ HearingOf → KeepsMachine D.Disk self.old.hub self.new.hub }
         ensures nothing { client.old.unsent ≡ [] → client.old.stage ≢ SendingOf → client.old.stage ≢ HearingOf
             → (result ≡ 0) × (self.new.hub ≡ self.old.hub) × (client.new ≡ client.old) }
+        ensures unconnected { client.old.unsent ≡ [] → client.old.stage ≡ SendingOf → client.old.session ≡ None
+            → (result ≡ 0) × (self.new.hub ≡ self.old.hub) × (client.new ≡ client.old) }
+        ensures rest { client.new ≡ record client.old { stage = client.new.stage; listener = client.new.listener } }
+        ensures goes_on { client.old.stage ≡ HearingOf → (client.new.stage ≡ HearingOf) ⊎ (client.new.stage ≡ CutOf) }
         ensures disk { (self.new.hub.file ≡ self.old.hub.file)
             ⊎ IfFile (Reads D.Disk) self.old.hub.file self.new.hub.file }
         ensures within { result ≤ length buffer.new }

@@ -10,6 +10,10 @@ ghost use Rattle.feed_replies.specs.declared.reply.Kept.{Kept as KeptOf};
 ghost use Rattle.ogg_recorder.specs.Running.{reply_of};
 ghost use Rattle.feed_replies.specs.declared.outcome.Outcome.{Outcome as OutcomeOf};
 ghost use Rattle.serve_live.specs.Boundaries.{no_link, place_to_join};
+ghost use Rattle.serve_hub.specs.Parts.{HubParts};
+ghost use Rattle.serve_hub.specs.Showing.{Shows};
+ghost use Rattle.serve_live.specs.Hearing.{IsHearing};
+ghost use Rattle.serve_live.specs.Listening.{ListenerState};
 ghost use Rattle.serve_live.specs.Live.{Moment};
 ghost use Rattle.serve_live.specs.Places.{IsPlaceIn};
 ghost use Rattle.serve_live.specs.declared.listener.JoinPlace.{JoinPlace as JoinPlaceOf};
@@ -18,6 +22,7 @@ ghost use Rattle.serve_machine.specs.Hub.{Event, Flush, Given, HubState, Pull, R
 ghost use Rattle.serve_machine.specs.Run.{session_of};
 ghost use Rattle.serve_machine.specs.declared.answers.Progress.TheVariants.{Ready};
 ghost use Rattle.serve_machine.specs.declared.fault.HubFault.{HubFault as HubFaultOf};
+ghost use Rattle.serve_machine.specs.Sound.{Extends};
 ghost use Rattle.serve_clients.specs.Client.{ClientState, HasWritten, cut, given};
 ghost use Rattle.station_hub.specs.Giving.{HasPulled, Owes};
 ghost use Rattle.station_hub.specs.Marking.{Start};
@@ -27,8 +32,9 @@ ghost use Rattle.station_hub.specs.declared.places.Answered.{Answered as Answere
 ghost use Rattle.serve_clients.specs.declared.client.Stage.TheVariants.{Cut as CutOf, Sending as SendingOf};
 
 use chain_rules::commands_add_their_packets;
+use disk_model::Disk;
 use link_chain::bytes_are_one_chain;
-use serve_live::commands_make_places;
+use serve_live::{commands_make_places, listeners_hear_what_they_should};
 use serve_machine::{calls_move_their_session, other_sessions_stay};
 
 /// A connection that is served by a session is owed its response, byte for byte, from the call that completes its head
@@ -62,6 +68,15 @@ pub fn connections_are_owed_their_responses()
 {
     calls_move_their_session();
     other_sessions_stay();
+}
+
+/// What a listener was given stays the front of what is heard of the committed bytes, while these grow.
+pub fn listeners_hear_what_a_hub_commits<D: Disk>()
+    ensures { (old new : HubParts D) (before after : HubState) (moment : Moment) (listener : ListenerState) (given : List ℕ)
+        → Shows D.Disk old before → Shows D.Disk new after → Extends before.committed after.committed
+        → IsHearing moment before.committed listener given → IsHearing moment after.committed listener given }
+{
+    listeners_hear_what_they_should();
 }
 
 /// Where a listener joins is a place of the committed links, whatever calls of the hub come: as long as the places are

@@ -20,7 +20,10 @@ mod places;
 mod waking;
 
 pub use asking::ask;
-pub use laws::{connections_are_owed_their_responses, listeners_join_committed_links};
+pub use laws::{
+    connections_are_owed_their_responses, listeners_hear_what_a_hub_commits,
+    listeners_join_committed_links,
+};
 pub use live_hub::LiveHub;
 pub use patience::{is_due, until_due};
 pub use waking::Waking;

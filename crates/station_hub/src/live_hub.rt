@@ -12,6 +12,7 @@ ghost use Rattle.serve_live.specs.Boundaries.{no_link, place_to_join};
 ghost use Rattle.serve_machine.specs.Calls.{Steps, found_by};
 ghost use Rattle.serve_machine.specs.Hub.{Close, HubState, Reopen};
 ghost use Rattle.serve_machine.specs.declared.fault.HubFault.{HubFault as HubFaultOf};
+ghost use Rattle.station_hub.specs.Going.{OnlyRecords};
 ghost use Rattle.station_hub.specs.Places.{answered_by, committed_to, reopened_to};
 ghost use Rattle.station_hub.specs.Tracking.{IsOpenIn, IsTold, KeepsPlaces};
 ghost use Rattle.station_hub.specs.declared.places.Answered.{Answered as AnsweredOf};
@@ -101,17 +102,26 @@ impl<D: Disk + Drop> LiveHub<D> {
     }
 
     /// Ends each stream that the file's last link has open, and commits that. It stops at the first end that is refused.
-    pub fn end_open(&mut self) {
+    pub fn end_open(&mut self)
+        ensures records { OnlyRecords (Shows D.Disk) self.old.hub self.new.hub }
+    {
         for _ in 0..MOST_STREAMS {
-            let Some(serial) = first_open(self.hub.streams()) else {
+            if !self.end_first() {
                 break;
-            };
-            match self.run_command(&Command::End(serial), &mut io::sink()) {
-                Ok(Reply::Refused(_)) | Err(_) => break,
-                Ok(_) => {}
             }
         }
         let _ = self.run_flush();
+    }
+
+    /// Ends the first open stream, if there is one. It returns whether there was, and the end wasn't refused.
+    fn end_first(&mut self) -> bool
+        ensures records { OnlyRecords (Shows D.Disk) self.old.hub self.new.hub }
+    {
+        let Some(serial) = first_open(self.hub.streams()) else {
+            return false;
+        };
+        let answer = self.run_command(&Command::End(serial), &mut io::sink());
+        is_taken(answer)
     }
 
     /// A command got this reply. Before it, the file and what waited had `before` bytes. A boundary at which listeners join
@@ -162,6 +172,11 @@ fn is_begin(command: &Command) -> bool
     ensures { result ≡ is_begin command.now }
 {
     matches!(command, Command::Begin(_))
+}
+
+/// Whether a command was taken, by its answer.
+fn is_taken(answer: Result<Reply, WriteFault>) -> bool {
+    !matches!(answer, Ok(Reply::Refused(_)) | Err(_))
 }
 
 /// The serial of the first stream that hasn't ended.

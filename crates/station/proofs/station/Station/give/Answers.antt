@@ -16,6 +16,10 @@ returns-clause-gives g c client is =
             pulls = c.give-count.ensures.pulls;
             hears = c.give-count.ensures.hears;
             nothing = c.give-count.ensures.nothing;
+            unconnected = c.give-count.ensures.unconnected;
+            keeps = c.give-count.ensures.keeps;
+            goes_on = c.give-count.ensures.goes_on;
+            rest = c.give-count.ensures.rest;
           }),
       placed c.args.self.now.clients.slots c.args.key client c.given.new.self is ∙ ap Some (c.given.ensures ∙ ap (λ (over : Bool). given c.give-count.result over c.args.now after) c.is_over-over.ensures),
     )
