@@ -1,7 +1,17 @@
+mod Early
 mod Found
 mod Hearing
 mod Leaving
+mod Listened
+mod Owing
+mod Passed
 mod Reopening
+mod Rising
+mod Seen
+mod Served
+mod Sides
+mod Sights
 mod Succeeding
 mod Turned
 mod Unread
+mod Whole

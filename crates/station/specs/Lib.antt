@@ -7,3 +7,8 @@ pub mod Telling
 pub mod Turning
 pub mod Ending
 pub mod Waiting
+pub mod Passing
+pub mod Asked
+pub mod Calling
+pub mod Written
+pub mod Serving

@@ -15,6 +15,7 @@
 //! what is recorded and when it is committed.
 #![tactic(auto)]
 
+mod laws;
 mod lines;
 mod offering;
 mod station;
@@ -23,6 +24,7 @@ mod telling;
 mod turning;
 
 pub use import_record::{Answered, Step, Taken};
+pub use laws::connections_get_their_responses;
 pub use lines::{Shown, station_line};
 pub use serve_clients::{After, Trouble};
 pub use serve_sources::{FULL, Password};

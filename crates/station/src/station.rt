@@ -348,6 +348,7 @@ impl<D: Disk + Drop> Station<D> {
             × HasWritten bytes.now count client after × (get self.new.clients.slots key ≡ Some (moved_if count now after)) }
         ensures counts { (client : ClientState) → get self.old.clients.slots key ≡ Some client
             → self.new.counts ≡ record self.old.counts { sent = counted self.old.counts.sent (min count (length bytes.now)) } }
+        ensures none { get self.old.clients.slots key ≡ None → self.new ≡ self.old }
         ensures others { OthersStay key self.old.clients self.new.clients }
         ensures live { self.new.live ≡ self.old.live }
         ensures air { self.new.air ≡ self.old.air }

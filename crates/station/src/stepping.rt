@@ -12,6 +12,7 @@ ghost use Rattle.serve_hub.specs.Parts.{failed_in};
 ghost use Rattle.station_sources.specs.Air.{parting_answer};
 ghost use Rattle.station.specs.Parting.{FeederParts, HasParted};
 ghost use Rattle.station_sources.specs.declared.air.OnAir.{OnAir as OnAirOf};
+ghost use Rattle.station_hub.specs.Going.{OnlyRecords};
 ghost use Rattle.station_hub.specs.Patience.{is_due, until_due};
 ghost use Rattle.station.specs.Stepping.{GoesOnWithLoss, HasFlushed, IsSucceededBy, PartsBy, TakesFromSource, reopens, with_done};
 ghost use Rattle.station.specs.Succeeding.{IsSucceeded, SameWait};
@@ -235,7 +236,8 @@ impl<D: Disk + Drop> Station<D> {
 
     /// Ends each stream that the file's last link has open, and commits that. It stops at the first end that is refused.
     pub fn end_open(&mut self)
-        ensures { self.new ≡ record self.old { live = self.new.live } }
+        ensures rest { self.new ≡ record self.old { live = self.new.live } }
+        ensures records { OnlyRecords (Shows D.Disk) self.old.live.hub self.new.live.hub }
     {
         self.live.end_open();
     }

@@ -4,7 +4,7 @@ ghost use Rattle.slab.specs.Slab.{get, slab_len};
 ghost use Rattle.serve_hub.specs.Showing.{Shows};
 ghost use Rattle.serve_machine.specs.Hub.{HubState};
 ghost use Rattle.serve_clients.specs.Client.{ClientState, HasWritten, after_of, with_line};
-ghost use Rattle.serve_clients.specs.Clients.{AreLookedAt, AreWoken, HasTurn, OthersStay, told_by, turned_at, unread_by, unwritten_by};
+ghost use Rattle.serve_clients.specs.Clients.{AllStay, AreLookedAt, AreWoken, HasTurn, OthersStay, told_by, turned_at, unread_by, unwritten_by};
 ghost use Rattle.serve_clients.specs.Line.{taken_off};
 ghost use Rattle.serve_clients.specs.declared.client.After.TheVariants.{Closes};
 ghost use Rattle.station_hub.specs.Patience.{until_due as until_commit};
@@ -33,6 +33,7 @@ impl<D: Disk + Drop> Station<D> {
     pub fn wake(&mut self, key: usize, readable: bool, writable: bool)
         ensures turn { (client : ClientState) → get self.old.clients.slots key ≡ Some client
             → HasTurn key (told_by readable writable client) self.old.clients self.new.clients }
+        ensures none { get self.old.clients.slots key ≡ None → self.new ≡ self.old }
         ensures others { OthersStay key self.old.clients self.new.clients }
         ensures rest { self.new ≡ record self.old { clients = self.new.clients } }
     {
@@ -48,10 +49,11 @@ impl<D: Disk + Drop> Station<D> {
 
     /// The connection whose turn it is, if one has something to do.
     pub fn next_turn(&mut self) -> Option<usize>
-        ensures none { result ≡ None → self.old.clients.turns.items ≡ [] }
+        ensures none { result ≡ None → (self.old.clients.turns.items ≡ []) × AllStay self.old.clients self.new.clients }
         ensures turn { IfSome result (λ key. self.old.clients.turns.items ≡ key ∷ self.new.clients.turns.items) }
         ensures begins { IfSome result (λ key. (client : ClientState) → get self.old.clients.slots key ≡ Some client
             → get self.new.clients.slots key ≡ Some (with_line (taken_off client.line) client)) }
+        ensures gone { IfSome result (λ key. get self.old.clients.slots key ≡ None → get self.new.clients.slots key ≡ None) }
         ensures others { IfSome result (λ key. OthersStay key self.old.clients self.new.clients) }
         ensures live { self.new.live ≡ self.old.live }
         ensures air { self.new.air ≡ self.old.air }
@@ -88,6 +90,7 @@ impl<D: Disk + Drop> Station<D> {
     pub fn read_failed(&mut self, key: usize, trouble: Trouble)
         ensures failed { (client : ClientState) → get self.old.clients.slots key ≡ Some client
             → get self.new.clients.slots key ≡ Some (unread_by trouble client) }
+        ensures none { get self.old.clients.slots key ≡ None → get self.new.clients.slots key ≡ None }
         ensures others { OthersStay key self.old.clients self.new.clients }
         ensures live { self.new.live ≡ self.old.live }
         ensures air { self.new.air ≡ self.old.air }
@@ -99,6 +102,7 @@ impl<D: Disk + Drop> Station<D> {
     pub fn write_failed(&mut self, key: usize, bytes: &[u8], trouble: Trouble)
         ensures failed { (client : ClientState) → get self.old.clients.slots key ≡ Some client
             → (kept : ClientState) × HasWritten bytes.now 0 client kept × (get self.new.clients.slots key ≡ Some (unwritten_by trouble kept)) }
+        ensures none { get self.old.clients.slots key ≡ None → get self.new.clients.slots key ≡ None }
         ensures others { OthersStay key self.old.clients self.new.clients }
         ensures live { self.new.live ≡ self.old.live }
         ensures air { self.new.air ≡ self.old.air }

@@ -13,7 +13,7 @@ pub returns : goal.returns
 returns g c = record {
   parts = λ air is key client feeder found feeding.
       let same : c.in-Some.air ≡ air = same_air c.in-Some.air air (c.in-Some.ensures.value ∙ is) in
-      let still : get c.end_open.new.self.clients.slots key ≡ Some client = ap (λ s. get s.clients.slots key) c.end_open.ensures ∙ found in
+      let still : get c.end_open.new.self.clients.slots key ≡ Some client = ap (λ s. get s.clients.slots key) c.end_open.ensures.rest ∙ found in
       let (after, left, parted) = c.answer_feeder.ensures.parts key client (ap (λ (one : OnAir). one.feeder) same ∙ feeder) still feeding in
       let told = c.is_lost-lost.result in
       let lost : told ≡ (c.args.given_up || failed_in c.offer_again.new.self.live.hub.file) =
@@ -25,7 +25,7 @@ returns g c = record {
       );
   succeeded = λ was.
       let before = c.end_open.new.self.clients.slots in
-      subst (λ slots. IsSucceeded slots c.offer_again.new.self.clients.slots c.offer_again.new.self.air) (ap (λ s. s.clients.slots) c.end_open.ensures)
+      subst (λ slots. IsSucceeded slots c.offer_again.new.self.clients.slots c.offer_again.new.self.air) (ap (λ s. s.clients.slots) c.end_open.ensures.rest)
       (succeeded before c.answer_feeder.new.self.clients.slots c.offer_again.new.self.clients.slots c.offer_again.new.self.air c.answer_feeder.ensures.waits
-      (c.offer_again.ensures.succeeded (c.answer_feeder.ensures.air ∙ ap (λ s. s.air) c.end_open.ensures ∙ c.take.ensures.after)));
+      (c.offer_again.ensures.succeeded (c.answer_feeder.ensures.air ∙ ap (λ s. s.air) c.end_open.ensures.rest ∙ c.take.ensures.after)));
 }
