@@ -1,5 +1,6 @@
 mod Going
 mod Lasting
+mod Keeping
 mod Marked
 mod Owed
 mod Tracked

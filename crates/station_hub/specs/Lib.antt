@@ -6,3 +6,4 @@ pub mod Marking
 pub mod Tracking
 pub mod Patience
 pub mod Waking
+pub mod Keeping

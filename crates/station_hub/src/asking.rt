@@ -11,6 +11,7 @@ ghost use Rattle.serve_machine.specs.Hub.{HubState, Receive};
 ghost use Rattle.serve_machine.specs.declared.answers.Progress.{Progress as ProgressOf};
 ghost use Rattle.serve_machine.specs.declared.fault.HubFault.{HubFault as HubFaultOf};
 ghost use Rattle.station_hub.specs.Asking.{IsConnected, Listens, stage_after};
+ghost use Rattle.station_hub.specs.Keeping.{KeepsRecorded};
 ghost use Rattle.station_hub.specs.Marking.{Start};
 ghost use Rattle.station_hub.specs.Tracking.{JoinsAt, Tracks};
 ghost use Rattle.serve_clients.specs.Client.{cut, with_stage};
@@ -20,7 +21,7 @@ use crate::live_hub::LiveHub;
 use disk_model::Disk;
 use serve_clients::{Client, Stage};
 use serve_live::Listener;
-use serve_machine::{HubFault, Progress};
+use serve_machine::{HubFault, Progress, calls_move_their_session};
 use serve_sources::{Asks, LIVE};
 
 /// Adds bytes to the head, and says what it asks for. Without memory for them the connection is cut.
@@ -44,8 +45,11 @@ impl<D: Disk + Drop> LiveHub<D> {
             ⊎ ((self.new.hub ≡ self.old.hub) × (client.new ≡ cut client.old)) }
         ensures disk { (self.new.hub.file ≡ self.old.hub.file)
             ⊎ IfFile (Reads D.Disk) self.old.hub.file self.new.hub.file }
+        ensures recorded { KeepsRecorded D.Disk self.old.hub self.new.hub }
         ensures places { self.new.places ≡ self.old.places }
     {
+        // For the proof alone.
+        calls_move_their_session();
         match self.hub.connect() {
             Ok(id) => {
                 let progress = self.hub.receive(id, client.head.as_slice());
@@ -62,8 +66,11 @@ impl<D: Disk + Drop> LiveHub<D> {
             × (client.new ≡ with_stage (stage_after progress) client.old) }
         ensures disk { (self.new.hub.file ≡ self.old.hub.file)
             ⊎ IfFile (Reads D.Disk) self.old.hub.file self.new.hub.file }
+        ensures recorded { KeepsRecorded D.Disk self.old.hub self.new.hub }
         ensures places { self.new.places ≡ self.old.places }
     {
+        // For the proof alone.
+        calls_move_their_session();
         let progress = self.hub.receive(id, bytes);
         client.go_to(stage_after(progress));
     }
@@ -78,6 +85,7 @@ impl<D: Disk + Drop> LiveHub<D> {
         ensures machine { KeepsMachine D.Disk self.old.hub self.new.hub }
         ensures disk { (self.new.hub.file ≡ self.old.hub.file)
             ⊎ IfFile (Reads D.Disk) self.old.hub.file self.new.hub.file }
+        ensures recorded { KeepsRecorded D.Disk self.old.hub self.new.hub }
         ensures places { self.new.places ≡ self.old.places }
     {
         client.head.clear();
@@ -104,6 +112,7 @@ impl<D: Disk + Drop> LiveHub<D> {
         ensures machine { KeepsMachine D.Disk self.old.hub self.new.hub }
         ensures disk { (self.new.hub.file ≡ self.old.hub.file)
             ⊎ IfFile (Reads D.Disk) self.old.hub.file self.new.hub.file }
+        ensures recorded { KeepsRecorded D.Disk self.old.hub self.new.hub }
         ensures places { self.new.places ≡ self.old.places }
     {
         listeners_join_committed_links();

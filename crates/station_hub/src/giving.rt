@@ -9,6 +9,7 @@ ghost use Rattle.serve_machine.specs.declared.fault.HubFault.{HubFault as HubFau
 ghost use Rattle.serve_hub.specs.Images.{IfFile, Reads};
 ghost use Rattle.serve_hub.specs.Listening.{KeepsMachine};
 ghost use Rattle.serve_hub.specs.Showing.{Shows};
+ghost use Rattle.station_hub.specs.Keeping.{KeepsRecorded};
 ghost use Rattle.station_hub.specs.Giving.{HasHeard, HasPulled};
 ghost use Rattle.serve_clients.specs.declared.client.Stage.TheVariants.{Cut as CutOf, Ending as EndingOf, Hearing as HearingOf, Sending as SendingOf};
 
@@ -16,6 +17,7 @@ use crate::live_hub::LiveHub;
 use disk_model::Disk;
 use serve_clients::{Client, Stage};
 use serve_hub::Hub;
+use serve_machine::calls_move_their_session;
 
 /// Gives the first of the bytes that couldn't be written before, and returns how many.
 fn give_again(client: &Client, buffer: &mut [u8]) -> usize
@@ -104,9 +106,12 @@ impl<D: Disk + Drop> LiveHub<D> {
         ensures goes_on { client.old.stage ≡ HearingOf → (client.new.stage ≡ HearingOf) ⊎ (client.new.stage ≡ CutOf) }
         ensures disk { (self.new.hub.file ≡ self.old.hub.file)
             ⊎ IfFile (Reads D.Disk) self.old.hub.file self.new.hub.file }
+        ensures recorded { KeepsRecorded D.Disk self.old.hub self.new.hub }
         ensures within { result ≤ length buffer.new }
         ensures places { self.new.places ≡ self.old.places }
     {
+        // For the proof alone.
+        calls_move_their_session();
         if !client.unsent().is_empty() {
             return give_again(client, buffer);
         }

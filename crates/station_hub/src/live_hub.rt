@@ -13,6 +13,7 @@ ghost use Rattle.serve_machine.specs.Calls.{Steps, found_by};
 ghost use Rattle.serve_machine.specs.Hub.{Close, HubState, Reopen};
 ghost use Rattle.serve_machine.specs.declared.fault.HubFault.{HubFault as HubFaultOf};
 ghost use Rattle.station_hub.specs.Going.{OnlyRecords};
+ghost use Rattle.station_hub.specs.Keeping.{KeepsRecorded};
 ghost use Rattle.station_hub.specs.Places.{answered_by, committed_to, reopened_to};
 ghost use Rattle.station_hub.specs.Tracking.{IsOpenIn, IsTold, KeepsPlaces};
 ghost use Rattle.station_hub.specs.declared.places.Answered.{Answered as AnsweredOf};
@@ -28,6 +29,7 @@ use ogg_command::{Command, command_is_in_range};
 use ogg_page::WriteFault;
 use serve_hub::Hub;
 use serve_live::JoinPlace;
+use serve_machine::calls_move_their_session;
 use std::alloc::{AllocError as Memory, Global};
 use std::io::{self, Write};
 
@@ -78,8 +80,11 @@ impl<D: Disk + Drop> LiveHub<D> {
     pub fn close(&mut self, id: u64)
         ensures step { (answer : Result ⊤ HubFaultOf) × Steps (Shows D.Disk) self.old.hub self.new.hub (λ after. Close id answer) }
         ensures parts { OnlySessions self.old.hub self.new.hub }
+        ensures recorded { KeepsRecorded D.Disk self.old.hub self.new.hub }
         ensures places { self.new.places ≡ self.old.places }
     {
+        // For the proof alone.
+        calls_move_their_session();
         let _ = self.hub.close(id);
     }
 
