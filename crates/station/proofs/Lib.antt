@@ -1,4 +1,5 @@
 mod Early
+mod Called
 mod Found
 mod Hearing
 mod Leaving

@@ -12,3 +12,6 @@ pub mod Asked
 pub mod Calling
 pub mod Written
 pub mod Serving
+pub mod Keeping
+pub mod Beginning
+pub mod Recorded

@@ -12,12 +12,13 @@
 //! The connections are those of `serve_clients`, which says how far each has come and whose turn it is. The source that
 //! is on the air is one of `station_sources`, which says what is taken of its bytes; what a connection gets of the file
 //! is said by `station_hub`. Start at `src/station.rt`, which has the calls, and go on to `src/stepping.rt`, which says
-//! what is recorded and when it is committed.
+//! what is recorded and when it is committed. `src/sources.rt` says what all calls add up to for a source.
 #![tactic(auto)]
 
 mod laws;
 mod lines;
 mod offering;
+mod sources;
 mod station;
 mod stepping;
 mod telling;
@@ -29,6 +30,7 @@ pub use lines::{Shown, station_line};
 pub use serve_clients::{After, Trouble};
 pub use serve_sources::{FULL, Password};
 pub use serve_texts::Visit;
+pub use sources::stations_import_their_sources;
 pub use station::{Options, Station, Unaccepted};
 pub use station_hub::{LiveHub, connections_are_owed_their_responses};
 pub use station_sources::{Counts, Feeder, MendCounts};

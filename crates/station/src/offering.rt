@@ -1,5 +1,5 @@
 //! A source is offered: it is refused, or goes on the air.
-ghost use Rattle.std.specs.Prelude.{◌≡◌, ◌++◌, ◌⊎◌, ℕ, None, Some, OnErr, OnOk, false};
+ghost use Rattle.std.specs.Prelude.{◌≡◌, ◌≢◌, ◌++◌, ◌⊎◌, ℕ, None, Some, OnErr, OnOk, false};
 ghost use Rattle.slab.specs.Slab.{get};
 ghost use Rattle.httparse.specs.Grammar.{RequestHead};
 ghost use Rattle.serve_clients.specs.Client.{ClientState};
@@ -7,7 +7,11 @@ ghost use Rattle.serve_clients.specs.Clients.{OthersStay};
 ghost use Rattle.serve_sources.specs.Asking.{HasHead};
 ghost use Rattle.serve_sources.specs.Offer.{IsUnread};
 ghost use Rattle.serve_sources.specs.declared.password.Password.{Password as PasswordOf};
+ghost use Rattle.serve_hub.specs.Parts.{serials_in};
 ghost use Rattle.station_sources.specs.Air.{feeder_in};
+ghost use Rattle.station_sources.specs.Beginning.{HasBegun};
+ghost use Rattle.station_sources.specs.declared.air.OnAir.{OnAir as OnAirOf};
+ghost use Rattle.station.specs.Beginning.{BeginsBeside, options_for, run_in};
 ghost use Rattle.station_sources.specs.Counting.{counted};
 ghost use Rattle.station_sources.specs.declared.air.Feeder.TheVariants.{Peer};
 ghost use Rattle.station.specs.Offering.{IsRefusal, IsUnauthorized};
@@ -42,6 +46,9 @@ impl<D: Disk + Drop> Station<D> {
         // come whole.
         ensures offered { self.old.air ≡ None → WasOffered (get self.new.clients.slots key) }
         ensures feeder { (feeder_in self.new.air ≡ Some (Peer key)) ⊎ (feeder_in self.new.air ≡ feeder_in self.old.air) }
+        ensures keeps { self.old.air ≢ None → self.new.air ≡ self.old.air }
+        // If it has the air now, its streams will have serials that are none of the file's.
+        ensures begins { self.old.air ≡ None → BeginsBeside (serials_in self.old.live.hub.file) self.old.options.skeletons (run_in self.new.air) }
         ensures others { OthersStay key self.old.clients self.new.clients }
         ensures live { self.new.live ≡ self.old.live }
     {
@@ -119,6 +126,7 @@ impl<D: Disk + Drop> Station<D> {
         ensures live { self.new.live ≡ self.old.live }
         ensures feeder { feeder_in self.new.air ≡ feeder_in self.old.air }
         ensures cut { waits (get self.new.clients.slots key) ≡ false }
+        ensures run { run_in self.new.air ≡ run_in self.old.air }
     {
         if let Some(client) = self.clients.slots.get_mut(key) {
             client.stage = Stage::Cut;
@@ -139,6 +147,7 @@ impl<D: Disk + Drop> Station<D> {
         ensures live { self.new.live ≡ self.old.live }
         ensures feeder { (feeder_in self.new.air ≡ Some (Peer key)) ⊎ (feeder_in self.new.air ≡ feeder_in self.old.air) }
         ensures ok { OnOk result (waits (get self.new.clients.slots key) ≡ false) }
+        ensures begins { self.old.air ≡ None → BeginsBeside (serials_in self.old.live.hub.file) self.old.options.skeletons (run_in self.new.air) }
     {
         self.begin_air(Feeder::Peer(key), Some(body), now)?;
         let Some(client) = self.clients.slots.get_mut(key) else {
@@ -164,6 +173,8 @@ impl<D: Disk + Drop> Station<D> {
         ensures live { self.new.live ≡ self.old.live }
         ensures options { self.new.options ≡ self.old.options }
         ensures ok { OnOk result (feeder_in self.new.air ≡ Some feeder) }
+        ensures begins { OnOk result ((air : OnAirOf) × (self.new.air ≡ Some air)
+            × HasBegun feeder body (options_for self.old.options.skeletons) (serials_in self.old.live.hub.file) air) }
         ensures err { OnErr result (self.new.air ≡ self.old.air) }
         ensures counts { OnOk result (self.new.counts ≡ record self.old.counts { sources = counted self.old.counts.sources 1 }) }
     {

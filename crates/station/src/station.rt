@@ -1,5 +1,5 @@
 //! A station, by what happens to it.
-ghost use Rattle.std.specs.Prelude.{◌≡◌, ◌≢◌, ◌↔◌, ◌≤◌, ◌<◌, ◌-◌, ◌⊎◌, ℕ, List, [], None, Some, Result, Err, IfOk, IfErr, false, is_some, length, min, take, true};
+ghost use Rattle.std.specs.Prelude.{◌≡◌, ◌≢◌, ◌↔◌, ◌≤◌, ◌<◌, ◌-◌, ◌⊎◌, ℕ, List, [], None, Some, Result, Err, IfOk, IfErr, OnOk, false, is_some, length, min, take, true};
 ghost use Rattle.slab.specs.Slab.{get, slab_len};
 ghost use Rattle.serve_machine.specs.Calls.{Steps};
 ghost use Rattle.serve_machine.specs.Hub.{Receive};
@@ -10,12 +10,17 @@ ghost use Rattle.serve_hub.specs.Showing.{Shows};
 ghost use Rattle.serve_clients.specs.Client.{ClientState, HasWritten, fresh, given, moved_if, with_line, with_stage};
 ghost use Rattle.serve_clients.specs.Line.{moved_on};
 ghost use Rattle.station_hub.specs.Asking.{stage_after};
-ghost use Rattle.serve_clients.specs.declared.client.Stage.TheVariants.{Reading as ReadingOf, Waiting as WaitingOf};
+ghost use Rattle.serve_clients.specs.declared.client.Stage.TheVariants.{Feeding as FeedingOf, Reading as ReadingOf, Waiting as WaitingOf};
 ghost use Rattle.station_sources.specs.Air.{HoldsMore, IsFedBy, IsShort, feeder_in};
 ghost use Rattle.station_sources.specs.declared.air.OnAir.{OnAir as OnAirOf};
 ghost use Rattle.station_sources.specs.Counting.{counted};
 ghost use Rattle.station_hub.specs.Giving.{Gives};
+ghost use Rattle.serve_hub.specs.Parts.{serials_in};
+ghost use Rattle.station_hub.specs.Keeping.{KeepsRecorded};
+ghost use Rattle.station_sources.specs.Beginning.{HasBegun};
+ghost use Rattle.station.specs.Beginning.{BeginsBeside, options_for, run_in};
 ghost use Rattle.station.specs.Ending.{is_over};
+ghost use Rattle.station.specs.Keeping.{IsEndedBy, IsFedMore, IsLostBy, OthersAirStays};
 ghost use Rattle.station.specs.Turning.{IsTurnedAway};
 ghost use Rattle.serve_clients.specs.Clients.{OthersStay};
 
@@ -184,6 +189,10 @@ impl<D: Disk + Drop> Station<D> {
         ensures gone { get self.new.clients.slots key ≡ None }
         ensures others { OthersStay key self.old.clients self.new.clients }
         ensures file { self.new.live.hub.file ≡ self.old.live.hub.file }
+        ensures recorded { KeepsRecorded D.Disk self.old.live.hub self.new.live.hub }
+        // If it sent the stream that is recorded, no further byte of that comes.
+        ensures air { get self.old.clients.slots key ≢ None → IsLostBy (Feeder.Peer key) self.old.air self.new.air }
+        ensures none { get self.old.clients.slots key ≡ None → self.new.air ≡ self.old.air }
     {
         let client = self.clients.slots.try_remove(key)?;
         if let Some(id) = client.session {
@@ -213,6 +222,13 @@ impl<D: Disk + Drop> Station<D> {
         // The file is only read, if at all.
         ensures disk { (self.new.live.hub.file ≡ self.old.live.hub.file)
             ⊎ IfFile (Reads D.Disk) self.old.live.hub.file self.new.live.hub.file }
+        ensures recorded { KeepsRecorded D.Disk self.old.live.hub self.new.live.hub }
+        // Bytes of the source that has the air are kept, or that there is no room for them is noted. Those of another
+        // connection leave it as it is.
+        ensures feeds { (client : ClientState) → get self.old.clients.slots key ≡ Some client → client.stage ≡ FeedingOf
+            → IsFedMore (Feeder.Peer key) bytes.now self.old.air self.new.air × (self.new.live ≡ self.old.live) }
+        ensures air { OthersAirStays (Feeder.Peer key) self.old.air self.new.air }
+        ensures begins { self.old.air ≡ None → BeginsBeside (serials_in self.old.live.hub.file) self.old.options.skeletons (run_in self.new.air) }
         ensures others { OthersStay key self.old.clients self.new.clients }
     {
         let Some(client) = self.clients.slots.get_mut(key) else {
@@ -253,6 +269,8 @@ impl<D: Disk + Drop> Station<D> {
     fn answer(&mut self, key: usize, resource: OwnResource, head: bool, now: u64)
         ensures disk { (self.new.live.hub.file ≡ self.old.live.hub.file)
             ⊎ IfFile (Reads D.Disk) self.old.live.hub.file self.new.live.hub.file }
+        ensures recorded { KeepsRecorded D.Disk self.old.live.hub self.new.live.hub }
+        ensures air { self.new.air ≡ self.old.air }
         ensures others { OthersStay key self.old.clients self.new.clients }
     {
         let Some(client) = self.clients.slots.get_mut(key) else {
@@ -269,6 +287,11 @@ impl<D: Disk + Drop> Station<D> {
     pub fn peer_ended(&mut self, key: usize)
         ensures others { OthersStay key self.old.clients self.new.clients }
         ensures live { self.new.live ≡ self.old.live }
+        ensures ends { (client : ClientState) → get self.old.clients.slots key ≡ Some client → client.stage ≡ FeedingOf
+            → IsEndedBy (Feeder.Peer key) self.old.air self.new.air }
+        ensures stays { (client : ClientState) → get self.old.clients.slots key ≡ Some client → client.stage ≢ FeedingOf
+            → self.new.air ≡ self.old.air }
+        ensures none { get self.old.clients.slots key ≡ None → self.new.air ≡ self.old.air }
     {
         let Some(client) = self.clients.slots.get_mut(key) else {
             return;
@@ -291,6 +314,7 @@ impl<D: Disk + Drop> Station<D> {
             × (get self.new.clients.slots key ≡ Some (given result (is_over self.old.air self.old.ending) now after)) }
         ensures disk { (self.new.live.hub.file ≡ self.old.live.hub.file)
             ⊎ IfFile (Reads D.Disk) self.old.live.hub.file self.new.live.hub.file }
+        ensures recorded { KeepsRecorded D.Disk self.old.live.hub self.new.live.hub }
         ensures others { OthersStay key self.old.clients self.new.clients }
         ensures air { self.new.air ≡ self.old.air }
         ensures within { result ≤ length buffer.new }
@@ -318,6 +342,7 @@ impl<D: Disk + Drop> Station<D> {
             × (get self.new.clients.slots key ≡ Some (given result (is_over self.old.air self.old.ending) now after)) }
         ensures disk { (self.new.live.hub.file ≡ self.old.live.hub.file)
             ⊎ IfFile (Reads D.Disk) self.old.live.hub.file self.new.live.hub.file }
+        ensures recorded { KeepsRecorded D.Disk self.old.live.hub self.new.live.hub }
         ensures others { OthersStay key self.old.clients self.new.clients }
         ensures air { self.new.air ≡ self.old.air }
         ensures within { result ≤ length buffer.new }
@@ -376,6 +401,10 @@ impl<D: Disk + Drop> Station<D> {
     pub fn input(&mut self, bytes: &[u8], now: u64) -> Result<(), Memory>
         ensures clients { self.new.clients ≡ self.old.clients }
         ensures live { self.new.live ≡ self.old.live }
+        ensures fed { self.old.air ≢ None → IsFedMore Feeder.Input bytes.now self.old.air self.new.air }
+        ensures begins { self.old.air ≡ None → OnOk result ((air : OnAirOf)
+            × HasBegun Feeder.Input None (options_for self.old.options.skeletons) (serials_in self.old.live.hub.file) air
+            × IsFedMore Feeder.Input bytes.now (Some air) self.new.air) }
     {
         if self.air.is_none() {
             self.begin_air(Feeder::Input, None, now)?;
@@ -386,6 +415,7 @@ impl<D: Disk + Drop> Station<D> {
 
     /// The input has ended.
     pub fn input_ended(&mut self, now: u64)
+        ensures air { IsEndedBy Feeder.Input self.old.air self.new.air }
         ensures clients { self.new.clients ≡ self.old.clients }
         ensures live { self.new.live ≡ self.old.live }
     {
@@ -397,6 +427,7 @@ impl<D: Disk + Drop> Station<D> {
 
     /// Further bytes of a source. Without memory for them it is given up, once what came before is taken.
     fn feed(&mut self, feeder: Feeder, bytes: &[u8])
+        ensures fed { IsFedMore feeder bytes.now self.old.air self.new.air }
         ensures noted { (air : OnAirOf) → self.old.air ≡ Some air → air.feeder ≡ feeder
             → (after : OnAirOf) × (self.new.air ≡ Some after) × (HoldsMore bytes.now air after ⊎ IsShort (length bytes.now) air after) }
         ensures clients { self.new.clients ≡ self.old.clients }
@@ -404,7 +435,7 @@ impl<D: Disk + Drop> Station<D> {
         ensures options { self.new.options ≡ self.old.options }
     {
         if let Some(air) = &mut self.air {
-            if air.feeder() == feeder {
+            if air.feeder().is(feeder) {
                 air.take(bytes);
             }
         }
@@ -412,6 +443,7 @@ impl<D: Disk + Drop> Station<D> {
 
     /// No further byte comes of the source, if this connection was its feeder. Its key may be another's soon.
     fn lose_feeder(&mut self, key: usize)
+        ensures lost { IsLostBy (Feeder.Peer key) self.old.air self.new.air }
         ensures clients { self.new.clients ≡ self.old.clients }
         ensures live { self.new.live ≡ self.old.live }
         ensures options { self.new.options ≡ self.old.options }
@@ -429,6 +461,7 @@ impl<D: Disk + Drop> Station<D> {
         ensures live { self.new.live ≡ self.old.live }
         ensures options { self.new.options ≡ self.old.options }
         ensures feeder { feeder_in self.new.air ≡ feeder_in self.old.air }
+        ensures run { run_in self.new.air ≡ run_in self.old.air }
     {
         if let Some(air) = &mut self.air {
             if air.feeder() == feeder {
@@ -439,6 +472,7 @@ impl<D: Disk + Drop> Station<D> {
 
     /// No further byte comes of the source, if it is this one.
     pub(crate) fn end_air(&mut self, feeder: Feeder)
+        ensures ended { IsEndedBy feeder self.old.air self.new.air }
         ensures clients { self.new.clients ≡ self.old.clients }
         ensures live { self.new.live ≡ self.old.live }
         ensures options { self.new.options ≡ self.old.options }

@@ -9,6 +9,8 @@ ghost use Rattle.feed_replies.specs.declared.reply.Reply.{Reply as ReplyOf};
 ghost use Rattle.gate_file.specs.declared.fault.OpenFault.{OpenFault as OpenFaultOf};
 ghost use Rattle.import_record.specs.declared.fault.RecordFault.{RecordFault as RecordFaultOf};
 ghost use Rattle.serve_hub.specs.Parts.{failed_in};
+ghost use Rattle.serve_hub.specs.Running.{IsIn, Progress};
+ghost use Rattle.station.specs.Beginning.{GoesOnAgain, HasReopened};
 ghost use Rattle.station_sources.specs.Air.{parting_answer};
 ghost use Rattle.station.specs.Parting.{FeederParts, HasParted};
 ghost use Rattle.station_sources.specs.declared.air.OnAir.{OnAir as OnAirOf};
@@ -70,6 +72,8 @@ impl<D: Disk + Drop> Station<D> {
         // A fault of the disk comes before anything of the source that follows, and is noted.
         ensures failed { failed_in self.old.live.hub.file ≡ true → reopens result ≡ true }
         ensures noted { (air : OnAirOf) → self.old.air ≡ Some air → result ≡ Done.Reopened → GoesOnWithLoss air self.new.air }
+        ensures resumes { (air : OnAirOf) (machine : HubState) → self.old.air ≡ Some air → Shows D.Disk self.old.live.hub machine
+            → result ≡ Done.Reopened → HasReopened D.Disk air self.new.air self.new.live machine }
         // Once a source has left the air, it is offered to those that wait for it, in turn, until one of them has it.
         ensures succeeded { IsSucceededBy result self.old.clients.slots self.new.clients.slots self.new.air }
         // What waits is committed once it is due, and answered as the recorder does.
@@ -78,6 +82,8 @@ impl<D: Disk + Drop> Station<D> {
         // Nothing is committed before it is due.
         ensures rests { (machine : HubState) (reply : ReplyOf) → Shows D.Disk self.old.live.hub machine → result ≡ Done.Flushed reply
             → is_due machine.waiting self.old.waiting_since now ≡ true }
+        ensures flushed { (reply : ReplyOf) → result ≡ Done.Flushed reply
+            → (self.new.air ≡ self.old.air) × HasFlushed D.Disk result self.old.live self.new.live }
         ensures nothing { result ≡ Done.Nothing → (self.new.live ≡ self.old.live) × (self.new.air ≡ self.old.air) }
         // If more is committed, listeners are woken now, or it is remembered that they are to be.
         ensures wakes { (before after : HubState) → Shows D.Disk self.old.live.hub before → Shows D.Disk self.new.live.hub after
@@ -118,10 +124,14 @@ impl<D: Disk + Drop> Station<D> {
         ensures succeeded { IsSucceededBy result self.old.clients.slots self.new.clients.slots self.new.air }
         ensures failed { failed_in self.old.live.hub.file ≡ true → reopens result ≡ true }
         ensures noted { (air : OnAirOf) → self.old.air ≡ Some air → result ≡ Done.Reopened → GoesOnWithLoss air self.new.air }
+        ensures resumes { (air : OnAirOf) (machine : HubState) → self.old.air ≡ Some air → Shows D.Disk self.old.live.hub machine
+            → result ≡ Done.Reopened → HasReopened D.Disk air self.new.air self.new.live machine }
         ensures commits { (machine : HubState) → Shows D.Disk self.old.live.hub machine → failed_in self.old.live.hub.file ≡ false
             → is_due machine.waiting self.old.waiting_since now ≡ true → HasFlushed D.Disk result self.old.live self.new.live }
         ensures rests { (machine : HubState) (reply : ReplyOf) → Shows D.Disk self.old.live.hub machine → result ≡ Done.Flushed reply
             → is_due machine.waiting self.old.waiting_since now ≡ true }
+        ensures flushed { (reply : ReplyOf) → result ≡ Done.Flushed reply
+            → (self.new.air ≡ self.old.air) × HasFlushed D.Disk result self.old.live self.new.live }
         ensures nothing { result ≡ Done.Nothing → (self.new.live ≡ self.old.live) × (self.new.air ≡ self.old.air) }
     {
         if self.live.hub().is_failed() {
@@ -245,6 +255,8 @@ impl<D: Disk + Drop> Station<D> {
     /// Opens the file again, if anything was kept since that was done before.
     fn reopen(&mut self, now: u64) -> Done
         ensures noted { (air : OnAirOf) → self.old.air ≡ Some air → result ≡ Done.Reopened → GoesOnWithLoss air self.new.air }
+        ensures resumes { (air : OnAirOf) (machine : HubState) → self.old.air ≡ Some air → Shows D.Disk self.old.live.hub machine
+            → result ≡ Done.Reopened → HasReopened D.Disk air self.new.air self.new.live machine }
         ensures parts { (air : OnAirOf) (fault : RecordFaultOf) → self.old.air ≡ Some air → result ≡ Done.GivenUp fault
             → FeederParts (parting_answer true air) air self.old.clients.slots self.new.clients.slots }
         ensures succeeded { IsSucceededBy result self.old.clients.slots self.new.clients.slots self.new.air }
@@ -266,6 +278,8 @@ impl<D: Disk + Drop> Station<D> {
     /// What is on the air goes on in the file that was opened again. What waited may be lost.
     fn resume(&mut self, now: u64) -> Done
         ensures noted { (air : OnAirOf) → self.old.air ≡ Some air → result ≡ Done.Reopened → GoesOnWithLoss air self.new.air }
+        ensures resumes { (air : OnAirOf) (before : Progress D) → self.old.air ≡ Some air → IsIn D.Disk before self.old.live.hub
+            → result ≡ Done.Reopened → GoesOnAgain D.Disk air self.new.air self.new.live before }
         ensures parts { (air : OnAirOf) → self.old.air ≡ Some air → result ≢ Done.Reopened
             → FeederParts (parting_answer true air) air self.old.clients.slots self.new.clients.slots }
         ensures succeeded { IsSucceededBy result self.old.clients.slots self.new.clients.slots self.new.air }

@@ -181,6 +181,7 @@ impl<D: Disk + Drop> Station<D> {
         ensures counts { self.new.counts ≡ record self.old.counts { commit_microseconds = counted self.old.counts.commit_microseconds microseconds } }
         ensures live { self.new.live ≡ self.old.live }
         ensures clients { self.new.clients ≡ self.old.clients }
+        ensures air { self.new.air ≡ self.old.air }
     {
         let spent = self.counts.commit_microseconds;
         self.counts.commit_microseconds = counted(spent, microseconds);

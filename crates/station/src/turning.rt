@@ -237,6 +237,7 @@ impl<D: Disk + Drop> Station<D> {
     /// The station comes to its end: no connection is taken any more, and who hears what is recorded is closed once it has
     /// heard all.
     pub(crate) fn finish(&mut self, now: u64)
+        ensures air { self.new.air ≡ self.old.air }
         ensures ending { self.new.ending ≢ None }
         ensures clients { self.new.clients ≡ self.old.clients }
         ensures live { self.new.live ≡ self.old.live }

@@ -14,7 +14,7 @@ use Rattle.station_sources.specs.Air.{GoesOn, HoldsMore, KeepsBytes, look_of}
 use Rattle.station_sources.specs.Faring.{HasDecoded, HasDecodedIn, Look, look}
 use Rattle.station_sources.specs.Taking.{PassesOn, input_of}
 use Rattle.station_sources.specs.declared.air.OnAir.{OnAir}
-use Rattle.station_sources.specs.Importing.{Fed, Finishes, Move, Moves, Took, WentOn, fed_in, rest_of}
+use Rattle.station_sources.specs.Importing.{Fed, Finishes, Move, Moves, Noted, Took, WentOn, fed_in, rest_of}
 
 -- ---- bytes that have come and aren't taken yet
 -- what goes on is their front
@@ -95,6 +95,14 @@ module _ {S : Type 0} (answers : S → Record → Reply → List ℕ → S → T
         λ none.
             let rest = bytes_are (holds.body ∙ none) in
             (sym (append_assoc (rest_of old) bytes (fed_in later)) ∙ ap (λ l. l ++ fed_in later) (sym holds.kept) ∙ rest.0, rest.1),
+      )
+  so_far (Noted ∷ later) old new before after (next, stays, moves) =
+      let (calls, feeds, bytes_are) = so_far later next new before after moves in (
+        calls,
+        subst (λ (run : ImportRun). Feeds answers calls (input_of run) (input_of new.import) before after) stays.import feeds,
+        λ none.
+            let rest = bytes_are (stays.body ∙ none) in
+            (ap (λ l. l ++ fed_in later) (sym stays.kept) ∙ rest.0, rest.1),
       )
   so_far (WentOn ∷ later) old new before after (next, goes, moves) =
       went_on (fed_in later) old next new before after goes (so_far later next new before after moves)

@@ -67,6 +67,8 @@ pub record IsShort (count : ℕ) (old new : OnAir) : Type 0 where
   pub kept : drop new.at new.pending.items ≡ drop old.at old.pending.items
   pub noted : new.short ≡ true
   pub ended : new.ended ≡ true
+  pub import : new.import ≡ old.import
+  pub body : new.body ≡ old.body
 
 -- ---- what goes on to the pages
 abbrev pub look_of : OnAir → Look

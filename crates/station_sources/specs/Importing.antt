@@ -9,10 +9,11 @@ use Rattle.station_sources.specs.Air.{GoesOn, HoldsMore, KeepsBytes}
 use Rattle.station_sources.specs.Taking.{input_of}
 use Rattle.station_sources.specs.declared.air.OnAir.{OnAir}
 
--- Further bytes have come. Or the next ones of the stream were looked for among those that have, or came to it. Or a step
--- was taken of the stream.
+-- Further bytes have come; or it is noted that none come, or that there was no room for some. Or the next ones of the stream
+-- were looked for among those that have come, or came to it. Or a step was taken of the stream.
 pub data Move : Type 0 where
   Fed : (bytes : List ℕ) → Move
+  Noted : Move
   WentOn : Move
   Took : (step : Step) → Move
 
@@ -20,6 +21,7 @@ pub data Move : Type 0 where
 abbrev pub fed_in : List Move → List ℕ
 fed_in [] = []
 fed_in (Fed bytes ∷ later) = bytes ++ fed_in later
+fed_in (Noted ∷ later) = fed_in later
 fed_in (WentOn ∷ later) = fed_in later
 fed_in (Took step ∷ later) = fed_in later
 
@@ -27,12 +29,19 @@ fed_in (Took step ∷ later) = fed_in later
 abbrev pub rest_of : OnAir → List ℕ
 rest_of air = drop air.at air.pending.items
 
+-- Nothing has come, and nothing was taken.
+pub record IsUntaken (old new : OnAir) : Type 0 where
+  pub kept : rest_of new ≡ rest_of old
+  pub import : new.import ≡ old.import
+  pub body : new.body ≡ old.body
+
 module _ {S : Type 0} (answers : S → Record → Reply → List ℕ → S → Type 0) where
   -- These were done in turn. No step needed more bytes than those that had come to the stream.
   abbrev pub Moves : List Move → OnAir → OnAir → S → S → Type 0
   Moves [] old new before after = (new ≡ old) × (after ≡ before)
   Moves (Fed bytes ∷ later) old new before after =
       (next : OnAir) × HoldsMore bytes old next × Moves later next new before after
+  Moves (Noted ∷ later) old new before after = (next : OnAir) × IsUntaken old next × Moves later next new before after
   Moves (WentOn ∷ later) old new before after = (next : OnAir) × GoesOn old next × Moves later next new before after
   Moves (Took step ∷ later) old new before after =
       (next : OnAir) × (mid : S) × KeepsBytes step old next × NeedsNone step old.import.pages

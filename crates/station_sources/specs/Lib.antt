@@ -1,5 +1,6 @@
 pub mod Counting
 pub mod Air
 pub mod Faring
+pub mod Beginning
 pub mod Taking
 pub mod Importing

@@ -12,13 +12,9 @@ ghost use Rattle.ogg_page.specs.declared.fault.PageFault.TheVariants.{Short};
 
 use crate::Memory;
 use feed_run::Runner;
-use import_changes::ChangeOptions;
 use import_mend::Mend;
 use import_record::{ImportRun, RecordFault, Step, Taken};
-use link_chain::StreamState;
-use ogg_command::Command;
 use serve_sources::{Body, Piece};
-use std::alloc::Global;
 use std::io;
 
 /// Who sends the stream that is recorded.
@@ -46,9 +42,6 @@ impl Feeder {
     }
 }
 
-/// How many bytes of a stream are read at once: a page, and as many again.
-const ROOM: usize = 131_072;
-
 /// What was done with a source's bytes.
 #[derive(Clone, Copy, Debug, PartialEq, Eq)]
 pub enum Took {
@@ -74,8 +67,8 @@ pub struct OnAir {
     pub(crate) import: ImportRun,
     // none if the bytes are the stream's own
     pub(crate) body: Option<Body>,
-    pending: Vec<u8>,
-    at: usize,
+    pub(crate) pending: Vec<u8>,
+    pub(crate) at: usize,
     // so many bytes at `at` are of the stream
     pub(crate) decoded: usize,
     // what is left of `pending` says nothing before more bytes come
@@ -92,33 +85,6 @@ pub struct OnAir {
 }
 
 impl OnAir {
-    /// A source of which no byte has come. Its streams are begun as the options ask, under serials that aren't among
-    /// these if they are renumbered.
-    pub fn new(
-        alloc: Global,
-        feeder: Feeder,
-        body: Option<Body>,
-        options: ChangeOptions,
-        serials: &[u32],
-    ) -> Result<OnAir, Memory>
-        ensures { IfOk result (λ air. air.feeder ≡ feeder) }
-    {
-        let import = ImportRun::new(alloc, ROOM, options, serials)?;
-        Ok(OnAir {
-            feeder,
-            import,
-            body,
-            pending: Vec::new(alloc),
-            at: 0,
-            decoded: 0,
-            starved: false,
-            ended: false,
-            complete: false,
-            short: false,
-            lost: false,
-        })
-    }
-
     /// Who sends the stream.
     pub fn feeder(&self) -> Feeder
         ensures { result ≡ self.now.feeder }
@@ -156,7 +122,9 @@ impl OnAir {
     }
 
     /// No further byte comes, and nobody waits for an answer.
-    pub fn lose_feeder(&mut self) {
+    pub fn lose_feeder(&mut self)
+        ensures { self.new ≡ record self.old { feeder = Feeder.Gone; ended = true } }
+    {
         self.feeder = Feeder::Gone;
         self.ended = true;
     }
@@ -216,18 +184,6 @@ impl OnAir {
             return self.take_page(runner);
         }
         Ok(Took::Nothing)
-    }
-
-    /// The commands with which the stream goes on in a file that was opened again, whose last link has these streams, and
-    /// all of whose streams have these serials: none if its link is open there.
-    pub fn resume(
-        &mut self,
-        streams: &[StreamState],
-        serials: &[u32],
-    ) -> Result<Vec<Command>, Memory>
-        ensures { self.new ≡ record self.old { import = self.new.import } }
-    {
-        self.import.resume(streams, serials)
     }
 
     /// Finds the next bytes of the stream among those that have come.

@@ -30,7 +30,8 @@ impl OnAir {
 
     /// Further bytes have come. Without memory for them the source is given up, once what came before is taken.
     pub fn take(&mut self, bytes: &[u8])
-        ensures { HoldsMore bytes.now self.old self.new ⊎ IsShort (length bytes.now) self.old self.new }
+        ensures kept { HoldsMore bytes.now self.old self.new ⊎ IsShort (length bytes.now) self.old self.new }
+        ensures feeder { self.new.feeder ≡ self.old.feeder }
     {
         if self.push(bytes).is_err() {
             self.break_off();

@@ -8,11 +8,12 @@
 //! Nothing here knows of a file, of connections or of a clock. `Counts` has what a station has done so far, in numbers.
 //!
 //! Start at `specs/Air.antt`, and go on to `specs/Faring.antt`, which says what is found among the bytes, and
-//! `specs/Taking.antt`, which says it of the stream in the words of import_record. `src/laws.rt` says what all calls add
-//! up to.
+//! `specs/Taking.antt`, which says it of the stream in the words of import_record. `specs/Beginning.antt` says how a stream
+//! begins, and goes on in a file that was opened again. `src/laws.rt` says what all calls add up to.
 #![tactic(auto)]
 
 mod air;
+mod beginning;
 mod counting;
 mod faring;
 mod laws;

@@ -1,3 +1,5 @@
+use Rattle.std.proofs.Common.{refl}
+use Rattle.serve_hub.specs.Running.{Progress}
 use Rattle.station.proofs.Leaving.{isnt_failed, isnt_lost}
 use Rattle.station.proofs.station.Station.reopen.Goals as goal
 
@@ -6,3 +8,9 @@ returns-in-Ok-clause-waits g c failed = absurd (isnt_failed c.resume.result c.re
 
 pub returns-in-Ok-clause-lost : goal.returns-in-Ok-clause-lost
 returns-in-Ok-clause-lost g c why lost = absurd (isnt_lost c.resume.result why c.resume.ensures.becomes lost)
+
+pub returns-in-Ok-clause-resumes : goal.returns-in-Ok-clause-resumes
+returns-in-Ok-clause-resumes g c air machine is shows reopened =
+    let (mid, seen, step) = c.in-Ok.ensures.step machine shows in
+    let opened : Progress _ = record { now = c.reopen.new.self.hub; machine = mid } in
+    record { opened = opened; found = step; goes_on = c.resume.ensures.resumes air opened is (refl, seen) reopened }
