@@ -1,5 +1,5 @@
-mod Early
 mod Called
+mod Early
 mod Found
 mod Hearing
 mod Leaving

@@ -1,6 +1,6 @@
 mod Going
-mod Lasting
 mod Keeping
+mod Lasting
 mod Marked
 mod Owed
 mod Tracked
