@@ -1,8 +1,9 @@
 -- What a step of a station has done, of the source that had the air and in numbers. Ours.
-use Rattle.std.specs.Prelude.{◌≡◌, ⊤, ℕ, Bool, false, true, Option, Some, []}
+use Rattle.std.specs.Prelude.{◌≡◌, ⊤, ℕ, Bool, false, true, Option, Some, List, []}
 use Rattle.disk_model.specs.declared.disk.Disk.{Ghosts as DiskModel}
 use Rattle.feed_records.specs.declared.item.Record.TheVariants.{Flush}
 use Rattle.feed_replies.specs.declared.reply.Reply.{Reply}
+use Rattle.import_changes.specs.declared.options.Skeletons.{Skeletons}
 use Rattle.import_mend.specs.declared.mend.Mend.{Mend}
 use Rattle.import_record.specs.declared.intake.Taken.{Taken}
 use Rattle.import_record.specs.declared.reading.ImportRun.{ImportRun}
@@ -16,6 +17,7 @@ use Rattle.station_sources.specs.Counting.{counted, with_mend, with_step, with_t
 use Rattle.station_sources.specs.Taking.{TakesEnd, TakesStep}
 use Rattle.station_sources.specs.declared.air.OnAir.{OnAir}
 use Rattle.station_sources.specs.declared.counting.Counts.{Counts}
+use Rattle.station.specs.Beginning.{BeginsBeside}
 use Rattle.station.specs.Parting.{FeederParts}
 use Rattle.station.specs.Succeeding.{IsSucceeded}
 use Rattle.station.specs.declared.stepping.Done.{Done}
@@ -94,3 +96,9 @@ abbrev pub IsSucceededBy : Done → Slab ClientState → Slab ClientState → Op
 IsSucceededBy (Ended offset junk taken) old new air = IsSucceeded old new air
 IsSucceededBy (GivenUp fault) old new air = IsSucceeded old new air
 IsSucceededBy done old new air = ⊤
+
+-- If another source has the air then, its stream has just begun, beside these serials.
+abbrev pub BeginsBy : Done → List ℕ → Skeletons → Option ImportRun → Type 0
+BeginsBy (Ended offset junk taken) serials skeletons run = BeginsBeside serials skeletons run
+BeginsBy (GivenUp fault) serials skeletons run = BeginsBeside serials skeletons run
+BeginsBy done serials skeletons run = ⊤

@@ -47,6 +47,7 @@ impl<D: Disk + Drop> Station<D> {
         ensures offered { self.old.air ≡ None → WasOffered (get self.new.clients.slots key) }
         ensures feeder { (feeder_in self.new.air ≡ Some (Peer key)) ⊎ (feeder_in self.new.air ≡ feeder_in self.old.air) }
         ensures keeps { self.old.air ≢ None → self.new.air ≡ self.old.air }
+        ensures options { self.new.options ≡ self.old.options }
         // If it has the air now, its streams will have serials that are none of the file's.
         ensures begins { self.old.air ≡ None → BeginsBeside (serials_in self.old.live.hub.file) self.old.options.skeletons (run_in self.new.air) }
         ensures others { OthersStay key self.old.clients self.new.clients }
@@ -85,6 +86,7 @@ impl<D: Disk + Drop> Station<D> {
         ensures counts { self.new.counts ≡ record self.old.counts { sources_refused = counted self.old.counts.sources_refused 1 } }
         ensures told { waits (get self.new.clients.slots key) ≡ false }
         ensures others { OthersStay key self.old.clients self.new.clients }
+        ensures options { self.new.options ≡ self.old.options }
         ensures live { self.new.live ≡ self.old.live }
         ensures air { self.new.air ≡ self.old.air }
     {
@@ -97,6 +99,7 @@ impl<D: Disk + Drop> Station<D> {
     /// The air is free: it is offered to the sources that wait for it, in turn, until one of them has it.
     pub(crate) fn offer_again(&mut self, now: u64)
         ensures succeeded { self.old.air ≡ None → IsSucceeded self.old.clients.slots self.new.clients.slots self.new.air }
+        ensures begins { self.old.air ≡ None → BeginsBeside (serials_in self.old.live.hub.file) self.old.options.skeletons (run_in self.new.air) }
         ensures others { (key : ℕ) → waits (get self.old.clients.slots key) ≡ false → get self.new.clients.slots key ≡ get self.old.clients.slots key }
         ensures live { self.new.live ≡ self.old.live }
     {
@@ -127,6 +130,7 @@ impl<D: Disk + Drop> Station<D> {
         ensures feeder { feeder_in self.new.air ≡ feeder_in self.old.air }
         ensures cut { waits (get self.new.clients.slots key) ≡ false }
         ensures run { run_in self.new.air ≡ run_in self.old.air }
+        ensures options { self.new.options ≡ self.old.options }
     {
         if let Some(client) = self.clients.slots.get_mut(key) {
             client.stage = Stage::Cut;
@@ -147,6 +151,7 @@ impl<D: Disk + Drop> Station<D> {
         ensures live { self.new.live ≡ self.old.live }
         ensures feeder { (feeder_in self.new.air ≡ Some (Peer key)) ⊎ (feeder_in self.new.air ≡ feeder_in self.old.air) }
         ensures ok { OnOk result (waits (get self.new.clients.slots key) ≡ false) }
+        ensures options { self.new.options ≡ self.old.options }
         ensures begins { self.old.air ≡ None → BeginsBeside (serials_in self.old.live.hub.file) self.old.options.skeletons (run_in self.new.air) }
     {
         self.begin_air(Feeder::Peer(key), Some(body), now)?;

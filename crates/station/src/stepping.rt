@@ -8,15 +8,15 @@ ghost use Rattle.serve_clients.specs.declared.client.Stage.TheVariants.{Feeding 
 ghost use Rattle.feed_replies.specs.declared.reply.Reply.{Reply as ReplyOf};
 ghost use Rattle.gate_file.specs.declared.fault.OpenFault.{OpenFault as OpenFaultOf};
 ghost use Rattle.import_record.specs.declared.fault.RecordFault.{RecordFault as RecordFaultOf};
-ghost use Rattle.serve_hub.specs.Parts.{failed_in};
+ghost use Rattle.serve_hub.specs.Parts.{failed_in, serials_in};
 ghost use Rattle.serve_hub.specs.Running.{IsIn, Progress};
-ghost use Rattle.station.specs.Beginning.{GoesOnAgain, HasReopened};
+ghost use Rattle.station.specs.Beginning.{BeginsBeside, GoesOnAgain, HasReopened, run_in};
 ghost use Rattle.station_sources.specs.Air.{parting_answer};
 ghost use Rattle.station.specs.Parting.{FeederParts, HasParted};
 ghost use Rattle.station_sources.specs.declared.air.OnAir.{OnAir as OnAirOf};
 ghost use Rattle.station_hub.specs.Going.{OnlyRecords};
 ghost use Rattle.station_hub.specs.Patience.{is_due, until_due};
-ghost use Rattle.station.specs.Stepping.{GoesOnWithLoss, HasFlushed, IsSucceededBy, PartsBy, TakesFromSource, reopens, with_done};
+ghost use Rattle.station.specs.Stepping.{BeginsBy, GoesOnWithLoss, HasFlushed, IsSucceededBy, PartsBy, TakesFromSource, reopens, with_done};
 ghost use Rattle.station.specs.Succeeding.{IsSucceeded, SameWait};
 ghost use Rattle.serve_hub.specs.Showing.{Shows};
 ghost use Rattle.serve_machine.specs.Hub.{HubState};
@@ -76,6 +76,7 @@ impl<D: Disk + Drop> Station<D> {
             → result ≡ Done.Reopened → HasReopened D.Disk air self.new.air self.new.live machine }
         // Once a source has left the air, it is offered to those that wait for it, in turn, until one of them has it.
         ensures succeeded { IsSucceededBy result self.old.clients.slots self.new.clients.slots self.new.air }
+        ensures begins { BeginsBy result (serials_in self.new.live.hub.file) self.old.options.skeletons (run_in self.new.air) }
         // What waits is committed once it is due, and answered as the recorder does.
         ensures commits { (machine : HubState) → Shows D.Disk self.old.live.hub machine → failed_in self.old.live.hub.file ≡ false
             → is_due machine.waiting self.old.waiting_since now ≡ true → HasFlushed D.Disk result self.old.live self.new.live }
@@ -122,6 +123,7 @@ impl<D: Disk + Drop> Station<D> {
         ensures parts { (air : OnAirOf) → self.old.air ≡ Some air
             → PartsBy result (failed_in self.new.live.hub.file) air self.old.clients.slots self.new.clients.slots }
         ensures succeeded { IsSucceededBy result self.old.clients.slots self.new.clients.slots self.new.air }
+        ensures begins { BeginsBy result (serials_in self.new.live.hub.file) self.old.options.skeletons (run_in self.new.air) }
         ensures failed { failed_in self.old.live.hub.file ≡ true → reopens result ≡ true }
         ensures noted { (air : OnAirOf) → self.old.air ≡ Some air → result ≡ Done.Reopened → GoesOnWithLoss air self.new.air }
         ensures resumes { (air : OnAirOf) (machine : HubState) → self.old.air ≡ Some air → Shows D.Disk self.old.live.hub machine
@@ -155,6 +157,7 @@ impl<D: Disk + Drop> Station<D> {
         ensures parts { (air : OnAirOf) → self.old.air ≡ Some air
             → PartsBy result (failed_in self.new.live.hub.file) air self.old.clients.slots self.new.clients.slots }
         ensures succeeded { IsSucceededBy result self.old.clients.slots self.new.clients.slots self.new.air }
+        ensures begins { BeginsBy result (serials_in self.new.live.hub.file) self.old.options.skeletons (run_in self.new.air) }
         ensures goes_on { result ≢ Done.Reopened }
         ensures rests { (reply : ReplyOf) → result ≢ Done.Flushed reply }
         ensures nothing { result ≡ Done.Nothing → (self.new.live ≡ self.old.live) × (self.new.air ≡ self.old.air) }
@@ -193,6 +196,7 @@ impl<D: Disk + Drop> Station<D> {
         ensures parts { (air : OnAirOf) → self.old.air ≡ Some air
             → FeederParts (parting_answer (given_up || failed_in self.new.live.hub.file) air) air self.old.clients.slots self.new.clients.slots }
         ensures succeeded { self.old.air ≢ None → IsSucceeded self.old.clients.slots self.new.clients.slots self.new.air }
+        ensures begins { self.old.air ≢ None → BeginsBeside (serials_in self.new.live.hub.file) self.old.options.skeletons (run_in self.new.air) }
     {
         let Some(air) = self.air.take() else {
             return;
@@ -217,6 +221,7 @@ impl<D: Disk + Drop> Station<D> {
         ensures waits { SameWait self.old.clients.slots self.new.clients.slots }
         ensures live { self.new.live ≡ self.old.live }
         ensures air { self.new.air ≡ self.old.air }
+        ensures options { self.new.options ≡ self.old.options }
     {
         if let Feeder::Peer(key) = air.feeder() {
             self.part(key, air.answer(lost));
@@ -231,6 +236,7 @@ impl<D: Disk + Drop> Station<D> {
         ensures others { OthersStay key self.old.clients self.new.clients }
         ensures live { self.new.live ≡ self.old.live }
         ensures air { self.new.air ≡ self.old.air }
+        ensures options { self.new.options ≡ self.old.options }
     {
         let Some(client) = self.clients.slots.get_mut(key) else {
             return;
@@ -260,6 +266,7 @@ impl<D: Disk + Drop> Station<D> {
         ensures parts { (air : OnAirOf) (fault : RecordFaultOf) → self.old.air ≡ Some air → result ≡ Done.GivenUp fault
             → FeederParts (parting_answer true air) air self.old.clients.slots self.new.clients.slots }
         ensures succeeded { IsSucceededBy result self.old.clients.slots self.new.clients.slots self.new.air }
+        ensures begins { BeginsBy result (serials_in self.new.live.hub.file) self.old.options.skeletons (run_in self.new.air) }
         ensures waits { result ≡ Done.Failed → self.new ≡ self.old }
         ensures lost { (fault : OpenFaultOf) → result ≡ Done.Lost fault → (self.new.air ≡ self.old.air) × (self.new.clients ≡ self.old.clients) }
         ensures reopens { reopens result ≡ true }
@@ -283,6 +290,7 @@ impl<D: Disk + Drop> Station<D> {
         ensures parts { (air : OnAirOf) → self.old.air ≡ Some air → result ≢ Done.Reopened
             → FeederParts (parting_answer true air) air self.old.clients.slots self.new.clients.slots }
         ensures succeeded { IsSucceededBy result self.old.clients.slots self.new.clients.slots self.new.air }
+        ensures begins { BeginsBy result (serials_in self.new.live.hub.file) self.old.options.skeletons (run_in self.new.air) }
         ensures none { self.old.air ≡ None → (result ≡ Done.Reopened) × (self.new ≡ self.old) }
         ensures reopens { reopens result ≡ true }
         ensures becomes { (result ≡ Done.Reopened) ⊎ ((fault : RecordFaultOf) × (result ≡ Done.GivenUp fault)) }

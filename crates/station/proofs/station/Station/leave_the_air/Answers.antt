@@ -1,6 +1,9 @@
 use Rattle.std.proofs.Common.{◌≡◌, Bool, ◌||◌, Some, sym, ◌∙◌, ap, subst}
 use Rattle.slab.specs.Slab.{get}
-use Rattle.serve_hub.specs.Parts.{failed_in}
+use Rattle.serve_hub.specs.Parts.{failed_in, serials_in}
+use Rattle.station_hub.specs.declared.live_hub.LiveHub.{LiveHub}
+use Rattle.station.specs.Beginning.{BeginsBeside, run_in}
+use Rattle.station.specs.declared.station.Options.{Options}
 use Rattle.station.specs.Parting.{HasParted}
 use Rattle.station_sources.specs.Air.{parting_answer}
 use Rattle.station_sources.specs.declared.air.OnAir.{OnAir}
@@ -28,4 +31,10 @@ returns g c = record {
       subst (λ slots. IsSucceeded slots c.offer_again.new.self.clients.slots c.offer_again.new.self.air) (ap (λ s. s.clients.slots) c.end_open.ensures.rest)
       (succeeded before c.answer_feeder.new.self.clients.slots c.offer_again.new.self.clients.slots c.offer_again.new.self.air c.answer_feeder.ensures.waits
       (c.offer_again.ensures.succeeded (c.answer_feeder.ensures.air ∙ ap (λ s. s.air) c.end_open.ensures.rest ∙ c.take.ensures.after)));
+  begins = λ was.
+      let before = c.answer_feeder.new.self in
+      subst (λ (live : LiveHub _). BeginsBeside (serials_in live.hub.file) c.args.self.now.options.skeletons (run_in c.offer_again.new.self.air)) (sym c.offer_again.ensures.live)
+      (subst (λ (one : Options). BeginsBeside (serials_in before.live.hub.file) one.skeletons (run_in c.offer_again.new.self.air))
+      (c.answer_feeder.ensures.options ∙ ap (λ s. s.options) c.end_open.ensures.rest)
+      (c.offer_again.ensures.begins (c.answer_feeder.ensures.air ∙ ap (λ s. s.air) c.end_open.ensures.rest ∙ c.take.ensures.after)));
 }

@@ -2,7 +2,9 @@ use Rattle.std.proofs.Common.{◌≡◌, Option, sym, ◌∙◌, ap, subst}
 use Rattle.serve_clients.specs.declared.clients.Clients.{Clients}
 use Rattle.station_hub.specs.declared.live_hub.LiveHub.{LiveHub}
 use Rattle.station_sources.specs.declared.air.OnAir.{OnAir}
-use Rattle.station.specs.Stepping.{GoesOnWithLoss, IsSucceededBy, TakesFromSource}
+use Rattle.serve_hub.specs.Parts.{serials_in}
+use Rattle.station.specs.Beginning.{run_in}
+use Rattle.station.specs.Stepping.{BeginsBy, GoesOnWithLoss, IsSucceededBy, TakesFromSource}
 use Rattle.station.specs.Succeeding.{HaveTurns}
 use Rattle.station.proofs.Succeeding.{still_by, turns_then}
 use Rattle.station.proofs.station.Station.step.Given.{Over}
@@ -23,15 +25,25 @@ clients_are g c = elim c.if-end.branch [
   | else-end w ↦ ap (λ s. s.clients) w.self-is ∙ ap (λ s. s.clients) c.count.ensures
 ]
 
-pub returns-clause-takes : goal.returns-clause-takes
-returns-clause-takes g c air is =
-    let live_is = ap (λ s. s.live) c.wake_feeder.ensures.rest ∙ c.wake_listeners.ensures.live
+live_is : (g : Over) (c : goal.After-wake_feeder g) → c.wake_feeder.new.self.live ≡ c.step_once-done.new.self.live
+live_is g c = ap (λ s. s.live) c.wake_feeder.ensures.rest ∙ c.wake_listeners.ensures.live
     ∙ elim c.if-end.branch [
       | then-end w ↦ ap (λ s. s.live) w.self-is ∙ ap (λ s. s.live) c.count.ensures
       | else-end w ↦ ap (λ s. s.live) w.self-is ∙ ap (λ s. s.live) c.count.ensures
-    ] in
+    ]
+
+pub returns-clause-begins : goal.returns-clause-begins
+returns-clause-begins g c =
+    let done = c.step_once-done.result in
+    let skeletons = c.args.self.now.options.skeletons in
+    subst (λ (live : LiveHub _). BeginsBy done (serials_in live.hub.file) skeletons (run_in c.wake_feeder.new.self.air)) (sym (live_is g c))
+    (subst (λ (air : Option OnAir). BeginsBy done (serials_in c.step_once-done.new.self.live.hub.file) skeletons (run_in air)) (sym (air_is g c))
+    c.step_once-done.ensures.begins)
+
+pub returns-clause-takes : goal.returns-clause-takes
+returns-clause-takes g c air is =
     subst (λ (now : Option OnAir). TakesFromSource g.D.Disk c.step_once-done.result air now c.args.self.now.live c.wake_feeder.new.self.live) (sym (air_is g c))
-    (subst (λ (live : LiveHub _). TakesFromSource g.D.Disk c.step_once-done.result air c.step_once-done.new.self.air c.args.self.now.live live) (sym live_is)
+    (subst (λ (live : LiveHub _). TakesFromSource g.D.Disk c.step_once-done.result air c.step_once-done.new.self.air c.args.self.now.live live) (sym (live_is g c))
     (c.step_once-done.ensures.takes air is))
 
 pub returns-clause-noted : goal.returns-clause-noted
