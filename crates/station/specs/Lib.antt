@@ -2,16 +2,10 @@ pub mod Offering
 pub mod Parting
 pub mod Succeeding
 pub mod Stepping
-pub mod Lines
 pub mod Telling
 pub mod Turning
 pub mod Ending
 pub mod Waiting
-pub mod Passing
-pub mod Asked
-pub mod Calling
-pub mod Written
-pub mod Serving
 pub mod Keeping
 pub mod Beginning
-pub mod Recorded
+pub mod Found

@@ -15,12 +15,11 @@ ghost use Rattle.station.specs.Turning.{GoesOn, IsRead};
 ghost use Rattle.station.specs.Waiting.{sooner, until_next};
 ghost use Rattle.station_hub.specs.Waking.{is_due, until_due, woken_at};
 
-use crate::lines::Shown;
 use crate::station::Station;
 use disk_model::Disk;
 use serve_clients::{After, Stage, Trouble};
 use station_hub::Waking;
-use station_sources::{Feeder, counted};
+use station_sources::{Feeder, Shown, counted};
 
 /// For how many milliseconds is waited at most, if nothing comes.
 const LOOKS: u64 = 1000;

@@ -4,3 +4,4 @@ pub mod Faring
 pub mod Beginning
 pub mod Taking
 pub mod Importing
+pub mod Lines

@@ -5,7 +5,8 @@
 //! `Runner` runs; at the end it ends what is open. What was lost of the source is noted, and `answer` says what its peer
 //! is told. No byte is taken of it while it isn't hungry.
 //!
-//! Nothing here knows of a file, of connections or of a clock. `Counts` has what a station has done so far, in numbers.
+//! Nothing here knows of a file, of connections or of a clock. `Counts` has what a station has done so far, in numbers,
+//! and `station_line` tells at a terminal how it does.
 //!
 //! Start at `specs/Air.antt`, and go on to `specs/Faring.antt`, which says what is found among the bytes, and
 //! `specs/Taking.antt`, which says it of the stream in the words of import_record. `specs/Beginning.antt` says how a stream
@@ -17,9 +18,11 @@ mod beginning;
 mod counting;
 mod faring;
 mod laws;
+mod lines;
 
 pub use air::{Feeder, OnAir, Took};
 pub use counting::{Counts, MendCounts, counted};
 pub use import_record::{Step, Taken};
 pub use laws::sources_are_imported;
+pub use lines::{Shown, station_line};
 pub use std::alloc::AllocError as Memory;

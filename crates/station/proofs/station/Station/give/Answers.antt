@@ -2,7 +2,7 @@ use Rattle.std.proofs.Common.{◌≡◌, Bool, Some, length, ◌∙◌, ap, subs
 use Rattle.serve_hub.specs.Showing.{Shows}
 use Rattle.serve_clients.specs.Client.{ClientState, given}
 use Rattle.station_hub.specs.Giving.{Gives}
-use Rattle.station.proofs.Found.{placed, same_client}
+use Rattle.station.specs.Found.{placed, same_client}
 use Rattle.station.proofs.station.Station.give.Goals as goal
 
 pub returns-clause-gives : goal.returns-clause-gives

@@ -3,7 +3,7 @@ use Rattle.serve_clients.specs.Client.{ClientState, cut, told, with_stage}
 use Rattle.serve_clients.specs.declared.client.Stage.TheVariants.{Ending}
 use Rattle.serve_sources.specs.declared.outcome.Outcome.{Outcome}
 use Rattle.station.specs.Parting.{HasParted}
-use Rattle.station.proofs.Found.{placed, same_client}
+use Rattle.station.specs.Found.{placed, same_client}
 use Rattle.station.proofs.station.Station.part.Goals as goal
 
 pub returns-in-Some-answer-clause-parts : goal.returns-in-Some-answer-clause-parts

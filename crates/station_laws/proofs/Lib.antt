@@ -1,0 +1,11 @@
+mod Called
+mod Early
+mod Listened
+mod Owing
+mod Passed
+mod Rising
+mod Seen
+mod Served
+mod Sides
+mod Sights
+mod Whole

@@ -1,0 +1,13 @@
+//! What always holds of a station, whatever its calls: for library users, and for whoever wants to know. The program has no
+//! part of it.
+//!
+//! `specs/Calling.antt` says what a station's calls are and what each leaves of it. Over any list of them
+//! `connections_get_their_responses` says what was written to a connection, and `stations_import_their_sources` what is
+//! recorded of a source. Both are functions with a contract alone.
+#![tactic(auto)]
+
+mod connections;
+mod sources;
+
+pub use connections::connections_get_their_responses;
+pub use sources::stations_import_their_sources;
