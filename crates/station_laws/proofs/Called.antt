@@ -1,5 +1,5 @@
 -- A list of a station's calls is a list of what is done with a source.
-use Rattle.std.proofs.Common.{◌≡◌, ℕ, Option, Some, None, List, [], ◌∷◌, ◌++◌, refl, sym, ap, subst}
+use Rattle.std.proofs.Common.{◌≡◌, ◌⊎◌, ℕ, Option, Some, None, List, [], ◌∷◌, ◌++◌, length, refl, sym, ap, subst, inl, inr}
 use Rattle.disk_model.specs.declared.disk.Disk.{Ghosts as DiskModel}
 use Rattle.feed_records.specs.declared.item.Record.{Record}
 use Rattle.feed_records.specs.declared.item.Record.TheVariants.{Flush}
@@ -25,7 +25,9 @@ use Rattle.serve_hub.specs.Running.{Answers, IsIn, Progress}
 use Rattle.serve_hub.specs.Showing.{Shows}
 use Rattle.serve_machine.specs.Hub.{HubState}
 use Rattle.serve_machine.specs.Own.{KeepsFile}
+use Rattle.station_hub.specs.Keeping.{KeepsRecorded}
 use Rattle.station_hub.specs.declared.live_hub.LiveHub.{LiveHub}
+use Rattle.station_sources.specs.Air.{HoldsMore, IsShort}
 use Rattle.station_sources.specs.Importing.{Fed, Finishes, Move, Moves, Noted as NotedMove, Took as TookMove, WentOn as WentOnMove, fed_in}
 use Rattle.station_sources.specs.Taking.{input_of}
 use Rattle.station_sources.specs.declared.air.OnAir.{OnAir}
@@ -191,6 +193,39 @@ module _ {D : Type 0} (model : DiskModel D) where
   moves_of (Other ∷ later) old new live last machine (between, keeps, rest) shows =
       let (mid, seen, kept) = keeps machine shows in
       begun_at later old new last (file_of machine) (file_of mid) (same_file machine mid kept) (moves_of later old new between last mid rest seen)
+
+  -- ---- lists that are joined
+  pub joins : (calls later : List SourceCall) (old mid new : OnAir) (live between last : LiveHub D) → AreCalled model calls old mid live between
+      → AreCalled model later mid new between last → AreCalled model (calls ++ later) old new live last
+  joins [] later old mid new live between last (same, stays) rest =
+      subst (λ (one : OnAir). AreCalled model later one new live last) same
+      (subst (λ (one : LiveHub D). AreCalled model later mid new one last) stays rest)
+  joins (Came bytes ∷ calls) later old mid new live between last (next, hub, holds, keeps, called) rest =
+      (next, hub, holds, keeps, joins calls later next mid new hub between last called rest)
+  joins (Noted ∷ calls) later old mid new live between last (next, hub, stays, keeps, called) rest =
+      (next, hub, stays, keeps, joins calls later next mid new hub between last called rest)
+  joins (WentOn ∷ calls) later old mid new live between last (next, hub, passed, called) rest =
+      (next, hub, passed, joins calls later next mid new hub between last called rest)
+  joins (Took step ∷ calls) later old mid new live between last (next, hub, needs, takes, called) rest =
+      (next, hub, needs, takes, joins calls later next mid new hub between last called rest)
+  joins (Committed reply ∷ calls) later old mid new live between last (hub, flushes, called) rest =
+      (hub, flushes, joins calls later old mid new hub between last called rest)
+  joins (Other ∷ calls) later old mid new live between last (hub, keeps, called) rest =
+      (hub, keeps, joins calls later old mid new hub between last called rest)
+
+  -- ---- bytes that come
+  fed_by : (bytes : List ℕ) (old after : OnAir) (live last : LiveHub D) → KeepsRecorded model live.hub last.hub
+      → HoldsMore bytes old after ⊎ IsShort (length bytes) old after
+      → AreCalled model (Came bytes ∷ []) old after live last ⊎ AreCalled model (Noted ∷ []) old after live last
+  fed_by bytes old after live last keeps (inl holds) = inl (after, last, holds, keeps, (refl, refl))
+  fed_by bytes old after live last keeps (inr short) =
+      inr (after, last, record { kept = short.kept; import = short.import; body = short.body }, keeps, (refl, refl))
+
+  pub fed_more : (bytes : List ℕ) (old : OnAir) (now : Option OnAir) (live last : LiveHub D)
+      → (after : OnAir) × (now ≡ Some after) × (after.feeder ≡ old.feeder) × (HoldsMore bytes old after ⊎ IsShort (length bytes) old after)
+      → KeepsRecorded model live.hub last.hub
+      → (new : OnAir) × (now ≡ Some new) × (AreCalled model (Came bytes ∷ []) old new live last ⊎ AreCalled model (Noted ∷ []) old new live last)
+  fed_more bytes old now live last (after, is, feeder, held) keeps = (after, is, fed_by bytes old after live last keeps held)
 
   -- ---- the end
   ends_on : (offset : ℕ) (old new : IntakeState) (taken : Taken) (before after : Progress D) (pages new_pages : Option (List ℕ))

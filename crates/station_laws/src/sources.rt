@@ -1,5 +1,5 @@
 //! What always holds of the sources of a station.
-ghost use Rattle.std.specs.Prelude.{◌≡◌, ◌++◌, ◌+◌, ◌-◌, ◌<◌, ◌^◌, [], ℕ, List, None, Option, length};
+ghost use Rattle.std.specs.Prelude.{◌≡◌, ◌++◌, ◌+◌, ◌-◌, ◌<◌, ◌^◌, ◌∷◌, ◌⊎◌, [], ℕ, List, None, Some, Option, length};
 ghost use Rattle.import_mend.specs.Found.{AreGoodPages};
 ghost use Rattle.import_mend.specs.declared.mend.Mend.{Mend as MendOf};
 ghost use Rattle.import_record.specs.declared.intake.Taken.{Taken as TakenOf};
@@ -12,6 +12,8 @@ ghost use Rattle.station_hub.specs.declared.live_hub.LiveHub.{LiveHub as LiveHub
 ghost use Rattle.station_sources.specs.Importing.{rest_of};
 ghost use Rattle.station_sources.specs.Taking.{input_of};
 ghost use Rattle.station_sources.specs.declared.air.OnAir.{OnAir as OnAirOf};
+ghost use Rattle.station_hub.specs.Keeping.{KeepsRecorded};
+ghost use Rattle.station.specs.Keeping.{IsFedMore};
 ghost use Rattle.station_laws.specs.Recorded.{AnswersOn, AreCalled, AreLast, IsImported, SourceCall, came_in, file_of};
 ghost use Rattle.station.specs.Stepping.{TakesFromSource};
 
@@ -83,6 +85,15 @@ pub fn stations_import_their_sources<D: Disk + Drop>()
         → AreCalled D.Disk calls old mid live between → AreLast D.Disk last mid new between ending
         → TakesFromSource D.Disk (Done.Ended offset junk taken) new next ending gone → Shows D.Disk live.hub machine
         → IsImported D.Disk calls offset taken old mid machine }
+    // Calls that follow make the list longer. Bytes that came are in it as they came, or it is noted that there was no room
+    // for them.
+    ensures joins { (calls later : List SourceCall) (old mid new : OnAirOf) (live between last : LiveHubOf D)
+        → AreCalled D.Disk calls old mid live between → AreCalled D.Disk later mid new between last
+        → AreCalled D.Disk (calls ++ later) old new live last }
+    ensures fed { (bytes : List ℕ) (old : OnAirOf) (now : Option OnAirOf) (live last : LiveHubOf D)
+        → IsFedMore old.feeder bytes (Some old) now → KeepsRecorded D.Disk live.hub last.hub
+        → (new : OnAirOf) × (now ≡ Some new)
+        × (AreCalled D.Disk (SourceCall.Came bytes ∷ []) old new live last ⊎ AreCalled D.Disk (SourceCall.Noted ∷ []) old new live last) }
 {
     sources_are_imported::<FileHub<D>>();
     recordings_are_runs_of_mended_commands::<FileHub<D>>();

@@ -1,9 +1,9 @@
-use Rattle.std.proofs.Common.{sym, ◌∙◌, ap, ◌++◌}
+use Rattle.std.proofs.Common.{refl, sym, ◌∙◌, ap, ◌++◌}
 use Rattle.import_record.specs.Steps.{state_of}
 use Rattle.station_sources.specs.Importing.{rest_of}
 use Rattle.station_sources.specs.Taking.{input_of}
 use Rattle.station_laws.specs.Recorded.{file_of}
-use Rattle.station_laws.proofs.Called.{all_go_on, finished, moves_of}
+use Rattle.station_laws.proofs.Called.{all_go_on, fed_more, finished, joins, moves_of}
 use Rattle.station_laws.proofs.sources.stations_import_their_sources.Goals as goal
 
 pub returns-clause-so_far : goal.returns-clause-so_far
@@ -19,6 +19,12 @@ returns-clause-so_far g c calls old new live last machine called shows =
           (ap (λ l. rest_of old ++ l) (sym fed) ∙ is.0, is.1),
       c.pages_that_come_are_the_good_pages.ensures.so_far taken (input_of old.import) (input_of new.import) (file_of machine) (file_of after) feeds,
     )
+
+pub returns-clause-joins : goal.returns-clause-joins
+returns-clause-joins g c = joins g.D.Disk
+
+pub returns-clause-fed : goal.returns-clause-fed
+returns-clause-fed g c bytes old now live last fed keeps = fed_more g.D.Disk bytes old now live last (fed.0 refl) keeps
 
 pub returns-clause-ended : goal.returns-clause-ended
 returns-clause-ended g c calls last old mid new live between ending gone next machine offset junk taken called lasts ends shows =
