@@ -7,7 +7,7 @@ use Rattle.feed_replies.specs.declared.reply.Reply.{Reply}
 use Rattle.feed_run.specs.Answering.{AnswersAll}
 use Rattle.import_mend.specs.declared.mend.Mend.{Mend}
 use Rattle.import_pages.specs.Reader.{ReaderState}
-use Rattle.import_record.specs.Pushing.{Call, Came as CameIn, InputState, IsStepped, Stepped as SteppedIn, event_of, events_in}
+use Rattle.import_record.specs.Pushing.{Call, Came as CameIn, InputState, IsStepped, NeedsNone, Stepped as SteppedIn, event_of, events_in}
 use Rattle.import_record.specs.Reading.{Steps}
 use Rattle.import_record.specs.Running.{HasRun, records_of}
 use Rattle.import_record.specs.Steps.{Ends, IntakeState, Takes, state_of}
@@ -31,7 +31,8 @@ use Rattle.station_sources.specs.Air.{HoldsMore, IsShort}
 use Rattle.station_sources.specs.Importing.{Fed, Finishes, Move, Moves, Noted as NotedMove, Took as TookMove, WentOn as WentOnMove, fed_in}
 use Rattle.station_sources.specs.Taking.{input_of}
 use Rattle.station_sources.specs.declared.air.OnAir.{OnAir}
-use Rattle.station.specs.Stepping.{HasEnded}
+use Rattle.station.specs.Stepping.{HasEnded, TakesFromSource}
+use Rattle.station.specs.declared.stepping.Done.TheVariants.{Bytes, Stepped}
 use Rattle.station_laws.specs.Recorded.{AnswersOn, AreCalled, AreLast, Came, Committed, FindsNoEnd, Noted, Other, SourceCall, Took, WentOn, came_in, file_of}
 
 same_air : (one other : OnAir) → Some one ≡ Some other → one ≡ other
@@ -226,6 +227,25 @@ module _ {D : Type 0} (model : DiskModel D) where
       → KeepsRecorded model live.hub last.hub
       → (new : OnAir) × (now ≡ Some new) × (AreCalled model (Came bytes ∷ []) old new live last ⊎ AreCalled model (Noted ∷ []) old new live last)
   fed_more bytes old now live last (after, is, feeder, held) keeps = (after, is, fed_by bytes old after live last keeps held)
+
+  -- ---- steps
+  pub passed : (old : OnAir) (now : Option OnAir) (live last : LiveHub D) → TakesFromSource model Bytes old now live last
+      → (new : OnAir) × (now ≡ Some new) × AreCalled model (WentOn ∷ []) old new live last
+  passed old now live last is = (
+    is.source,
+    is.on_air,
+    (is.source, last, subst (λ (one : Option OnAir). TakesFromSource model Bytes old one live last) is.on_air is, (refl, refl)),
+  )
+
+  pub stepped_once : (step : Step) (old : OnAir) (now : Option OnAir) (live last : LiveHub D) (machine : HubState) → NeedsNone step old.import.pages
+      → Shows model live.hub machine → TakesFromSource model (Stepped step) old now live last
+      → (new : OnAir) × (now ≡ Some new) × AreCalled model (Took step ∷ []) old new live last
+  stepped_once step old now live last machine needs shows takes =
+      let is = takes (record { now = live.hub; machine = machine }) (refl, shows) in (
+        is.source,
+        is.on_air,
+        (is.source, last, needs, subst (λ (one : Option OnAir). TakesFromSource model (Stepped step) old one live last) is.on_air takes, (refl, refl)),
+      )
 
   -- ---- the end
   ends_on : (offset : ℕ) (old new : IntakeState) (taken : Taken) (before after : Progress D) (pages new_pages : Option (List ℕ))

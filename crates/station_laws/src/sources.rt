@@ -3,7 +3,8 @@ ghost use Rattle.std.specs.Prelude.{◌≡◌, ◌++◌, ◌+◌, ◌-◌, ◌<�
 ghost use Rattle.import_mend.specs.Found.{AreGoodPages};
 ghost use Rattle.import_mend.specs.declared.mend.Mend.{Mend as MendOf};
 ghost use Rattle.import_record.specs.declared.intake.Taken.{Taken as TakenOf};
-ghost use Rattle.import_record.specs.Pushing.{Call, Feeds, bytes_in, events_in};
+ghost use Rattle.import_record.specs.Pushing.{Call, Feeds, NeedsNone, bytes_in, events_in};
+ghost use Rattle.import_record.specs.declared.reading.Step.{Step as StepOf};
 ghost use Rattle.import_record.specs.Whole.{pages_in};
 ghost use Rattle.serve_hub.specs.Running.{IsIn, Progress};
 ghost use Rattle.serve_hub.specs.Showing.{Shows};
@@ -94,6 +95,12 @@ pub fn stations_import_their_sources<D: Disk + Drop>()
         → IsFedMore old.feeder bytes (Some old) now → KeepsRecorded D.Disk live.hub last.hub
         → (new : OnAirOf) × (now ≡ Some new)
         × (AreCalled D.Disk (SourceCall.Came bytes ∷ []) old new live last ⊎ AreCalled D.Disk (SourceCall.Noted ∷ []) old new live last) }
+    // So it is of a step, as far as more bytes weren't needed for it.
+    ensures passed { (old : OnAirOf) (now : Option OnAirOf) (live last : LiveHubOf D) → TakesFromSource D.Disk Done.Bytes old now live last
+        → (new : OnAirOf) × (now ≡ Some new) × AreCalled D.Disk (SourceCall.WentOn ∷ []) old new live last }
+    ensures stepped { (step : StepOf) (old : OnAirOf) (now : Option OnAirOf) (live last : LiveHubOf D) (machine : HubState)
+        → NeedsNone step old.import.pages → Shows D.Disk live.hub machine → TakesFromSource D.Disk (Done.Stepped step) old now live last
+        → (new : OnAirOf) × (now ≡ Some new) × AreCalled D.Disk (SourceCall.Took step ∷ []) old new live last }
 {
     sources_are_imported::<FileHub<D>>();
     recordings_are_runs_of_mended_commands::<FileHub<D>>();

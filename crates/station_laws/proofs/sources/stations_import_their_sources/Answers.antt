@@ -3,7 +3,7 @@ use Rattle.import_record.specs.Steps.{state_of}
 use Rattle.station_sources.specs.Importing.{rest_of}
 use Rattle.station_sources.specs.Taking.{input_of}
 use Rattle.station_laws.specs.Recorded.{file_of}
-use Rattle.station_laws.proofs.Called.{all_go_on, fed_more, finished, joins, moves_of}
+use Rattle.station_laws.proofs.Called.{all_go_on, fed_more, finished, joins, moves_of, passed, stepped_once}
 use Rattle.station_laws.proofs.sources.stations_import_their_sources.Goals as goal
 
 pub returns-clause-so_far : goal.returns-clause-so_far
@@ -25,6 +25,12 @@ returns-clause-joins g c = joins g.D.Disk
 
 pub returns-clause-fed : goal.returns-clause-fed
 returns-clause-fed g c bytes old now live last fed keeps = fed_more g.D.Disk bytes old now live last (fed.0 refl) keeps
+
+pub returns-clause-passed : goal.returns-clause-passed
+returns-clause-passed g c = passed g.D.Disk
+
+pub returns-clause-stepped : goal.returns-clause-stepped
+returns-clause-stepped g c = stepped_once g.D.Disk
 
 pub returns-clause-ended : goal.returns-clause-ended
 returns-clause-ended g c calls last old mid new live between ending gone next machine offset junk taken called lasts ends shows =
