@@ -25,14 +25,13 @@ ghost use Rattle.station.specs.Turning.{IsTurnedAway};
 ghost use Rattle.serve_clients.specs.Clients.{OthersStay};
 
 use crate::Memory;
-use crate::telling::tell_player;
 use disk_model::Disk;
 use import_changes::Skeletons;
 use serve_clients::{Client, Clients, Stage, Trouble, is_refused};
 use serve_hub::Hub;
 use serve_sources::{Asks, FULL, OwnResource, Password, Refused};
 use serve_texts::Visit;
-use station_hub::{LiveHub, Waking, ask};
+use station_hub::{LiveHub, Waking, ask, tell_player};
 use station_sources::{Counts, Feeder, OnAir, counted};
 use std::alloc::Global;
 

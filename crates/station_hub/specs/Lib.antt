@@ -7,3 +7,4 @@ pub mod Tracking
 pub mod Patience
 pub mod Waking
 pub mod Keeping
+pub mod Telling

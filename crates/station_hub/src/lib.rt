@@ -5,6 +5,7 @@
 //! bytes `read` takes; one that listens joins by `listen`. `give` gives either the next bytes that are to be written.
 //!
 //! `is_due` says when what waits is committed, and `Waking` when those who hear what is recorded are woken for it.
+//! `Kinds` counts the connections by what they are; `tell_player` and `tell_status` tell one of them what the station is.
 //!
 //! Start at `specs/Giving.antt`, which says what a connection is given and owed, and at `specs/Places.antt`, which says
 //! where listeners may join; `specs/Tracking.antt` says that these are places of what is committed. `src/laws.rt` has the
@@ -17,6 +18,7 @@ mod laws;
 mod live_hub;
 mod patience;
 mod places;
+mod telling;
 mod waking;
 
 pub use asking::ask;
@@ -26,4 +28,5 @@ pub use laws::{
 };
 pub use live_hub::LiveHub;
 pub use patience::{is_due, until_due};
+pub use telling::{Kind, Kinds, kind_of, tell_player, tell_status};
 pub use waking::Waking;

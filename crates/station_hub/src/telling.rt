@@ -1,0 +1,91 @@
+//! What is said of connections, and to them of the station: the player, and its numbers.
+ghost use Rattle.std.specs.Prelude.{◌≡◌, ◌⊎◌};
+ghost use Rattle.serve_clients.specs.Client.{cut, told, with_stage};
+ghost use Rattle.serve_clients.specs.declared.client.Stage.TheVariants.{Ending as EndingOf};
+ghost use Rattle.serve_texts.specs.Player.{player_response};
+ghost use Rattle.serve_texts.specs.Status.{status_response};
+ghost use Rattle.station_hub.specs.Telling.{kind_of, with_one};
+
+use serve_clients::{Client, Stage};
+use serve_texts::{Numbers, append_player, append_status};
+use std::alloc::Global;
+
+/// What a connection is.
+#[derive(Clone, Copy, Debug, PartialEq, Eq)]
+pub enum Kind {
+    Listener,
+    /// The file server answers it.
+    Session,
+    Source,
+    /// It isn't known yet, or not any more.
+    Other,
+}
+
+/// How many connections there are of each kind.
+#[derive(Clone, Copy, Debug, PartialEq, Eq)]
+pub struct Kinds {
+    pub listeners: u64,
+    pub sessions: u64,
+    pub sources: u64,
+    pub others: u64,
+}
+
+/// What a connection is, by how far it has come.
+pub fn kind_of(stage: Stage) -> Kind
+    ensures { result ≡ kind_of stage }
+{
+    match stage {
+        Stage::Hearing => Kind::Listener,
+        Stage::Reading | Stage::Sending => Kind::Session,
+        Stage::Offering | Stage::Waiting | Stage::Feeding => Kind::Source,
+        Stage::Asking | Stage::Ending | Stage::Closing | Stage::Cut => Kind::Other,
+    }
+}
+
+impl Kinds {
+    /// The counts with one more connection.
+    pub fn with_one(self, kind: Kind) -> Kinds
+        ensures { result ≡ with_one kind self }
+    {
+        match kind {
+            Kind::Listener => Kinds {
+                listeners: self.listeners.saturating_add(1),
+                ..self
+            },
+            Kind::Session => Kinds {
+                sessions: self.sessions.saturating_add(1),
+                ..self
+            },
+            Kind::Source => Kinds {
+                sources: self.sources.saturating_add(1),
+                ..self
+            },
+            Kind::Other => Kinds {
+                others: self.others.saturating_add(1),
+                ..self
+            },
+        }
+    }
+}
+
+/// The connection is answered with the player. Without memory for it the connection is cut.
+pub fn tell_player(alloc: Global, client: &mut Client, head: bool)
+    ensures { (client.new ≡ with_stage EndingOf (told (player_response head) client.old)) ⊎ (client.new ≡ cut client.old) }
+{
+    let mut text = Vec::new(alloc);
+    match append_player(&mut text, head) {
+        Ok(()) => client.tell_last(text.as_slice()),
+        Err(_) => client.go_to(Stage::Cut),
+    }
+}
+
+/// The connection is answered with these numbers. Without memory for them the connection is cut.
+pub fn tell_status(alloc: Global, client: &mut Client, numbers: &Numbers, head: bool)
+    ensures { (client.new ≡ with_stage EndingOf (told (status_response numbers.now head) client.old)) ⊎ (client.new ≡ cut client.old) }
+{
+    let mut text = Vec::new(alloc);
+    match append_status(&mut text, numbers, head) {
+        Ok(()) => client.tell_last(text.as_slice()),
+        Err(_) => client.go_to(Stage::Cut),
+    }
+}
