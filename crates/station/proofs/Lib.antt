@@ -1,6 +1,9 @@
 mod Hearing
 mod Leaving
+mod Passed
+mod Recorded
 mod Reopening
 mod Succeeding
 mod Turned
 mod Unread
+mod Waited

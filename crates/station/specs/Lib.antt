@@ -9,3 +9,6 @@ pub mod Waiting
 pub mod Keeping
 pub mod Beginning
 pub mod Found
+pub mod Passing
+pub mod PassingLaws
+pub mod Asked

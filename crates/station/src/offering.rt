@@ -15,6 +15,7 @@ ghost use Rattle.station.specs.Beginning.{BeginsBeside, options_for, run_in};
 ghost use Rattle.station_sources.specs.Counting.{counted};
 ghost use Rattle.station_sources.specs.declared.air.Feeder.TheVariants.{Peer};
 ghost use Rattle.station.specs.Offering.{IsRefusal, IsUnauthorized};
+ghost use Rattle.station.specs.Passing.{ArePassed, OffersNow, OffersOn};
 ghost use Rattle.station.specs.Succeeding.{IsSucceeded, WasOffered, waits};
 
 use crate::Memory;
@@ -38,6 +39,7 @@ fn offered(head: &[u8], password: &Password) -> Offer
 impl<D: Disk + Drop> Station<D> {
     /// Further bytes of the head of a source's request. If another one has the air, it waits.
     pub(crate) fn offer(&mut self, key: usize, bytes: &[u8], now: u64)
+        ensures source { OffersOn (get self.old.clients.slots key) (get self.new.clients.slots key) }
         // Without the password it doesn't get the air.
         ensures unauthorized { (client : ClientState) (request : RequestHead) (password : PasswordOf) → get self.old.clients.slots key ≡ Some client
             → self.old.options.password ≡ Some password → HasHead (client.head ++ bytes.now) request → IsUnauthorized password request
@@ -83,6 +85,7 @@ impl<D: Disk + Drop> Station<D> {
 
     /// A source is refused: it is told so, and counted.
     pub(crate) fn refuse(&mut self, key: usize, refused: Refused)
+        ensures source { OffersOn (get self.old.clients.slots key) (get self.new.clients.slots key) }
         ensures counts { self.new.counts ≡ record self.old.counts { sources_refused = counted self.old.counts.sources_refused 1 } }
         ensures told { waits (get self.new.clients.slots key) ≡ false }
         ensures others { OthersStay key self.old.clients self.new.clients }
@@ -98,6 +101,7 @@ impl<D: Disk + Drop> Station<D> {
 
     /// The air is free: it is offered to the sources that wait for it, in turn, until one of them has it.
     pub(crate) fn offer_again(&mut self, now: u64)
+        ensures passed { ArePassed self.old.clients.slots self.new.clients.slots }
         ensures succeeded { self.old.air ≡ None → IsSucceeded self.old.clients.slots self.new.clients.slots self.new.air }
         ensures begins { self.old.air ≡ None → BeginsBeside (serials_in self.old.live.hub.file) self.old.options.skeletons (run_in self.new.air) }
         ensures others { (key : ℕ) → waits (get self.old.clients.slots key) ≡ false → get self.new.clients.slots key ≡ get self.old.clients.slots key }
@@ -125,6 +129,7 @@ impl<D: Disk + Drop> Station<D> {
 
     /// There is no memory for what this connection has sent: it is cut, and its stream is given up.
     fn cut(&mut self, key: usize)
+        ensures source { OffersNow (get self.old.clients.slots key) (get self.new.clients.slots key) }
         ensures others { OthersStay key self.old.clients self.new.clients }
         ensures live { self.new.live ≡ self.old.live }
         ensures feeder { feeder_in self.new.air ≡ feeder_in self.old.air }
@@ -147,6 +152,7 @@ impl<D: Disk + Drop> Station<D> {
         answer: &[u8],
         now: u64,
     ) -> Result<(), Memory>
+        ensures source { OffersOn (get self.old.clients.slots key) (get self.new.clients.slots key) }
         ensures others { OthersStay key self.old.clients self.new.clients }
         ensures live { self.new.live ≡ self.old.live }
         ensures feeder { (feeder_in self.new.air ≡ Some (Peer key)) ⊎ (feeder_in self.new.air ≡ feeder_in self.old.air) }

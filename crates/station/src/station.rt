@@ -19,8 +19,11 @@ ghost use Rattle.serve_hub.specs.Parts.{serials_in};
 ghost use Rattle.station_hub.specs.Keeping.{KeepsRecorded};
 ghost use Rattle.station_sources.specs.Beginning.{HasBegun};
 ghost use Rattle.station.specs.Beginning.{BeginsBeside, options_for, run_in};
-ghost use Rattle.station.specs.Ending.{is_over};
 ghost use Rattle.station.specs.Keeping.{IsEndedBy, IsFedMore, IsLostBy, OthersAirStays};
+ghost use Rattle.serve_hub.specs.Listening.{KeepsMachine};
+ghost use Rattle.station.specs.Asked.{EndsSession, IsAnswered, Joins};
+ghost use Rattle.station.specs.Ending.{is_over};
+ghost use Rattle.station.specs.Passing.{GoesOnAsSource, OffersOn, Stays, session_in};
 ghost use Rattle.station.specs.Turning.{IsTurnedAway};
 ghost use Rattle.serve_clients.specs.Clients.{OthersStay};
 
@@ -192,6 +195,7 @@ impl<D: Disk + Drop> Station<D> {
         // If it sent the stream that is recorded, no further byte of that comes.
         ensures air { get self.old.clients.slots key ≢ None → IsLostBy (Feeder.Peer key) self.old.air self.new.air }
         ensures none { get self.old.clients.slots key ≡ None → self.new.air ≡ self.old.air }
+        ensures session { EndsSession D.Disk (session_in (get self.old.clients.slots key)) self.old.live.hub self.new.live.hub }
     {
         let client = self.clients.slots.try_remove(key)?;
         if let Some(id) = client.session {
@@ -266,6 +270,10 @@ impl<D: Disk + Drop> Station<D> {
 
     /// The station answers this connection itself.
     fn answer(&mut self, key: usize, resource: OwnResource, head: bool, now: u64)
+        ensures answers { (client : ClientState) → get self.old.clients.slots key ≡ Some client → (after : ClientState)
+            × (get self.new.clients.slots key ≡ Some after) × IsAnswered resource head client after
+            × Joins D.Disk resource head self.old.live.places self.old.live.hub after }
+        ensures machine { KeepsMachine D.Disk self.old.live.hub self.new.live.hub }
         ensures disk { (self.new.live.hub.file ≡ self.old.live.hub.file)
             ⊎ IfFile (Reads D.Disk) self.old.live.hub.file self.new.live.hub.file }
         ensures recorded { KeepsRecorded D.Disk self.old.live.hub self.new.live.hub }
@@ -284,13 +292,15 @@ impl<D: Disk + Drop> Station<D> {
 
     /// This connection will send no more. A listener that says so is gone.
     pub fn peer_ended(&mut self, key: usize)
+        ensures client { (client : ClientState) → get self.old.clients.slots key ≡ Some client → (after : ClientState)
+            × (get self.new.clients.slots key ≡ Some after) × Stays client after }
+        ensures none { get self.old.clients.slots key ≡ None → self.new ≡ self.old }
         ensures others { OthersStay key self.old.clients self.new.clients }
         ensures live { self.new.live ≡ self.old.live }
         ensures ends { (client : ClientState) → get self.old.clients.slots key ≡ Some client → client.stage ≡ FeedingOf
             → IsEndedBy (Feeder.Peer key) self.old.air self.new.air }
         ensures stays { (client : ClientState) → get self.old.clients.slots key ≡ Some client → client.stage ≢ FeedingOf
             → self.new.air ≡ self.old.air }
-        ensures none { get self.old.clients.slots key ≡ None → self.new.air ≡ self.old.air }
     {
         let Some(client) = self.clients.slots.get_mut(key) else {
             return;
@@ -311,6 +321,10 @@ impl<D: Disk + Drop> Station<D> {
         ensures gives { (client : ClientState) → get self.old.clients.slots key ≡ Some client → client.stage ≢ WaitingOf → (after : ClientState)
             × Gives (Shows D.Disk) self.old.live.hub self.new.live.hub (length buffer.old) client result buffer.new after
             × (get self.new.clients.slots key ≡ Some (given result (is_over self.old.air self.old.ending) now after)) }
+        // Of a source that waits nothing is pulled.
+        ensures waits { (client : ClientState) → get self.old.clients.slots key ≡ Some client → client.stage ≡ WaitingOf → (after : ClientState)
+            × (get self.new.clients.slots key ≡ Some after) × GoesOnAsSource client after × (self.new.live.hub ≡ self.old.live.hub) }
+        ensures none { get self.old.clients.slots key ≡ None → (get self.new.clients.slots key ≡ None) × (self.new.live.hub ≡ self.old.live.hub) }
         ensures disk { (self.new.live.hub.file ≡ self.old.live.hub.file)
             ⊎ IfFile (Reads D.Disk) self.old.live.hub.file self.new.live.hub.file }
         ensures recorded { KeepsRecorded D.Disk self.old.live.hub self.new.live.hub }
@@ -325,6 +339,7 @@ impl<D: Disk + Drop> Station<D> {
     /// A source that has waited for the air long enough is refused.
     fn refuse_if_waited(&mut self, key: usize, now: u64)
         ensures same { (client : ClientState) → get self.old.clients.slots key ≡ Some client → client.stage ≢ WaitingOf → self.new ≡ self.old }
+        ensures offers { OffersOn (get self.old.clients.slots key) (get self.new.clients.slots key) }
         ensures others { OthersStay key self.old.clients self.new.clients }
         ensures live { self.new.live ≡ self.old.live }
         ensures air { self.new.air ≡ self.old.air }
@@ -336,6 +351,7 @@ impl<D: Disk + Drop> Station<D> {
 
     /// The next bytes for this connection.
     fn give(&mut self, key: usize, buffer: &mut [u8], now: u64) -> usize
+        ensures none { get self.old.clients.slots key ≡ None → (get self.new.clients.slots key ≡ None) × (self.new.live.hub ≡ self.old.live.hub) }
         ensures gives { (client : ClientState) → get self.old.clients.slots key ≡ Some client → (after : ClientState)
             × Gives (Shows D.Disk) self.old.live.hub self.new.live.hub (length buffer.old) client result buffer.new after
             × (get self.new.clients.slots key ≡ Some (given result (is_over self.old.air self.old.ending) now after)) }

@@ -1,7 +1,11 @@
 //! What a station says of itself: its numbers.
-ghost use Rattle.std.specs.Prelude.{◌≡◌};
+ghost use Rattle.std.specs.Prelude.{◌≡◌, None, Some};
+ghost use Rattle.slab.specs.Slab.{get};
+ghost use Rattle.serve_clients.specs.Client.{ClientState};
 ghost use Rattle.serve_clients.specs.Clients.{OthersStay};
+ghost use Rattle.serve_sources.specs.declared.own.OwnResource.TheVariants.{Status as StatusOf};
 ghost use Rattle.station_sources.specs.Counting.{counted};
+ghost use Rattle.station.specs.Asked.{IsAnswered};
 ghost use Rattle.station.specs.Telling.{in_seconds, mends_of};
 
 use crate::station::Station;
@@ -82,6 +86,9 @@ impl<D: Disk + Drop> Station<D> {
 
     /// The connection is answered with the station's numbers.
     pub(crate) fn tell_numbers(&mut self, key: usize, head: bool, now: u64)
+        ensures told { (client : ClientState) → get self.old.clients.slots key ≡ Some client → (after : ClientState)
+            × (get self.new.clients.slots key ≡ Some after) × IsAnswered StatusOf head client after }
+        ensures none { get self.old.clients.slots key ≡ None → self.new ≡ self.old }
         ensures others { OthersStay key self.old.clients self.new.clients }
         ensures live { self.new.live ≡ self.old.live }
         ensures air { self.new.air ≡ self.old.air }

@@ -1,15 +1,17 @@
 //! Whose turn it is.
-ghost use Rattle.std.specs.Prelude.{◌≡◌, ◌≢◌, ◌≤◌, ◌<◌, ◌-◌, ◌==◌, ◌∷◌, [], ℕ, None, Some, false, true, not, is_some, length, IfSome};
+ghost use Rattle.std.specs.Prelude.{◌≡◌, ◌≢◌, ◌≤◌, ◌<◌, ◌-◌, ◌==◌, ◌∷◌, ◌⊎◌, [], ℕ, None, Some, false, true, not, is_some, length, IfSome};
 ghost use Rattle.slab.specs.Slab.{get, slab_len};
 ghost use Rattle.serve_hub.specs.Showing.{Shows};
 ghost use Rattle.serve_machine.specs.Hub.{HubState};
-ghost use Rattle.serve_clients.specs.Client.{ClientState, HasWritten, after_of, with_line};
+ghost use Rattle.serve_clients.specs.Client.{ClientState, HasWritten, after_of, with_line, with_stage};
 ghost use Rattle.serve_clients.specs.Clients.{AllStay, AreLookedAt, AreWoken, HasTurn, OthersStay, told_by, turned_at, unread_by, unwritten_by};
 ghost use Rattle.serve_clients.specs.Line.{taken_off};
-ghost use Rattle.serve_clients.specs.declared.client.After.TheVariants.{Closes};
+ghost use Rattle.serve_clients.specs.declared.client.After.TheVariants.{Closes, Shuts};
+ghost use Rattle.serve_clients.specs.declared.client.Stage.TheVariants.{Closing as ClosingOf};
 ghost use Rattle.station_hub.specs.Patience.{until_due as until_commit};
 ghost use Rattle.station.specs.Telling.{listeners_in};
 ghost use Rattle.station.specs.Ending.{gathers, has_finished, is_over};
+ghost use Rattle.station.specs.Passing.{ArePassed, IsLike};
 ghost use Rattle.station.specs.Succeeding.{HaveTurns};
 ghost use Rattle.station.specs.Turning.{GoesOn, IsRead};
 ghost use Rattle.station.specs.Waiting.{sooner, until_next};
@@ -117,7 +119,10 @@ impl<D: Disk + Drop> Station<D> {
             → GoesOn key client self.old.air → HasTurn key (turned_at now client) self.old.clients self.new.clients }
         ensures rests { (client : ClientState) → get self.old.clients.slots key ≡ Some client
             → ¬ (GoesOn key client self.old.air) → (get self.new.clients.slots key ≡ Some client) × (self.new.clients.turns ≡ self.old.clients.turns) }
-        ensures none { get self.old.clients.slots key ≡ None → result ≡ Closes }
+        ensures none { get self.old.clients.slots key ≡ None → (result ≡ Closes) × (get self.new.clients.slots key ≡ None) }
+        // It is as it was, or is told that no more comes.
+        ensures stays { (client : ClientState) → get self.old.clients.slots key ≡ Some client → (after : ClientState) × (get self.new.clients.slots key ≡ Some after)
+            × (IsLike client after ⊎ ((after_of client ≡ Shuts) × IsLike (with_stage ClosingOf client) after)) }
         ensures others { OthersStay key self.old.clients self.new.clients }
         ensures live { self.new.live ≡ self.old.live }
         ensures air { self.new.air ≡ self.old.air }
@@ -127,12 +132,13 @@ impl<D: Disk + Drop> Station<D> {
     }
 
     /// Whoever hears what is recorded has a turn, if there is more for them and it is time.
-    #[tactic(auto, using(crate::proofs::Succeeding::woken))]
+    #[tactic(auto, using(crate::proofs::Succeeding::woken, crate::proofs::Passed::woken, crate::specs::PassingLaws::all_stay))]
     pub(crate) fn wake_listeners(&mut self, now: u64)
         ensures due { is_due (gathers self.old.air self.old.ending) self.old.waking now ≡ true
             → (self.new.waking ≡ woken_at now) × AreWoken self.old.clients self.new.clients }
         ensures waits { is_due (gathers self.old.air self.old.ending) self.old.waking now ≡ false → self.new ≡ self.old }
         ensures turns { HaveTurns self.old.clients.slots self.new.clients.slots }
+        ensures passed { ArePassed self.old.clients.slots self.new.clients.slots }
         ensures live { self.new.live ≡ self.old.live }
         ensures air { self.new.air ≡ self.old.air }
     {
@@ -160,6 +166,7 @@ impl<D: Disk + Drop> Station<D> {
     pub(crate) fn wake_feeder(&mut self)
         ensures rest { self.new ≡ record self.old { clients = self.new.clients } }
         ensures turns { HaveTurns self.old.clients.slots self.new.clients.slots }
+        ensures passed { ArePassed self.old.clients.slots self.new.clients.slots }
     {
         if let Some(Feeder::Peer(key)) = self.feeder() {
             if self.reads(key) {

@@ -12,13 +12,13 @@ use Rattle.station_hub.specs.Asking.{stage_after}
 use Rattle.serve_sources.specs.Asking.{IsOwn, is_source as is_source_head}
 use Rattle.serve_sources.specs.declared.own.OwnResource.{OwnResource}
 use Rattle.station_hub.specs.Places.{PlacesState}
-use Rattle.station_laws.specs.Asked.{IsAnswered, heard, moved}
+use Rattle.station.specs.Asked.{IsAnswered, heard, moved}
 use Rattle.station_laws.specs.Calling.{Call, Received}
-use Rattle.station_laws.specs.Passing.{IsLike, Stays, expects_nothing, is_source}
+use Rattle.station.specs.Passing.{IsLike, Stays, expects_nothing, is_source}
 use Rattle.station_laws.specs.Written.{IsTold, given_after, received_by, written, written_by}
-use Rattle.station_laws.proofs.Passed.{stays_session, stays_then}
+use Rattle.station.specs.PassingLaws.{given_session, stays_session, stays_then}
 use Rattle.station_laws.proofs.Seen.{Again, Answered, Awaited, Connected, Gave, Heard, Ignored, JoinsHere, Kept, Nothing, Offered, Parted, Pulled, Read, SamePhase, Seen, Shut, Told, WasCut, needs_none, own_key}
-use Rattle.station_laws.proofs.Sights.{given_session, written_session}
+use Rattle.station_laws.proofs.Sights.{written_session}
 use Rattle.station_laws.proofs.Owing.{IsOwed, given_like, shuts_at, to_stage}
 
 -- what a session becomes that has taken bytes, by the progress

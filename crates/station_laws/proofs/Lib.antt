@@ -2,7 +2,6 @@ mod Called
 mod Early
 mod Listened
 mod Owing
-mod Passed
 mod Rising
 mod Seen
 mod Served

@@ -17,7 +17,7 @@ use Rattle.serve_machine.specs.Sound.{Extends}
 use Rattle.slab.specs.Slab.{get}
 use Rattle.station_hub.specs.Places.{PlacesState}
 use Rattle.station_laws.specs.Calling.{After, AreCalls, Call, Next, left_by}
-use Rattle.station_laws.specs.Passing.{IsLike, Stays, is_source}
+use Rattle.station.specs.Passing.{IsLike, Stays, is_source}
 use Rattle.station_laws.specs.Written.{AreApart, AreTold, IsTold, given_after, written, written_by}
 use Rattle.station.specs.declared.station.Station.{Station}
 use Rattle.station_laws.proofs.Seen.{Again, Answered, Awaited, Connected, Gave, GaveBy, Heard, Ignored, Kept, Nothing, Offered, Parted, Pulled, Read, Seen, Shut, Told, WasCut, own_key}

@@ -14,9 +14,9 @@ use Rattle.serve_machine.specs.Own.{AreNumbered, HasPulled as HasGiven, HasRecei
 use Rattle.serve_machine.specs.declared.answers.Progress.{Progress}
 use Rattle.slab.specs.Slab.{get}
 use Rattle.station_hub.specs.Places.{PlacesState}
-use Rattle.station_laws.specs.Asked.{heard}
+use Rattle.station.specs.Asked.{heard}
 use Rattle.station_laws.specs.Calling.{After, AreCalls, Call, Closed}
-use Rattle.station_laws.specs.Passing.{IsLike, Stays, is_source}
+use Rattle.station.specs.Passing.{IsLike, Stays, is_source}
 use Rattle.station_laws.specs.Written.{AreApart, AreTold, IsTold, given_after, written, written_by}
 use Rattle.station.specs.declared.station.Station.{Station}
 use Rattle.station_laws.proofs.Seen.{Again, Answered, Awaited, Connected, Gave, GaveBy, Heard, Ignored, Kept, Nothing, Offered, Parted, Pulled, Read, SamePhase, Seen, Shut, Told, WasCut, own_key}

@@ -29,13 +29,13 @@ use Rattle.station_hub.specs.Places.{PlacesState}
 use Rattle.station_hub.specs.Tracking.{JoinsAt, Tracks}
 use Rattle.station_hub.specs.Asking.{stage_after}
 use Rattle.station_hub.specs.Giving.{HasHeard, HasPulled}
-use Rattle.station_laws.specs.Asked.{IsAnswered, heard, moved}
+use Rattle.station.specs.Asked.{IsAnswered, heard, moved}
 use Rattle.station_laws.specs.Calling.{Call, Closed, Next, Received, WriteFailed, Wrote}
-use Rattle.station_laws.specs.Passing.{ArePassed, IsLike, IsPassed, Stays, expects_nothing, has_offered, is_source, session_in}
+use Rattle.station.specs.Passing.{ArePassed, IsLike, IsPassed, Stays, expects_nothing, has_offered, is_source, session_in}
 use Rattle.station_laws.specs.Written.{AreApart, IsTold, given_after, received_by, written_by}
 use Rattle.station.specs.declared.station.Station.{Station}
 use Rattle.station.specs.Found.{same_client}
-use Rattle.station_laws.proofs.Passed.{like, stays_session}
+use Rattle.station.specs.PassingLaws.{like, stays_session}
 use Rattle.station_laws.proofs.Sides.{Leaves, leaves_all, still_apart}
 
 pub none_is_some : (client : ClientState) → None ≡ Some client → ⊥

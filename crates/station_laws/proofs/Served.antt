@@ -15,9 +15,9 @@ use Rattle.serve_machine.specs.declared.fault.HubFault.{HubFault}
 use Rattle.serve_responses.specs.Response.{IsResponse}
 use Rattle.slab.specs.Slab.{Slab, get, slab_len}
 use Rattle.station_hub.specs.Asking.{stage_after}
-use Rattle.station_laws.specs.Asked.{heard}
+use Rattle.station.specs.Asked.{heard}
 use Rattle.station_laws.specs.Calling.{Accepted, After, AreCalls, Call, IsAccepted, IsCall, Received, left_by}
-use Rattle.station_laws.specs.Passing.{session_in}
+use Rattle.station.specs.Passing.{session_in}
 use Rattle.station.specs.Turning.{IsTurnedAway}
 use Rattle.station_laws.specs.Written.{AreApart, AreTold, Completes, GetsResponse, given_after, received_by, written, written_by}
 use Rattle.station.specs.declared.station.Station.{Station}

@@ -9,7 +9,7 @@ use Rattle.serve_machine.specs.Sound.{Extends}
 use Rattle.serve_machine.specs.Run.{AreSteps, Step, session_of}
 use Rattle.slab.specs.Slab.{Slab, get}
 use Rattle.station_hub.specs.Going.{AreRecorders, OnlyRecords, left_by}
-use Rattle.station_laws.specs.Passing.{session_in}
+use Rattle.station.specs.Passing.{session_in}
 use Rattle.station_laws.specs.Written.{AreApart}
 use Rattle.station_laws.proofs.Rising.{rises}
 

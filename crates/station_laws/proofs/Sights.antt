@@ -1,10 +1,10 @@
 -- What a connection sees of each call of its station.
-use Rattle.std.proofs.Common.{◌≡◌, ◌≢◌, ◌⊎◌, ◌<◌, ◌-◌, ◌&&◌, ℕ, zero, suc, Bool, true, false, Option, Some, None, Ok, Err, List, [], ◌∷◌, ◌++◌, take, if◌then◌else◌, refl, sym, ◌∙◌, ap, subst, inl, inr, arith}
+use Rattle.std.proofs.Common.{◌≡◌, ◌≢◌, ◌⊎◌, ◌<◌, ◌-◌, ℕ, zero, suc, Bool, true, false, Option, Some, None, Ok, Err, List, [], ◌∷◌, ◌++◌, take, refl, sym, ◌∙◌, ap, subst, inl, inr, arith}
 use Rattle.std.specs.Prelude.{nat_eq}
 use Rattle.std.proofs.lemmas.Bool.{cond-true}
 use Rattle.std.proofs.lemmas.Bool.Decides.{eqb_tells, leb_tells}
 use Rattle.disk_model.specs.declared.disk.Disk.{Ghosts as DiskModel}
-use Rattle.serve_clients.specs.Client.{ClientState, HasWritten, ended_if, given as given_to, is_hearing, moved_if, with_line, with_stage}
+use Rattle.serve_clients.specs.Client.{ClientState, HasWritten, given as given_to, moved_if, with_line, with_stage}
 use Rattle.serve_clients.specs.Clients.{told_by, unread_by, unwritten_by}
 use Rattle.serve_clients.specs.Line.{taken_off}
 use Rattle.serve_clients.specs.declared.client.Stage.{Stage}
@@ -18,14 +18,14 @@ use Rattle.serve_sources.specs.declared.own.OwnResource.TheVariants.{Live, Playe
 use Rattle.slab.specs.Slab.{Slab, get, slab_len}
 use Rattle.station_hub.specs.Asking.{Listens, stage_after}
 use Rattle.station_hub.specs.Places.{PlacesState}
-use Rattle.station_laws.specs.Asked.{EndsSession, HasLast, IsAnswered, Joins, heard, moved}
+use Rattle.station.specs.Asked.{EndsSession, HasLast, IsAnswered, Joins, heard, moved}
 use Rattle.station_laws.specs.Calling.{Accepted, Aside, Call, Closed, EndedOpen, HasGiven, HasReceived, IsAccepted, IsCall, IsClosed, Looked, Next, NextTurn, PeerEnded, ReadFailed, Received, Stepped, Turned, Woken, WriteFailed, Wrote}
 use Rattle.station.specs.Ending.{is_over}
-use Rattle.station_laws.specs.Passing.{Stays, expects_nothing, is_source, session_in}
+use Rattle.station.specs.Passing.{Stays, expects_nothing, is_source, session_in}
 use Rattle.station.specs.Turning.{IsTurnedAway}
 use Rattle.station_laws.specs.Written.{AreApart}
 use Rattle.station.specs.declared.station.Station.{Station}
-use Rattle.station_laws.proofs.Passed.{all_stay, has_turn, like, looked, stays_session}
+use Rattle.station.specs.PassingLaws.{all_stay, given_session, has_turn, like, looked, stays_session}
 use Rattle.station_laws.proofs.Seen.{Again, Awaited, Connected, Gave, Heard, Answered, Ignored, IsAside, JoinsHere, Kept, Nothing, Offered, Parted, Pulled, Read, Seen, Sees, Shut, Told, WasCut, all_passed, aside_next, aside_received, aside_write_failed, aside_wrote, had, had_own, keyed, keyed_none, keyed_quiet, needs_none, no_session, none_is_some, offered_needs_none, own_key, stays_shown}
 use Rattle.station_laws.proofs.Sides.{Laws, Leaves, leaves_all, leaves_step, leaves_then, one_more_apart, own_step, side_records, still_apart}
 
@@ -99,18 +99,6 @@ empty_or_not (byte ∷ bytes) = inr (λ e. cc)
 of_session : (session : Option ℕ) → (session ≡ None) ⊎ ((id : ℕ) × (session ≡ Some id))
 of_session None = inl refl
 of_session (Some id) = inr (id, refl)
-
-pub given_session : (count now : ℕ) (ending : Bool) (client : ClientState) → (given_to count ending now client).session ≡ client.session
-given_session zero now ending client = ended (is_hearing client.stage && ending)
-  where
-    ended : (b : Bool) → (ended_if b (record client { idle = true })).session ≡ client.session
-    ended true = refl
-    ended false = refl
-given_session (suc count) now ending client = either client.idle
-  where
-    either : (b : Bool) → (if b then record client { idle = false; since = now } else client).session ≡ client.session
-    either true = refl
-    either false = refl
 
 listens_session : (head : Bool) (old new : ClientState) → Listens head old new → (new.session ≡ old.session) × (needs_none new.stage ≡ true)
 listens_session true old new (inl is) = (ap (λ (one : ClientState). one.session) is, ap (λ (one : ClientState). needs_none one.stage) is)

@@ -25,7 +25,7 @@ use Rattle.slab.specs.Slab.{get, slab_len}
 use Rattle.station_hub.specs.Asking.{Listens, headless}
 use Rattle.station_hub.specs.Places.{PlacesState}
 use Rattle.station_hub.specs.Tracking.{IsJoinMoment, IsMomentAt, JoinsAt}
-use Rattle.station_laws.specs.Asked.{HasLast, IsAnswered, heard}
+use Rattle.station.specs.Asked.{HasLast, IsAnswered, heard}
 use Rattle.station_laws.specs.Calling.{Accepted, After, AreCalls, Call, IsAccepted, IsCall, Received, left_by}
 use Rattle.station_laws.specs.Serving.{AsksOwn, AsksSource, AtCall, HasHeardOf, IsServed, IsTextOf}
 use Rattle.station.specs.Turning.{IsTurnedAway}

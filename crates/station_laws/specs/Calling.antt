@@ -16,9 +16,9 @@ use Rattle.slab.specs.Slab.{get, slab_len}
 use Rattle.station_hub.specs.Asking.{stage_after}
 use Rattle.station_hub.specs.Giving.{Gives}
 use Rattle.station_hub.specs.Going.{OnlyRecords}
-use Rattle.station_laws.specs.Asked.{EndsSession, IsAsked}
+use Rattle.station.specs.Asked.{EndsSession, IsAsked}
 use Rattle.station.specs.Ending.{is_over}
-use Rattle.station_laws.specs.Passing.{ArePassed, GoesOnAsSource, IsLike, Stays, expects_nothing, is_source, session_in}
+use Rattle.station.specs.Passing.{ArePassed, GoesOnAsSource, IsLike, Stays, expects_nothing, is_source, session_in}
 use Rattle.station.specs.Turning.{IsTurnedAway}
 use Rattle.station.specs.declared.station.Station.{Station}
 use Rattle.station.specs.declared.station.Unaccepted.{Unaccepted}

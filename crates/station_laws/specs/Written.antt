@@ -8,7 +8,7 @@ use Rattle.serve_machine.specs.Hub.{HubState}
 use Rattle.serve_machine.specs.Own.{AreNumbered}
 use Rattle.serve_responses.specs.Response.{IsResponse}
 use Rattle.slab.specs.Slab.{Slab, get}
-use Rattle.station_laws.specs.Passing.{session_in}
+use Rattle.station.specs.Passing.{session_in}
 use Rattle.station_laws.specs.Calling.{After, Call, Closed, Next, Received, WriteFailed, Wrote}
 use Rattle.station.specs.declared.station.Station.{Station}
 

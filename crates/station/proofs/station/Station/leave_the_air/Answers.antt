@@ -1,14 +1,18 @@
 use Rattle.std.proofs.Common.{◌≡◌, Bool, ◌||◌, Some, sym, ◌∙◌, ap, subst}
 use Rattle.slab.specs.Slab.{get}
 use Rattle.serve_hub.specs.Parts.{failed_in, serials_in}
+use Rattle.serve_hub.specs.Showing.{Shows}
+use Rattle.station_hub.specs.Going.{OnlyRecords}
 use Rattle.station_hub.specs.declared.live_hub.LiveHub.{LiveHub}
 use Rattle.station.specs.Beginning.{BeginsBeside, run_in}
 use Rattle.station.specs.declared.station.Options.{Options}
 use Rattle.station.specs.Parting.{HasParted}
+use Rattle.station.specs.Passing.{ArePassed}
 use Rattle.station_sources.specs.Air.{parting_answer}
 use Rattle.station_sources.specs.declared.air.OnAir.{OnAir}
 use Rattle.station.specs.Succeeding.{IsSucceeded, waits}
 use Rattle.station.proofs.Leaving.{same_air}
+use Rattle.station.proofs.Passed.{all_then}
 use Rattle.station.proofs.Succeeding.{parted_waits, succeeded}
 use Rattle.station.proofs.station.Station.leave_the_air.Goals as goal
 
@@ -26,6 +30,13 @@ returns g c = record {
         subst (λ (b : Bool). HasParted (parting_answer b air) client after) lost
             (subst (λ (one : OnAir). HasParted (parting_answer told one) client after) same parted),
       );
+  records =
+      subst (λ live. OnlyRecords (Shows g.D.Disk) c.args.self.now.live.hub live.hub) (sym (c.offer_again.ensures.live ∙ c.answer_feeder.ensures.live))
+      c.end_open.ensures.records;
+  passed =
+      subst (λ slots. ArePassed slots c.offer_again.new.self.clients.slots) (ap (λ s. s.clients.slots) c.end_open.ensures.rest)
+      (all_then c.end_open.new.self.clients.slots c.answer_feeder.new.self.clients.slots c.offer_again.new.self.clients.slots
+      c.answer_feeder.ensures.passed c.offer_again.ensures.passed);
   succeeded = λ was.
       let before = c.end_open.new.self.clients.slots in
       subst (λ slots. IsSucceeded slots c.offer_again.new.self.clients.slots c.offer_again.new.self.air) (ap (λ s. s.clients.slots) c.end_open.ensures.rest)

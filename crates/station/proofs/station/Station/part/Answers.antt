@@ -1,9 +1,14 @@
-use Rattle.std.proofs.Common.{◌≡◌, ◌⊎◌, ℕ, List, Option, sym, ◌∙◌, ap, subst}
+use denote.Enum.Bare.{sameb}
+use Rattle.serve_clients.specs.contracts.client.Stage.{the_type}
+use Rattle.serve_clients.specs.declared.client.Stage.{Stage}
+use Rattle.std.proofs.Common.{◌≡◌, ◌⊎◌, ℕ, true, false, not, List, Option, refl, sym, ◌∙◌, ap, subst, inl, inr}
 use Rattle.serve_clients.specs.Client.{ClientState, cut, told, with_stage}
-use Rattle.serve_clients.specs.declared.client.Stage.TheVariants.{Ending}
+use Rattle.serve_clients.specs.declared.client.Stage.TheVariants.{Asking, Offering, Waiting, Feeding, Reading, Sending, Hearing, Ending, Closing, Cut}
 use Rattle.serve_sources.specs.declared.outcome.Outcome.{Outcome}
 use Rattle.station.specs.Parting.{HasParted}
 use Rattle.station.specs.Found.{placed, same_client}
+use Rattle.station.specs.Passing.{GoesOnAsSource, has_offered, is_source}
+use Rattle.station.proofs.Passed.{placed_passed}
 use Rattle.station.proofs.station.Station.part.Goals as goal
 
 pub returns-in-Some-answer-clause-parts : goal.returns-in-Some-answer-clause-parts
@@ -25,3 +30,34 @@ returns-in-None-clause-parts g c client is feeding =
       subst (λ (answer : Option Outcome). HasParted answer client c.go_to.new.self) (sym c.in-None.is)
           (c.go_to.ensures ∙ ap (with_stage Ending) same),
     )
+
+feeding : (stage : Stage) → false ≡ not (sameb the_type stage Feeding) → is_source stage ≡ true
+feeding Offering e = refl
+feeding Waiting e = refl
+feeding Feeding e = refl
+feeding Asking e = cc
+feeding Reading e = cc
+feeding Sending e = cc
+feeding Hearing e = cc
+feeding Ending e = cc
+feeding Closing e = cc
+feeding Cut e = cc
+
+last : (text : List ℕ) (old new : ClientState) → (new ≡ with_stage Ending (told text old)) ⊎ (new ≡ cut old) → GoesOnAsSource old new
+last text old new (inl is) = (ap (λ (one : ClientState). has_offered one.stage) is, ap (λ (one : ClientState). one.session) is)
+last text old new (inr is) = (ap (λ (one : ClientState). has_offered one.stage) is, ap (λ (one : ClientState). one.session) is)
+
+pub returns-in-Some-answer-clause-passed : goal.returns-in-Some-answer-clause-passed
+returns-in-Some-answer-clause-passed g c =
+    let old = c.in-Some.client.now in
+    let source : is_source old.stage ≡ true =
+    sym (ap (λ (one : ClientState). is_source one.stage) c.client.view_is) ∙ feeding c.client.inside.stage c.if-ne.ensures in
+    placed_passed c.args.self.now.clients.slots c.args.key old c.tell_last.new.self (sym c.in-Some.ensures.value) (inr (source, last _ old c.tell_last.new.self c.tell_last.ensures))
+
+pub returns-in-None-clause-passed : goal.returns-in-None-clause-passed
+returns-in-None-clause-passed g c =
+    let old = c.in-Some.client.now in
+    let source : is_source old.stage ≡ true =
+    sym (ap (λ (one : ClientState). is_source one.stage) c.client.view_is) ∙ feeding c.client.inside.stage c.if-ne.ensures in
+    placed_passed c.args.self.now.clients.slots c.args.key old c.go_to.new.self (sym c.in-Some.ensures.value)
+    (inr (source, (ap (λ (one : ClientState). has_offered one.stage) c.go_to.ensures, ap (λ (one : ClientState). one.session) c.go_to.ensures)))

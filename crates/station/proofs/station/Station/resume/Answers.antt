@@ -5,6 +5,8 @@ use Rattle.serve_hub.specs.Running.{Answers}
 use Rattle.station_sources.specs.Beginning.{GoesOnIn}
 use Rattle.station.proofs.Leaving.{lost_answer, resumed, same_air}
 use Rattle.station_sources.specs.declared.air.OnAir.{OnAir}
+use Rattle.serve_hub.specs.Showing.{Shows}
+use Rattle.station.proofs.Recorded.{goes_on, ran}
 use Rattle.station.proofs.station.Station.resume.Goals as goal
 
 pub returns-in-Err-clause-parts : goal.returns-in-Err-clause-parts
@@ -46,3 +48,14 @@ returns-in-Ok-resumed-clause-resumes g c air before is is_in done =
       };
       reached = reached;
     }
+
+pub returns-in-Ok-resumed-clause-records : goal.returns-in-Ok-resumed-clause-records
+returns-in-Ok-resumed-clause-records g c =
+    ran g.D.Disk c.args.self.now.live.hub c.run_all-resumed.new.runner.hub c.as_slice.result.now c.run_all-resumed.result _ _
+    c.run_all-resumed.ensures.ok c.run_all-resumed.ensures.err
+
+pub returns-in-Err-resumed-clause-records : goal.returns-in-Err-resumed-clause-records
+returns-in-Err-resumed-clause-records g c =
+    goes_on (Shows g.D.Disk) c.args.self.now.live.hub c.run_all-resumed.new.runner.hub c.leave_the_air-in-Err-resumed.new.self.live.hub
+    (ran g.D.Disk c.args.self.now.live.hub c.run_all-resumed.new.runner.hub c.as_slice.result.now c.run_all-resumed.result _ _
+    c.run_all-resumed.ensures.ok c.run_all-resumed.ensures.err) c.leave_the_air-in-Err-resumed.ensures.records

@@ -3,9 +3,13 @@ use Rattle.serve_clients.specs.declared.clients.Clients.{Clients}
 use Rattle.station_hub.specs.declared.live_hub.LiveHub.{LiveHub}
 use Rattle.station_sources.specs.declared.air.OnAir.{OnAir}
 use Rattle.serve_hub.specs.Parts.{serials_in}
+use Rattle.serve_hub.specs.Showing.{Shows}
+use Rattle.station_hub.specs.Going.{OnlyRecords}
 use Rattle.station.specs.Beginning.{run_in}
+use Rattle.station.specs.Passing.{ArePassed}
 use Rattle.station.specs.Stepping.{BeginsBy, GoesOnWithLoss, IsSucceededBy, TakesFromSource}
 use Rattle.station.specs.Succeeding.{HaveTurns}
+use Rattle.station.proofs.Passed.{all_then}
 use Rattle.station.proofs.Succeeding.{still_by, turns_then}
 use Rattle.station.proofs.station.Station.step.Given.{Over}
 use Rattle.station.proofs.station.Station.step.Goals as goal
@@ -61,3 +65,16 @@ returns-clause-succeeded g c =
     c.wake_feeder.ensures.turns in
     still_by done old after.slots new.clients.slots new.air turns
     (subst (IsSucceededBy done old after.slots) (sym (air_is g c)) c.step_once-done.ensures.succeeded)
+
+pub returns-clause-records : goal.returns-clause-records
+returns-clause-records g c =
+    subst (λ (live : LiveHub _). OnlyRecords (Shows g.D.Disk) c.args.self.now.live.hub live.hub) (sym (live_is g c)) c.step_once-done.ensures.records
+
+pub returns-clause-passed : goal.returns-clause-passed
+returns-clause-passed g c =
+    let old = c.args.self.now.clients.slots in
+    let mid = c.step_once-done.new.self.clients in
+    all_then old mid.slots c.wake_feeder.new.self.clients.slots c.step_once-done.ensures.passed
+    (all_then mid.slots c.wake_listeners.new.self.clients.slots c.wake_feeder.new.self.clients.slots
+    (subst (λ (clients : Clients). ArePassed clients.slots c.wake_listeners.new.self.clients.slots) (clients_are g c) c.wake_listeners.ensures.passed)
+    c.wake_feeder.ensures.passed)

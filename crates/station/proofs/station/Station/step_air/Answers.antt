@@ -9,6 +9,8 @@ use Rattle.station_sources.specs.declared.air.OnAir.{OnAir}
 use Rattle.station_sources.specs.declared.air.Took.{Took}
 use Rattle.station.specs.Parting.{HasParted}
 use Rattle.station.proofs.Leaving.{lost_answer, same_air, same_answer}
+use Rattle.serve_hub.specs.Showing.{Shows}
+use Rattle.station.proofs.Recorded.{goes_on, took as took_led}
 use Rattle.station.proofs.station.Station.step_air.Goals as goal
 
 abbrev took : Took → Result Took RecordFault
@@ -72,3 +74,32 @@ returns-in-Err-clause-parts g c air is key client feeder found feeding =
     let stays = c.in-Err.ensures.err in
     let (after, left, parted) = c.leave_the_air-in-Err.ensures.parts new refl key client (stays.0 ∙ ap (λ (one : OnAir). one.feeder) same ∙ feeder) found feeding in
     (after, left, lost_answer new air client after (stays.1 ∙ ap (λ (one : OnAir). one.body) same) parted)
+
+pub returns-in-Ok-Nothing-clause-records : goal.returns-in-Ok-Nothing-clause-records
+returns-in-Ok-Nothing-clause-records g c =
+    took_led g.D.Disk c.args.self.now.live c.step.new.runner c.in-Some.air c.step.new.self _ c.step.result c.step.ensures.steps c.step.ensures.ends
+    (λ e. (c.step.ensures.bytes e).0) (λ e. (c.step.ensures.nothing e).0) c.step.ensures.stops
+
+pub returns-in-Ok-Bytes-clause-records : goal.returns-in-Ok-Bytes-clause-records
+returns-in-Ok-Bytes-clause-records g c =
+    took_led g.D.Disk c.args.self.now.live c.step.new.runner c.in-Some.air c.step.new.self _ c.step.result c.step.ensures.steps c.step.ensures.ends
+    (λ e. (c.step.ensures.bytes e).0) (λ e. (c.step.ensures.nothing e).0) c.step.ensures.stops
+
+pub returns-in-Ok-Stepped-clause-records : goal.returns-in-Ok-Stepped-clause-records
+returns-in-Ok-Stepped-clause-records g c =
+    took_led g.D.Disk c.args.self.now.live c.step.new.runner c.in-Some.air c.step.new.self _ c.step.result c.step.ensures.steps c.step.ensures.ends
+    (λ e. (c.step.ensures.bytes e).0) (λ e. (c.step.ensures.nothing e).0) c.step.ensures.stops
+
+pub returns-in-Ok-Ended-clause-records : goal.returns-in-Ok-Ended-clause-records
+returns-in-Ok-Ended-clause-records g c =
+    goes_on (Shows g.D.Disk) c.args.self.now.live.hub c.step.new.runner.hub c.leave_the_air.new.self.live.hub
+    (took_led g.D.Disk c.args.self.now.live c.step.new.runner c.in-Some.air c.step.new.self _ c.step.result c.step.ensures.steps c.step.ensures.ends
+    (λ e. (c.step.ensures.bytes e).0) (λ e. (c.step.ensures.nothing e).0) c.step.ensures.stops)
+    c.leave_the_air.ensures.records
+
+pub returns-in-Err-clause-records : goal.returns-in-Err-clause-records
+returns-in-Err-clause-records g c =
+    goes_on (Shows g.D.Disk) c.args.self.now.live.hub c.step.new.runner.hub c.leave_the_air-in-Err.new.self.live.hub
+    (took_led g.D.Disk c.args.self.now.live c.step.new.runner c.in-Some.air c.step.new.self _ c.step.result c.step.ensures.steps c.step.ensures.ends
+    (λ e. (c.step.ensures.bytes e).0) (λ e. (c.step.ensures.nothing e).0) c.step.ensures.stops)
+    c.leave_the_air-in-Err.ensures.records

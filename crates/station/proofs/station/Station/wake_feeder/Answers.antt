@@ -1,5 +1,6 @@
 use Rattle.std.proofs.Common.{◌≡◌, true, false, sym, ◌∙◌}
 use Rattle.station.proofs.Succeeding.{woken_one}
+use Rattle.station.proofs.Passed.{woken_one as woken_one_passed}
 use Rattle.station.proofs.station.Station.wake_feeder.Goals as goal
 
 false_true : false ≡ true → ⊥
@@ -8,4 +9,9 @@ false_true e = cc
 pub returns-then-reads-clause-turns : goal.returns-then-reads-clause-turns
 returns-then-reads-clause-turns g c =
     woken_one c.args.self.now.clients c.wake.new.self.clients c.in-Some-Peer.key (λ none. false_true (sym (c.reads.ensures.none none) ∙ c.if-reads.true))
+    c.wake.ensures.turn c.wake.ensures.others
+
+pub returns-then-reads-clause-passed : goal.returns-then-reads-clause-passed
+returns-then-reads-clause-passed g c =
+    woken_one_passed c.args.self.now.clients c.wake.new.self.clients c.in-Some-Peer.key (λ none. false_true (sym (c.reads.ensures.none none) ∙ c.if-reads.true))
     c.wake.ensures.turn c.wake.ensures.others

@@ -54,6 +54,12 @@ OffersOn None new = new ≡ None
 OffersOn (Some old) None = ⊥
 OffersOn (Some old) (Some new) = is_source old.stage ≡ true → GoesOnAsSource old new
 
+-- the same, whatever it was before
+abbrev pub OffersNow : Option ClientState → Option ClientState → Type 0
+OffersNow None new = new ≡ None
+OffersNow (Some old) None = ⊥
+OffersNow (Some old) (Some new) = GoesOnAsSource old new
+
 -- a call that isn't for it leaves it as it was, or cuts it; a source goes on
 abbrev pub IsPassed : Option ClientState → Option ClientState → Type 0
 IsPassed None new = new ≡ None

@@ -1,41 +1,25 @@
 -- What calls leave of connections that they aren't for.
-use Rattle.std.proofs.Common.{◌≡◌, ◌≢◌, ◌⊎◌, ℕ, Bool, true, false, if◌then◌else◌, Option, Some, None, refl, sym, ◌∙◌, ap, subst, inl, inr}
+use Rattle.std.proofs.Common.{◌≡◌, ◌≢◌, ◌⊎◌, ℕ, true, false, Option, Some, None, refl, sym, ◌∙◌, ap, subst, inl, inr}
 use Rattle.std.proofs.lemmas.Bool.{cases_Bool}
 use Rattle.std.proofs.lemmas.Bool.Decides.{eqb_tells}
 use Rattle.std.proofs.lemmas.List.{get_or-set_other}
-use Rattle.serve_clients.specs.Client.{ClientState, cut, is_hearing}
-use Rattle.serve_clients.specs.Clients.{AreLookedAt, AreWoken, HasTurn, MayHaveTurn, OthersStay, told_by, with_turn}
-use Rattle.serve_clients.specs.Patience.{is_overdue, looked_at}
+use Rattle.serve_clients.specs.Client.{ClientState, after_of, cut, is_hearing, with_line, with_stage}
+use Rattle.serve_clients.specs.Clients.{AreWoken, HasTurn, OthersStay, told_by, turned_in}
+use Rattle.serve_clients.specs.declared.client.After.{After}
+use Rattle.serve_clients.specs.declared.client.After.TheVariants.{Goes, Shuts, Closes}
+use Rattle.serve_clients.specs.declared.line.Line.{Line}
 use Rattle.serve_clients.specs.declared.client.Stage.{Stage}
 use Rattle.serve_clients.specs.declared.client.Stage.TheVariants.{Asking, Offering, Waiting, Feeding, Reading, Sending, Hearing, Ending, Closing, Cut}
 use Rattle.serve_clients.specs.declared.clients.Clients.{Clients}
 use Rattle.serve_sources.specs.declared.outcome.Outcome.{Outcome}
 use Rattle.slab.specs.Slab.{Slab, get, with_value}
 use Rattle.station.specs.Parting.{HasParted}
-use Rattle.station_laws.specs.Passing.{ArePassed, GoesOnAsSource, IsLike, IsPassed, OffersOn, Stays, has_offered, is_source}
+use Rattle.station.specs.Passing.{ArePassed, GoesOnAsSource, IsLike, IsPassed, OffersNow, OffersOn, Stays, has_offered, is_source}
+use Rattle.station.specs.PassingLaws.{has_turn, like, may_have, passed_self, stays_then}
 use Rattle.station.specs.Found.{placed}
 use Rattle.station.specs.Succeeding.{is_waiting, waits}
 
--- ---- one connection
-pub like : (client : ClientState) → IsLike client client
-like client = (refl, refl, refl, refl, refl)
-
-pub like_then : (old mid new : ClientState) → IsLike old mid → IsLike mid new → IsLike old new
-like_then old mid new a b = (b.0 ∙ a.0, b.1 ∙ a.1, b.2 ∙ a.2, b.3 ∙ a.3, b.4 ∙ a.4)
-
-cut_then : (old mid new : ClientState) → IsLike (cut old) mid → Stays mid new → IsLike (cut old) new
-cut_then old mid new a (inl b) = like_then (cut old) mid new a b
-cut_then old mid new a (inr b) = (b.0, b.1 ∙ a.1, b.2 ∙ a.2, b.3 ∙ a.3, b.4 ∙ a.4)
-
-pub stays_then : (old mid new : ClientState) → Stays old mid → Stays mid new → Stays old new
-stays_then old mid new (inl a) (inl b) = inl (like_then old mid new a b)
-stays_then old mid new (inl a) (inr b) = inr (b.0, b.1 ∙ a.1, b.2 ∙ a.2, b.3 ∙ a.3, b.4 ∙ a.4)
-stays_then old mid new (inr a) b = inr (cut_then old mid new a b)
-
-pub stays_session : (old new : ClientState) → Stays old new → new.session ≡ old.session
-stays_session old new (inl is) = is.1
-stays_session old new (inr is) = is.1
-
+-- ---- sources
 source_offered : (stage : Stage) → is_source stage ≡ true → has_offered stage ≡ true
 source_offered Offering e = refl
 source_offered Waiting e = refl
@@ -75,10 +59,6 @@ passed_then (Some old) None new a b = absurd a
 passed_then (Some old) (Some mid) None a b = absurd b
 passed_then (Some old) (Some mid) (Some new) a b = passes_then old mid new a b
 
-pub passed_self : (found : Option ClientState) → IsPassed found found
-passed_self None = refl
-passed_self (Some client) = inl (inl (like client))
-
 pub passed_to : (old new : Slab ClientState) (key : ℕ) (one other : Option ClientState) → get old key ≡ one → get new key ≡ other → IsPassed one other
     → IsPassed (get old key) (get new key)
 passed_to old new key one other is becomes passed =
@@ -90,9 +70,6 @@ offered_to old new key one other is becomes offers =
     subst (λ (found : Option ClientState). OffersOn found (get new key)) (sym is) (subst (OffersOn one) (sym becomes) offers)
 
 -- ---- all of them
-pub all_stay : (old new : Slab ClientState) → ((key : ℕ) → get new key ≡ get old key) → ArePassed old new
-all_stay old new same key = subst (IsPassed (get old key)) (sym (same key)) (passed_self (get old key))
-
 pub all_then : (old mid new : Slab ClientState) → ArePassed old mid → ArePassed mid new → ArePassed old new
 all_then old mid new a b key = passed_then (get old key) (get mid key) (get new key) (a key) (b key)
 
@@ -127,19 +104,6 @@ offers_if (Some old) None e offers = offers
 offers_if (Some old) (Some new) e offers = let source = waiting old.stage e in inr (source, offers source)
 
 -- ---- turns
-turned : (client : ClientState) → IsLike client (with_turn client)
-turned client = (refl, refl, refl, refl, refl)
-
-pub has_turn : (key : ℕ) (client : ClientState) (old new : Clients) → HasTurn key client old new
-    → (after : ClientState) × (get new.slots key ≡ Some after) × IsLike client after
-has_turn key client old new (inl (queued, is, turns)) = (client, is, like client)
-has_turn key client old new (inr (inl (queued, is, turns))) = (with_turn client, is, turned client)
-has_turn key client old new (inr (inr (queued, is, turns, full))) = (client, is, like client)
-
-pub may_have : (client : ClientState) (found : Option ClientState) → MayHaveTurn client found → (after : ClientState) × (found ≡ Some after) × IsLike client after
-may_have client found (inl is) = (with_turn client, is, turned client)
-may_have client found (inr is) = (client, is, like client)
-
 woken_at : (old new : Clients) (key : ℕ) (found : Option ClientState) → AreWoken old new → get old.slots key ≡ found → IsPassed found (get new.slots key)
 woken_at old new key None are is = are.none key is
 woken_at old new key (Some client) are is = elim (cases_Bool (is_hearing client.stage)) [
@@ -151,20 +115,6 @@ woken_at old new key (Some client) are is = elim (cases_Bool (is_hearing client.
 
 pub woken : (old new : Clients) → AreWoken old new → ArePassed old.slots new.slots
 woken old new are key = woken_at old new key (get old.slots key) are refl
-
-if_looked : (overdue : Bool) (client after : ClientState) → IsLike (if overdue then cut client else client) after → Stays client after
-if_looked true client after is = inr is
-if_looked false client after is = inl is
-
-looked_at_one : (now : ℕ) (old new : Clients) (key : ℕ) (found : Option ClientState) → AreLookedAt now old new → get old.slots key ≡ found
-    → IsPassed found (get new.slots key)
-looked_at_one now old new key None are is = are.none key is
-looked_at_one now old new key (Some client) are is =
-    let (after, becomes, same) = may_have (looked_at client now) (get new.slots key) (are.without key client is) in
-    subst (IsPassed (Some client)) (sym becomes) (inl (if_looked (is_overdue client now) client after same))
-
-pub looked : (now : ℕ) (old new : Clients) → AreLookedAt now old new → ArePassed old.slots new.slots
-looked now old new are key = looked_at_one now old new key (get old.slots key) are refl
 
 one_turn : (old new : Clients) (key : ℕ) (found : Option ClientState) → get old.slots key ≡ found → found ≢ None
     → ((client : ClientState) → get old.slots key ≡ Some client → HasTurn key (told_by false false client) old new)
@@ -185,3 +135,53 @@ pub placed_passed : (slots : Slab ClientState) (key : ℕ) (old new : ClientStat
 placed_passed slots key old new is passed =
     one_passed slots (with_value slots key new) key (λ other apart. get_or-set_other slots.slots key other (Some new) None apart)
     (passed_to slots (with_value slots key new) key (Some old) (Some new) is (placed slots key old new is) passed)
+
+-- ---- calls for one connection
+pub line_like : (old new : ClientState) (line : Line) → new ≡ with_line line old → IsLike old new
+line_like old new line is = (
+  ap (λ (one : ClientState). one.stage) is,
+  ap (λ (one : ClientState). one.session) is,
+  ap (λ (one : ClientState). one.head) is,
+  ap (λ (one : ClientState). one.unsent) is,
+  ap (λ (one : ClientState). one.listener) is,
+)
+
+pub line_cut : (old mid new : ClientState) (line : Line) → mid ≡ with_line line old → new ≡ with_stage Cut mid → IsLike (cut old) new
+line_cut old mid new line is cuts = (
+  ap (λ (one : ClientState). one.stage) cuts,
+  ap (λ (one : ClientState). one.session) cuts ∙ ap (λ (one : ClientState). one.session) is,
+  ap (λ (one : ClientState). one.head) cuts ∙ ap (λ (one : ClientState). one.head) is,
+  ap (λ (one : ClientState). one.unsent) cuts ∙ ap (λ (one : ClientState). one.unsent) is,
+  ap (λ (one : ClientState). one.listener) cuts ∙ ap (λ (one : ClientState). one.listener) is,
+)
+
+pub turned_like : (client after : ClientState) (now : ℕ) (kind : After) → after_of client ≡ kind → IsLike (turned_in kind now client) after
+    → IsLike client after ⊎ ((after_of client ≡ Shuts) × IsLike (with_stage Closing client) after)
+turned_like client after now Shuts is same = inr (is, same)
+turned_like client after now Goes is same = inl same
+turned_like client after now Closes is same = inl same
+
+-- ---- a source that is offered
+some_is_none : (client : ClientState) → Some client ≡ None → ⊥
+some_is_none client e = cc
+
+-- what came of its head changes neither how far it has come nor its session
+pub offers_same : (slots : Slab ClientState) (key : ℕ) (old other : ClientState) (new : Option ClientState) → get slots key ≡ Some old → other.stage ≡ old.stage
+    → other.session ≡ old.session → OffersOn (get (with_value slots key other) key) new → OffersOn (get slots key) new
+offers_same slots key old other new is stage session offers =
+    subst (λ (found : Option ClientState). OffersOn found new) (sym is)
+    (same_offer old other new stage session (subst (λ (found : Option ClientState). OffersOn found new) (placed slots key old other is) offers))
+  where
+    same_offer : (one two : ClientState) (found : Option ClientState) → two.stage ≡ one.stage → two.session ≡ one.session → OffersOn (Some two) found
+        → OffersOn (Some one) found
+    same_offer one two None stages sessions offer = offer
+    same_offer one two (Some after) stages sessions offer = λ source.
+        let goes = offer (ap is_source stages ∙ source) in
+        (goes.0, goes.1 ∙ sessions)
+
+pub offers_now : (old mid new : Option ClientState) → OffersOn old mid → OffersNow mid new → OffersOn old new
+offers_now None None new offers now = now
+offers_now None (Some mid) new offers now = absurd (some_is_none mid offers)
+offers_now (Some old) None new offers now = absurd offers
+offers_now (Some old) (Some mid) None offers now = absurd now
+offers_now (Some old) (Some mid) (Some new) offers now = λ source. (now.0, now.1 ∙ (offers source).1)

@@ -23,7 +23,7 @@ use Rattle.station_hub.specs.Asking.{IsConnected, Listens}
 use Rattle.station_hub.specs.Marking.{Start}
 use Rattle.station_hub.specs.Places.{PlacesState}
 use Rattle.station_hub.specs.Tracking.{JoinsAt, Tracks}
-use Rattle.station_laws.specs.Passing.{GoesOnAsSource}
+use Rattle.station.specs.Passing.{GoesOnAsSource}
 
 -- ---- bytes that come of a head
 abbrev pub moved : ClientState → ClientState
