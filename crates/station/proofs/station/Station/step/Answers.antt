@@ -51,7 +51,9 @@ returns-clause-takes g c air is =
     (c.step_once-done.ensures.takes air is))
 
 pub returns-clause-noted : goal.returns-clause-noted
-returns-clause-noted g c air is told = subst (GoesOnWithLoss air) (sym (air_is g c)) (c.step_once-done.ensures.noted air is told)
+returns-clause-noted g c air is told =
+    let noted = c.step_once-done.ensures.noted air is told in
+    subst (GoesOnWithLoss air) (sym (air_is g c)) noted
 
 pub returns-clause-succeeded : goal.returns-clause-succeeded
 returns-clause-succeeded g c =
