@@ -70,7 +70,8 @@ returns-clause-succeeded g c =
 
 pub returns-clause-records : goal.returns-clause-records
 returns-clause-records g c =
-    subst (λ (live : LiveHub _). OnlyRecords (Shows g.D.Disk) c.args.self.now.live.hub live.hub) (sym (live_is g c)) c.step_once-done.ensures.records
+    let records = c.step_once-done.ensures.records in
+    subst (λ (live : LiveHub _). OnlyRecords (Shows g.D.Disk) c.args.self.now.live.hub live.hub) (sym (live_is g c)) records
 
 pub returns-clause-passed : goal.returns-clause-passed
 returns-clause-passed g c =
