@@ -5,8 +5,7 @@ ghost use Rattle.ogg_page.specs.Sizes.{most_values};
 ghost use Rattle.import_mend.specs.Mended.{behind_rest, last_page, mended};
 
 use crate::cutting::{front_values, whole_values};
-use import_pages::size_of_values;
-use ogg_page::{CONTINUED, LAST, Memory, Page, PageHead, split_known_page, write_page};
+use ogg_page::{CONTINUED, LAST, Memory, Page, PageHead, body_size, split_known_page, write_page};
 
 /// Lacing values, and the bytes that they stand for.
 #[derive(Clone, Copy)]
@@ -47,7 +46,7 @@ fn behind_values<'a>(lacing: &'a [u8], body: &'a [u8], count: usize) -> Part<'a>
     let (front, others) = lacing.split_at(count);
     Part {
         lacing: others,
-        body: body.split_at(size_of_values(front)).1,
+        body: body.split_at(body_size(front)).1,
     }
 }
 
@@ -64,7 +63,7 @@ fn first_values<'a>(lacing: &'a [u8], body: &'a [u8], count: usize) -> Part<'a>
     let (front, _) = lacing.split_at(count);
     Part {
         lacing: front,
-        body: body.split_at(size_of_values(front)).0,
+        body: body.split_at(body_size(front)).0,
     }
 }
 

@@ -1,11 +1,10 @@
 //! The page at the front of bytes.
-ghost use Rattle.std.specs.Prelude.{◌≡◌, ◌≢◌, MatchResult, Ok, Err, true, false, ◌≤◌, ◌*◌, length, sum};
+ghost use Rattle.std.specs.Prelude.{◌≡◌, ◌≢◌, MatchResult, Ok, Err, true, false};
 ghost use Rattle.ogg_page.specs.Page.{AreBytes};
 ghost use Rattle.ogg_page.specs.Reading.{page_at, fields_at};
 ghost use Rattle.ogg_page.specs.Room.{BeginsWithPage};
-ghost use Rattle.ogg_page.specs.Sizes.{full_value, most_values};
 
-use ogg_page::{FIXED_SIZE, Page, PageFault, read_page, split_known_page};
+use ogg_page::{FIXED_SIZE, Page, PageFault, read_header, read_page, split_known_page};
 
 /// The size of the page at the front. The checksum is computed only if the whole page is there.
 pub(crate) fn size_in_front(bytes: &[u8]) -> Result<usize, PageFault>
@@ -38,35 +37,12 @@ pub(crate) fn is_short(fault: PageFault) -> bool
 }
 
 /// Whether the bytes could be the beginning of a page, and end before it does. No checksum is computed.
-#[tactic(auto, unfolding(ogg_page::specs::Reading::page_at))]
 pub(crate) fn wants_more(bytes: &[u8]) -> bool
     ensures yes { result ≡ true → page_at bytes.now ≡ Err PageFault.Short }
     ensures no { result ≡ false → page_at bytes.now ≢ Err PageFault.Short }
 {
-    if bytes.len() < FIXED_SIZE {
-        return true;
+    match read_header(bytes) {
+        Ok(header) => bytes.len() < FIXED_SIZE + header.values + header.body,
+        Err(fault) => is_short(fault),
     }
-    if !bytes.starts_with(b"OggS") || bytes[4] != 0 {
-        return false;
-    }
-    let (_, behind) = bytes.split_at(FIXED_SIZE);
-    let count = usize::from(bytes[26]);
-    if behind.len() < count {
-        return true;
-    }
-    let (lacing, body) = behind.split_at(count);
-    body.len() < size_of_values(lacing)
-}
-
-/// How many bytes the lacing values stand for. There are at most 255.
-pub fn size_of_values(lacing: &[u8]) -> usize
-    requires { length lacing.now ≤ most_values }
-    ensures value { result ≡ sum lacing.now }
-    ensures bound { result ≤ full_value * length lacing.now }
-{
-    let mut size = 0;
-    for value in lacing {
-        size += usize::from(*value);
-    }
-    size
 }

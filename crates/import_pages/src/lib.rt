@@ -15,7 +15,6 @@ mod laws;
 mod reader;
 
 pub use fault::PageReaderFault;
-pub use front::size_of_values;
 pub use laws::{definite_faults_stay, pages_of_any_reads_are_those_found};
 pub use ogg_page::Memory;
 pub use reader::PageReader;

@@ -7,4 +7,5 @@ pub mod Sight
 pub mod Walk
 pub mod Found
 pub mod HeadBytes
+pub mod Headers
 pub mod Halves

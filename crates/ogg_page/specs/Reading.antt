@@ -4,6 +4,8 @@ use Rattle.std.specs.List.{starts_with}
 use Rattle.byteorder.specs.Endian.{little_number}
 use Rattle.page_checksum.specs.Checksum.{checksum_of}
 use Rattle.ogg_page.specs.Page.{Page}
+use Rattle.ogg_page.specs.declared.head.PageHead.{PageHead}
+use Rattle.ogg_page.specs.declared.head.PageHeader.{PageHeader}
 use Rattle.ogg_page.specs.declared.fault.PageFault.{PageFault}
 use Rattle.ogg_page.specs.declared.fault.PageFault.TheVariants.{Short, Pattern, Version, Checksum}
 use Rattle.ogg_page.specs.Sizes.{fixed_size}
@@ -30,6 +32,30 @@ fields_at bytes =
       lacing = lacing_at bytes;
       body = take (sum (lacing_at bytes)) (behind_lacing bytes);
     }
+
+-- the numbers at their places that the page's writer chose
+abbrev pub head_at : List ℕ → PageHead
+head_at bytes =
+    record {
+      flags = slice_index bytes 5;
+      position = little_number 8 (drop 6 bytes);
+      serial = little_number 4 (drop 14 bytes);
+      sequence = little_number 4 (drop 18 bytes);
+    }
+
+-- the header in front, whose body needn't be there, or the first fault in this order
+unfoldable pub header_at : List ℕ → Result PageHeader PageFault
+header_at bytes =
+    if nat_lt (length bytes) fixed_size then Err Short
+    else (if not (starts_with nat_eq bytes (codes "OggS")) then Err Pattern
+    else (if not (nat_eq (slice_index bytes 4) 0) then Err Version
+    else (if nat_lt (length bytes) (fixed_size + slice_index bytes 26) then Err Short
+    else Ok (record {
+      head = head_at bytes;
+      checksum = little_number 4 (drop 22 bytes);
+      values = slice_index bytes 26;
+      body = sum (lacing_at bytes);
+    }))))
 
 -- a page's bytes with zeros in the checksum's place
 abbrev pub blanked : List ℕ → List ℕ

@@ -5,6 +5,10 @@ use Rattle.std.specs.Prelude.{ℕ, ◌+◌, ◌-◌, ◌*◌}
 abbrev pub fixed_size : ℕ
 fixed_size = 27
 
+-- the number of bytes up to the end of the checksum
+abbrev pub checksum_end : ℕ
+checksum_end = 26
+
 -- the greatest number of lacing values of a page
 abbrev pub most_values : ℕ
 most_values = 255

@@ -21,3 +21,16 @@ pub struct PageHead {
     /// The page's number within its stream.
     pub sequence: u32,
 }
+
+/// What a page's header says: its fixed part, and how long the parts behind that are (RFC 3533, section 6).
+#[derive(Clone, Copy, Debug, PartialEq, Eq)]
+pub struct PageHeader {
+    /// The numbers that the page's writer chose.
+    pub head: PageHead,
+    /// The checksum that stands there. Whether it is the page's isn't known.
+    pub checksum: u32,
+    /// How many lacing values there are, each of a byte.
+    pub values: usize,
+    /// How many bytes the lacing values stand for: the length of the body.
+    pub body: usize,
+}

@@ -2,8 +2,8 @@
 ghost use Rattle.std.specs.Prelude.{◌≡◌, ◌≤◌, ◌*◌, length, sum};
 ghost use Rattle.ogg_page.specs.Sizes.{most_values, full_value};
 
-/// How many bytes the lacing values stand for.
-pub(crate) fn body_size(lacing: &[u8]) -> usize
+/// How many bytes the lacing values of a page stand for (RFC 3533, section 5). There are at most 255.
+pub fn body_size(lacing: &[u8]) -> usize
     requires { length lacing.now ≤ most_values }
     ensures value { result ≡ sum lacing.now }
     ensures bound { result ≤ full_value * length lacing.now }

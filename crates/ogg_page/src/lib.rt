@@ -37,7 +37,8 @@ mod writing;
 
 pub use buffer::PageBuffer;
 pub use fault::{PageFault, SourceFault, WindowFault, WriteFault};
-pub use head::{CONTINUED, FIRST, LAST, PageHead};
+pub use head::{CONTINUED, FIRST, LAST, PageHead, PageHeader};
+pub use lacing::body_size;
 pub use laws::{
     lent_pages_are_those_found, longest_prefix_of_pages_is_unique, page_bytes_are_prefix_free,
     page_shows_in_its_front, pages_are_found_in_turn, pages_are_the_longest_prefix,
@@ -48,10 +49,10 @@ pub use output::{write_counted, write_whole};
 pub use page::Page;
 pub use page_checksum::{checksum, checksum_on};
 pub use pages::Pages;
-pub use reading::{read_page, split_known_page, split_page};
-pub use sizes::{FIXED_SIZE, FULL_VALUE, LONGEST_PAGE, MOST_VALUES, SEGMENT};
+pub use reading::{read_header, read_page, split_known_page, split_page};
+pub use sizes::{FIXED_SIZE, FULL_VALUE, LONGEST_PAGE, MOST_VALUES, SEGMENT, SEQUENCE_END};
 pub use source::{PageSource, Whole};
 pub use std::alloc::AllocError as Memory;
 pub use visiting::{PageVisitor, Visit, walk};
 pub use window::Window;
-pub use writing::{close_page, open_page, write_page};
+pub use writing::{close_page, open_page, put_sequence, write_page};

@@ -1,14 +1,15 @@
 //! Pages from bytes.
-ghost use Rattle.std.specs.Prelude.{◌≡◌, ◌≤◌, ◌+◌, ◌++◌, length, drop, IfOk, IsOk, MatchResult, Ok, Err, List, ℕ};
+ghost use Rattle.std.specs.Prelude.{◌≡◌, ◌≤◌, ◌+◌, ◌*◌, ◌++◌, length, take, drop, IfOk, IfErr, IsOk, MatchResult, Ok, Err, List, ℕ};
 ghost use Rattle.byteorder.specs.Endian.{little_number};
 ghost use Rattle.ogg_page.specs.Page.{Page as PageValue, IsPage, AreBytes, page_bytes, page_size};
-ghost use Rattle.ogg_page.specs.Reading.{page_at, fields_at, size_at, blanked, IsPageOf};
+ghost use Rattle.ogg_page.specs.Reading.{page_at, header_at, head_at, fields_at, size_at, blanked, IsPageOf};
+ghost use Rattle.ogg_page.specs.Head.{Stands, head_size, header_of};
 ghost use Rattle.ogg_page.specs.Room.{BeginsWithPage};
 ghost use Rattle.page_checksum.specs.Checksum.{checksum_of};
-ghost use Rattle.ogg_page.specs.Sizes.{fixed_size};
+ghost use Rattle.ogg_page.specs.Sizes.{fixed_size, full_value, most_values};
 
 use crate::fault::PageFault;
-use crate::head::PageHead;
+use crate::head::{PageHead, PageHeader};
 use crate::lacing::body_size;
 use crate::page::Page;
 use crate::sizes::FIXED_SIZE;
@@ -78,10 +79,29 @@ pub(crate) fn known_page(bytes: &[u8]) -> Page<'_>
     page_in_front(bytes, values, bytes.len() - FIXED_SIZE - values)
 }
 
-/// How many lacing values and how many bytes of body the page at the front has.
-#[tactic(auto, unfolding(crate::specs::Reading::page_at))]
-fn sizes_of_page(bytes: &[u8]) -> Result<(usize, usize), PageFault>
-    ensures { MatchResult result (λ (values, size). IsPageOf bytes.now values size) (λ fault. page_at bytes.now ≡ Err fault) }
+/// Reads the header of the page at the front: its fixed part and its lacing values (RFC 3533, section 6). The body needn't
+/// be there, and no checksum is computed. The faults are those of [`read_page`] up to the lacing values, in its order:
+/// `Short` (under 27 bytes), `Pattern`, `Version`, `Short` (the lacing values run past the end). It takes no memory.
+pub fn read_header(bytes: &[u8]) -> Result<PageHeader, PageFault>
+    ensures exact { result ≡ header_at bytes.now }
+    // As many bytes as the header of a page has that stands there are enough.
+    ensures each { (there : List ℕ) (page : PageValue) (n : ℕ) → Stands there page → head_size page ≤ n → bytes.now ≡ take n there
+        → result ≡ Ok (header_of page) }
+    // What refuses the header refuses the page.
+    ensures refuses { IfErr result (λ fault. page_at bytes.now ≡ Err fault) }
+    ensures sizes { IfOk result (λ header. (header.values ≤ most_values) × (header.body ≤ full_value * header.values)
+        × (fixed_size + header.values ≤ length bytes.now)) }
+{
+    header_or_fault(bytes)
+}
+
+/// The header at the front, or the first fault.
+#[tactic(auto, unfolding(crate::specs::Reading::header_at, crate::specs::Reading::page_at))]
+fn header_or_fault(bytes: &[u8]) -> Result<PageHeader, PageFault>
+    ensures exact { result ≡ header_at bytes.now }
+    ensures refuses { IfErr result (λ fault. page_at bytes.now ≡ Err fault) }
+    ensures sizes { IfOk result (λ header. (header.values ≤ most_values) × (header.body ≤ full_value * header.values)
+        × (fixed_size + header.values ≤ length bytes.now)) }
 {
     if bytes.len() < FIXED_SIZE {
         return Err(PageFault::Short);
@@ -96,16 +116,40 @@ fn sizes_of_page(bytes: &[u8]) -> Result<(usize, usize), PageFault>
     if bytes.len() < FIXED_SIZE + values {
         return Err(PageFault::Short);
     }
-    let (lacing, rest) = bytes.split_at(FIXED_SIZE).1.split_at(values);
-    let size = body_size(lacing);
-    if rest.len() < size {
+    Ok(PageHeader {
+        head: head_in_front(bytes),
+        checksum: u32_at(bytes, 22),
+        values,
+        body: body_size(bytes.split_at(FIXED_SIZE).1.split_at(values).0),
+    })
+}
+
+/// The numbers that the writer of the page at the front chose.
+fn head_in_front(bytes: &[u8]) -> PageHead
+    requires { fixed_size ≤ length bytes.now }
+    ensures { result ≡ head_at bytes.now }
+{
+    PageHead {
+        flags: bytes[5],
+        position: u64_at(bytes, 6),
+        serial: u32_at(bytes, 14),
+        sequence: u32_at(bytes, 18),
+    }
+}
+
+/// How many lacing values and how many bytes of body the page at the front has.
+fn sizes_of_page(bytes: &[u8]) -> Result<(usize, usize), PageFault>
+    ensures { MatchResult result (λ (values, size). IsPageOf bytes.now values size) (λ fault. page_at bytes.now ≡ Err fault) }
+{
+    let header = read_header(bytes)?;
+    let size = FIXED_SIZE + header.values + header.body;
+    if bytes.len() < size {
         return Err(PageFault::Short);
     }
-    let whole = bytes.split_at(FIXED_SIZE + values + size).0;
-    if u32_at(bytes, 22) != blanked_checksum(whole) {
+    if header.checksum != blanked_checksum(bytes.split_at(size).0) {
         return Err(PageFault::Checksum);
     }
-    Ok((values, size))
+    Ok((header.values, header.body))
 }
 
 /// The page at the front, which has this number of lacing values and this number of bytes of body.
@@ -113,16 +157,10 @@ fn page_in_front(bytes: &[u8], values: usize, size: usize) -> Page<'_>
     requires { IsPageOf bytes.now values size }
     ensures { page_at bytes.now ≡ Ok result }
 {
-    let head = PageHead {
-        flags: bytes[5],
-        position: u64_at(bytes, 6),
-        serial: u32_at(bytes, 14),
-        sequence: u32_at(bytes, 18),
-    };
     let (lacing, rest) = bytes.split_at(FIXED_SIZE).1.split_at(values);
     let body = rest.split_at(size).0;
     Page::new(
-        head,
+        head_in_front(bytes),
         lacing,
         body,
         bytes.split_at(FIXED_SIZE + values + size).0,

@@ -3,6 +3,9 @@
 /// How many bytes come before the lacing values.
 pub const FIXED_SIZE: usize = 27;
 
+/// How many bytes there are up to the end of the sequence number, with which the checksum begins.
+pub const SEQUENCE_END: usize = 22;
+
 /// How many lacing values a page has at most.
 pub const MOST_VALUES: usize = 255;
 

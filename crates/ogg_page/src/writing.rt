@@ -1,8 +1,8 @@
 //! Pages as bytes.
-ghost use Rattle.std.specs.Prelude.{◌≡◌, ◌+◌, ◌≤◌, ◌<◌, ◌++◌, length, sum, OnOk, OnErr, List, ℕ, vec_len, vec_capacity};
+ghost use Rattle.std.specs.Prelude.{◌≡◌, ◌+◌, ◌≤◌, ◌<◌, ◌++◌, length, sum, take, drop, OnOk, OnErr, List, ℕ, vec_len, vec_capacity};
 ghost use Rattle.byteorder.specs.Endian.{little_bytes};
 ghost use Rattle.ogg_page.specs.Page.{Page, page_of, page_bytes, bytes_with, fixed_part};
-ghost use Rattle.ogg_page.specs.Sizes.{fixed_size, most_values};
+ghost use Rattle.ogg_page.specs.Sizes.{fixed_size, most_values, checksum_end};
 
 use crate::Memory;
 use crate::head::PageHead;
@@ -72,6 +72,19 @@ fn put_number(number: u32, at: usize, out: &mut Vec<u8>)
     out[at + 1] = b1;
     out[at + 2] = b2;
     out[at + 3] = b3;
+}
+
+/// Puts another sequence number and checksum into a page's header, which the bytes begin with (RFC 3533, section 6, fields 6
+/// and 7). Whether the checksum is that of the page then is the caller's to know.
+pub fn put_sequence(header: &mut [u8], sequence: u32, checksum: u32)
+    requires { checksum_end ≤ length header.old }
+    ensures { header.new ≡ take 18 header.old ++ (little_bytes 4 sequence ++ (little_bytes 4 checksum ++ drop checksum_end header.old)) }
+{
+    let [n0, n1, n2, n3] = sequence.to_le_bytes();
+    let [c0, c1, c2, c3] = checksum.to_le_bytes();
+    let (_, behind) = header.split_at_mut(18);
+    let (own, _) = behind.split_at_mut(8);
+    own.copy_from_slice(&[n0, n1, n2, n3, c0, c1, c2, c3]);
 }
 
 /// Appends bytes. There must be room for them.

@@ -1,18 +1,9 @@
 -- The bytes of a head.
-use Rattle.std.proofs.Common.{◌≡◌, ℕ, zero, suc, ◌≤◌, ◌<◌, ◌^◌, List, [], ◌∷◌, ◌++◌, length, take, refl, sym, ◌∙◌, ap, subst, arith}
+use Rattle.std.proofs.Common.{◌≡◌, ℕ, zero, suc, ◌≤◌, List, [], ◌∷◌, ◌++◌, length, take, refl, ◌∙◌, ap, arith}
 use Rattle.std.proofs.lemmas.List.{length-take-le, take-append-le}
-use Rattle.page_checksum.specs.Checksum.{checksum_of, number_of, message_bits}
-use Rattle.page_checksum.specs.Laws.BitNumbers.{number_lt}
-use Rattle.page_checksum.specs.Laws.ByteStep.{left_of, length-left_of}
 use Rattle.ogg_page.specs.Page.{Page, page_bytes}
 use Rattle.ogg_page.specs.PageLaws.{length-page_bytes}
 use Rattle.ogg_page.specs.Head.{Stands, head_size}
-
--- a checksum has 32 bits
-pub checksum_small : (bytes : List ℕ) → checksum_of bytes < 2 ^ 32
-unfolding checksum_of left_of
-checksum_small bytes =
-    subst (λ n. number_of (left_of (message_bits bytes)) < 2 ^ n) (length-left_of (message_bits bytes)) (number_lt (left_of (message_bits bytes)))
 
 -- what was read of a page's head, with whatever stands after it in the buffer
 pub head_is : (bytes room rest : List ℕ) (page : Page) (n : ℕ) → Stands bytes page → head_size page ≤ n → n ≤ length bytes → room ≡ take n bytes →

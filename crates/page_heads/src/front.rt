@@ -1,13 +1,12 @@
 //! The head of a page in a source, read without the rest of the page.
-ghost use Rattle.std.specs.Prelude.{◌≡◌, ◌+◌, ◌*◌, ◌^◌, ◌<◌, ◌≤◌, ℕ, List, Some, length, sum, take, drop, IfOk, IsErr};
+ghost use Rattle.std.specs.Prelude.{◌≡◌, ◌+◌, ◌^◌, ◌<◌, ◌≤◌, ℕ, List, Some, length, take, drop, IfOk, IsErr};
 ghost use Rattle.ogg_page.specs.Page.{Page};
-ghost use Rattle.ogg_page.specs.Sizes.{most_values, full_value};
 ghost use Rattle.ogg_page.specs.Window.{KeepsSource, HasFailed};
 ghost use Rattle.ogg_page.specs.Head.{Stands, head_size};
 ghost use Rattle.page_heads.specs.Fronts.{IsFrontOf, facts_of};
 ghost use Rattle.page_heads.specs.declared.front.PageFacts.{PageFacts as FactsOf};
 
-use ogg_page::{FIXED_SIZE, MOST_VALUES, PageSource, SourceFault, take_u32};
+use ogg_page::{FIXED_SIZE, MOST_VALUES, PageSource, SourceFault, read_header};
 
 /// The length of the longest head, with its lacing values.
 pub const LONGEST_HEAD: usize = FIXED_SIZE + MOST_VALUES;
@@ -28,46 +27,22 @@ pub struct PageFacts {
     pub size: u64,
 }
 
-/// How many bytes the lacing values stand for.
-fn body_size(lacing: &[u8]) -> u64
-    requires { length lacing.now ≤ most_values }
-    ensures value { result ≡ sum lacing.now }
-    ensures bound { result ≤ full_value * length lacing.now }
-{
-    let mut size = 0;
-    for value in lacing {
-        size += u64::from(*value);
-    }
-    size
-}
-
 /// What a page's head says of the page. The bytes begin with the head, and what follows it isn't read.
 fn facts_of(head: &[u8]) -> Option<PageFacts>
     ensures told { (bytes : List ℕ) (page : Page) (n : ℕ) → Stands bytes page → head_size page ≤ n → head.now ≡ take n bytes
         → result ≡ Some (facts_of page) }
     ensures bounds { (facts : FactsOf) → result ≡ Some facts → (27 ≤ facts.len) × (facts.len ≤ length head.now) × (facts.len ≤ facts.size) }
 {
-    if head.len() < FIXED_SIZE {
-        return None;
-    }
-    let values = usize::from(head[26]);
-    let (_, table) = head.split_at(FIXED_SIZE);
-    if table.len() < values {
-        return None;
-    }
-    let (lacing, _) = table.split_at(values);
-    let (_, numbers) = head.split_at(14);
-    let (serial, numbers) = take_u32(numbers);
-    let (number, numbers) = take_u32(numbers);
-    let (checksum, _) = take_u32(numbers);
+    let header = read_header(head).ok()?;
+    let len = FIXED_SIZE + header.values;
     Some(PageFacts {
-        begins: head[5] / 2 % 2 == 1,
-        ends: head[5] / 4 % 2 == 1,
-        serial,
-        number,
-        checksum,
-        len: FIXED_SIZE + values,
-        size: (FIXED_SIZE + values) as u64 + body_size(lacing),
+        begins: header.head.flags / 2 % 2 == 1,
+        ends: header.head.flags / 4 % 2 == 1,
+        serial: header.head.serial,
+        number: header.head.sequence,
+        checksum: header.checksum,
+        len,
+        size: (len + header.body) as u64,
     })
 }
 

@@ -3,13 +3,10 @@ ghost use Rattle.std.specs.Prelude.{◌≡◌, ◌≤◌, ◌++◌, ℕ, List, r
 ghost use Rattle.page_checksum.specs.Checksum.{checksum_of};
 ghost use Rattle.serve_live.specs.Renumbering.{checksum_change};
 
-use ogg_page::checksum_on;
+use ogg_page::{SEQUENCE_END, checksum_on};
 
 /// How many zeros are added at once.
 const ZEROS: usize = 256;
-
-/// The number, before the checksum, has its place 22 bytes before this many bytes of a page.
-const BEHIND_NUMBER: u64 = 22;
 
 /// What the checksum of a page of this size changes by, if the page's number changes. No byte of the page is needed.
 pub fn checksum_change(old: u32, new: u32, size: u64) -> u32
@@ -19,7 +16,7 @@ pub fn checksum_change(old: u32, new: u32, size: u64) -> u32
     let [a0, a1, a2, a3] = old.to_le_bytes();
     let [b0, b1, b2, b3] = new.to_le_bytes();
     let differing = [a0 ^ b0, a1 ^ b1, a2 ^ b2, a3 ^ b3];
-    with_zeros(checksum_on(0, &differing), size - BEHIND_NUMBER)
+    with_zeros(checksum_on(0, &differing), size - SEQUENCE_END as u64)
 }
 
 /// The checksum of some bytes and this many zeros after them, from the checksum of the bytes.

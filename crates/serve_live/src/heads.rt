@@ -1,6 +1,5 @@
 //! The head of a page, as it is heard.
-ghost use Rattle.std.specs.Prelude.{◌≡◌, ◌+◌, ◌^◌, ◌<◌, ◌≤◌, ◌++◌, length, take, drop, IfOk, IsErr};
-ghost use Rattle.byteorder.specs.Endian.{little_bytes};
+ghost use Rattle.std.specs.Prelude.{◌≡◌, ◌+◌, ◌^◌, ◌<◌, ◌≤◌, drop, IfOk, IsErr};
 ghost use Rattle.ogg_page.specs.Page.{Page};
 ghost use Rattle.ogg_page.specs.Window.{KeepsSource};
 ghost use Rattle.serve_live.specs.Gaps.{gap_in};
@@ -11,20 +10,8 @@ ghost use Rattle.serve_live.specs.Heads.{IsHeadOf};
 
 use crate::checksums::checksum_change;
 use crate::gaps::{StreamGap, gap_in, number_without};
-use ogg_page::{PageSource, SourceFault};
+use ogg_page::{PageSource, SourceFault, put_sequence};
 use page_heads::{LONGEST_HEAD, PageFront, read_front};
-
-/// Puts a number and a checksum in their places.
-fn put_number(head: &mut [u8], number: u32, checksum: u32)
-    requires { 26 ≤ length head.old }
-    ensures { head.new ≡ take 18 head.old ++ (little_bytes 4 number ++ (little_bytes 4 checksum ++ drop 26 head.old)) }
-{
-    let [n0, n1, n2, n3] = number.to_le_bytes();
-    let [c0, c1, c2, c3] = checksum.to_le_bytes();
-    let (_, behind) = head.split_at_mut(18);
-    let (own, _) = behind.split_at_mut(8);
-    own.copy_from_slice(&[n0, n1, n2, n3, c0, c1, c2, c3]);
-}
 
 /// The head of a page as it is heard, with the lacing values.
 #[derive(Clone, Copy, Debug)]
@@ -47,7 +34,7 @@ fn heard_head(front: PageFront, gaps: &[StreamGap]) -> HeardHead
     if !facts.begins && gap > 0 {
         let number = number_without(facts.number, gap);
         let change = checksum_change(facts.number, number, facts.size);
-        put_number(&mut bytes, number, facts.checksum ^ change);
+        put_sequence(&mut bytes, number, facts.checksum ^ change);
     }
     HeardHead {
         bytes,

@@ -1,12 +1,18 @@
 -- What stands in a page's head.
-use Rattle.std.proofs.Common.{◌≡◌, ℕ, ◌+◌, ◌-◌, ◌≤◌, List, ◌++◌, length, take, drop, min, refl, ◌∙◌, ap, arith, length-append, length-drop}
-use Rattle.std.specs.Prelude.{slice_index}
-use Rattle.std.proofs.Math.Seq.{take-append_seam, take-append-add}
-use Rattle.ogg_page.specs.Numbers.{u32_bytes}
-use Rattle.ogg_page.specs.Head.{Stands, head_size, checksum_in}
-use Rattle.ogg_page.specs.Page.{Page, fixed_part, page_bytes}
+use Rattle.std.proofs.Common.{◌≡◌, ℕ, ◌+◌, ◌-◌, ◌<◌, ◌≤◌, ◌^◌, Bool, true, false, List, [], ◌∷◌, ◌++◌, length, take, drop, sum, min, refl, ◌∙◌, ap, arith, length-append, length-drop, Result, Ok, Err}
+use Rattle.std.specs.Prelude.{nat_lt, if◌then◌else◌, slice_index}
+use Rattle.std.proofs.Math.Seq.{take-append-add}
+use Rattle.std.proofs.lemmas.Bool.{le-ltb}
+use Rattle.std.proofs.lemmas.List.{take_at}
+use Rattle.byteorder.specs.Endian.{little_bytes, little_number}
+use Rattle.ogg_page.specs.Head.{Stands, head_size, checksum_in, header_with, header_of}
+use Rattle.ogg_page.specs.Page.{Page, IsPage, fixed_part, page_bytes, bytes_with}
+use Rattle.ogg_page.specs.Reading.{header_at, lacing_at}
+use Rattle.ogg_page.specs.declared.fault.PageFault.{PageFault}
+use Rattle.ogg_page.specs.declared.fault.PageFault.TheVariants.{Short}
+use Rattle.ogg_page.specs.declared.head.PageHeader.{PageHeader}
 use Rattle.ogg_page.specs.Laws.Prefixes.{parts}
-use Rattle.ogg_page.specs.Laws.ReadAgain.{length-page_bytes}
+use Rattle.ogg_page.specs.Laws.ReadAgain.{length-page_bytes, number_4, number_8, checksum_small}
 
 -- the bytes begin with the head and the table of a page
 record HasHead (head : List ℕ) (page : Page) : Type 0 where
@@ -37,47 +43,46 @@ has_head bytes head page n s le is =
           ∙ front_of_three (fixed_part checksum page) page.lacing rest n (n - head_size page) (let size = fixed_size checksum page in omega (arith, size, le));
     }
 
--- what the bytes at its places are
-pub record Told (head : List ℕ) (page : Page) : Type 0 where
-  pub long : 27 + length page.lacing ≤ length head
-  pub values : slice_index head 26 ≡ length page.lacing
-  pub flags : slice_index head 5 ≡ page.flags
-  pub lacing : take (length page.lacing) (drop 27 head) ≡ page.lacing
-  pub behind : List ℕ
-  pub numbers : drop 14 head ≡ u32_bytes page.serial ++ (u32_bytes page.sequence ++ (u32_bytes (checksum_in page) ++ behind))
+pass : (b : Bool) (x : Result PageHeader PageFault) → b ≡ false → (if b then Err Short else x) ≡ x
+pass true x e = cc
+pass false x e = refl
 
-numbers_at : (checksum : ℕ) (page : Page) (rest : List ℕ) → (behind : List ℕ)
-    × (drop 14 (fixed_part checksum page ++ rest) ≡ u32_bytes page.serial ++ (u32_bytes page.sequence ++ (u32_bytes checksum ++ behind)))
-unfolding fixed_part u32_bytes
-numbers_at checksum page rest = (drop 26 (fixed_part checksum page ++ rest), refl)
+table_fits : (whole tail table behind : ℕ) → whole ≡ 27 + tail → tail ≡ table + behind → 27 + table ≤ whole
+table_fits whole tail table behind e f = omega arith
 
-values_at : (checksum : ℕ) (page : Page) (rest : List ℕ) → slice_index (fixed_part checksum page ++ rest) 26 ≡ length page.lacing
-unfolding fixed_part
-values_at checksum page rest = refl
+-- the header is read in front of bytes that begin with such a fixed part
+header_is_read : (page : Page) (checksum : ℕ) (rest : List ℕ) → IsPage page → checksum < 2 ^ 32
+    → header_at (fixed_part checksum page ++ (page.lacing ++ rest)) ≡ Ok (header_with checksum page)
+unfolding header_at fixed_part
+header_is_read page checksum rest is small =
+    let table : List ℕ = page.lacing ++ rest in
+    let bytes : List ℕ = fixed_part checksum page ++ table in
+    let lacing : lacing_at bytes ≡ page.lacing = take_at page.lacing rest (length page.lacing) refl in
+    let body : sum (lacing_at bytes) ≡ length page.body = ap sum lacing ∙ is.whole in
+    let position : little_number 8 (drop 6 bytes) ≡ page.position =
+    number_8 page.position (little_bytes 4 page.serial ++ little_bytes 4 page.sequence ++ little_bytes 4 checksum ++ length page.lacing ∷ [] ++ table) is.position in
+    let serial : little_number 4 (drop 14 bytes) ≡ page.serial =
+    number_4 page.serial (little_bytes 4 page.sequence ++ little_bytes 4 checksum ++ length page.lacing ∷ [] ++ table) is.serial in
+    let sequence : little_number 4 (drop 18 bytes) ≡ page.sequence =
+    number_4 page.sequence (little_bytes 4 checksum ++ length page.lacing ∷ [] ++ table) is.sequence in
+    let stored : little_number 4 (drop 22 bytes) ≡ checksum = number_4 checksum (length page.lacing ∷ [] ++ table) small in
+    let all : length bytes ≡ 27 + length table = length-append (fixed_part checksum page) table in
+    pass (nat_lt (length bytes) 27) _ (le-ltb (length bytes) 27 (omega (arith, all)))
+    ∙ pass (nat_lt (length bytes) (27 + slice_index bytes 26)) _
+    (le-ltb (length bytes) (27 + length page.lacing) (table_fits (length bytes) (length table) (length page.lacing) (length rest) all (length-append page.lacing rest)))
+    ∙ (λ i. Ok (record {
+      head = record { flags = page.flags; position = position i; serial = serial i; sequence = sequence i };
+      checksum = stored i;
+      values = length page.lacing;
+      body = body i;
+    }))
 
-flags_at : (checksum : ℕ) (page : Page) (rest : List ℕ) → slice_index (fixed_part checksum page ++ rest) 5 ≡ page.flags
-unfolding fixed_part
-flags_at checksum page rest = refl
-
-table_at : (checksum : ℕ) (page : Page) (rest : List ℕ) → drop 27 (fixed_part checksum page ++ rest) ≡ rest
-unfolding fixed_part
-table_at checksum page rest = refl
-
-pub told : (bytes head : List ℕ) (page : Page) (n : ℕ) → Stands bytes page → head_size page ≤ n → head ≡ take n bytes → Told head page
-told bytes head page n s le is =
-    let checksum : ℕ = checksum_in page in
+-- the header of a page that stands in front of bytes is read in as many of them as it has
+pub header_told : (bytes head : List ℕ) (page : Page) (n : ℕ) → Stands bytes page → head_size page ≤ n → head ≡ take n bytes
+    → header_at head ≡ Ok (header_of page)
+header_told bytes head page n s le is =
     let h = has_head bytes head page n s le is in
-    let all = page.lacing ++ h.rest in
-    let (behind, numbers) = numbers_at checksum page all in
-    record {
-      long = let len = ap length h.spelled in omega (arith, len, length-append (fixed_part checksum page) all, length-append page.lacing h.rest, fixed_size checksum page);
-      values = ap (λ (l : List ℕ). slice_index l 26) h.spelled ∙ values_at checksum page all;
-      flags = ap (λ (l : List ℕ). slice_index l 5) h.spelled ∙ flags_at checksum page all;
-      lacing = ap (λ (l : List ℕ). take (length page.lacing) (drop 27 l)) h.spelled ∙ ap (take (length page.lacing)) (table_at checksum page all)
-          ∙ take-append_seam page.lacing h.rest;
-      behind = behind;
-      numbers = ap (drop 14) h.spelled ∙ numbers;
-    }
+    ap header_at h.spelled ∙ header_is_read page (checksum_in page) h.rest s.is_page (checksum_small (bytes_with 0 page))
 
 -- the whole page is there
 pub lies_inside : (bytes : List ℕ) (page : Page) (place : ℕ) → Stands (drop place bytes) page → place + (27 + length page.lacing + length page.body) ≤ length bytes

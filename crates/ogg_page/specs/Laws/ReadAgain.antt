@@ -217,13 +217,13 @@ pass : (b : Bool) (f : PageFault) (x : Result Page PageFault) → b ≡ false �
 pass true f x e = cc
 pass false f x e = refl
 
-number_4 : (n : ℕ) (rest : List ℕ) → n < 2 ^ 32 → little_number 4 (little_bytes 4 n ++ rest) ≡ n
+pub number_4 : (n : ℕ) (rest : List ℕ) → n < 2 ^ 32 → little_number 4 (little_bytes 4 n ++ rest) ≡ n
 number_4 n rest h = omega (arith, from_le_bytes-to_le_bytes_4 n h)
 
-number_8 : (n : ℕ) (rest : List ℕ) → n < 2 ^ 64 → little_number 8 (little_bytes 8 n ++ rest) ≡ n
+pub number_8 : (n : ℕ) (rest : List ℕ) → n < 2 ^ 64 → little_number 8 (little_bytes 8 n ++ rest) ≡ n
 number_8 n rest h = omega (arith, from_le_bytes-to_le_bytes_8 n h)
 
-checksum_small : (bytes : List ℕ) → checksum_of bytes < 2 ^ 32
+pub checksum_small : (bytes : List ℕ) → checksum_of bytes < 2 ^ 32
 unfolding checksum_of left_of
 checksum_small bytes = subst (λ n. number_of (left_of (message_bits bytes)) < 2 ^ n) (length-left_of (message_bits bytes)) (number_lt (left_of (message_bits bytes)))
 

@@ -42,8 +42,8 @@ returns-then-gap-gt0-clause-told c page f =
     let at : head_size page ≡ 26 + k = omega arith in
     let fits : length (page_bytes page) ≡ page_size page = length-page_bytes page in
     let long : 26 ≤ length bytes = grind (arith, ap length same, length-take, fits) in
-    let put : c.put_number.new.head ≡ take 18 bytes ++ ((little_bytes 4 number ++ little_bytes 4 sum) ++ drop 26 bytes) =
-    c.put_number.ensures ∙ ap (λ n. take 18 bytes ++ ((little_bytes 4 number ++ little_bytes 4 n) ++ drop 26 bytes)) sum_is in
+    let put : c.put_sequence.new.header ≡ take 18 bytes ++ ((little_bytes 4 number ++ little_bytes 4 sum) ++ drop 26 bytes) =
+    c.put_sequence.ensures ∙ ap (λ n. take 18 bytes ++ ((little_bytes 4 number ++ little_bytes 4 n) ++ drop 26 bytes)) sum_is in
     record {
       begins = ap (λ x. x.begins) facts;
       len = ap (λ x. x.len) facts;

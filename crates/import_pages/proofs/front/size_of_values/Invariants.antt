@@ -1,6 +1,0 @@
-use Rattle.std.proofs.Common.{◌≡◌, ◌≤◌, ◌*◌, take, sum}
-use Rattle.import_pages.proofs.front.size_of_values.Given as goal
-
--- the values so far are added up
-abbrev pub invariant-loop-value : goal.invariant-loop-value
-invariant-loop-value l = (l.size ≡ sum (take l.value-index l.lacing)) × (l.size ≤ 255 * l.value-index)
