@@ -4,13 +4,14 @@ use crate::hearing::{HeardDisk, open_hub};
 use crate::logging::Log;
 use crate::password::read_password;
 use crate::running::Running;
+use crate::server::seal_hub;
 use crate::sockets::Sockets;
 use fault_lines::Fault;
 use import_feed::Skeletons;
 use station::{Options as StationOptions, Station};
 use std::net::SocketAddr;
 use std::time::Instant;
-use stream_actions::{Told, seal_file};
+use stream_actions::Told;
 
 /// What a station is asked to do.
 #[derive(Clone, Copy)]
@@ -31,25 +32,38 @@ pub struct Options<'a> {
 /// Records what comes into the file, which is made if there is none, and serves it to whoever connects, until a fault; or
 /// until the input has ended, if the file is to be sealed then.
 pub fn station(rt: &HostRuntime, options: Options<'_>) -> Result<(), Fault> {
-    let mut running = open(rt, options)?;
-    running.run_to_end()?;
-    close(running.into_station())
-}
-
-/// Seals the file of a station that has come to its end, unless the file was lost.
-fn close(station: Station<HeardDisk>) -> Result<(), Fault> {
-    match station.into_hub().into_recorder() {
-        Ok(recorder) => seal_file(recorder),
-        Err(_) => Ok(()),
-    }
-}
-
-/// Opens a station that listens.
-fn open<'a>(rt: &'a HostRuntime, options: Options<'_>) -> Result<Running<'a>, Fault> {
     let address: SocketAddr = options.address.parse().map_err(|_| Fault::Net)?;
+    let start = Instant::now(rt).map_err(|_| Fault::Net)?;
     let station = open_station(rt, options)?;
+    station_at(rt, station, address, start, options.log)
+}
+
+/// Has the station listen to the address, and runs it.
+fn station_at(
+    rt: &HostRuntime,
+    station: Station<HeardDisk>,
+    address: SocketAddr,
+    start: Instant,
+    log: bool,
+) -> Result<(), Fault> {
     let sockets = listen(rt, address)?;
-    begin(rt, station, sockets, options.log)
+    let mut running = Running {
+        rt,
+        told: Told::new(rt, false, station.hub().end()),
+        log: Log::new(rt, log, station.counts()),
+        station,
+        sockets,
+        start,
+        now: 0,
+    };
+    let ran = running.run_to_end();
+    close(running.into_station(), ran)
+}
+
+/// Returns the fault that was met. If none was, the file of the station is sealed, which has come to its end.
+fn close(station: Station<HeardDisk>, ran: Result<(), Fault>) -> Result<(), Fault> {
+    ran?;
+    seal_hub(station.into_hub())
 }
 
 /// Listens to the address, and tells where the station can be reached.
@@ -59,25 +73,6 @@ fn listen(rt: &HostRuntime, address: SocketAddr) -> Result<Sockets, Fault> {
         let _ = eprintln!(rt; "serving http://{address}/");
     }
     Ok(sockets)
-}
-
-/// A station that begins to run now.
-fn begin<'a>(
-    rt: &'a HostRuntime,
-    station: Station<HeardDisk>,
-    sockets: Sockets,
-    log: bool,
-) -> Result<Running<'a>, Fault> {
-    let start = Instant::now(rt).map_err(|_| Fault::Net)?;
-    Ok(Running {
-        rt,
-        told: Told::new(rt, false, station.hub().end()),
-        log: Log::new(rt, log, station.counts()),
-        station,
-        sockets,
-        start,
-        now: 0,
-    })
 }
 
 /// Opens the file, makes a station over it, and ends what an earlier run left open.

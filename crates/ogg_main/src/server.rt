@@ -1,7 +1,7 @@
 //! The commands that serve a file over HTTP.
 ghost use Rattle.std.specs.Prelude.{◌≡◌, IfOk, IfSome, IsSome};
 
-use disk_model::{FileDisk, FileMode};
+use disk_model::{Disk, FileDisk, FileMode};
 use fault_lines::Fault;
 use feed_replies::{FeedFault, RunFault};
 use ogg_serve::{Hub, LiveFeed, Step, live_one, serve_one};
@@ -29,10 +29,20 @@ struct Opened {
 
 /// Serves the file for this many connections to the address.
 pub fn serve(rt: &HostRuntime, file: &str, address: &str, count: u32) -> Result<(), Fault> {
-    let Opened { mut hub, sealed } = open_hub(rt, file)?;
+    let mut opened = open_hub(rt, file)?;
+    let served = serve_to(rt, &mut opened.hub, address, count);
+    close(opened, served)
+}
+
+/// Serves this many connections to the address.
+fn serve_to(
+    rt: &HostRuntime,
+    hub: &mut Hub<FileDisk>,
+    address: &str,
+    count: u32,
+) -> Result<(), Fault> {
     let listener = listen(rt, address)?;
-    let met = serve_each(&mut hub, &listener, count);
-    close(hub, sealed, met)
+    unless(serve_each(hub, &listener, count))
 }
 
 /// Serves this many connections. Returns the first fault.
@@ -58,14 +68,25 @@ pub fn live(
     count: u32,
     most: u32,
 ) -> Result<(), Fault> {
-    let Opened { mut hub, sealed } = open_hub(rt, file)?;
+    let mut opened = open_hub(rt, file)?;
     // `clap` has checked that `most` lies in this range, and nothing waits yet.
-    hub.group(most.clamp(1, 1024));
+    opened.hub.group(most.clamp(1, 1024));
+    let served = live_to(rt, &mut opened.hub, address, feed, count);
+    close(opened, served)
+}
+
+/// Serves this many connections to the address, and records the feed meanwhile.
+fn live_to(
+    rt: &HostRuntime,
+    hub: &mut Hub<FileDisk>,
+    address: &str,
+    feed: &str,
+    count: u32,
+) -> Result<(), Fault> {
     let input = open_feed(rt, feed)?;
     let listener = listen(rt, address)?;
     let mut feed = LiveFeed::new(rt.alloc(), input, rt.stdout());
-    let met = run_live(&mut hub, &listener, &mut feed, count);
-    close(hub, sealed, met)
+    unless(run_live(hub, &listener, &mut feed, count))
 }
 
 /// Serves this many connections, and records all of the feed. Returns the first fault.
@@ -169,13 +190,25 @@ fn fault_in(ended: Option<Result<Step, RunFault>>) -> Option<Fault> {
     }
 }
 
-/// Returns the fault that was met. If none was, the file is sealed if it was sealed at first.
-fn close(hub: Hub<FileDisk>, sealed: bool, met: Option<Fault>) -> Result<(), Fault> {
-    if let Some(fault) = met {
-        return Err(fault);
+/// The fault that was met, if there is one.
+fn unless(met: Option<Fault>) -> Result<(), Fault> {
+    match met {
+        Some(fault) => Err(fault),
+        None => Ok(()),
     }
+}
+
+/// Returns the fault that was met. If none was, the file is sealed if it was sealed at first.
+fn close(opened: Opened, served: Result<(), Fault>) -> Result<(), Fault> {
+    served?;
+    let Opened { hub, sealed } = opened;
+    if sealed { seal_hub(hub) } else { Ok(()) }
+}
+
+/// Seals the file of a hub, unless it was lost.
+pub fn seal_hub<D: Disk + Drop>(hub: Hub<D>) -> Result<(), Fault> {
     match hub.into_recorder() {
-        Ok(recorder) if sealed => seal_file(recorder),
-        _ => Ok(()),
+        Ok(recorder) => seal_file(recorder),
+        Err(_) => Ok(()),
     }
 }

@@ -1,6 +1,6 @@
 //! A stream that is recorded as it comes.
 
-use crate::recorders::{open_recorder, reopen, seal_file};
+use crate::recorders::{open_recorder, reopen, seal_if};
 use crate::telling::Told;
 use disk_model::{FileDisk, FileMode};
 use fault_lines::Fault;
@@ -57,18 +57,33 @@ fn archive_by(
     options: ArchiveOptions,
 ) -> Result<(), Fault> {
     let mut import = import_of(rt, &recorder, options.skeletons)?;
-    let mut told = Told::new(rt, options.strict, recorder.end());
-    let recorded = record_all(rt, recorder, &mut import, &mut told, options);
-    told.close();
-    close(recorded?, told.fault(), options.seal)
+    archive_told(rt, recorder, &mut import, options)
 }
 
-/// Returns what was told of, if that is a fault. Else the file is sealed, if that is asked for.
-fn close(recorder: Recorder<FileDisk>, told: Option<Fault>, seal: bool) -> Result<(), Fault> {
-    if let Some(fault) = told {
-        return Err(fault);
+/// Records the stream, and tells what comes of it.
+fn archive_told(
+    rt: &HostRuntime,
+    recorder: Recorder<FileDisk>,
+    import: &mut ImportRun,
+    options: ArchiveOptions,
+) -> Result<(), Fault> {
+    let mut told = Told::new(rt, options.strict, recorder.end());
+    let recorded = record_all(rt, recorder, import, &mut told, options);
+    told.close();
+    close(recorded, told.fault(), options.seal)
+}
+
+/// Returns what was met, or else what was told of, if that is a fault. Else the file is sealed, if that is asked for.
+fn close(
+    recorded: Result<Recorder<FileDisk>, Fault>,
+    told: Option<Fault>,
+    seal: bool,
+) -> Result<(), Fault> {
+    let recorder = recorded?;
+    match told {
+        Some(fault) => Err(fault),
+        None => seal_if(recorder, seal),
     }
-    if seal { seal_file(recorder) } else { Ok(()) }
 }
 
 /// Whether standard input is this file. A run that read what it writes would never end.
@@ -111,8 +126,7 @@ fn import_of(
     }
 }
 
-/// Records the stream. After a fault of the disk the file is opened again, unless nothing was kept since that was done
-/// before, and the stream goes on.
+/// Records the stream, and goes on after a fault of the disk as `begin_again` says.
 fn record_all(
     rt: &HostRuntime,
     mut recorder: Recorder<FileDisk>,
@@ -123,19 +137,30 @@ fn record_all(
     for _ in 0..u64::MAX {
         let ran = record_stream(rt, &mut recorder, import, told);
         if !recorder.is_failed() {
-            return match ran {
-                Ok(()) => Ok(recorder),
-                Err(fault) => Err(fault),
-            };
+            ran?;
+            return Ok(recorder);
         }
-        if !told.lost(import.offset(), recorder.end()) {
-            return Err(Fault::Failed);
-        }
-        recorder = reopen(rt, recorder)?;
-        recorder.group(options.most.clamp(1, 1024));
-        resume(&mut recorder, import, told)?;
+        recorder = begin_again(rt, recorder, import, told, options.most)?;
     }
     Err(Fault::Failed)
+}
+
+/// Opens the file again after a fault of the disk, unless nothing was kept since that was done before, and goes on with
+/// the stream.
+fn begin_again(
+    rt: &HostRuntime,
+    recorder: Recorder<FileDisk>,
+    import: &mut ImportRun,
+    told: &mut Told<'_>,
+    most: u32,
+) -> Result<Recorder<FileDisk>, Fault> {
+    if !told.lost(import.offset(), recorder.end()) {
+        return Err(Fault::Failed);
+    }
+    let mut recorder = reopen(rt, recorder)?;
+    recorder.group(most.clamp(1, 1024));
+    resume(&mut recorder, import, told)?;
+    Ok(recorder)
 }
 
 /// Goes on with the stream in a file that was opened again. If the link that is open was lost with what waited, it

@@ -66,3 +66,8 @@ pub fn seal_file<D: Disk + Drop>(recorder: Recorder<D>) -> Result<(), Fault> {
         Err(_) => Err(Fault::Seal),
     }
 }
+
+/// Seals the file, if that is asked for.
+pub(crate) fn seal_if(recorder: Recorder<FileDisk>, seal: bool) -> Result<(), Fault> {
+    if seal { seal_file(recorder) } else { Ok(()) }
+}

@@ -1,7 +1,7 @@
 //! The commands that read a feed from standard input.
 
 use crate::mends::MendLines;
-use crate::recorders::{open_recorder, seal_file};
+use crate::recorders::{open_recorder, seal_if};
 use disk_model::{FileDisk, FileMode};
 use fault_lines::Fault;
 use feed_mux::{check_feed_for, mux_for};
@@ -87,68 +87,61 @@ fn record_by(
     strict: bool,
 ) -> Result<(), Fault> {
     let mut feed = input(rt)?;
-    let mut replies = reply_lines(rt, rt.stdout(), Together::Groups, strict)?;
-    let recorder = record_from(rt, recorder, ends, &mut feed, &mut replies)?;
-    outcome(&replies)?;
-    if ends.seal {
-        seal_file(recorder)
-    } else {
-        Ok(())
-    }
+    record_in(rt, recorder, ends, strict, &mut feed)
 }
 
-/// Ends what is to be ended first, records the feed, and gives the recorder back.
-fn record_from<W: Write + Drop>(
+/// Records this feed, and writes the replies to standard output.
+fn record_in(
+    rt: &HostRuntime,
+    recorder: Recorder<FileDisk>,
+    ends: RecordEnds,
+    strict: bool,
+    feed: &mut BufReader<Stdin>,
+) -> Result<(), Fault> {
+    let mut replies = reply_lines(rt, rt.stdout(), Together::Groups, strict)?;
+    record_ended(rt, recorder, ends, feed, &mut replies)
+}
+
+/// Ends what is to be ended first, and records the feed.
+fn record_ended<W: Write + Drop>(
     rt: &HostRuntime,
     mut recorder: Recorder<FileDisk>,
     ends: RecordEnds,
     feed: &mut BufReader<Stdin>,
     replies: &mut ReplyLines<W>,
-) -> Result<Recorder<FileDisk>, Fault> {
+) -> Result<(), Fault> {
     let ends_open = ends.end_open || ends.renumber;
     if ends_open && end_open_streams(&mut recorder, replies).is_err() {
         return Err(Fault::Write);
     }
-    let (recorder, ran) = run_feed(rt, recorder, ends.renumber, feed, replies)?;
-    sum_up(rt, ended(ran, replies)?);
-    if recorder.is_failed() {
-        return Err(Fault::Failed);
+    if ends.renumber {
+        record_renumbered(rt, recorder, ends.seal, feed, replies)
+    } else {
+        record_plain(rt, recorder, ends.seal, feed, replies)
     }
-    Ok(recorder)
 }
 
-/// Records the feed, under serials that the file doesn't have if it is renumbered, and gives the recorder back.
-fn run_feed<W: Write + Drop>(
+/// Records the feed as it is.
+fn record_plain<W: Write + Drop>(
     rt: &HostRuntime,
     mut recorder: Recorder<FileDisk>,
-    renumber: bool,
+    seal: bool,
     feed: &mut BufReader<Stdin>,
     replies: &mut ReplyLines<W>,
-) -> Result<(Recorder<FileDisk>, Result<Tally, RunFault>), Fault> {
-    if renumber {
-        return record_renumbered(rt, recorder, feed, replies);
-    }
+) -> Result<(), Fault> {
     let ran = record_feed_for::<Buffered, _, _, _>(rt.alloc(), feed, replies, &mut recorder);
-    Ok((recorder, ran))
+    close_record(rt, recorder, ended(ran, replies), outcome(replies), seal)
 }
 
-/// Records the feed under serials that the file doesn't have, and gives the recorder back.
+/// Records the feed under serials that the file doesn't have.
 fn record_renumbered<W: Write + Drop>(
     rt: &HostRuntime,
     recorder: Recorder<FileDisk>,
+    seal: bool,
     feed: &mut BufReader<Stdin>,
     replies: &mut ReplyLines<W>,
-) -> Result<(Recorder<FileDisk>, Result<Tally, RunFault>), Fault> {
-    let mut serials = Vec::new(rt.alloc());
-    if serials
-        .extend_from_slice(recorder.serials().as_slice())
-        .is_err()
-    {
-        return Err(Fault::Memory);
-    }
-    let Ok(mut runner) = Renumbered::new(rt.alloc(), recorder, serials.as_slice()) else {
-        return Err(Fault::Memory);
-    };
+) -> Result<(), Fault> {
+    let mut runner = renumbered(rt, recorder)?;
     let ran = run_feed_for::<Buffered, _, _, _, _>(
         rt.alloc(),
         &mut runner,
@@ -156,7 +149,57 @@ fn record_renumbered<W: Write + Drop>(
         &mut io::sink(),
         replies,
     );
-    Ok((runner.give_back(), ran))
+    let recorder = runner.give_back();
+    close_record(rt, recorder, ended(ran, replies), outcome(replies), seal)
+}
+
+/// The recorder, which gives streams serials that its file doesn't have.
+fn renumbered(
+    rt: &HostRuntime,
+    recorder: Recorder<FileDisk>,
+) -> Result<Renumbered<Recorder<FileDisk>>, Fault> {
+    let serials = serials_of(rt, &recorder)?;
+    match Renumbered::new(rt.alloc(), recorder, serials.as_slice()) {
+        Ok(runner) => Ok(runner),
+        Err(_) => Err(Fault::Memory),
+    }
+}
+
+/// A copy of the serials that the file has.
+fn serials_of(rt: &HostRuntime, recorder: &Recorder<FileDisk>) -> Result<Vec<u32>, Fault> {
+    let mut serials = Vec::new(rt.alloc());
+    match serials.extend_from_slice(recorder.serials().as_slice()) {
+        Ok(()) => Ok(serials),
+        Err(_) => Err(Fault::Memory),
+    }
+}
+
+/// Tells what was recorded. Unless a fault came, or a refusal ended the run, the file is sealed, if that is asked for.
+fn close_record(
+    rt: &HostRuntime,
+    recorder: Recorder<FileDisk>,
+    ended: Result<Tally, Fault>,
+    outcome: Result<(), Fault>,
+    seal: bool,
+) -> Result<(), Fault> {
+    match told(rt, ended, recorder.is_failed(), outcome) {
+        Ok(()) => seal_if(recorder, seal),
+        Err(fault) => Err(fault),
+    }
+}
+
+/// Tells what was recorded, and returns the first thing that was met.
+fn told(
+    rt: &HostRuntime,
+    ended: Result<Tally, Fault>,
+    failed: bool,
+    outcome: Result<(), Fault>,
+) -> Result<(), Fault> {
+    sum_up(rt, ended?);
+    if failed {
+        return Err(Fault::Failed);
+    }
+    outcome
 }
 
 /// Standard input, read ahead.
