@@ -5,3 +5,4 @@ pub mod Beginning
 pub mod Taking
 pub mod Importing
 pub mod Lines
+pub mod SeenLaws
