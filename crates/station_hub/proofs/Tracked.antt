@@ -25,7 +25,6 @@ use Rattle.ogg_recorder.specs.Running.{reply_of}
 use Rattle.feed_replies.specs.declared.outcome.Outcome.{Outcome}
 use Rattle.feed_replies.specs.declared.outcome.Outcome.TheVariants.{Held as WasHeld, Kept as WasKept}
 use Rattle.serve_machine.specs.Hub.{HubState, IsAccepted, MayBeFound, command_step, committing, doubting, flush_step, holding, is_failed, reopen_step}
-use Rattle.serve_machine.specs.Own.{KeepsFile}
 use Rattle.station_hub.specs.Marking.{ArePlaces, Records, Start, bytes_by, links_by}
 use Rattle.station_hub.specs.Places.{PlacesState, answered_by, committed_to, noted, place_of, reopened_to}
 use Rattle.station_hub.specs.Tracking.{IsOpenIn, IsTold, Tracks}
@@ -309,18 +308,7 @@ tracks_lost_file start old new places step tracks = subst (λ machine. Tracks st
   are_places = tracks.are_places;
 })
 
--- ---- the calls of sessions, and of listeners
-pub tracks_session : (start : Start) (old new : HubState) (places : PlacesState) → KeepsFile old new → Tracks start old places → Tracks start new places
-tracks_session start old new places keeps tracks = subst (λ machine. Tracks start machine places) (sym keeps) (record {
-  commands = tracks.commands;
-  waiting = tracks.waiting;
-  records = tracks.records;
-  committed = tracks.committed;
-  held = tracks.held;
-  in_doubt = tracks.in_doubt;
-  are_places = tracks.are_places;
-})
-
+-- ---- listeners
 pub tracked_places : Adds → AreOne → Makes → (start : Start) (machine : HubState) (places : PlacesState) (place : JoinPlace) (links : List (List Page))
     → Tracks start machine places → place_to_join places.boundaries ≡ Some place → AreLinks machine.committed links
     → (moment : Moment) × IsPlaceIn links moment place

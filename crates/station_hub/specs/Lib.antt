@@ -8,3 +8,6 @@ pub mod Patience
 pub mod Waking
 pub mod Keeping
 pub mod Telling
+pub mod Live
+pub mod LiveLaws
+pub mod LiveRunning

@@ -29,6 +29,10 @@ pub record Tracks (start : Start) (machine : HubState) (places : PlacesState) : 
   pub in_doubt : (group : List ℕ) → machine.in_doubt ≡ Some group → machine.committed ++ group ≡ bytes_by start (commands ++ waiting)
   pub are_places : ArePlaces start commands waiting places
 
+-- whichever file they are those of before, the places are those of that file after
+abbrev pub TracksOn : HubState → PlacesState → HubState → PlacesState → Type 0
+TracksOn old places new new_places = (start : Start) → Tracks start old places → Tracks start new new_places
+
 -- whether the last of the links that are committed and held is open, if no group is in doubt
 abbrev pub IsOpenIn : HubState → Bool → Type 0
 IsOpenIn machine going =

@@ -1,15 +1,15 @@
 //! The hub of a station: what its connections get of the file while it is recorded.
 //!
 //! A `LiveHub` is a hub, and where listeners may join the link that it records, as the hub's answers to commands tell
-//! it. It runs commands as its hub does. A connection that the hub answers is given a session by `connect`, whose further
+//! it. It runs commands as its hub does (`specs/LiveRunning.antt`). A connection that the hub answers is given a session by `connect`, whose further
 //! bytes `read` takes; one that listens joins by `listen`. `give` gives either the next bytes that are to be written.
 //!
 //! `is_due` says when what waits is committed, and `Waking` when those who hear what is recorded are woken for it.
 //! `Kinds` counts the connections by what they are; `tell_player` and `tell_status` tell one of them what the station is.
 //!
 //! Start at `specs/Giving.antt`, which says what a connection is given and owed, and at `specs/Places.antt`, which says
-//! where listeners may join; `specs/Tracking.antt` says that these are places of what is committed. `src/laws.rt` has the
-//! laws.
+//! where listeners may join; `specs/Tracking.antt` says that these are places of what is committed, and `specs/Live.antt`
+//! that calls leave them so. `src/laws.rt` has the laws.
 #![tactic(auto)]
 
 mod asking;

@@ -12,8 +12,8 @@ ghost use Rattle.serve_live.specs.Boundaries.{no_link, place_to_join};
 ghost use Rattle.serve_machine.specs.Calls.{Steps, found_by};
 ghost use Rattle.serve_machine.specs.Hub.{Close, HubState, Reopen};
 ghost use Rattle.serve_machine.specs.declared.fault.HubFault.{HubFault as HubFaultOf};
-ghost use Rattle.station_hub.specs.Going.{OnlyRecords};
 ghost use Rattle.station_hub.specs.Keeping.{KeepsRecorded};
+ghost use Rattle.station_hub.specs.Live.{BeginsOver, RecordsLive};
 ghost use Rattle.station_hub.specs.Places.{answered_by, committed_to, reopened_to};
 ghost use Rattle.station_hub.specs.Tracking.{IsOpenIn, IsTold, KeepsPlaces};
 ghost use Rattle.station_hub.specs.declared.places.Answered.{Answered as AnsweredOf};
@@ -48,7 +48,9 @@ impl<D: Disk + Drop> LiveHub<D> {
     pub fn new(alloc: Global, hub: Hub<D>) -> Result<LiveHub<D>, Memory>
         ensures hub { IfOk result (λ live. live.hub ≡ hub) }
         ensures places { IfOk result (λ live. live.places ≡ record { boundaries = no_link; begun = None }) }
+        ensures begins { IfOk result (λ live. BeginsOver hub live) }
     {
+        listeners_join_committed_links();
         Ok(LiveHub {
             hub,
             places: Places::new(alloc)?,
@@ -94,6 +96,7 @@ impl<D: Disk + Drop> LiveHub<D> {
         ensures step { Steps (Shows D.Disk) self.old.hub self.new.hub (λ after. Reopen (found_by result after)) }
         ensures same { OnErr result (self.new.places ≡ self.old.places) }
         ensures keeps { KeepsPlaces (Shows D.Disk) self.old.hub self.old.places self.new.hub self.new.places }
+        ensures records { RecordsLive D.Disk self.old self.new }
     {
         listeners_join_committed_links();
         let end = self.hub.end();
@@ -108,7 +111,7 @@ impl<D: Disk + Drop> LiveHub<D> {
 
     /// Ends each stream that the file's last link has open, and commits that. It stops at the first end that is refused.
     pub fn end_open(&mut self)
-        ensures records { OnlyRecords (Shows D.Disk) self.old.hub self.new.hub }
+        ensures records { RecordsLive D.Disk self.old self.new }
     {
         for _ in 0..MOST_STREAMS {
             if !self.end_first() {
@@ -120,7 +123,7 @@ impl<D: Disk + Drop> LiveHub<D> {
 
     /// Ends the first open stream, if there is one. It returns whether there was, and the end wasn't refused.
     fn end_first(&mut self) -> bool
-        ensures records { OnlyRecords (Shows D.Disk) self.old.hub self.new.hub }
+        ensures records { RecordsLive D.Disk self.old self.new }
     {
         let Some(serial) = first_open(self.hub.streams()) else {
             return false;
@@ -190,15 +193,15 @@ fn first_open(streams: &[StreamState]) -> Option<u32> {
     Some(stream.serial)
 }
 
-/// It answers as its hub does.
+/// It answers as its hub does, and where its listeners join stay places of its file.
 impl<D: Disk + Drop> Runner for LiveHub<D> {
-    ghost use Rattle.serve_hub.specs.Running.{Progress, IsIn, Answers, waiting_in, end_in};
+    ghost use Rattle.station_hub.specs.LiveRunning.{LiveProgress, IsLiveIn, LiveAnswers, waiting_in, end_in};
 
-    ghost State = { Progress D };
+    ghost State = { LiveProgress D };
 
-    ghost is_in = { λ before live. IsIn D.Disk before live.hub };
+    ghost is_in = { IsLiveIn D.Disk };
 
-    ghost answers = { Answers D.Disk };
+    ghost answers = { LiveAnswers D.Disk };
 
     ghost held_in = { waiting_in };
 
@@ -211,14 +214,14 @@ impl<D: Disk + Drop> Runner for LiveHub<D> {
         command: &Command,
         pages: &mut P,
     ) -> Result<Reply, WriteFault>
-        ensures ok { (before : Progress D) → IsIn D.Disk before self.old.hub
-            → IfOk result (λ reply. (own : List ℕ) × (after : Progress D)
-            × Answers D.Disk before (RecordOf.Command command.now) reply own after
-            × IsIn D.Disk after self.new.hub × Appends (P.contents pages.old) (P.contents pages.new) own) }
-        ensures err { (before : Progress D) → IsIn D.Disk before self.old.hub
-            → OnErr result ((reply : ReplyOf) × (own : List ℕ) × (after : Progress D)
-            × Answers D.Disk before (RecordOf.Command command.now) reply own after
-            × IsIn D.Disk before self.new.hub × WritesPart (P.contents pages.old) (P.contents pages.new) own) }
+        ensures ok { (before : LiveProgress D) → IsLiveIn D.Disk before self.old
+            → IfOk result (λ reply. (own : List ℕ) × (after : LiveProgress D)
+            × LiveAnswers D.Disk before (RecordOf.Command command.now) reply own after
+            × IsLiveIn D.Disk after self.new × Appends (P.contents pages.old) (P.contents pages.new) own) }
+        ensures err { (before : LiveProgress D) → IsLiveIn D.Disk before self.old
+            → OnErr result ((reply : ReplyOf) × (own : List ℕ) × (after : LiveProgress D)
+            × LiveAnswers D.Disk before (RecordOf.Command command.now) reply own after
+            × IsLiveIn D.Disk before self.new × WritesPart (P.contents pages.old) (P.contents pages.new) own) }
         ensures keeps { KeepsPlaces (Shows D.Disk) self.old.hub self.old.places self.new.hub self.new.places }
     {
         listeners_join_committed_links();
@@ -235,9 +238,9 @@ impl<D: Disk + Drop> Runner for LiveHub<D> {
     }
 
     fn run_flush(&mut self) -> Reply
-        ensures answers { (before : Progress D) → IsIn D.Disk before self.old.hub → (after : Progress D)
-            × Answers D.Disk before RecordOf.Flush result [] after
-            × IsIn D.Disk after self.new.hub }
+        ensures answers { (before : LiveProgress D) → IsLiveIn D.Disk before self.old → (after : LiveProgress D)
+            × LiveAnswers D.Disk before RecordOf.Flush result [] after
+            × IsLiveIn D.Disk after self.new }
         ensures keeps { KeepsPlaces (Shows D.Disk) self.old.hub self.old.places self.new.hub self.new.places }
     {
         listeners_join_committed_links();

@@ -1,5 +1,6 @@
 use Rattle.std.proofs.Common.{length, refl}
-use Rattle.station_hub.proofs.Tracked.{tracked_places, tracks_command, tracks_flush, tracks_lost_file, tracks_none, tracks_refused_flush, tracks_reopening, tracks_session}
+use Rattle.station_hub.proofs.Tracked.{tracked_places, tracks_command, tracks_flush, tracks_lost_file, tracks_none, tracks_refused_flush, tracks_reopening}
+use Rattle.station_hub.specs.LiveLaws.{tracks_file}
 use Rattle.station_hub.proofs.laws.listeners_join_committed_links.Goals as goal
 
 pub returns : goal.returns
@@ -14,5 +15,5 @@ returns c =
       refused = tracks_refused_flush;
       reopened = tracks_reopening adds;
       lost = tracks_lost_file;
-      session = λ start old new event id places step of. tracks_session start old new places (c.calls_move_their_session.ensures.file old new event id step of);
+      session = λ start old new event id places step of. tracks_file start old new places (c.calls_move_their_session.ensures.file old new event id step of);
     }

@@ -5,6 +5,6 @@ use Rattle.station_hub.proofs.live_hub.LiveHub.end_first.Goals as goal
 
 pub returns : goal.returns
 returns g c = record {
-  records = by_command g.D.Disk c.args.self.now.hub c.run_command-answer.new.self.hub (CommandOf (EndOf c.in-Some.serial)) c.run_command-answer.result _ _
+  records = by_command g.D.Disk c.args.self.now c.run_command-answer.new.self (CommandOf (EndOf c.in-Some.serial)) c.run_command-answer.result _ _
       c.run_command-answer.ensures.ok c.run_command-answer.ensures.err;
 }
