@@ -16,7 +16,7 @@ ghost use Rattle.station_sources.specs.declared.air.OnAir.{OnAir as OnAirOf};
 ghost use Rattle.station_sources.specs.Counting.{counted};
 ghost use Rattle.station_hub.specs.Giving.{Gives};
 ghost use Rattle.serve_hub.specs.Parts.{serials_in};
-ghost use Rattle.station_hub.specs.Keeping.{KeepsRecorded};
+ghost use Rattle.station_hub.specs.Live.{BeginsOver, StaysLive};
 ghost use Rattle.station_sources.specs.Beginning.{HasBegun};
 ghost use Rattle.station.specs.Beginning.{BeginsBeside, options_for, run_in};
 ghost use Rattle.station.specs.Keeping.{IsEndedBy, IsFedMore, IsLostBy, OthersAirStays};
@@ -92,7 +92,9 @@ pub struct Station<D: Disk> {
 
 impl<D: Disk + Drop> Station<D> {
     /// A station over a hub, which has room for a session for each connection. It makes the room for all connections.
-    pub fn new(alloc: Global, hub: Hub<D>, options: Options) -> Result<Station<D>, Memory> {
+    pub fn new(alloc: Global, hub: Hub<D>, options: Options) -> Result<Station<D>, Memory>
+        ensures live { IfOk result (λ station. BeginsOver hub station.live) }
+    {
         Ok(Station {
             alloc,
             live: LiveHub::new(alloc, hub)?,
@@ -191,7 +193,7 @@ impl<D: Disk + Drop> Station<D> {
         ensures gone { get self.new.clients.slots key ≡ None }
         ensures others { OthersStay key self.old.clients self.new.clients }
         ensures file { self.new.live.hub.file ≡ self.old.live.hub.file }
-        ensures recorded { KeepsRecorded D.Disk self.old.live.hub self.new.live.hub }
+        ensures recorded { StaysLive D.Disk self.old.live self.new.live }
         // If it sent the stream that is recorded, no further byte of that comes.
         ensures air { get self.old.clients.slots key ≢ None → IsLostBy (Feeder.Peer key) self.old.air self.new.air }
         ensures none { get self.old.clients.slots key ≡ None → self.new.air ≡ self.old.air }
@@ -225,7 +227,7 @@ impl<D: Disk + Drop> Station<D> {
         // The file is only read, if at all.
         ensures disk { (self.new.live.hub.file ≡ self.old.live.hub.file)
             ⊎ IfFile (Reads D.Disk) self.old.live.hub.file self.new.live.hub.file }
-        ensures recorded { KeepsRecorded D.Disk self.old.live.hub self.new.live.hub }
+        ensures recorded { StaysLive D.Disk self.old.live self.new.live }
         // Bytes of the source that has the air are kept, or that there is no room for them is noted. Those of another
         // connection leave it as it is.
         ensures feeds { (client : ClientState) → get self.old.clients.slots key ≡ Some client → client.stage ≡ FeedingOf
@@ -276,7 +278,7 @@ impl<D: Disk + Drop> Station<D> {
         ensures machine { KeepsMachine D.Disk self.old.live.hub self.new.live.hub }
         ensures disk { (self.new.live.hub.file ≡ self.old.live.hub.file)
             ⊎ IfFile (Reads D.Disk) self.old.live.hub.file self.new.live.hub.file }
-        ensures recorded { KeepsRecorded D.Disk self.old.live.hub self.new.live.hub }
+        ensures recorded { StaysLive D.Disk self.old.live self.new.live }
         ensures air { self.new.air ≡ self.old.air }
         ensures others { OthersStay key self.old.clients self.new.clients }
     {
@@ -327,7 +329,7 @@ impl<D: Disk + Drop> Station<D> {
         ensures none { get self.old.clients.slots key ≡ None → (get self.new.clients.slots key ≡ None) × (self.new.live.hub ≡ self.old.live.hub) }
         ensures disk { (self.new.live.hub.file ≡ self.old.live.hub.file)
             ⊎ IfFile (Reads D.Disk) self.old.live.hub.file self.new.live.hub.file }
-        ensures recorded { KeepsRecorded D.Disk self.old.live.hub self.new.live.hub }
+        ensures recorded { StaysLive D.Disk self.old.live self.new.live }
         ensures others { OthersStay key self.old.clients self.new.clients }
         ensures air { self.new.air ≡ self.old.air }
         ensures within { result ≤ length buffer.new }
@@ -357,7 +359,7 @@ impl<D: Disk + Drop> Station<D> {
             × (get self.new.clients.slots key ≡ Some (given result (is_over self.old.air self.old.ending) now after)) }
         ensures disk { (self.new.live.hub.file ≡ self.old.live.hub.file)
             ⊎ IfFile (Reads D.Disk) self.old.live.hub.file self.new.live.hub.file }
-        ensures recorded { KeepsRecorded D.Disk self.old.live.hub self.new.live.hub }
+        ensures recorded { StaysLive D.Disk self.old.live self.new.live }
         ensures others { OthersStay key self.old.clients self.new.clients }
         ensures air { self.new.air ≡ self.old.air }
         ensures within { result ≤ length buffer.new }

@@ -14,7 +14,7 @@ ghost use Rattle.station.specs.Beginning.{BeginsBeside, GoesOnAgain, HasReopened
 ghost use Rattle.station_sources.specs.Air.{parting_answer};
 ghost use Rattle.station.specs.Parting.{FeederParts, HasParted};
 ghost use Rattle.station.specs.Passing.{ArePassed};
-ghost use Rattle.station_hub.specs.Going.{OnlyRecords};
+ghost use Rattle.station_hub.specs.Live.{RecordsLive};
 ghost use Rattle.station_sources.specs.declared.air.OnAir.{OnAir as OnAirOf};
 ghost use Rattle.station_hub.specs.Patience.{is_due, until_due};
 ghost use Rattle.station.specs.Stepping.{BeginsBy, GoesOnWithLoss, HasFlushed, IsSucceededBy, PartsBy, TakesFromSource, reopens, with_done};
@@ -90,8 +90,8 @@ impl<D: Disk + Drop> Station<D> {
         // If more is committed, listeners are woken now, or it is remembered that they are to be.
         ensures wakes { (before after : HubState) → Shows D.Disk self.old.live.hub before → Shows D.Disk self.new.live.hub after
             → length before.committed ≢ length after.committed → (self.new.waking ≡ woken_at now) ⊎ (self.new.waking.unheard ≡ true) }
-        // No session is touched, and of the connections the source that had the air is, and those that wait for it.
-        ensures records { OnlyRecords (Shows D.Disk) self.old.live.hub self.new.live.hub }
+        // No session is touched, and the places stay those of the file. Of the connections, sources alone may change.
+        ensures records { RecordsLive D.Disk self.old.live self.new.live }
         ensures passed { ArePassed self.old.clients.slots self.new.clients.slots }
     {
         let end = self.live.hub().end();
@@ -139,7 +139,7 @@ impl<D: Disk + Drop> Station<D> {
         ensures flushed { (reply : ReplyOf) → result ≡ Done.Flushed reply
             → (self.new.air ≡ self.old.air) × HasFlushed D.Disk result self.old.live self.new.live }
         ensures nothing { result ≡ Done.Nothing → (self.new.live ≡ self.old.live) × (self.new.air ≡ self.old.air) }
-        ensures records { OnlyRecords (Shows D.Disk) self.old.live.hub self.new.live.hub }
+        ensures records { RecordsLive D.Disk self.old.live self.new.live }
         ensures passed { ArePassed self.old.clients.slots self.new.clients.slots }
     {
         if self.live.hub().is_failed() {
@@ -167,7 +167,7 @@ impl<D: Disk + Drop> Station<D> {
         ensures goes_on { result ≢ Done.Reopened }
         ensures rests { (reply : ReplyOf) → result ≢ Done.Flushed reply }
         ensures nothing { result ≡ Done.Nothing → (self.new.live ≡ self.old.live) × (self.new.air ≡ self.old.air) }
-        ensures records { OnlyRecords (Shows D.Disk) self.old.live.hub self.new.live.hub }
+        ensures records { RecordsLive D.Disk self.old.live self.new.live }
         ensures passed { ArePassed self.old.clients.slots self.new.clients.slots }
     {
         let Some(air) = &mut self.air else {
@@ -205,7 +205,7 @@ impl<D: Disk + Drop> Station<D> {
             → FeederParts (parting_answer (given_up || failed_in self.new.live.hub.file) air) air self.old.clients.slots self.new.clients.slots }
         ensures succeeded { self.old.air ≢ None → IsSucceeded self.old.clients.slots self.new.clients.slots self.new.air }
         ensures begins { self.old.air ≢ None → BeginsBeside (serials_in self.new.live.hub.file) self.old.options.skeletons (run_in self.new.air) }
-        ensures records { OnlyRecords (Shows D.Disk) self.old.live.hub self.new.live.hub }
+        ensures records { RecordsLive D.Disk self.old.live self.new.live }
         ensures passed { ArePassed self.old.clients.slots self.new.clients.slots }
     {
         let Some(air) = self.air.take() else {
@@ -265,7 +265,7 @@ impl<D: Disk + Drop> Station<D> {
     /// Ends each stream that the file's last link has open, and commits that. It stops at the first end that is refused.
     pub fn end_open(&mut self)
         ensures rest { self.new ≡ record self.old { live = self.new.live } }
-        ensures records { OnlyRecords (Shows D.Disk) self.old.live.hub self.new.live.hub }
+        ensures records { RecordsLive D.Disk self.old.live self.new.live }
     {
         self.live.end_open();
     }
@@ -282,7 +282,7 @@ impl<D: Disk + Drop> Station<D> {
         ensures waits { result ≡ Done.Failed → self.new ≡ self.old }
         ensures lost { (fault : OpenFaultOf) → result ≡ Done.Lost fault → (self.new.air ≡ self.old.air) × (self.new.clients ≡ self.old.clients) }
         ensures reopens { reopens result ≡ true }
-        ensures records { OnlyRecords (Shows D.Disk) self.old.live.hub self.new.live.hub }
+        ensures records { RecordsLive D.Disk self.old.live self.new.live }
         ensures passed { ArePassed self.old.clients.slots self.new.clients.slots }
     {
         let end = self.live.hub().end();
@@ -308,7 +308,7 @@ impl<D: Disk + Drop> Station<D> {
         ensures none { self.old.air ≡ None → (result ≡ Done.Reopened) × (self.new ≡ self.old) }
         ensures reopens { reopens result ≡ true }
         ensures becomes { (result ≡ Done.Reopened) ⊎ ((fault : RecordFaultOf) × (result ≡ Done.GivenUp fault)) }
-        ensures records { OnlyRecords (Shows D.Disk) self.old.live.hub self.new.live.hub }
+        ensures records { RecordsLive D.Disk self.old.live self.new.live }
         ensures passed { ArePassed self.old.clients.slots self.new.clients.slots }
     {
         let Some(air) = &mut self.air else {

@@ -1,7 +1,7 @@
 use Rattle.std.proofs.Common.{◌≡◌, ℕ, Option, Some, None, refl, sym, ◌∙◌, ap, subst}
 use Rattle.serve_clients.specs.Client.{ClientState}
 use Rattle.slab.specs.Slab.{get}
-use Rattle.station_hub.specs.Keeping.{KeepsRecorded}
+use Rattle.station_hub.specs.Live.{StaysLive}
 use Rattle.station_hub.specs.declared.live_hub.LiveHub.{LiveHub}
 use Rattle.station.specs.Asked.{EndsSession}
 use Rattle.station.specs.Passing.{session_in}
@@ -11,11 +11,11 @@ use Rattle.station.proofs.station.Station.closed.Goals.{in-Some, in_default}
 pub returns-clause-recorded : goal.returns-clause-recorded
 returns-clause-recorded g c = elim c.match-client.branch [
   | in-Some w ↦
-      subst (λ (live : LiveHub _). KeepsRecorded g.D.Disk c.args.self.now.live.hub live.hub) (sym (c.lose_feeder.ensures.live ∙ ap (λ s. s.live) w.self-is))
-      w.close.ensures.recorded
+      subst (λ (live : LiveHub _). StaysLive g.D.Disk c.args.self.now.live live) (sym (c.lose_feeder.ensures.live ∙ ap (λ s. s.live) w.self-is))
+      (w.close.ensures.recorded, w.close.ensures.places)
   | in_default w ↦
-      subst (λ (live : LiveHub _). KeepsRecorded g.D.Disk c.args.self.now.live.hub live.hub) (sym (c.lose_feeder.ensures.live ∙ ap (λ s. s.live) w.self-is))
-      (λ before shows. (before, shows, refl))
+      subst (λ (live : LiveHub _). StaysLive g.D.Disk c.args.self.now.live live) (sym (c.lose_feeder.ensures.live ∙ ap (λ s. s.live) w.self-is))
+      ((λ before shows. (before, shows, refl)), refl)
 ]
 
 none_of : (session : Option ℕ) → ((id : ℕ) → session ≡ Some id → ⊥) → session ≡ None

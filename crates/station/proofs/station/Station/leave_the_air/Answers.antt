@@ -1,8 +1,7 @@
 use Rattle.std.proofs.Common.{◌≡◌, Bool, ◌||◌, Some, sym, ◌∙◌, ap, subst}
 use Rattle.slab.specs.Slab.{get}
 use Rattle.serve_hub.specs.Parts.{failed_in, serials_in}
-use Rattle.serve_hub.specs.Showing.{Shows}
-use Rattle.station_hub.specs.Going.{OnlyRecords}
+use Rattle.station_hub.specs.Live.{RecordsLive}
 use Rattle.station_hub.specs.declared.live_hub.LiveHub.{LiveHub}
 use Rattle.station.specs.Beginning.{BeginsBeside, run_in}
 use Rattle.station.specs.declared.station.Options.{Options}
@@ -31,7 +30,7 @@ returns g c = record {
             (subst (λ (one : OnAir). HasParted (parting_answer told one) client after) same parted),
       );
   records =
-      subst (λ live. OnlyRecords (Shows g.D.Disk) c.args.self.now.live.hub live.hub) (sym (c.offer_again.ensures.live ∙ c.answer_feeder.ensures.live))
+      subst (λ live. RecordsLive g.D.Disk c.args.self.now.live live) (sym (c.offer_again.ensures.live ∙ c.answer_feeder.ensures.live))
       c.end_open.ensures.records;
   passed =
       subst (λ slots. ArePassed slots c.offer_again.new.self.clients.slots) (ap (λ s. s.clients.slots) c.end_open.ensures.rest)

@@ -1,10 +1,7 @@
 use Rattle.std.proofs.Common.{refl}
 use Rattle.serve_hub.specs.Running.{Progress}
 use Rattle.station.proofs.Leaving.{isnt_failed, isnt_lost}
-use Rattle.serve_hub.specs.Showing.{Shows}
-use Rattle.serve_machine.specs.Calls.{found_by}
-use Rattle.serve_machine.specs.Hub.{Reopen}
-use Rattle.station.proofs.Recorded.{goes_on, one}
+use Rattle.station_hub.specs.LiveLaws.{records_then}
 use Rattle.station.proofs.station.Station.reopen.Goals as goal
 
 pub returns-in-Ok-clause-waits : goal.returns-in-Ok-clause-waits
@@ -21,8 +18,7 @@ returns-in-Ok-clause-resumes g c air machine is shows reopened =
 
 pub returns-in-Ok-clause-records : goal.returns-in-Ok-clause-records
 returns-in-Ok-clause-records g c =
-    goes_on (Shows g.D.Disk) c.args.self.now.live.hub c.reopen.new.self.hub c.resume.new.self.live.hub
-    (one (Shows g.D.Disk) c.args.self.now.live.hub c.reopen.new.self.hub (λ machine. Reopen (found_by c.reopen.result machine)) c.reopen.ensures.step (λ machine. refl)) c.resume.ensures.records
+    records_then g.D.Disk c.args.self.now.live c.reopen.new.self c.resume.new.self.live c.reopen.ensures.records c.resume.ensures.records
 
 pub returns-in-Err-clause-records : goal.returns-in-Err-clause-records
-returns-in-Err-clause-records g c = one (Shows g.D.Disk) c.args.self.now.live.hub c.reopen.new.self.hub (λ machine. Reopen (found_by c.reopen.result machine)) c.reopen.ensures.step (λ machine. refl)
+returns-in-Err-clause-records g c = c.reopen.ensures.records

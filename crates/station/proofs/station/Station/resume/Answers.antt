@@ -5,8 +5,9 @@ use Rattle.serve_hub.specs.Running.{Answers}
 use Rattle.station_sources.specs.Beginning.{GoesOnIn}
 use Rattle.station.proofs.Leaving.{lost_answer, resumed, same_air}
 use Rattle.station_sources.specs.declared.air.OnAir.{OnAir}
-use Rattle.serve_hub.specs.Showing.{Shows}
-use Rattle.station.proofs.Recorded.{goes_on, ran}
+use Rattle.station_hub.specs.LiveLaws.{is_live_in, records_then}
+use Rattle.station_hub.specs.LiveRunning.{live_in}
+use Rattle.station.proofs.Recorded.{hub_ran, ran}
 use Rattle.station.proofs.station.Station.resume.Goals as goal
 
 pub returns-in-Err-clause-parts : goal.returns-in-Err-clause-parts
@@ -32,9 +33,10 @@ returns-in-Ok-resumed-clause-resumes g c air before is is_in done =
     let source = c.resume.new.self in
     let same = c.lose.ensures ∙ ap (λ (one : OnAir). record one { lost = true }) (same_air c.in-Some.air air (sym c.in-Some.is ∙ is)) in
     let hub = c.hub-hub.ensures ∙ sym is_in.0 in
-    let (after, reached, ran) = c.in-Ok-resumed.ensures.ok before is_in in record {
+    let live = c.args.self.now.live in
+    let (after, reached, ran) = c.in-Ok-resumed.ensures.ok (live_in before live) (is_live_in g.D.Disk before live is_in) in record {
       source = source;
-      after = after;
+      after = after.hub;
       on_air = refl;
       resumed = record {
         commands = c.in-Ok.commands.items;
@@ -44,18 +46,19 @@ returns-in-Ok-resumed-clause-resumes g c air before is is_in done =
             (subst (λ serials. GoesOnIn c.streams.result.now serials c.in-Ok.commands.items (record air { lost = true }) source)
             (c.serials.ensures.serials ∙ ap (λ (one : HubParts _). serials_in one.file) hub)
             (subst (λ (one : OnAir). GoesOnIn c.streams.result.now c.serials.result.now c.in-Ok.commands.items one source) same c.in-Ok.ensures.resumes));
-        ran = subst (λ commands. HasRun (Answers g.D.Disk) commands c.in-Ok-resumed.field-0 before after None None) c.as_slice.ensures.value ran;
+        ran = subst (λ commands. HasRun (Answers g.D.Disk) commands c.in-Ok-resumed.field-0 before after.hub None None) c.as_slice.ensures.value
+            (hub_ran g.D.Disk c.as_slice.result.now c.in-Ok-resumed.field-0 (live_in before live) after None None ran);
       };
-      reached = reached;
+      reached = reached.hub;
     }
 
 pub returns-in-Ok-resumed-clause-records : goal.returns-in-Ok-resumed-clause-records
 returns-in-Ok-resumed-clause-records g c =
-    ran g.D.Disk c.args.self.now.live.hub c.run_all-resumed.new.runner.hub c.as_slice.result.now c.run_all-resumed.result _ _
+    ran g.D.Disk c.args.self.now.live c.run_all-resumed.new.runner c.as_slice.result.now c.run_all-resumed.result _ _
     c.run_all-resumed.ensures.ok c.run_all-resumed.ensures.err
 
 pub returns-in-Err-resumed-clause-records : goal.returns-in-Err-resumed-clause-records
 returns-in-Err-resumed-clause-records g c =
-    goes_on (Shows g.D.Disk) c.args.self.now.live.hub c.run_all-resumed.new.runner.hub c.leave_the_air-in-Err-resumed.new.self.live.hub
-    (ran g.D.Disk c.args.self.now.live.hub c.run_all-resumed.new.runner.hub c.as_slice.result.now c.run_all-resumed.result _ _
+    records_then g.D.Disk c.args.self.now.live c.run_all-resumed.new.runner c.leave_the_air-in-Err-resumed.new.self.live
+    (ran g.D.Disk c.args.self.now.live c.run_all-resumed.new.runner c.as_slice.result.now c.run_all-resumed.result _ _
     c.run_all-resumed.ensures.ok c.run_all-resumed.ensures.err) c.leave_the_air-in-Err-resumed.ensures.records

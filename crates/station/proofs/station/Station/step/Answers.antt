@@ -3,8 +3,7 @@ use Rattle.serve_clients.specs.declared.clients.Clients.{Clients}
 use Rattle.station_hub.specs.declared.live_hub.LiveHub.{LiveHub}
 use Rattle.station_sources.specs.declared.air.OnAir.{OnAir}
 use Rattle.serve_hub.specs.Parts.{serials_in}
-use Rattle.serve_hub.specs.Showing.{Shows}
-use Rattle.station_hub.specs.Going.{OnlyRecords}
+use Rattle.station_hub.specs.Live.{RecordsLive}
 use Rattle.station.specs.Beginning.{run_in}
 use Rattle.station.specs.Passing.{ArePassed}
 use Rattle.station.specs.Stepping.{BeginsBy, GoesOnWithLoss, IsSucceededBy, TakesFromSource}
@@ -71,7 +70,7 @@ returns-clause-succeeded g c =
 pub returns-clause-records : goal.returns-clause-records
 returns-clause-records g c =
     let records = c.step_once-done.ensures.records in
-    subst (λ (live : LiveHub _). OnlyRecords (Shows g.D.Disk) c.args.self.now.live.hub live.hub) (sym (live_is g c)) records
+    subst (λ (live : LiveHub _). RecordsLive g.D.Disk c.args.self.now.live live) (sym (live_is g c)) records
 
 pub returns-clause-passed : goal.returns-clause-passed
 returns-clause-passed g c =

@@ -9,8 +9,9 @@ use Rattle.station_sources.specs.declared.air.OnAir.{OnAir}
 use Rattle.station_sources.specs.declared.air.Took.{Took}
 use Rattle.station.specs.Parting.{HasParted}
 use Rattle.station.proofs.Leaving.{lost_answer, same_air, same_answer}
-use Rattle.serve_hub.specs.Showing.{Shows}
-use Rattle.station.proofs.Recorded.{goes_on, took as took_led}
+use Rattle.station_hub.specs.LiveLaws.{is_live_in, records_then}
+use Rattle.station_hub.specs.LiveRunning.{live_in}
+use Rattle.station.proofs.Recorded.{hub_ended, hub_stepped, took as took_led}
 use Rattle.station.proofs.station.Station.step_air.Goals as goal
 
 abbrev took : Took → Result Took RecordFault
@@ -27,15 +28,17 @@ returns-in-Ok-Stepped-clause-takes g c air is before is_in =
     let same : c.in-Some.air ≡ air = same_air c.in-Some.air air (sym c.in-Some.is ∙ is) in
     let new = c.step.new.self in
     let stepped = c.in-Ok-Stepped.is ∙ ap took c.in-Ok-Stepped.field-0-is in
-    let (after, in_after, takes) = c.step.ensures.steps before c.in-Ok-Stepped.step is_in stepped in
+    let live = c.args.self.now.live in
+    let (after, in_after, takes) = c.step.ensures.steps (live_in before live) c.in-Ok-Stepped.step (is_live_in g.D.Disk before live is_in) stepped in
     let (seen, pending, short, feeder, lost) = c.step.ensures.kept c.in-Ok-Stepped.step stepped in
     record {
       source = new;
-      after = after;
+      after = after.hub;
       on_air = refl;
       keeps = subst (λ (one : OnAir). KeepsBytes c.in-Ok-Stepped.step one new) same (record { seen = seen; pending = pending; feeder = feeder; short = short; lost = lost });
-      reached = in_after;
-      takes = subst (λ (one : OnAir). TakesStep (Answers g.D.Disk) (HasAllTaken one) c.in-Ok-Stepped.step one.import new.import before after) same takes;
+      reached = in_after.hub;
+      takes = subst (λ (one : OnAir). TakesStep (Answers g.D.Disk) (HasAllTaken one) c.in-Ok-Stepped.step one.import new.import before after.hub) same
+          (hub_stepped g.D.Disk (HasAllTaken c.in-Some.air) c.in-Ok-Stepped.step c.in-Some.air.import new.import (live_in before live) after takes);
     }
 
 pub returns-in-Ok-Ended-clause-takes : goal.returns-in-Ok-Ended-clause-takes
@@ -45,11 +48,14 @@ returns-in-Ok-Ended-clause-takes g c air is before is_in =
     let offset = c.in-Ok-Ended.offset in
     let junk = c.in-Ok-Ended.junk in
     let taken = c.in-Ok-Ended.taken in
-    let (after, in_after, ends) = c.step.ensures.ends before offset junk taken is_in (c.in-Ok-Ended.is ∙ ap took c.in-Ok-Ended.field-0-is) in
+    let live = c.args.self.now.live in
+    let (after, in_after, ends) =
+    c.step.ensures.ends (live_in before live) offset junk taken (is_live_in g.D.Disk before live is_in) (c.in-Ok-Ended.is ∙ ap took c.in-Ok-Ended.field-0-is) in
     record {
       run = new.import;
-      after = after;
-      takes = subst (λ (one : OnAir). TakesEnd (Answers g.D.Disk) (HasAllTaken one) offset junk taken one.import new.import before after) same ends;
+      after = after.hub;
+      takes = subst (λ (one : OnAir). TakesEnd (Answers g.D.Disk) (HasAllTaken one) offset junk taken one.import new.import before after.hub) same
+          (hub_ended g.D.Disk (HasAllTaken c.in-Some.air) offset junk taken c.in-Some.air.import new.import (live_in before live) after ends);
     }
 
 pub returns-in-Ok-Ended-clause-parts : goal.returns-in-Ok-Ended-clause-parts
@@ -92,14 +98,14 @@ returns-in-Ok-Stepped-clause-records g c =
 
 pub returns-in-Ok-Ended-clause-records : goal.returns-in-Ok-Ended-clause-records
 returns-in-Ok-Ended-clause-records g c =
-    goes_on (Shows g.D.Disk) c.args.self.now.live.hub c.step.new.runner.hub c.leave_the_air.new.self.live.hub
+    records_then g.D.Disk c.args.self.now.live c.step.new.runner c.leave_the_air.new.self.live
     (took_led g.D.Disk c.args.self.now.live c.step.new.runner c.in-Some.air c.step.new.self _ c.step.result c.step.ensures.steps c.step.ensures.ends
     (λ e. (c.step.ensures.bytes e).0) (λ e. (c.step.ensures.nothing e).0) c.step.ensures.stops)
     c.leave_the_air.ensures.records
 
 pub returns-in-Err-clause-records : goal.returns-in-Err-clause-records
 returns-in-Err-clause-records g c =
-    goes_on (Shows g.D.Disk) c.args.self.now.live.hub c.step.new.runner.hub c.leave_the_air-in-Err.new.self.live.hub
+    records_then g.D.Disk c.args.self.now.live c.step.new.runner c.leave_the_air-in-Err.new.self.live
     (took_led g.D.Disk c.args.self.now.live c.step.new.runner c.in-Some.air c.step.new.self _ c.step.result c.step.ensures.steps c.step.ensures.ends
     (λ e. (c.step.ensures.bytes e).0) (λ e. (c.step.ensures.nothing e).0) c.step.ensures.stops)
     c.leave_the_air-in-Err.ensures.records
