@@ -4,21 +4,14 @@ use Rattle.disk_model.specs.declared.disk.Disk.{Ghosts as DiskModel}
 use Rattle.feed_records.specs.declared.item.Record.{Record}
 use Rattle.feed_records.specs.declared.item.Record.TheVariants.{Flush}
 use Rattle.feed_replies.specs.declared.reply.Reply.{Reply}
-use Rattle.feed_run.specs.Answering.{AnswersAll}
 use Rattle.import_mend.specs.declared.mend.Mend.{Mend}
-use Rattle.import_pages.specs.Reader.{ReaderState}
 use Rattle.import_record.specs.Pushing.{Call, Came as CameIn, InputState, IsStepped, NeedsNone, Stepped as SteppedIn, event_of, events_in}
-use Rattle.import_record.specs.Reading.{Steps}
-use Rattle.import_record.specs.Running.{HasRun, records_of}
-use Rattle.import_record.specs.Steps.{Ends, IntakeState, Takes, state_of}
+use Rattle.import_record.specs.Steps.{Ends, IntakeState, state_of}
 use Rattle.import_record.specs.Whole.{Event, GoOn}
-use Rattle.import_record.specs.declared.answering.Answered.{Answered}
 use Rattle.import_record.specs.declared.intake.Taken.{Taken}
 use Rattle.import_record.specs.declared.reading.ImportRun.{ImportRun}
 use Rattle.import_record.specs.declared.reading.Step.{Step}
 use Rattle.import_record.specs.declared.reading.Step.TheVariants.{Flushed, PassedOver, Page, Ended as EndedStep}
-use Rattle.ogg_command.specs.declared.command.Command.{Command}
-use Rattle.ogg_page.specs.Page.{Page as PageOf}
 use Rattle.ogg_page.specs.Window.{LentAt}
 use Rattle.serve_hub.specs.Parts.{HubParts}
 use Rattle.serve_hub.specs.Running.{Answers, IsIn, Progress}
@@ -29,6 +22,7 @@ use Rattle.station_hub.specs.Keeping.{KeepsRecorded}
 use Rattle.station_hub.specs.declared.live_hub.LiveHub.{LiveHub}
 use Rattle.station_sources.specs.Air.{HoldsMore, IsShort}
 use Rattle.station_sources.specs.Importing.{Fed, Finishes, Move, Moves, Noted as NotedMove, Took as TookMove, WentOn as WentOnMove, fed_in}
+use Rattle.station_sources.specs.SeenLaws.{ends_seen, stepped_seen}
 use Rattle.station_sources.specs.Taking.{input_of}
 use Rattle.station_sources.specs.declared.air.OnAir.{OnAir}
 use Rattle.station.specs.Stepping.{HasEnded, TakesFromSource}
@@ -47,63 +41,10 @@ module _ {D : Type 0} (model : DiskModel D) where
       → AnswersOn model (file_in before) given reply own (file_in after)
   on_file before after given reply own answered = (before, after, refl, refl, answered)
 
-  all_on : (records : List Record) (replies : List Reply) (bytes : List ℕ) (before after : Progress D)
-      → AnswersAll (Answers model) before records replies bytes after
-      → AnswersAll (AnswersOn model) (file_in before) records replies bytes (file_in after)
-  all_on [] [] bytes before after (none, same) = (none, ap file_in same)
-  all_on [] (reply ∷ replies) bytes before after none = absurd none
-  all_on (given ∷ records) [] bytes before after none = absurd none
-  all_on (given ∷ records) (reply ∷ replies) bytes before after (next, own, later, answered, rest, is) =
-      (file_in next, own, later, on_file before next given reply own answered, all_on records replies later next after rest, is)
-
-  run_on : (commands : List Command) (result : Answered) (before after : Progress D) (old new : Option (List ℕ))
-      → HasRun (Answers model) commands result before after old new
-      → HasRun (AnswersOn model) commands result (file_in before) (file_in after) old new
-  run_on commands result before after old new is = record {
-    replies = is.replies;
-    runs = record {
-      bytes = is.runs.bytes;
-      answered = all_on (records_of commands) is.replies is.runs.bytes before after is.runs.answered;
-      written = is.runs.written;
-    };
-    result_is = is.result_is;
-  }
-
-  takes_on : (offset : ℕ) (page : PageOf) (old new : IntakeState) (taken : Taken) (before after : Progress D) (pages new_pages : Option (List ℕ))
-      → Takes (Answers model) offset page old new taken before after pages new_pages
-      → Takes (AnswersOn model) offset page old new taken (file_in before) (file_in after) pages new_pages
-  takes_on offset page old new taken before after pages new_pages is = record {
-    more = is.more;
-    given = is.given;
-    mended = is.mended;
-    options = is.options;
-    changed = is.changed;
-    begun = is.begun;
-    ran = run_on is.given taken.answered before after pages new_pages is.ran;
-  }
-
-  steps_on : (step : Step) (reader : ReaderState) (old : IntakeState) (from pages : Option (List ℕ)) (before : Progress D)
-      (new_reader : ReaderState) (new : IntakeState) (left new_pages : Option (List ℕ)) (after : Progress D)
-      → Steps (Answers model) step reader old from pages before new_reader new left new_pages after
-      → Steps (AnswersOn model) step reader old from pages (file_in before) new_reader new left new_pages (file_in after)
-  steps_on (Flushed reply) reader old from pages before new_reader new left new_pages after (answered, stays, same, unread, written) =
-      (on_file before after Flush reply [] answered, stays, same, unread, written)
-  steps_on PassedOver reader old from pages before new_reader new left new_pages after (passes, same, stays, written) =
-      (passes, same, ap file_in stays, written)
-  steps_on (Page offset junk taken) reader old from pages before new_reader new left new_pages after (advances, (at, lent, begins, takes)) =
-      (advances, (at, lent, begins, takes_on offset at.1 old new taken before after pages new_pages takes))
-  steps_on (EndedStep junk) reader old from pages before new_reader new left new_pages after (advances, (lent, same, stays, written)) =
-      (advances, (lent, same, ap file_in stays, written))
-
   stepped_on : (bytes : List ℕ) (step : Step) (lent : Option LentAt) (old new : InputState) (before after : Progress D)
       → IsStepped (Answers model) bytes step lent old new before after
       → IsStepped (AnswersOn model) bytes step lent old new (file_in before) (file_in after)
-  stepped_on bytes step lent old new before after is = record {
-    output = is.output;
-    new_output = is.new_output;
-    steps = steps_on step old.pages old.intake (Some bytes) is.output before new.pages new.intake (Some bytes) is.new_output after is.steps;
-    lent_is = is.lent_is;
-  }
+  stepped_on = stepped_seen (Answers model) (AnswersOn model) file_in on_file
 
   -- ---- the calls
   same_file : (old new : HubState) → KeepsFile old new → file_of new ≡ file_of old
@@ -251,16 +192,7 @@ module _ {D : Type 0} (model : DiskModel D) where
   ends_on : (offset : ℕ) (old new : IntakeState) (taken : Taken) (before after : Progress D) (pages new_pages : Option (List ℕ))
       → Ends (Answers model) offset old new taken before after pages new_pages
       → Ends (AnswersOn model) offset old new taken (file_in before) (file_in after) pages new_pages
-  ends_on offset old new taken before after pages new_pages is = record {
-    more = is.more;
-    given = is.given;
-    ended = is.ended;
-    told = is.told;
-    options = is.options;
-    changed = is.changed;
-    begun = is.begun;
-    ran = run_on is.given taken.answered before after pages new_pages is.ran;
-  }
+  ends_on = ends_seen (Answers model) (AnswersOn model) file_in on_file
 
   -- steps were taken up to the one that found the end, and what was open was ended
   pub record HasFinished (offset : ℕ) (junk : Option Mend) (taken : Taken) (old : OnAir) (start : HubState) : Type 0 where

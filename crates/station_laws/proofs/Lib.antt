@@ -2,6 +2,7 @@ mod Called
 mod Early
 mod Listened
 mod Owing
+mod Placed
 mod Rising
 mod Seen
 mod Served

@@ -24,9 +24,10 @@ use Rattle.serve_live.specs.Listening.{ListenerState}
 use Rattle.serve_live.specs.Live.{Moment}
 use Rattle.serve_machine.specs.Sound.{Extends}
 use Rattle.serve_sources.specs.Asking.{IsOwn, is_source as is_source_head}
+use Rattle.station_hub.specs.LiveLaws.{tracks_same}
 use Rattle.station_hub.specs.Marking.{Start}
 use Rattle.station_hub.specs.Places.{PlacesState}
-use Rattle.station_hub.specs.Tracking.{JoinsAt, Tracks}
+use Rattle.station_hub.specs.Tracking.{JoinsAt, Tracks, TracksOn}
 use Rattle.station_hub.specs.Asking.{stage_after}
 use Rattle.station_hub.specs.Giving.{HasHeard, HasPulled}
 use Rattle.station.specs.Asked.{IsAnswered, heard, moved}
@@ -154,6 +155,7 @@ module _ {D : Type 0} (model : DiskModel D) where
     pub machine : HubState
     pub shown : Shows model new.live.hub machine
     pub grows : Extends before.committed machine.committed
+    pub tracked : TracksOn before old.live.places machine new.live.places
     pub apart : AreApart machine new.clients.slots
     pub seen : (client : ClientState) → get old.clients.slots key ≡ Some client
         → (call ≡ Closed key) ⊎ ((after : ClientState) × (get new.clients.slots key ≡ Some after) × Seen key call old.live.places before machine client after)
@@ -176,15 +178,16 @@ module _ {D : Type 0} (model : DiskModel D) where
   -- a call for a connection, with what that sees
   pub keyed : (key other : ℕ) (call : ℕ → Call) (old new : Station D) (before after : HubState) (mine : Option ℕ) (client becomes : ClientState)
       → OthersStay other old.clients new.clients → get old.clients.slots other ≡ Some client → get new.clients.slots other ≡ Some becomes
-      → Shows model new.live.hub after → Leaves mine before after
+      → Shows model new.live.hub after → TracksOn before old.live.places after new.live.places → Leaves mine before after
       → ((id : ℕ) → mine ≡ Some id → (client.session ≡ Some id) ⊎ (before.next_id ≤ id))
       → AreApart before old.clients.slots → AreApart after new.clients.slots
       → (nat_eq other key ≡ false → IsAside key (call other)) → Seen key (call key) old.live.places before after client becomes
       → Sees key (call other) old new before
-  keyed key other call old new before after mine client becomes others found left shown leaves whose are still aside own = record {
+  keyed key other call old new before after mine client becomes others found left shown tracks leaves whose are still aside own = record {
     machine = after;
     shown = shown;
     grows = leaves.grows;
+    tracked = tracks;
     apart = still;
     seen = λ one is. elim (eqb_tells other key) [
       | inl same ↦
@@ -215,12 +218,13 @@ module _ {D : Type 0} (model : DiskModel D) where
 
   pub keyed_quiet : (key other : ℕ) (call : ℕ → Call) (old new : Station D) (before : HubState) (client becomes : ClientState)
       → OthersStay other old.clients new.clients → get old.clients.slots other ≡ Some client → get new.clients.slots other ≡ Some becomes
-      → new.live.hub ≡ old.live.hub → becomes.session ≡ client.session
+      → new.live.hub ≡ old.live.hub → new.live.places ≡ old.live.places → becomes.session ≡ client.session
       → Shows model old.live.hub before → AreApart before old.clients.slots
       → (nat_eq other key ≡ false → IsAside key (call other)) → Seen key (call key) old.live.places before before client becomes
       → Sees key (call other) old new before
-  keyed_quiet key other call old new before client becomes others found left live same shown are aside own =
-      keyed key other call old new before before None client becomes others found left (stays_shown old new before live shown) (leaves_all None before)
+  keyed_quiet key other call old new before client becomes others found left live places same shown are aside own =
+      keyed key other call old new before before None client becomes others found left (stays_shown old new before live shown)
+      (tracks_same before before old.live.places new.live.places refl places) (leaves_all None before)
       (λ id e. absurd (no_session id e)) are
       (still_apart None before before old.clients.slots new.clients.slots are (leaves_all None before)
       (had old.clients.slots new.clients.slots other others (had_own old.clients.slots new.clients.slots other client becomes found left same)))
@@ -228,12 +232,13 @@ module _ {D : Type 0} (model : DiskModel D) where
 
   -- of a key that nobody has
   pub keyed_none : (key other : ℕ) (call : Call) (old new : Station D) (before : HubState) → OthersStay other old.clients new.clients
-      → get old.clients.slots other ≡ None → get new.clients.slots other ≡ None → new.live.hub ≡ old.live.hub
+      → get old.clients.slots other ≡ None → get new.clients.slots other ≡ None → new.live.hub ≡ old.live.hub → new.live.places ≡ old.live.places
       → Shows model old.live.hub before → AreApart before old.clients.slots
       → (nat_eq other key ≡ false → IsAside key call) → Sees key call old new before
-  keyed_none key other call old new before others none left live shown are aside = record {
+  keyed_none key other call old new before others none left live places shown are aside = record {
     machine = before;
     shown = stays_shown old new before live shown;
+    tracked = tracks_same before before old.live.places new.live.places refl places;
     grows = (leaves_all None before).grows;
     apart = still_apart None before before old.clients.slots new.clients.slots are (leaves_all None before)
         (had old.clients.slots new.clients.slots other others (λ id of. absurd (no_session id (sym (ap session_in left) ∙ of))));
@@ -259,10 +264,11 @@ module _ {D : Type 0} (model : DiskModel D) where
   had_passed (Some old) (Some new) id (inr (source, goes)) is = sym goes.1 ∙ is
 
   pub all_passed : (key : ℕ) (call : Call) (old new : Station D) (before after : HubState) → ArePassed old.clients.slots new.clients.slots
-      → Shows model new.live.hub after → Leaves None before after → AreApart before old.clients.slots → IsAside key call → Sees key call old new before
-  all_passed key call old new before after passed shown leaves are aside = record {
+      → Shows model new.live.hub after → TracksOn before old.live.places after new.live.places → Leaves None before after → AreApart before old.clients.slots → IsAside key call → Sees key call old new before
+  all_passed key call old new before after passed shown tracks leaves are aside = record {
     machine = after;
     shown = shown;
+    tracked = tracks;
     grows = leaves.grows;
     apart = still_apart None before after old.clients.slots new.clients.slots are leaves (λ one id is. had_passed (get old.clients.slots one) (get new.clients.slots one) id (passed one) is);
     seen = λ client is. inr (seen_passed key call old.live.places before after client (get new.clients.slots key)

@@ -2,13 +2,18 @@
 use Rattle.std.proofs.Common.{◌≡◌, ◌≢◌, ◌≤◌, ◌<◌, ℕ, Option, Some, None, List, [], ◌∷◌, ◌++◌, append-nil, append_assoc, refl, sym, ◌∙◌, ap, subst, inl, inr, arith}
 use Rattle.std.specs.List.{AllByRecursion}
 use Rattle.std.proofs.lemmas.Bool.Decides.{eqb_tells}
+use Rattle.disk_model.specs.declared.disk.Disk.{Ghosts as DiskModel}
 use Rattle.serve_clients.specs.Client.{ClientState}
+use Rattle.serve_hub.specs.Showing.{Shows}
 use Rattle.serve_machine.specs.Hub.{Event, HubState, hub_step, phase_of}
-use Rattle.serve_machine.specs.Own.{AreNumbered}
+use Rattle.serve_machine.specs.Own.{AreNumbered, KeepsFile}
 use Rattle.serve_machine.specs.Sound.{Extends}
 use Rattle.serve_machine.specs.Run.{AreSteps, Step, session_of}
 use Rattle.slab.specs.Slab.{Slab, get}
-use Rattle.station_hub.specs.Going.{AreRecorders, OnlyRecords, left_by}
+use Rattle.station_hub.specs.Going.{AreRecorders, left_by}
+use Rattle.station_hub.specs.Live.{RecordsLive}
+use Rattle.station_hub.specs.Tracking.{TracksOn}
+use Rattle.station_hub.specs.declared.live_hub.LiveHub.{LiveHub}
 use Rattle.station.specs.Passing.{session_in}
 use Rattle.station_laws.specs.Written.{AreApart}
 use Rattle.station_laws.proofs.Rising.{rises}
@@ -20,6 +25,7 @@ none_some id e = cc
 pub record Laws : Type 0 where
   pub others : (old new : HubState) (event : Event) (id : ℕ) → hub_step old event new → session_of event ≢ Some id → phase_of new id ≡ phase_of old id
   pub numbered : (old new : HubState) (event : Event) → hub_step old event new → AreNumbered old → AreNumbered new
+  pub file : (old new : HubState) (event : Event) (id : ℕ) → hub_step old event new → session_of event ≡ Some id → KeepsFile old new
   pub grows : (start : HubState) (steps : List Step) → AreSteps start steps → AllByRecursion (λ (step : Step). Extends start.committed step.after.committed) steps
 
 -- Each session but this one, if it is one, is as it was, if its number had been given. No number is given again.
@@ -73,11 +79,11 @@ pub side_same : {H : Type 0} (mine : Option ℕ) (shows : H → HubState → Typ
 side_same mine shows old new before same shown =
     (before, subst (λ hub. shows hub before) (sym same) shown, leaves_all mine before)
 
-pub side_records : {H : Type 0} → Laws → (mine : Option ℕ) (shows : H → HubState → Type 0) (old new : H) (before : HubState) → OnlyRecords shows old new → shows old before
-    → (after : HubState) × shows new after × Leaves mine before after
-side_records laws mine shows old new before records shown =
-    let (steps, are, recorders, shows_after) = records before shown in
-    (left_by before steps, shows_after, leaves_steps laws mine before steps are recorders)
+pub side_records : {D : Type 0} → Laws → (model : DiskModel D) (mine : Option ℕ) (old new : LiveHub D) (before : HubState) → RecordsLive model old new
+    → Shows model old.hub before → (after : HubState) × Shows model new.hub after × TracksOn before old.places after new.places × Leaves mine before after
+side_records laws model mine old new before records shown =
+    let (steps, are, recorders, shows_after, tracks) = records before shown in
+    (left_by before steps, shows_after, tracks, leaves_steps laws mine before steps are recorders)
 
 -- ---- each session is of one connection alone
 pub still_apart : (mine : Option ℕ) (before after : HubState) (old new : Slab ClientState) → AreApart before old → Leaves mine before after

@@ -12,12 +12,15 @@ use Rattle.serve_clients.specs.declared.client.Stage.TheVariants.{Asking, Offeri
 use Rattle.serve_clients.specs.declared.line.Trouble.{Trouble}
 use Rattle.serve_clients.specs.declared.line.Trouble.TheVariants.{Blocked, Interrupted, Broken}
 use Rattle.serve_hub.specs.Showing.{Shows}
-use Rattle.serve_machine.specs.Hub.{Close, Connect, HubState, Pull, Receive}
+use Rattle.serve_machine.specs.Hub.{Close, Connect, Event, HubState, Pull, Receive, hub_step}
+use Rattle.serve_machine.specs.Run.{session_of}
 use Rattle.serve_sources.specs.declared.own.OwnResource.{OwnResource}
 use Rattle.serve_sources.specs.declared.own.OwnResource.TheVariants.{Live, Player, Status}
 use Rattle.slab.specs.Slab.{Slab, get, slab_len}
 use Rattle.station_hub.specs.Asking.{Listens, stage_after}
+use Rattle.station_hub.specs.LiveLaws.{tracks_same, tracks_then}
 use Rattle.station_hub.specs.Places.{PlacesState}
+use Rattle.station_hub.specs.Tracking.{TracksOn}
 use Rattle.station.specs.Asked.{EndsSession, HasLast, IsAnswered, Joins, heard, moved}
 use Rattle.station_laws.specs.Calling.{Accepted, Aside, Call, Closed, EndedOpen, HasGiven, HasReceived, IsAccepted, IsCall, IsClosed, Looked, Next, NextTurn, PeerEnded, ReadFailed, Received, Stepped, Turned, Woken, WriteFailed, Wrote}
 use Rattle.station.specs.Ending.{is_over}
@@ -118,6 +121,11 @@ answered_session Status head old new (numbers, is) = last_session _ old new is
 
 module _ {D : Type 0} (model : DiskModel D) (laws : Laws) where
   -- ---- bytes that come
+  -- a session's call leaves the places as they are
+  moves : (before after : HubState) (event : Event) (id : ℕ) → hub_step before event after → session_of event ≡ Some id
+      → (places now : PlacesState) → now ≡ places → TracksOn before places after now
+  moves before after event id step of places now same = tracks_same before after places now (laws.file before after event id step of) same
+
   received_own : (key other : ℕ) (bytes : List ℕ) (now : ℕ) (old new : Station D) (before : HubState) (client : ClientState)
       → HasReceived model other bytes old new → get old.clients.slots other ≡ Some client
       → Shows model old.live.hub before → AreApart before old.clients.slots → Sees model key (Received other bytes now) old new before
@@ -129,23 +137,24 @@ module _ {D : Type 0} (model : DiskModel D) (laws : Laws) where
             let (after, left, asked) = is.asks client found asks in
             elim asked [
               | inl (same, inl (may, becomes)) ↦
-                  keyed_quiet model key other call old new before client after is.others found left same (ap (λ (one : ClientState). one.session) becomes) shown are aside
+                  keyed_quiet model key other call old new before client after is.others found left same is.recorded.1 (ap (λ (one : ClientState). one.session) becomes) shown are aside
                   (Awaited bytes now refl asks becomes)
               | inl (same, inr becomes) ↦
-                  keyed_quiet model key other call old new before client after is.others found left same (ap (λ (one : ClientState). one.session) becomes) shown are aside
+                  keyed_quiet model key other call old new before client after is.others found left same is.recorded.1 (ap (λ (one : ClientState). one.session) becomes) shown are aside
                   (WasCut (ap (λ (one : ClientState). one.stage) becomes) (ap (λ (one : ClientState). one.session) becomes) (ap (λ (one : ClientState). one.unsent) becomes) refl (λ given. refl))
               | inr (inl (same, source, some, goes)) ↦
-                  keyed_quiet model key other call old new before client after is.others found left same goes.1 shown are aside
+                  keyed_quiet model key other call old new before client after is.others found left same is.recorded.1 goes.1 shown are aside
                   (Offered bytes now refl asks source goes.1 (offered_needs_none after.stage goes.0))
               | inr (inr (inl (resource, head, own, keeps, answered, joins))) ↦
                   let (session, none) = answered_session resource head (heard bytes client) after answered in
-                  keyed model key other call old new before before None client after is.others found left (keeps before shown) (leaves_all None before)
+                  keyed model key other call old new before before None client after is.others found left (keeps before shown)
+                  (tracks_same before before old.live.places new.live.places refl is.recorded.1) (leaves_all None before)
                   (λ id e. absurd (no_session id e)) are
                   (still_apart None before before old.clients.slots new.clients.slots are (leaves_all None before)
                   (had model old.clients.slots new.clients.slots other is.others (had_own model old.clients.slots new.clients.slots other client after found left session)))
                   aside (Answered bytes now resource head refl asks own answered (joins_here resource head after joins) refl)
               | inr (inr (inr (why, inr (same, becomes)))) ↦
-                  keyed_quiet model key other call old new before client after is.others found left same (ap (λ (one : ClientState). one.session) becomes) shown are aside
+                  keyed_quiet model key other call old new before client after is.others found left same is.recorded.1 (ap (λ (one : ClientState). one.session) becomes) shown are aside
                   (WasCut (ap (λ (one : ClientState). one.stage) becomes) (ap (λ (one : ClientState). one.session) becomes) (ap (λ (one : ClientState). one.unsent) becomes) refl (λ given. refl))
               | inr (inr (inr (why, inl connected))) ↦
                   let id = connected.id in
@@ -157,7 +166,10 @@ module _ {D : Type 0} (model : DiskModel D) (laws : Laws) where
                   let leaves = leaves_then (Some id) before between machine first second in
                   let more : before.next_id < machine.next_id =
                   omega (arith, second.rise, ap (λ (one : HubState). one.next_id) connects.2) in
-                  keyed model key other call old new before machine (Some id) client after is.others found left shows_machine leaves
+                  keyed model key other call old new before machine (Some id) client after is.others found left shows_machine
+                  (tracks_then before between machine old.live.places old.live.places new.live.places
+                  (moves before between (Connect (Ok id)) id connects refl old.live.places old.live.places refl)
+                  (moves between machine (Receive id (client.head ++ bytes) connected.progress) id receives refl old.live.places new.live.places is.recorded.1)) leaves
                   (λ one e. inr (omega (arith, number, same_some id one e))) are
                   (one_more_apart (Some id) before machine old.clients.slots new.clients.slots other are leaves more
                   (ap session_in left ∙ ap (λ (one : ClientState). one.session) connected.client ∙ ap Some number)
@@ -167,13 +179,14 @@ module _ {D : Type 0} (model : DiskModel D) (laws : Laws) where
         | inr (inl reads) ↦ elim (of_session client.session) [
           | inl none ↦
               let (after, left, same, hub) = is.unread client found reads none in
-              keyed_quiet model key other call old new before client after is.others found left hub same.1 shown are aside
+              keyed_quiet model key other call old new before client after is.others found left hub is.recorded.1 same.1 shown are aside
               (Ignored (inr (reads, none)) same (λ id of. refl) refl (λ given. refl))
           | inr (id, of) ↦
               let (progress, steps, left) = is.reads client id found reads of in
               let (machine, shows_machine, receives) = steps before shown in
               let leaves = own_step laws id before machine (Receive id bytes progress) receives refl in
-              keyed model key other call old new before machine (Some id) client (with_stage (stage_after progress) (moved client)) is.others found left shows_machine leaves
+              keyed model key other call old new before machine (Some id) client (with_stage (stage_after progress) (moved client)) is.others found left shows_machine
+              (moves before machine (Receive id bytes progress) id receives refl old.live.places new.live.places is.recorded.1) leaves
               (λ one e. inl (of ∙ e)) are
               (still_apart (Some id) before machine old.clients.slots new.clients.slots are leaves
               (had model old.clients.slots new.clients.slots other is.others (had_own model old.clients.slots new.clients.slots other client (with_stage (stage_after progress) (moved client)) found left refl)))
@@ -181,11 +194,11 @@ module _ {D : Type 0} (model : DiskModel D) (laws : Laws) where
         ]
         | inr (inr (inl source)) ↦
             let (after, left, goes, hub) = is.offers client found source in
-            keyed_quiet model key other call old new before client after is.others found left hub goes.1 shown are aside
+            keyed_quiet model key other call old new before client after is.others found left hub is.recorded.1 goes.1 shown are aside
             (Parted source goes.1 (offered_needs_none after.stage goes.0))
         | inr (inr (inr nothing)) ↦
             let (after, left, same, hub) = is.ignores client found nothing in
-            keyed_quiet model key other call old new before client after is.others found left hub same.1 shown are aside
+            keyed_quiet model key other call old new before client after is.others found left hub is.recorded.1 same.1 shown are aside
             (Ignored (inl nothing) same (λ id of. refl) refl (λ given. refl))
       ]
     where
@@ -209,7 +222,7 @@ module _ {D : Type 0} (model : DiskModel D) (laws : Laws) where
       elim (waits_or_not client.stage) [
         | inl waits ↦
             let (after, left, goes, hub) = is.waits client found waits in
-            keyed_quiet model key other call old new before client after is.others found left hub goes.1 shown are aside
+            keyed_quiet model key other call old new before client after is.others found left hub is.recorded.1 goes.1 shown are aside
             (Parted (ap is_source waits) goes.1 (offered_needs_none after.stage goes.0))
         | inr gets ↦
             let (mid, gives, left) = is.gives client found gets in
@@ -219,33 +232,35 @@ module _ {D : Type 0} (model : DiskModel D) (laws : Laws) where
             elim (empty_or_not client.unsent) [
               | inr some ↦
                   let (hub, same, again) = gives.again some in
-                  keyed_quiet model key other call old new before client after is.others found left hub session shown are aside
+                  keyed_quiet model key other call old new before client after is.others found left hub is.recorded.1 session shown are aside
                   (Gave size now count buffer mid ending refl (Again some same again refl) refl)
               | inl none ↦ elim (stage_kind client.stage) [
                 | inl sends ↦ elim (of_session client.session) [
                   | inl no_one ↦
                       let (nothing, hub, same) = gives.unconnected none sends no_one in
-                      keyed_quiet model key other call old new before client after is.others found left hub session shown are aside
+                      keyed_quiet model key other call old new before client after is.others found left hub is.recorded.1 session shown are aside
                       (Gave size now count buffer mid ending refl (Nothing none nothing same refl) refl)
                   | inr (id, of) ↦
                       let (answer, steps, pulled) = gives.pulls id none sends of in
                       let (machine, shows_machine, pulls) = steps before shown in
                       let leaves = own_step laws id before machine (Pull id size answer) pulls refl in
-                      keyed model key other call old new before machine (Some id) client after is.others found left shows_machine leaves
+                      keyed model key other call old new before machine (Some id) client after is.others found left shows_machine
+                      (moves before machine (Pull id size answer) id pulls refl old.live.places new.live.places is.recorded.1) leaves
                       (λ one e. inl (of ∙ e)) are
                       (still_apart (Some id) before machine old.clients.slots new.clients.slots are leaves
                       (had model old.clients.slots new.clients.slots other is.others (had_own model old.clients.slots new.clients.slots other client after found left session)))
                       aside (Gave size now count buffer mid ending refl (Pulled id answer none sends of pulls pulled) refl)
                 ]
                 | inr (inl hears) ↦
-                    keyed model key other call old new before before None client after is.others found left (gives.keeps hears before shown) (leaves_all None before)
+                    keyed model key other call old new before before None client after is.others found left (gives.keeps hears before shown)
+                    (tracks_same before before old.live.places new.live.places refl is.recorded.1) (leaves_all None before)
                     (λ id e. absurd (no_session id e)) are
                     (still_apart None before before old.clients.slots new.clients.slots are (leaves_all None before)
                     (had model old.clients.slots new.clients.slots other is.others (had_own model old.clients.slots new.clients.slots other client after found left session)))
                     aside (Gave size now count buffer mid ending refl (Heard none hears refl (ap (λ (one : ClientState). one.session) gives.rest) (gives.goes_on hears) (λ moment heard listener of hearing. gives.hears before moment heard listener none hears shown of hearing)) refl)
                 | inr (inr (silent, deaf)) ↦
                     let (nothing, hub, same) = gives.nothing none silent deaf in
-                    keyed_quiet model key other call old new before client after is.others found left hub session shown are aside
+                    keyed_quiet model key other call old new before client after is.others found left hub is.recorded.1 session shown are aside
                     (Gave size now count buffer mid ending refl (Nothing none nothing same refl) refl)
               ]
             ]
@@ -256,11 +271,12 @@ module _ {D : Type 0} (model : DiskModel D) (laws : Laws) where
       → Shows model old.live.hub before → AreApart before old.clients.slots → Sees model key (Closed other) old new before
   closed key other old new before is shown are = by (session_in (get old.clients.slots other)) refl
     where
-      still : (mine : Option ℕ) (after : HubState) → Leaves mine before after → Shows model new.live.hub after
+      still : (mine : Option ℕ) (after : HubState) → Leaves mine before after → Shows model new.live.hub after → TracksOn before old.live.places after new.live.places
           → ((id : ℕ) → mine ≡ Some id → session_in (get old.clients.slots other) ≡ Some id) → Sees model key (Closed other) old new before
-      still mine after leaves shows_after whose = record {
+      still mine after leaves shows_after tracks whose = record {
         machine = after;
         shown = shows_after;
+        tracked = tracks;
         grows = leaves.grows;
         apart = still_apart mine before after old.clients.slots new.clients.slots are leaves
             (had model old.clients.slots new.clients.slots other is.others (λ id of. absurd (no_session id (sym (ap session_in is.gone) ∙ of))));
@@ -278,11 +294,13 @@ module _ {D : Type 0} (model : DiskModel D) (laws : Laws) where
       by : (session : Option ℕ) → session_in (get old.clients.slots other) ≡ session → Sees model key (Closed other) old new before
       by None of =
           let same : new.live.hub ≡ old.live.hub = subst (λ (s : Option ℕ). EndsSession model s old.live.hub new.live.hub) of is.session in
-          still None before (leaves_all None before) (stays_shown model old new before same shown) (λ id e. absurd (no_session id e))
+          still None before (leaves_all None before) (stays_shown model old new before same shown)
+          (tracks_same before before old.live.places new.live.places refl is.recorded.1) (λ id e. absurd (no_session id e))
       by (Some id) of =
           let (answer, steps) = subst (λ (s : Option ℕ). EndsSession model s old.live.hub new.live.hub) of is.session in
           let (after, shows_after, closes) = steps before shown in
-          still (Some id) after (own_step laws id before after (Close id answer) closes refl) shows_after (λ one e. of ∙ e)
+          still (Some id) after (own_step laws id before after (Close id answer) closes refl) shows_after
+          (moves before after (Close id answer) id closes refl old.live.places new.live.places is.recorded.1) (λ one e. of ∙ e)
 
   -- ---- a connection that is accepted
   accepted : (key other now : ℕ) (old new : Station D) (before : HubState) → IsAccepted model now other old new
@@ -290,6 +308,7 @@ module _ {D : Type 0} (model : DiskModel D) (laws : Laws) where
   accepted key other now old new before is shown are = record {
     machine = before;
     shown = stays_shown model old new before (ap (λ live. live.hub) is.live) shown;
+    tracked = tracks_same before before old.live.places new.live.places refl (ap (λ live. live.places) is.live);
     grows = (leaves_all None before).grows;
     apart = still_apart None before before old.clients.slots new.clients.slots are (leaves_all None before)
         (had model old.clients.slots new.clients.slots other is.others (λ id of. absurd (no_session id (sym (none old.options.most) ∙ of))));
@@ -325,35 +344,36 @@ module _ {D : Type 0} (model : DiskModel D) (laws : Laws) where
   sees key (Accepted now (Ok other)) old new before is shown are = accepted key other now old new before is shown are
   sees key (Accepted now (Err fault)) old new before is shown are =
       all_passed model key (Accepted now (Err fault)) old new before before (all_stay old.clients.slots new.clients.slots is.0)
-      (stays_shown model old new before (ap (λ live. live.hub) is.1) shown) (leaves_all None before) are
+      (stays_shown model old new before (ap (λ live. live.hub) is.1) shown)
+      (tracks_same before before old.live.places new.live.places refl (ap (λ live. live.places) is.1)) (leaves_all None before) are
       (record { written = refl; received = refl; given = λ bytes. refl })
   sees key (Closed other) old new before is shown are = closed key other old new before is shown are
   sees key (Received other bytes now) old new before is shown are =
       with_found old.clients.slots other (Sees model key (Received other bytes now) old new before)
       (λ none. keyed_none model key other (Received other bytes now) old new before is.others none (ap (λ s. get s.clients.slots other) (is.none none) ∙ none)
-      (ap (λ s. s.live.hub) (is.none none)) shown are (aside_received key other bytes now))
+      (ap (λ s. s.live.hub) (is.none none)) (ap (λ s. s.live.places) (is.none none)) shown are (aside_received key other bytes now))
       (λ client found. received_own key other bytes now old new before client is found shown are)
   sees key (PeerEnded other) old new before is shown are =
       with_found old.clients.slots other (Sees model key (PeerEnded other) old new before)
       (λ none. keyed_none model key other (PeerEnded other) old new before is.others none (ap (λ s. get s.clients.slots other) (is.none none) ∙ none)
-      (ap (λ s. s.live.hub) (is.none none)) shown are (λ apart. record { written = refl; received = refl; given = λ bytes. refl }))
+      (ap (λ s. s.live.hub) (is.none none)) (ap (λ s. s.live.places) (is.none none)) shown are (λ apart. record { written = refl; received = refl; given = λ bytes. refl }))
       (λ client found.
       let (after, left, stays) = is.stays client found in
-      keyed_quiet model key other PeerEnded old new before client after is.others found left (ap (λ live. live.hub) is.live) (stays_session client after stays) shown are
+      keyed_quiet model key other PeerEnded old new before client after is.others found left (ap (λ live. live.hub) is.live) (ap (λ live. live.places) is.live) (stays_session client after stays) shown are
       (λ apart. record { written = refl; received = refl; given = λ bytes. refl })
       (kept_by key (PeerEnded key) old.live.places before client after stays (record { written = refl; received = refl; given = λ bytes. refl })))
   sees key (Next other size now count buffer) old new before is shown are =
       with_found old.clients.slots other (Sees model key (Next other size now count buffer) old new before)
-      (λ none. keyed_none model key other (Next other size now count buffer) old new before is.others none (is.none none).0 (is.none none).1 shown are (aside_next key other size now count buffer))
+      (λ none. keyed_none model key other (Next other size now count buffer) old new before is.others none (is.none none).0 (is.none none).1 is.recorded.1 shown are (aside_next key other size now count buffer))
       (λ client found. gave_own key other size now count buffer old new before client is found shown are)
   sees key (Wrote other bytes count now) old new before is shown are =
       with_found old.clients.slots other (Sees model key (Wrote other bytes count now) old new before)
       (λ none. keyed_none model key other (Wrote other bytes count now) old new before is.others none (ap (λ s. get s.clients.slots other) (is.none none) ∙ none)
-      (ap (λ s. s.live.hub) (is.none none)) shown are (aside_wrote key other bytes count now))
+      (ap (λ s. s.live.hub) (is.none none)) (ap (λ s. s.live.places) (is.none none)) shown are (aside_wrote key other bytes count now))
       (λ client found.
       let (mid, written, left) = is.written client found in
       let stays = moved_stays count now mid in
-      keyed_quiet model key other (λ k. Wrote k bytes count now) old new before client (moved_if count now mid) is.others found left (ap (λ live. live.hub) is.live)
+      keyed_quiet model key other (λ k. Wrote k bytes count now) old new before client (moved_if count now mid) is.others found left (ap (λ live. live.hub) is.live) (ap (λ live. live.places) is.live)
       (stays_session mid (moved_if count now mid) stays ∙ written_session bytes count client mid written) shown are (aside_wrote key other bytes count now)
       (Told bytes count mid (record {
         written = cond-true (nat_eq key key) (take count bytes) [] (own_key key);
@@ -363,20 +383,20 @@ module _ {D : Type 0} (model : DiskModel D) (laws : Laws) where
       }) written stays (λ id of. refl)))
   sees key (ReadFailed other trouble) old new before is shown are =
       with_found old.clients.slots other (Sees model key (ReadFailed other trouble) old new before)
-      (λ none. keyed_none model key other (ReadFailed other trouble) old new before is.others none (is.none none) (ap (λ live. live.hub) is.live) shown are
+      (λ none. keyed_none model key other (ReadFailed other trouble) old new before is.others none (is.none none) (ap (λ live. live.hub) is.live) (ap (λ live. live.places) is.live) shown are
       (λ apart. record { written = refl; received = refl; given = λ bytes. refl }))
       (λ client found.
-      keyed_quiet model key other (λ k. ReadFailed k trouble) old new before client (unread_by trouble client) is.others found (is.failed client found) (ap (λ live. live.hub) is.live)
+      keyed_quiet model key other (λ k. ReadFailed k trouble) old new before client (unread_by trouble client) is.others found (is.failed client found) (ap (λ live. live.hub) is.live) (ap (λ live. live.places) is.live)
       (stays_session client (unread_by trouble client) (unread trouble client)) shown are
       (λ apart. record { written = refl; received = refl; given = λ bytes. refl })
       (kept_by key (ReadFailed key trouble) old.live.places before client (unread_by trouble client) (unread trouble client) (record { written = refl; received = refl; given = λ bytes. refl })))
   sees key (WriteFailed other bytes trouble) old new before is shown are =
       with_found old.clients.slots other (Sees model key (WriteFailed other bytes trouble) old new before)
-      (λ none. keyed_none model key other (WriteFailed other bytes trouble) old new before is.others none (is.none none) (ap (λ live. live.hub) is.live) shown are
+      (λ none. keyed_none model key other (WriteFailed other bytes trouble) old new before is.others none (is.none none) (ap (λ live. live.hub) is.live) (ap (λ live. live.places) is.live) shown are
       (aside_write_failed key other bytes trouble))
       (λ client found.
       let (kept, written, left) = is.failed client found in
-      keyed_quiet model key other (λ k. WriteFailed k bytes trouble) old new before client (unwritten_by trouble kept) is.others found left (ap (λ live. live.hub) is.live)
+      keyed_quiet model key other (λ k. WriteFailed k bytes trouble) old new before client (unwritten_by trouble kept) is.others found left (ap (λ live. live.hub) is.live) (ap (λ live. live.places) is.live)
       (stays_session kept (unwritten_by trouble kept) (unwritten trouble kept) ∙ written_session bytes 0 client kept written) shown are (aside_write_failed key other bytes trouble)
       (Told bytes 0 kept (record {
         written = refl;
@@ -387,37 +407,38 @@ module _ {D : Type 0} (model : DiskModel D) (laws : Laws) where
   sees key (Woken other readable writable) old new before is shown are =
       with_found old.clients.slots other (Sees model key (Woken other readable writable) old new before)
       (λ none. keyed_none model key other (Woken other readable writable) old new before is.others none (ap (λ s. get s.clients.slots other) (is.none none) ∙ none)
-      (ap (λ s. s.live.hub) (is.none none)) shown are (λ apart. record { written = refl; received = refl; given = λ bytes. refl }))
+      (ap (λ s. s.live.hub) (is.none none)) (ap (λ s. s.live.places) (is.none none)) shown are (λ apart. record { written = refl; received = refl; given = λ bytes. refl }))
       (λ client found.
       let (after, left, same) = has_turn other (told_by readable writable client) old.clients new.clients (is.turn client found) in
-      keyed_quiet model key other (λ k. Woken k readable writable) old new before client after is.others found left (ap (λ s. s.live.hub) is.rest) same.1 shown are
+      keyed_quiet model key other (λ k. Woken k readable writable) old new before client after is.others found left (ap (λ s. s.live.hub) is.rest) (ap (λ s. s.live.places) is.rest) same.1 shown are
       (λ apart. record { written = refl; received = refl; given = λ bytes. refl })
       (Kept same (λ id of. refl) (record { written = refl; received = refl; given = λ bytes. refl })))
   sees key (NextTurn None) old new before is shown are =
       all_passed model key (NextTurn None) old new before before (all_stay old.clients.slots new.clients.slots is.0)
-      (stays_shown model old new before (ap (λ live. live.hub) is.1) shown) (leaves_all None before) are
+      (stays_shown model old new before (ap (λ live. live.hub) is.1) shown)
+      (tracks_same before before old.live.places new.live.places refl (ap (λ live. live.places) is.1)) (leaves_all None before) are
       (record { written = refl; received = refl; given = λ bytes. refl })
   sees key (NextTurn (Some other)) old new before is shown are =
       with_found old.clients.slots other (Sees model key (NextTurn (Some other)) old new before)
-      (λ none. keyed_none model key other (NextTurn (Some other)) old new before is.others none (is.gone none) (ap (λ live. live.hub) is.live) shown are
+      (λ none. keyed_none model key other (NextTurn (Some other)) old new before is.others none (is.gone none) (ap (λ live. live.hub) is.live) (ap (λ live. live.places) is.live) shown are
       (λ apart. record { written = refl; received = refl; given = λ bytes. refl }))
       (λ client found.
-      keyed_quiet model key other (λ k. NextTurn (Some k)) old new before client (with_line (taken_off client.line) client) is.others found (is.begins client found) (ap (λ live. live.hub) is.live)
+      keyed_quiet model key other (λ k. NextTurn (Some k)) old new before client (with_line (taken_off client.line) client) is.others found (is.begins client found) (ap (λ live. live.hub) is.live) (ap (λ live. live.places) is.live)
       refl shown are (λ apart. record { written = refl; received = refl; given = λ bytes. refl })
       (Kept (refl, refl, refl, refl, refl) (λ id of. refl) (record { written = refl; received = refl; given = λ bytes. refl })))
   sees key (Turned other now) old new before is shown are =
       with_found old.clients.slots other (Sees model key (Turned other now) old new before)
-      (λ none. keyed_none model key other (Turned other now) old new before is.others none (is.none none) (ap (λ live. live.hub) is.live) shown are
+      (λ none. keyed_none model key other (Turned other now) old new before is.others none (is.none none) (ap (λ live. live.hub) is.live) (ap (λ live. live.places) is.live) shown are
       (λ apart. record { written = refl; received = refl; given = λ bytes. refl }))
       (λ client found.
       let (after, left, stays) = is.stays client found in
       elim stays [
         | inl same ↦
-            keyed_quiet model key other (λ k. Turned k now) old new before client after is.others found left (ap (λ live. live.hub) is.live) same.1 shown are
+            keyed_quiet model key other (λ k. Turned k now) old new before client after is.others found left (ap (λ live. live.hub) is.live) (ap (λ live. live.places) is.live) same.1 shown are
             (λ apart. record { written = refl; received = refl; given = λ bytes. refl })
             (Kept same (λ id of. refl) (record { written = refl; received = refl; given = λ bytes. refl }))
         | inr (shuts, same) ↦
-            keyed_quiet model key other (λ k. Turned k now) old new before client after is.others found left (ap (λ live. live.hub) is.live) same.1 shown are
+            keyed_quiet model key other (λ k. Turned k now) old new before client after is.others found left (ap (λ live. live.hub) is.live) (ap (λ live. live.places) is.live) same.1 shown are
             (λ apart. record { written = refl; received = refl; given = λ bytes. refl })
             (Shut shuts same (λ id of. refl) (record { written = refl; received = refl; given = λ bytes. refl }))
       ])
@@ -427,19 +448,21 @@ module _ {D : Type 0} (model : DiskModel D) (laws : Laws) where
         | inl late ↦ looked now old.clients new.clients (is.late late.1)
         | inr early ↦ all_stay old.clients.slots new.clients.slots (λ one. ap (λ s. get s.clients.slots one) (is.early early.1))
       ])
-      (stays_shown model old new before (ap (λ live. live.hub) is.live) shown) (leaves_all None before) are
+      (stays_shown model old new before (ap (λ live. live.hub) is.live) shown)
+      (tracks_same before before old.live.places new.live.places refl (ap (λ live. live.places) is.live)) (leaves_all None before) are
       (record { written = refl; received = refl; given = λ bytes. refl })
   sees key (Stepped now) old new before is shown are =
-      let (after, shows_after, leaves) = side_records laws None (Shows model) old.live.hub new.live.hub before is.records shown in
-      all_passed model key (Stepped now) old new before after is.passed shows_after leaves are
+      let (after, shows_after, tracks, leaves) = side_records laws model None old.live new.live before is.records shown in
+      all_passed model key (Stepped now) old new before after is.passed shows_after tracks leaves are
       (record { written = refl; received = refl; given = λ bytes. refl })
   sees key EndedOpen old new before is shown are =
-      let (after, shows_after, leaves) = side_records laws None (Shows model) old.live.hub new.live.hub before is.0 shown in
+      let (after, shows_after, tracks, leaves) = side_records laws model None old.live new.live before is.0 shown in
       all_passed model key EndedOpen old new before after
-      (all_stay old.clients.slots new.clients.slots (λ one. ap (λ clients. get clients.slots one) is.1)) shows_after leaves are
+      (all_stay old.clients.slots new.clients.slots (λ one. ap (λ clients. get clients.slots one) is.1)) shows_after tracks leaves are
       (record { written = refl; received = refl; given = λ bytes. refl })
   sees key Aside old new before is shown are =
       all_passed model key Aside old new before before
       (all_stay old.clients.slots new.clients.slots (λ one. ap (λ clients. get clients.slots one) is.0))
-      (stays_shown model old new before (ap (λ live. live.hub) is.1) shown) (leaves_all None before) are
+      (stays_shown model old new before (ap (λ live. live.hub) is.1) shown)
+      (tracks_same before before old.live.places new.live.places refl (ap (λ live. live.places) is.1)) (leaves_all None before) are
       (record { written = refl; received = refl; given = λ bytes. refl })

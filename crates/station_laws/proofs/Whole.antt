@@ -23,8 +23,9 @@ use Rattle.serve_texts.specs.Player.{player_response}
 use Rattle.serve_texts.specs.Status.{status_response}
 use Rattle.slab.specs.Slab.{get, slab_len}
 use Rattle.station_hub.specs.Asking.{Listens, headless}
+use Rattle.station_hub.specs.LiveLaws.{tracks_then}
 use Rattle.station_hub.specs.Places.{PlacesState}
-use Rattle.station_hub.specs.Tracking.{IsJoinMoment, IsMomentAt, JoinsAt}
+use Rattle.station_hub.specs.Tracking.{IsJoinMoment, IsMomentAt, JoinsAt, TracksOn}
 use Rattle.station.specs.Asked.{HasLast, IsAnswered, heard}
 use Rattle.station_laws.specs.Calling.{Accepted, After, AreCalls, Call, IsAccepted, IsCall, Received, left_by}
 use Rattle.station_laws.specs.Serving.{AsksOwn, AsksSource, AtCall, HasHeardOf, IsServed, IsTextOf}
@@ -35,7 +36,7 @@ use Rattle.station_laws.proofs.Early.{Awaits, Connects, Early, Gone, IsReadingOn
 use Rattle.station_laws.proofs.Listened.{HearsOn, hears_all}
 use Rattle.station_laws.proofs.Owing.{IsOwed, OwnLaws, RestsIn, WaitsFor, closed_not, nothing_given, owed_all, owes_nothing, with_given}
 use Rattle.station_laws.proofs.Seen.{JoinsHere}
-use Rattle.station_laws.proofs.Served.{Gets, IsAskingOn, OwesLater, gone_now, kept, one_before, reads_all, received_is, taken}
+use Rattle.station_laws.proofs.Served.{Gets, IsAskingOn, OwesLater, gone_now, one_before, reads_all, received_is, taken}
 use Rattle.station_laws.proofs.Sights.{sees}
 
 -- the text is all that is owed
@@ -61,9 +62,10 @@ nothing_left (byte ∷ bytes) left e = cc
 
 module _ {D : Type 0} (model : DiskModel D) (laws : OwnLaws)
     (lasts : (old new : HubParts D) (before after : HubState) (moment : Moment) (listener : ListenerState) (given : List ℕ) → Shows model old before → Shows model new after
-    → Extends before.committed after.committed → IsHearing moment before.committed listener given → IsHearing moment after.committed listener given) where
+    → Extends before.committed after.committed → IsHearing moment before.committed listener given → IsHearing moment after.committed listener given)
+    (first : HubState) (begun : PlacesState) where
   -- ---- one call before
-  embed : (key : ℕ) (old : Station D) (calls : List (After D)) (before : List ℕ) → Gets model laws key old calls before → IsServed model key old calls before
+  embed : (key : ℕ) (old : Station D) (calls : List (After D)) (before : List ℕ) → Gets model laws key old calls before → IsServed model first begun key old calls before
   embed key old calls before (inl nothing) = inl nothing
   embed key old calls before (inr gets) = inr (inl gets)
 
@@ -81,7 +83,7 @@ module _ {D : Type 0} (model : DiskModel D) (laws : OwnLaws)
       subst (λ (l : List ℕ). HasHeardOf model front moment station (l ++ written key later)) (sym none) heard_so
 
   one_more : (key : ℕ) (old : Station D) (one : After D) (later : List (After D)) (before next : List ℕ) → written_by key one.call ≡ []
-      → next ≡ before ++ received_by key one.call → IsServed model key one.after later next → IsServed model key old (one ∷ later) before
+      → next ≡ before ++ received_by key one.call → IsServed model first begun key one.after later next → IsServed model first begun key old (one ∷ later) before
   one_more key old one later before next none is (inl nothing) = inl (ap (λ (l : List ℕ). l ++ written key later) none ∙ nothing)
   one_more key old one later before next none is (inr (inl gets)) =
       embed key old (one ∷ later) before (one_before model laws key old one later before next none is (inr gets))
@@ -97,6 +99,7 @@ module _ {D : Type 0} (model : DiskModel D) (laws : OwnLaws)
   one_more key old one later before next none is (inr (inr (inr (inl gets)))) = inr (inr (inr (inl (record {
     places = gets.places;
     machine = gets.machine;
+    tracked = gets.tracked;
     joins = later_call (λ station at so_far. AsksOwn key Live false at so_far × (gets.places ≡ station.live.places) × Shows model station.live.hub gets.machine)
         key old one later before next is gets.joins;
     hears = λ start tracks.
@@ -110,7 +113,7 @@ module _ {D : Type 0} (model : DiskModel D) (laws : OwnLaws)
   answer : (key : ℕ) (old : Station D) (one : After D) (later : List (After D)) (after : HubState) (client new : ClientState) (given before bytes text : List ℕ) (now : ℕ)
       (resource : OwnResource) (head : Bool) → one.call ≡ Received key bytes now → IsOwn resource head (before ++ bytes) → IsTextOf resource head text
       → client.unsent ≡ [] → (new ≡ with_stage Ending (told text client)) ⊎ ((new.stage ≡ Cut) × (new.unsent ≡ client.unsent)) → given_after key given one.call ≡ []
-      → OwesLater model laws key later after new (given_after key given one.call) → IsServed model key old (one ∷ later) before
+      → OwesLater model laws key later after new (given_after key given one.call) → IsServed model first begun key old (one ∷ later) before
   answer key old one later after client new given before bytes text now resource head is own is_text none (inr (cuts, unsent)) kept_none owes =
       embed key old (one ∷ later) before
       (gone_now model laws key old one later before after new (given_after key given one.call) cuts (unsent ∙ none) kept_none (ap (written_by key) is) owes)
@@ -162,17 +165,18 @@ module _ {D : Type 0} (model : DiskModel D) (laws : OwnLaws)
 
   listens : (key : ℕ) (old : Station D) (one : After D) (later : List (After D)) (machine after : HubState) (client new : ClientState) (given before bytes : List ℕ) (now : ℕ)
       → one.call ≡ Received key bytes now → IsOwn Live false (before ++ bytes) → Listens false client new → JoinsHere Live false old.live.places machine new
-      → after ≡ machine → client.unsent ≡ [] → Shows model old.live.hub machine → given_after key given one.call ≡ []
+      → after ≡ machine → client.unsent ≡ [] → Shows model old.live.hub machine → TracksOn first begun machine old.live.places → given_after key given one.call ≡ []
       → OwesLater model laws key later after new (given_after key given one.call)
       → ((moment : Moment) → HearsOn LIVE.now moment after new (given_after key given one.call) [] → HasHeardOf model LIVE.now moment (left_by one.after later) ([] ++ written key later))
-      → IsServed model key old (one ∷ later) before
-  listens key old one later machine after client new given before bytes now is own (inr cuts) joins stays none shown kept_none owes hears =
+      → IsServed model first begun key old (one ∷ later) before
+  listens key old one later machine after client new given before bytes now is own (inr cuts) joins stays none shown tracks kept_none owes hears =
       embed key old (one ∷ later) before
       (gone_now model laws key old one later before after new (given_after key given one.call) (ap (λ (c : ClientState). c.stage) cuts)
       (ap (λ (c : ClientState). c.unsent) cuts ∙ none) kept_none (ap (written_by key) is) owes)
-  listens key old one later machine after client new given before bytes now is own (inl (listener, becomes)) joins stays none shown kept_none owes hears = inr (inr (inr (inl (record {
+  listens key old one later machine after client new given before bytes now is own (inl (listener, becomes)) joins stays none shown tracks kept_none owes hears = inr (inr (inr (inl (record {
     places = old.live.places;
     machine = machine;
+    tracked = tracks;
     joins = inl (record { bytes = bytes; now = now; call = is; own = own }, refl, shown);
     hears = λ start tracks.
         let (found, has, joins_at) = joins start tracks (ap (λ (c : ClientState). c.stage) becomes) in
@@ -189,44 +193,44 @@ module _ {D : Type 0} (model : DiskModel D) (laws : OwnLaws)
 
   replies : (resource : OwnResource) (head : Bool) (key : ℕ) (old : Station D) (one : After D) (later : List (After D)) (machine after : HubState) (client new : ClientState)
       (given before bytes : List ℕ) (now : ℕ) → one.call ≡ Received key bytes now → IsOwn resource head (before ++ bytes) → IsAnswered resource head client new
-      → JoinsHere resource head old.live.places machine new → after ≡ machine → client.unsent ≡ [] → Shows model old.live.hub machine → given_after key given one.call ≡ []
+      → JoinsHere resource head old.live.places machine new → after ≡ machine → client.unsent ≡ [] → Shows model old.live.hub machine → TracksOn first begun machine old.live.places → given_after key given one.call ≡ []
       → OwesLater model laws key later after new (given_after key given one.call)
       → ((moment : Moment) → HearsOn LIVE.now moment after new (given_after key given one.call) [] → HasHeardOf model LIVE.now moment (left_by one.after later) ([] ++ written key later))
-      → IsServed model key old (one ∷ later) before
-  replies Live false key old one later machine after client new given before bytes now is own answered joins stays none shown kept_none owes hears =
-      listens key old one later machine after client new given before bytes now is own answered joins stays none shown kept_none owes hears
-  replies Live true key old one later machine after client new given before bytes now is own answered joins stays none shown kept_none owes hears =
+      → IsServed model first begun key old (one ∷ later) before
+  replies Live false key old one later machine after client new given before bytes now is own answered joins stays none shown tracks kept_none owes hears =
+      listens key old one later machine after client new given before bytes now is own answered joins stays none shown tracks kept_none owes hears
+  replies Live true key old one later machine after client new given before bytes now is own answered joins stays none shown tracks kept_none owes hears =
       answer key old one later after (headless client) new given before bytes LIVE.now now Live true is own refl none (last LIVE.now (headless client) new answered) kept_none owes
-  replies Player head key old one later machine after client new given before bytes now is own answered joins stays none shown kept_none owes hears =
+  replies Player head key old one later machine after client new given before bytes now is own answered joins stays none shown tracks kept_none owes hears =
       answer key old one later after client new given before bytes (player_response head) now Player head is own refl none (last (player_response head) client new answered) kept_none owes
-  replies Status head key old one later machine after client new given before bytes now is own (numbers, answered) joins stays none shown kept_none owes hears =
+  replies Status head key old one later machine after client new given before bytes now is own (numbers, answered) joins stays none shown tracks kept_none owes hears =
       answer key old one later after client new given before bytes (status_response numbers head) now Status head is own (numbers, refl) none
       (last (status_response numbers head) client new answered) kept_none owes
 
   -- ---- over all calls, of a connection that has asked for nothing yet
   step : (key : ℕ) (old : Station D) (one : After D) (later : List (After D)) (machine after : HubState) (client new : ClientState) (given before : List ℕ)
-      → Shows model old.live.hub machine → AreApart machine old.clients.slots → get one.after.clients.slots key ≡ Some new → given ≡ [] → IsAskingOn model laws client before
+      → Shows model old.live.hub machine → TracksOn first begun machine old.live.places → AreApart machine old.clients.slots → get one.after.clients.slots key ≡ Some new → given ≡ [] → IsAskingOn model laws client before
       → Early key one.call old.live.places machine after client new given → OwesLater model laws key later after new (given_after key given one.call)
       → ((bytes : List ℕ) → given_after key given one.call ≡ [] → IsReadingOn after new bytes → Gets model laws key one.after later bytes)
-      → ((bytes : List ℕ) → given_after key given one.call ≡ [] → IsAskingOn model laws new bytes → IsServed model key one.after later bytes)
+      → ((bytes : List ℕ) → given_after key given one.call ≡ [] → IsAskingOn model laws new bytes → IsServed model first begun key one.after later bytes)
       → ((moment : Moment) → HearsOn LIVE.now moment after new (given_after key given one.call) [] → HasHeardOf model LIVE.now moment (left_by one.after later) ([] ++ written key later))
-      → IsServed model key old (one ∷ later) before
-  step key old one later machine after client new given before shown apart found nothing (asks, none, unsent, head) (Same same phases unwritten unread kept_none) owes reads next hears =
+      → IsServed model first begun key old (one ∷ later) before
+  step key old one later machine after client new given before shown tracks apart found nothing (asks, none, unsent, head) (Same same phases unwritten unread kept_none) owes reads next hears =
       one_more key old one later before before unwritten (sym (append-nil before) ∙ ap (λ (l : List ℕ). before ++ l) (sym unread))
       (next before kept_none (same.0 ∙ asks, same.1 ∙ none, same.3 ∙ unsent, same.2 ∙ head))
-  step key old one later machine after client new given before shown apart found nothing asking (Gone cuts unsent unwritten kept_none) owes reads next hears =
+  step key old one later machine after client new given before shown tracks apart found nothing asking (Gone cuts unsent unwritten kept_none) owes reads next hears =
       embed key old (one ∷ later) before (gone_now model laws key old one later before after new (given_after key given one.call) cuts unsent kept_none unwritten owes)
-  step key old one later machine after client new given before shown apart found nothing (asks, none, unsent, head) (Offers bytes now is too source session needs) owes reads next hears =
+  step key old one later machine after client new given before shown tracks apart found nothing (asks, none, unsent, head) (Offers bytes now is too source session needs) owes reads next hears =
       inr (inr (inr (inr (inl (record {
         bytes = bytes;
         now = now;
         call = is;
         source = ap (λ (l : List ℕ). is_source_head (l ++ bytes)) (sym head) ∙ source;
       })))))
-  step key old one later machine after client new given before shown apart found nothing (asks, none, unsent, head_is) (Replies bytes now resource head is too own answered joins stays) owes reads next hears =
+  step key old one later machine after client new given before shown tracks apart found nothing (asks, none, unsent, head_is) (Replies bytes now resource head is too own answered joins stays) owes reads next hears =
       replies resource head key old one later machine after (heard bytes client) new given before bytes now is
-      (subst (λ (l : List ℕ). IsOwn resource head (l ++ bytes)) head_is own) answered joins stays unsent shown (ap (given_after key given) is ∙ nothing) owes hears
-  step key old one later machine after client new given before shown apart found nothing (asks, none, unsent, head) (Awaits bytes now is too becomes) owes reads next hears =
+      (subst (λ (l : List ℕ). IsOwn resource head (l ++ bytes)) head_is own) answered joins stays unsent shown tracks (ap (given_after key given) is ∙ nothing) owes hears
+  step key old one later machine after client new given before shown tracks apart found nothing (asks, none, unsent, head) (Awaits bytes now is too becomes) owes reads next hears =
       one_more key old one later before (before ++ bytes) (ap (written_by key) is) (ap (λ (l : List ℕ). before ++ l) (sym (received_is model laws key one.call bytes now is)))
       (next (before ++ bytes) (ap (given_after key given) is ∙ nothing) (
         ap (λ (c : ClientState). c.stage) becomes ∙ asks,
@@ -234,52 +238,54 @@ module _ {D : Type 0} (model : DiskModel D) (laws : OwnLaws)
         ap (λ (c : ClientState). c.unsent) becomes ∙ unsent,
         ap (λ (c : ClientState). c.head) becomes ∙ ap (λ (l : List ℕ). l ++ bytes) head,
       ))
-  step key old one later machine after client new given before shown apart found nothing (asks, none, unsent, head) (Connects bytes now id progress between is too connects receives becomes) owes reads next hears =
+  step key old one later machine after client new given before shown tracks apart found nothing (asks, none, unsent, head) (Connects bytes now id progress between is too connects receives becomes) owes reads next hears =
       let kept_none : given_after key given one.call ≡ [] = ap (given_after key given) is ∙ nothing in
       let free : phase_of machine id ≡ None = ap (λ (k : ℕ). phase_of machine k) connects.1 ∙ laws.unused machine apart.given in
       embed key old (one ∷ later) before
       (taken model laws progress key old one later before bytes [] (client.head ++ bytes) now id machine between after new (given_after key given one.call) is shown
       (ap (λ (hub : HubState). hub.committed) connects.2) (laws.connect machine between id connects free) receives (ap (λ (l : List ℕ). l ++ bytes) head) found
       (ap (λ (c : ClientState). c.stage) becomes) (ap (λ (c : ClientState). c.session) becomes) (ap (λ (c : ClientState). c.unsent) becomes ∙ unsent) kept_none owes (reads (before ++ bytes) kept_none))
-  step key old one later machine after client new given before shown apart found nothing (asks, none, unsent, head) (Reads bytes now id progress is reading of receives becomes) owes reads next hears =
+  step key old one later machine after client new given before shown tracks apart found nothing (asks, none, unsent, head) (Reads bytes now id progress is reading of receives becomes) owes reads next hears =
       absurd (asks_and_reads client.stage asks reading)
 
   whole_all : (key : ℕ) (calls : List (After D)) (old : Station D) (machine : HubState) (client : ClientState) (given before : List ℕ)
-      → AreCalls model old calls → AreTold key given calls → Shows model old.live.hub machine → AreApart machine old.clients.slots
-      → get old.clients.slots key ≡ Some client → given ≡ [] → IsAskingOn model laws client before → IsServed model key old calls before
-  whole_all key [] old machine client given before are told shown apart found nothing asking = inl refl
-  whole_all key (one ∷ later) old machine client given before are told shown apart found nothing asking =
+      → AreCalls model old calls → AreTold key given calls → Shows model old.live.hub machine → TracksOn first begun machine old.live.places → AreApart machine old.clients.slots
+      → get old.clients.slots key ≡ Some client → given ≡ [] → IsAskingOn model laws client before → IsServed model first begun key old calls before
+  whole_all key [] old machine client given before are told shown tracks apart found nothing asking = inl refl
+  whole_all key (one ∷ later) old machine client given before are told shown tracks apart found nothing asking =
       let sight = sees model laws.any key one.call old one.after machine are.0 shown apart in
       elim (sight.seen client found) [
         | inl closed ↦ absurd (closed_not key given one.call closed told.0)
         | inr (after, stands, seen) ↦
-            step key old one later machine sight.machine client after given before shown apart stands nothing asking
+            step key old one later machine sight.machine client after given before shown tracks apart stands nothing asking
             (early key one.call old.live.places machine sight.machine client after given (inl asking.0) asking.2 nothing (λ is no_session. asks_and_reads client.stage asking.0 is) told.0 seen)
             (λ owed owes. owed_all model laws key later one.after sight.machine after (given_after key given one.call) owed are.1 told.1 sight.shown sight.apart stands owes)
             (λ bytes kept_none reads_later. reads_all model laws key later one.after sight.machine after (given_after key given one.call) bytes are.1 told.1 sight.shown sight.apart stands kept_none reads_later)
-            (λ bytes kept_none asks_later. whole_all key later one.after sight.machine after (given_after key given one.call) bytes are.1 told.1 sight.shown sight.apart stands kept_none asks_later)
+            (λ bytes kept_none asks_later. whole_all key later one.after sight.machine after (given_after key given one.call) bytes are.1 told.1 sight.shown
+            (tracks_then first machine sight.machine begun old.live.places one.after.live.places tracks sight.tracked) sight.apart stands kept_none asks_later)
             (λ moment hears. hears_all model laws lasts LIVE.now moment key later one.after sight.machine after (given_after key given one.call) [] are.1 told.1 sight.shown sight.apart stands hears)
       ]
 
   -- ---- from the call on by which it was accepted
   pub whole : (old : Station D) (accepted : After D) (later : List (After D)) (machine : HubState) (key now : ℕ)
-      → Shows model old.live.hub machine → AreApart machine old.clients.slots → accepted.call ≡ Accepted now (Ok key)
+      → TracksOn first begun machine old.live.places → Shows model old.live.hub machine → AreApart machine old.clients.slots → accepted.call ≡ Accepted now (Ok key)
       → AreCalls model old (accepted ∷ later) → AreTold key [] later
-      → IsServed model key accepted.after later [] ⊎ ((left : List ℕ) × (FULL.now ≡ written key later ++ left))
-  whole old accepted later machine key now shown apart is are tells =
+      → IsServed model first begun key accepted.after later [] ⊎ ((left : List ℕ) × (FULL.now ≡ written key later ++ left))
+  whole old accepted later machine key now tracks shown apart is are tells =
       let call : IsAccepted model now key old accepted.after = subst (λ (one : Call). IsCall model one old accepted.after) is are.0 in
-      let (after, shows, still) = kept model laws old accepted.after accepted.call machine are.0 shown apart in
+      let sight = sees model laws.any key accepted.call old accepted.after machine are.0 shown apart in
+      let on = tracks_then first machine sight.machine begun old.live.places accepted.after.live.places tracks sight.tracked in
       elim (leb_tells old.options.most (slab_len old.clients.slots)) [
         | inl full ↦
             let (one, stands, away) = call.turned_away full.1 in
-            turned_away after one shows still stands away
+            turned_away sight.machine one sight.shown sight.apart stands away
         | inr place ↦
-            inl (whole_all key later accepted.after after (fresh now) [] [] are.1 tells shows still (call.some place.1) refl (refl, refl, refl, refl))
+            inl (whole_all key later accepted.after sight.machine (fresh now) [] [] are.1 tells sight.shown on sight.apart (call.some place.1) refl (refl, refl, refl, refl))
       ]
     where
       turned_away : (after : HubState) (one : ClientState) → Shows model accepted.after.live.hub after → AreApart after accepted.after.clients.slots
           → get accepted.after.clients.slots key ≡ Some one → IsTurnedAway now one
-          → IsServed model key accepted.after later [] ⊎ ((left : List ℕ) × (FULL.now ≡ written key later ++ left))
+          → IsServed model first begun key accepted.after later [] ⊎ ((left : List ℕ) × (FULL.now ≡ written key later ++ left))
       turned_away after one shows still stands (inl told_it) =
           inr (owed_all model laws key later accepted.after after one [] FULL.now are.1 tells shows still stands
           (owes_text after one FULL.now (ap (λ (c : ClientState). c.stage) told_it) (ap (λ (c : ClientState). c.unsent) told_it)))

@@ -15,7 +15,7 @@ use Rattle.serve_machine.specs.declared.fault.HubFault.{HubFault}
 use Rattle.slab.specs.Slab.{get, slab_len}
 use Rattle.station_hub.specs.Asking.{stage_after}
 use Rattle.station_hub.specs.Giving.{Gives}
-use Rattle.station_hub.specs.Going.{OnlyRecords}
+use Rattle.station_hub.specs.Live.{RecordsLive, StaysLive}
 use Rattle.station.specs.Asked.{EndsSession, IsAsked}
 use Rattle.station.specs.Ending.{is_over}
 use Rattle.station.specs.Passing.{ArePassed, GoesOnAsSource, IsLike, Stays, expects_nothing, is_source, session_in}
@@ -62,6 +62,7 @@ module _ {D : Type 0} (model : DiskModel D) where
     pub gone : get new.clients.slots key ≡ None
     pub session : EndsSession model (session_in (get old.clients.slots key)) old.live.hub new.live.hub
     pub others : OthersStay key old.clients new.clients
+    pub recorded : StaysLive model old.live new.live
 
   pub record HasReceived (key : ℕ) (bytes : List ℕ) (old new : Station D) : Type 0 where
     pub reads : (client : ClientState) (id : ℕ) → get old.clients.slots key ≡ Some client → client.stage ≡ Reading → client.session ≡ Some id
@@ -78,6 +79,7 @@ module _ {D : Type 0} (model : DiskModel D) where
         × (get new.clients.slots key ≡ Some after) × IsLike client after × (new.live.hub ≡ old.live.hub)
     pub none : get old.clients.slots key ≡ None → new ≡ old
     pub others : OthersStay key old.clients new.clients
+    pub recorded : StaysLive model old.live new.live
 
   pub record HasPeerEnded (key : ℕ) (old new : Station D) : Type 0 where
     pub stays : (client : ClientState) → get old.clients.slots key ≡ Some client → (after : ClientState) × (get new.clients.slots key ≡ Some after) × Stays client after
@@ -93,6 +95,7 @@ module _ {D : Type 0} (model : DiskModel D) where
         × (get new.clients.slots key ≡ Some after) × GoesOnAsSource client after × (new.live.hub ≡ old.live.hub)
     pub none : get old.clients.slots key ≡ None → (get new.clients.slots key ≡ None) × (new.live.hub ≡ old.live.hub)
     pub others : OthersStay key old.clients new.clients
+    pub recorded : StaysLive model old.live new.live
 
   pub record WasWritten (key : ℕ) (bytes : List ℕ) (count now : ℕ) (old new : Station D) : Type 0 where
     pub written : (client : ClientState) → get old.clients.slots key ≡ Some client → (after : ClientState)
@@ -139,7 +142,7 @@ module _ {D : Type 0} (model : DiskModel D) where
     pub live : new.live ≡ old.live
 
   pub record HasStepped (old new : Station D) : Type 0 where
-    pub records : OnlyRecords (Shows model) old.live.hub new.live.hub
+    pub records : RecordsLive model old.live new.live
     pub passed : ArePassed old.clients.slots new.clients.slots
 
   -- ---- any call
@@ -160,7 +163,7 @@ module _ {D : Type 0} (model : DiskModel D) where
   IsCall (Turned key now) old new = HasTurned key old new
   IsCall (Looked now) old new = HasLooked now old new
   IsCall (Stepped now) old new = HasStepped old new
-  IsCall EndedOpen old new = OnlyRecords (Shows model) old.live.hub new.live.hub × (new.clients ≡ old.clients)
+  IsCall EndedOpen old new = RecordsLive model old.live new.live × (new.clients ≡ old.clients)
   IsCall Aside old new = (new.clients ≡ old.clients) × (new.live ≡ old.live)
 
   -- each takes the station that the one before it left to the next

@@ -13,7 +13,7 @@ use Rattle.serve_texts.specs.Status.{status_response}
 use Rattle.serve_texts.specs.declared.numbers.Numbers.{Numbers}
 use Rattle.station_hub.specs.Marking.{Start}
 use Rattle.station_hub.specs.Places.{PlacesState}
-use Rattle.station_hub.specs.Tracking.{IsJoinMoment, Tracks}
+use Rattle.station_hub.specs.Tracking.{IsJoinMoment, Tracks, TracksOn}
 use Rattle.station_laws.specs.Calling.{After, Received, left_by}
 use Rattle.station_laws.specs.Written.{GetsResponse, received_by, written}
 use Rattle.station.specs.declared.station.Station.{Station}
@@ -66,17 +66,19 @@ module _ {D : Type 0} (model : DiskModel D) where
       (machine : HubState) × (whole : List ℕ) × (left : List ℕ) × Shows model station.live.hub machine × IsLive moment machine.committed whole × (front ++ whole ≡ bytes ++ left)
 
   -- It listens, and joined where the places said. If these were places of the committed links, what was written is the front of
-  -- the head of the answer and what is heard of the bytes committed by then.
-  pub record GetsHeard (key : ℕ) (old : Station D) (calls : List (After D)) (before : List ℕ) : Type 0 where
+  -- the head of the answer and what is heard of the bytes committed by then. They were, if those at first were places of the
+  -- links that the first machine had committed.
+  pub record GetsHeard (first : HubState) (begun : PlacesState) (key : ℕ) (old : Station D) (calls : List (After D)) (before : List ℕ) : Type 0 where
     pub places : PlacesState
     pub machine : HubState
     pub joins : AtCall (λ station one so_far. AsksOwn key Live false one so_far × (places ≡ station.live.places) × Shows model station.live.hub machine) key old calls before
+    pub tracked : TracksOn first begun machine places
     pub hears : (start : Start) → Tracks start machine places → (moment : Moment) × IsJoinMoment places machine.committed moment
         × HasHeardOf LIVE.now moment (left_by old calls) (written key calls)
 
   -- Nothing was written yet, or a part of the response of the connection's session, or of an answer of the station's own, or of
   -- what a listener hears. Or it is a source, whose answers these aren't.
-  abbrev pub IsServed : ℕ → Station D → List (After D) → List ℕ → Type 0
-  IsServed key old calls before =
-      (written key calls ≡ []) ⊎ GetsResponse model key old calls before ⊎ GetsAnswer key old calls before ⊎ GetsHeard key old calls before
+  abbrev pub IsServed : HubState → PlacesState → ℕ → Station D → List (After D) → List ℕ → Type 0
+  IsServed first begun key old calls before =
+      (written key calls ≡ []) ⊎ GetsResponse model key old calls before ⊎ GetsAnswer key old calls before ⊎ GetsHeard first begun key old calls before
       ⊎ Sends key old calls before

@@ -32,11 +32,12 @@ pub fn connections_get_their_responses<D: Disk>()
         → get (left_by accepted.after later).clients.slots key ≡ Some client → client.session ≡ Some id
         → (written key later ≡ []) ⊎ GetsResponse D.Disk key accepted.after later [] }
     // The same of every connection: what was written is the front of its one response, of an answer of the station's own, or
-    // of what it hears of the bytes committed by then, after the head of that answer. One too many is told so.
+    // of what it hears of the bytes committed by then, after the head of that answer. It joined at a place of the committed
+    // links, if the places were those of the machine's file before. One too many is told so.
     ensures whole { (old : StationOf D) (accepted : After D) (later : List (After D)) (machine : HubState) (key now : ℕ)
         → Shows D.Disk old.live.hub machine → AreApart machine old.clients.slots → accepted.call ≡ Accepted now (Ok key)
         → AreCalls D.Disk old (accepted ∷ later) → AreTold key [] later
-        → IsServed D.Disk key accepted.after later [] ⊎ ((left : List ℕ) × (FULL.now ≡ written key later ++ left)) }
+        → IsServed D.Disk machine old.live.places key accepted.after later [] ⊎ ((left : List ℕ) × (FULL.now ≡ written key later ++ left)) }
 {
     calls_move_their_session();
     committed_bytes_grow();

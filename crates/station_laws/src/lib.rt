@@ -2,12 +2,15 @@
 //! part of it.
 //!
 //! `specs/Calling.antt` says what a station's calls are and what each leaves of it. Over any list of them
-//! `connections_get_their_responses` says what was written to a connection, and `stations_import_their_sources` what is
-//! recorded of a source. Both are functions with a contract alone.
+//! `connections_get_their_responses` says what was written to a connection, `stations_import_their_sources` what is
+//! recorded of a source, and `listeners_of_a_station_join_committed_links` where listeners join. They are functions with a
+//! contract alone.
 #![tactic(auto)]
 
 mod connections;
+mod places;
 mod sources;
 
 pub use connections::connections_get_their_responses;
+pub use places::listeners_of_a_station_join_committed_links;
 pub use sources::stations_import_their_sources;

@@ -6,7 +6,7 @@ use Rattle.station_laws.proofs.connections.connections_get_their_responses.Goals
 
 pub returns : goal.returns
 returns g c =
-    let any : Laws = record { others = c.other_sessions_stay.ensures; numbered = c.sessions_are_numbered.ensures.kept; grows = c.committed_bytes_grow.ensures.grows } in
+    let any : Laws = record { others = c.other_sessions_stay.ensures; numbered = c.sessions_are_numbered.ensures.kept; file = c.calls_move_their_session.ensures.file; grows = c.committed_bytes_grow.ensures.grows } in
     let laws : OwnLaws = record {
       any = any;
       unused = λ hub are. (c.sessions_are_numbered.ensures.unused hub are).1;
@@ -18,5 +18,6 @@ returns g c =
       new = none_apart;
       kept = kept g.D.Disk laws;
       served = served g.D.Disk laws;
-      whole = whole g.D.Disk laws c.listeners_hear_what_a_hub_commits.ensures;
+      whole = λ old accepted later machine key now.
+          whole g.D.Disk laws c.listeners_hear_what_a_hub_commits.ensures machine old.live.places old accepted later machine key now (λ start tracks. tracks);
     }
