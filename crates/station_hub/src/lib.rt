@@ -1,8 +1,9 @@
 //! The hub of a station: what its connections get of the file while it is recorded.
 //!
 //! A `LiveHub` is a hub, and where listeners may join the link that it records, as the hub's answers to commands tell
-//! it. It runs commands as its hub does (`specs/LiveRunning.antt`). A connection that the hub answers is given a session by `connect`, whose further
-//! bytes `read` takes; one that listens joins by `listen`. `give` gives either the next bytes that are to be written.
+//! it. It runs commands as its hub does (`specs/LiveRunning.antt`). A connection that the hub answers is given a session
+//! by `connect`, whose further bytes `read` takes; one that listens joins by `listen`. `give` gives either the next bytes
+//! that are to be written.
 //!
 //! `is_due` says when what waits is committed, and `Waking` when those who hear what is recorded are woken for it.
 //! `Kinds` counts the connections by what they are; `tell_player` and `tell_status` tell one of them what the station is.

@@ -9,4 +9,5 @@ returns g c = record {
   joins = joins g.D.Disk (λ start machine places place tracks found (links, are_links).
       let (moment, is) = c.listeners_join_committed_links.ensures.joins start machine places place links tracks found are_links in
       (moment, (links, are_links, is)));
+  hears = λ start first begun key old calls before tracks gets. gets.hears start (gets.tracked start tracks);
 }
