@@ -1,10 +1,6 @@
 -- How long may be waited, if nothing comes. Times are milliseconds. Ours.
-use Rattle.std.specs.Prelude.{ℕ, zero, suc, min, Option, Some, None}
-
--- what comes sooner: this, if there is one, or that
-abbrev pub sooner : Option ℕ → ℕ → ℕ
-sooner None other = other
-sooner (Some one) other = min one other
+use Rattle.std.specs.Prelude.{ℕ, zero, suc, Option}
+use Rattle.station_hub.specs.Patience.{sooner}
 
 -- How long may be waited until there is something to do: not at all if a turn waits; else until what waits is committed, or
 -- those who hear are woken, and a second at most.

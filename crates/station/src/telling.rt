@@ -6,12 +6,12 @@ ghost use Rattle.serve_clients.specs.Clients.{OthersStay};
 ghost use Rattle.serve_sources.specs.declared.own.OwnResource.TheVariants.{Status as StatusOf};
 ghost use Rattle.station_sources.specs.Counting.{counted};
 ghost use Rattle.station.specs.Asked.{IsAnswered};
-ghost use Rattle.station.specs.Telling.{in_seconds, mends_of};
+ghost use Rattle.station.specs.Telling.{mends_of};
 
 use crate::station::Station;
 use disk_model::Disk;
 use serve_texts::{Mends, Numbers};
-use station_hub::{Kinds, kind_of, tell_status};
+use station_hub::{Kinds, in_seconds, kind_of, tell_status};
 use station_sources::{MendCounts, counted};
 
 fn mends_of(counts: MendCounts) -> Mends
@@ -28,13 +28,6 @@ fn mends_of(counts: MendCounts) -> Mends
         misshapen: counts.misshapen,
         full: counts.full,
     }
-}
-
-/// Whole seconds.
-fn in_seconds(milliseconds: u64) -> u64
-    ensures { result ≡ in_seconds milliseconds }
-{
-    milliseconds / 1000
 }
 
 impl<D: Disk + Drop> Station<D> {

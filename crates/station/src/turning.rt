@@ -14,13 +14,13 @@ ghost use Rattle.station.specs.Ending.{gathers, has_finished, is_over};
 ghost use Rattle.station.specs.Passing.{ArePassed, IsLike};
 ghost use Rattle.station.specs.Succeeding.{HaveTurns};
 ghost use Rattle.station.specs.Turning.{GoesOn, IsRead};
-ghost use Rattle.station.specs.Waiting.{sooner, until_next};
+ghost use Rattle.station.specs.Waiting.{until_next};
 ghost use Rattle.station_hub.specs.Waking.{is_due, until_due, woken_at};
 
 use crate::station::Station;
 use disk_model::Disk;
 use serve_clients::{After, Stage, Trouble};
-use station_hub::Waking;
+use station_hub::{Waking, sooner};
 use station_sources::{Feeder, Shown, counted};
 
 /// For how many milliseconds is waited at most, if nothing comes.
@@ -266,15 +266,5 @@ impl<D: Disk + Drop> Station<D> {
             }
             None => false,
         }
-    }
-}
-
-/// What comes sooner: this, if there is one, or that.
-fn sooner(one: Option<u64>, other: u64) -> u64
-    ensures { result ≡ sooner one other }
-{
-    match one {
-        Some(one) => one.min(other),
-        None => other,
     }
 }

@@ -1,5 +1,5 @@
--- What a connection is counted as. Ours.
-use Rattle.std.specs.Prelude.{ℕ, ◌+◌, ◌^◌, ◌-◌, min}
+-- What a connection is counted as, and how times are told. Ours.
+use Rattle.std.specs.Prelude.{ℕ, ◌+◌, ◌^◌, ◌-◌, ◌/◌, min}
 use Rattle.serve_clients.specs.declared.client.Stage.{Stage}
 use Rattle.serve_clients.specs.declared.client.Stage.TheVariants.{Asking, Offering, Waiting, Feeding, Reading, Sending, Hearing, Ending, Closing, Cut}
 use Rattle.station_hub.specs.declared.telling.Kind.{Kind}
@@ -28,3 +28,6 @@ with_one Listener kinds = record kinds { listeners = one_more kinds.listeners }
 with_one Session kinds = record kinds { sessions = one_more kinds.sessions }
 with_one Source kinds = record kinds { sources = one_more kinds.sources }
 with_one Other kinds = record kinds { others = one_more kinds.others }
+
+abbrev pub in_seconds : ℕ → ℕ
+in_seconds milliseconds = milliseconds / 1000

@@ -28,6 +28,6 @@ pub use laws::{
     listeners_join_committed_links,
 };
 pub use live_hub::LiveHub;
-pub use patience::{is_due, until_due};
-pub use telling::{Kind, Kinds, kind_of, tell_player, tell_status};
+pub use patience::{is_due, sooner, until_due};
+pub use telling::{Kind, Kinds, in_seconds, kind_of, tell_player, tell_status};
 pub use waking::Waking;

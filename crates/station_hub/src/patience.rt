@@ -1,6 +1,6 @@
 //! When what waits is committed.
 ghost use Rattle.std.specs.Prelude.{◌≡◌};
-ghost use Rattle.station_hub.specs.Patience.{is_due, until_due};
+ghost use Rattle.station_hub.specs.Patience.{is_due, sooner, until_due};
 
 /// For how many milliseconds a command may wait for its commit: what is heard is so much later than what is recorded.
 const MOST_WAIT: u64 = 150;
@@ -23,4 +23,14 @@ pub fn until_due(waiting: u64, since: u64, now: u64) -> Option<u64>
         return None;
     }
     Some(MOST_WAIT.saturating_sub(now.saturating_sub(since)))
+}
+
+/// What comes sooner: this, if there is one, or that.
+pub fn sooner(one: Option<u64>, other: u64) -> u64
+    ensures { result ≡ sooner one other }
+{
+    match one {
+        Some(one) => one.min(other),
+        None => other,
+    }
 }

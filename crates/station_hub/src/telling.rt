@@ -4,7 +4,7 @@ ghost use Rattle.serve_clients.specs.Client.{cut, told, with_stage};
 ghost use Rattle.serve_clients.specs.declared.client.Stage.TheVariants.{Ending as EndingOf};
 ghost use Rattle.serve_texts.specs.Player.{player_response};
 ghost use Rattle.serve_texts.specs.Status.{status_response};
-ghost use Rattle.station_hub.specs.Telling.{kind_of, with_one};
+ghost use Rattle.station_hub.specs.Telling.{in_seconds, kind_of, with_one};
 
 use serve_clients::{Client, Stage};
 use serve_texts::{Numbers, append_player, append_status};
@@ -66,6 +66,13 @@ impl Kinds {
             },
         }
     }
+}
+
+/// Whole seconds.
+pub fn in_seconds(milliseconds: u64) -> u64
+    ensures { result ≡ in_seconds milliseconds }
+{
+    milliseconds / 1000
 }
 
 /// The connection is answered with the player. Without memory for it the connection is cut.
