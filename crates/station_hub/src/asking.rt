@@ -1,5 +1,5 @@
 //! What a connection asks for.
-ghost use Rattle.std.specs.Prelude.{◌≡◌, ◌⊎◌, ◌++◌, Some, IfOk, Result};
+ghost use Rattle.std.specs.Prelude.{◌≡◌, ◌⊎◌, ◌++◌, ℕ, None, Some, IfOk, Result};
 ghost use Rattle.serve_live.specs.Boundaries.{place_to_join};
 ghost use Rattle.serve_live.specs.Listening.{ListenerState};
 ghost use Rattle.serve_clients.specs.declared.client.Stage.TheVariants.{Hearing as HearingOf};
@@ -10,11 +10,12 @@ ghost use Rattle.serve_machine.specs.Calls.{Steps};
 ghost use Rattle.serve_machine.specs.Hub.{HubState, Receive};
 ghost use Rattle.serve_machine.specs.declared.answers.Progress.{Progress as ProgressOf};
 ghost use Rattle.serve_machine.specs.declared.fault.HubFault.{HubFault as HubFaultOf};
-ghost use Rattle.station_hub.specs.Asking.{IsConnected, Listens, stage_after};
+ghost use Rattle.station_hub.specs.Asking.{HasAsked, IsConnected, Listens, stage_after};
 ghost use Rattle.station_hub.specs.Keeping.{KeepsRecorded};
 ghost use Rattle.station_hub.specs.Marking.{Start};
 ghost use Rattle.station_hub.specs.Tracking.{JoinsAt, Tracks};
-ghost use Rattle.serve_clients.specs.Client.{cut, with_stage};
+ghost use Rattle.serve_clients.specs.Client.{cut, with_line, with_stage};
+ghost use Rattle.serve_clients.specs.Line.{moved_on};
 
 use crate::laws::listeners_join_committed_links;
 use crate::live_hub::LiveHub;
@@ -24,9 +25,18 @@ use serve_live::Listener;
 use serve_machine::{HubFault, Progress, calls_move_their_session};
 use serve_sources::{Asks, LIVE};
 
+/// These bytes have come of the connection: its line moves, and they are remembered for the log.
+pub fn notice(client: &mut Client, bytes: &[u8])
+    ensures { client.new ≡ with_line (moved_on client.old.line) client.old }
+{
+    client.stands(client.line.moves());
+    client.note_heard(bytes);
+}
+
 /// Adds bytes to the head, and says what it asks for. Without memory for them the connection is cut.
 pub fn ask(client: &mut Client, bytes: &[u8]) -> Asks
-    ensures { (client.new ≡ record client.old { head = client.old.head ++ bytes.now }) ⊎ (client.new ≡ cut client.old) }
+    ensures client { (client.new ≡ record client.old { head = client.old.head ++ bytes.now }) ⊎ (client.new ≡ cut client.old) }
+    ensures asks { HasAsked result bytes.now client.old client.new }
 {
     match client.head.extend_from_slice(bytes) {
         Ok(()) => Asks::of(client.head.as_slice()),
@@ -56,6 +66,22 @@ impl<D: Disk + Drop> LiveHub<D> {
                 client.connected(id, stage_after(progress));
             }
             Err(_) => client.go_to(Stage::Cut),
+        }
+    }
+
+    /// Further bytes of a request have come. The connection's session takes them, if it has one.
+    pub fn read_on(&mut self, client: &mut Client, bytes: &[u8])
+        ensures read { (id : ℕ) → client.old.session ≡ Some id → (progress : Result ProgressOf HubFaultOf)
+            × Steps (Shows D.Disk) self.old.hub self.new.hub (λ machine. Receive id bytes.now progress)
+            × (client.new ≡ with_stage (stage_after progress) client.old) }
+        ensures unread { client.old.session ≡ None → (self.new.hub ≡ self.old.hub) × (client.new ≡ client.old) }
+        ensures disk { (self.new.hub.file ≡ self.old.hub.file)
+            ⊎ IfFile (Reads D.Disk) self.old.hub.file self.new.hub.file }
+        ensures recorded { KeepsRecorded D.Disk self.old.hub self.new.hub }
+        ensures places { self.new.places ≡ self.old.places }
+    {
+        if let Some(id) = client.session {
+            self.read(id, client, bytes);
         }
     }
 

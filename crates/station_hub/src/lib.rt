@@ -2,8 +2,8 @@
 //!
 //! A `LiveHub` is a hub, and where listeners may join the link that it records, as the hub's answers to commands tell
 //! it. It runs commands as its hub does (`specs/LiveRunning.antt`). A connection that the hub answers is given a session
-//! by `connect`, whose further bytes `read` takes; one that listens joins by `listen`. `give` gives either the next bytes
-//! that are to be written.
+//! by `connect`, whose further bytes `read_on` takes; one that listens joins by `listen`. `give` gives either the next
+//! bytes that are to be written.
 //!
 //! `is_due` says when what waits is committed, and `Waking` when those who hear what is recorded are woken for it.
 //! `Kinds` counts the connections by what they are; `tell_player` and `tell_status` tell one of them what the station is.
@@ -22,7 +22,7 @@ mod places;
 mod telling;
 mod waking;
 
-pub use asking::ask;
+pub use asking::{ask, notice};
 pub use laws::{
     connections_are_owed_their_responses, listeners_hear_what_a_hub_commits,
     listeners_join_committed_links,
