@@ -1,3 +1,4 @@
+mod Asked
 mod Hearing
 mod Leaving
 mod Passed

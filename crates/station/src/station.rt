@@ -10,7 +10,7 @@ ghost use Rattle.serve_hub.specs.Showing.{Shows};
 ghost use Rattle.serve_clients.specs.Client.{ClientState, HasWritten, fresh, given, moved_if, with_line, with_stage};
 ghost use Rattle.serve_clients.specs.Line.{moved_on};
 ghost use Rattle.station_hub.specs.Asking.{stage_after};
-ghost use Rattle.serve_clients.specs.declared.client.Stage.TheVariants.{Feeding as FeedingOf, Reading as ReadingOf, Waiting as WaitingOf};
+ghost use Rattle.serve_clients.specs.declared.client.Stage.TheVariants.{Asking as AskingOf, Feeding as FeedingOf, Reading as ReadingOf, Waiting as WaitingOf};
 ghost use Rattle.station_sources.specs.Air.{HoldsMore, IsFedBy, IsShort, feeder_in};
 ghost use Rattle.station_sources.specs.declared.air.OnAir.{OnAir as OnAirOf};
 ghost use Rattle.station_sources.specs.Counting.{counted};
@@ -21,9 +21,9 @@ ghost use Rattle.station_sources.specs.Beginning.{HasBegun};
 ghost use Rattle.station.specs.Beginning.{BeginsBeside, options_for, run_in};
 ghost use Rattle.station.specs.Keeping.{IsEndedBy, IsFedMore, IsLostBy, OthersAirStays};
 ghost use Rattle.serve_hub.specs.Listening.{KeepsMachine};
-ghost use Rattle.station.specs.Asked.{EndsSession, IsAnswered, Joins};
+ghost use Rattle.station.specs.Asked.{EndsSession, IsAnswered, IsAsked, Joins};
 ghost use Rattle.station.specs.Ending.{is_over};
-ghost use Rattle.station.specs.Passing.{GoesOnAsSource, OffersOn, Stays, session_in};
+ghost use Rattle.station.specs.Passing.{GoesOnAsSource, IsLike, OffersOn, Stays, expects_nothing, is_source, session_in};
 ghost use Rattle.station.specs.Turning.{IsTurnedAway};
 ghost use Rattle.serve_clients.specs.Clients.{OthersStay};
 
@@ -34,7 +34,7 @@ use serve_clients::{Client, Clients, Stage, Trouble, is_refused};
 use serve_hub::Hub;
 use serve_sources::{Asks, FULL, OwnResource, Password, Refused};
 use serve_texts::Visit;
-use station_hub::{LiveHub, Waking, ask, tell_player};
+use station_hub::{LiveHub, Waking, ask, notice, tell_player};
 use station_sources::{Counts, Feeder, OnAir, counted};
 use std::alloc::Global;
 
@@ -224,6 +224,17 @@ impl<D: Disk + Drop> Station<D> {
             → (progress : Result ProgressOf HubFaultOf)
             × Steps (Shows D.Disk) self.old.live.hub self.new.live.hub (λ machine. Receive id bytes.now progress)
             × (get self.new.clients.slots key ≡ Some (with_stage (stage_after progress) (with_line (moved_on client.line) client))) }
+        // What its head asks for, with these bytes, says what becomes of it.
+        ensures asks { (client : ClientState) → get self.old.clients.slots key ≡ Some client → client.stage ≡ AskingOf
+            → (after : ClientState) × (get self.new.clients.slots key ≡ Some after)
+            × IsAsked D.Disk self.old.options.password self.old.live.places bytes.now self.old.live.hub self.new.live.hub client after }
+        ensures offers { (client : ClientState) → get self.old.clients.slots key ≡ Some client → is_source client.stage ≡ true → (after : ClientState)
+            × (get self.new.clients.slots key ≡ Some after) × GoesOnAsSource client after × (self.new.live.hub ≡ self.old.live.hub) }
+        ensures ignores { (client : ClientState) → get self.old.clients.slots key ≡ Some client → expects_nothing client.stage ≡ true
+            → (after : ClientState) × (get self.new.clients.slots key ≡ Some after) × IsLike client after × (self.new.live.hub ≡ self.old.live.hub) }
+        ensures unread { (client : ClientState) → get self.old.clients.slots key ≡ Some client → client.stage ≡ ReadingOf → client.session ≡ None
+            → (after : ClientState) × (get self.new.clients.slots key ≡ Some after) × IsLike client after × (self.new.live.hub ≡ self.old.live.hub) }
+        ensures none { get self.old.clients.slots key ≡ None → self.new ≡ self.old }
         // The file is only read, if at all.
         ensures disk { (self.new.live.hub.file ≡ self.old.live.hub.file)
             ⊎ IfFile (Reads D.Disk) self.old.live.hub.file self.new.live.hub.file }
@@ -236,37 +247,86 @@ impl<D: Disk + Drop> Station<D> {
         ensures begins { self.old.air ≡ None → BeginsBeside (serials_in self.old.live.hub.file) self.old.options.skeletons (run_in self.new.air) }
         ensures others { OthersStay key self.old.clients self.new.clients }
     {
+        let Some(client) = self.clients.slots.get(key) else {
+            return;
+        };
+        match client.stage {
+            Stage::Asking => self.ask_on(key, bytes, now),
+            Stage::Reading => self.read_on(key, bytes),
+            _ => self.take_in(key, bytes, now),
+        }
+    }
+
+    /// Bytes of a connection have come that hasn't said yet what it asks for.
+    fn ask_on(&mut self, key: usize, bytes: &[u8], now: u64)
+        ensures asks { (client : ClientState) → get self.old.clients.slots key ≡ Some client
+            → (after : ClientState) × (get self.new.clients.slots key ≡ Some after)
+            × IsAsked D.Disk self.old.options.password self.old.live.places bytes.now self.old.live.hub self.new.live.hub client after }
+        ensures disk { (self.new.live.hub.file ≡ self.old.live.hub.file) ⊎ IfFile (Reads D.Disk) self.old.live.hub.file self.new.live.hub.file }
+        ensures recorded { StaysLive D.Disk self.old.live self.new.live }
+        ensures air { OthersAirStays (Feeder.Peer key) self.old.air self.new.air }
+        ensures begins { self.old.air ≡ None → BeginsBeside (serials_in self.old.live.hub.file) self.old.options.skeletons (run_in self.new.air) }
+        ensures others { OthersStay key self.old.clients self.new.clients }
+    {
         let Some(client) = self.clients.slots.get_mut(key) else {
             return;
         };
-        client.stands(client.line.moves());
-        client.note_heard(bytes);
-        match client.stage {
-            Stage::Asking => match ask(client, bytes) {
-                Asks::More => {}
-                Asks::Source if self.options.password.is_some() => {
-                    client.stage = Stage::Offering;
-                    self.offer(key, &[], now);
-                }
-                Asks::Own { resource, head } => self.answer(key, resource, head, now),
-                Asks::Source | Asks::File => self.live.connect(client),
-            },
-            Stage::Offering => self.offer(key, bytes, now),
-            Stage::Reading => {
-                if let Some(id) = client.session {
-                    self.live.read(id, client, bytes);
-                }
+        notice(client, bytes);
+        match ask(client, bytes) {
+            Asks::More => {}
+            Asks::Source if self.options.password.is_some() => {
+                client.stage = Stage::Offering;
+                self.offer(key, &[], now);
             }
+            Asks::Own { resource, head } => self.answer(key, resource, head, now),
+            Asks::Source => self.live.connect(client),
+            Asks::File => self.live.connect(client),
+        }
+    }
+
+    /// Further bytes of a request have come.
+    fn read_on(&mut self, key: usize, bytes: &[u8])
+        ensures reads { (client : ClientState) (id : ℕ) → get self.old.clients.slots key ≡ Some client → client.session ≡ Some id
+            → (progress : Result ProgressOf HubFaultOf)
+            × Steps (Shows D.Disk) self.old.live.hub self.new.live.hub (λ machine. Receive id bytes.now progress)
+            × (get self.new.clients.slots key ≡ Some (with_stage (stage_after progress) (with_line (moved_on client.line) client))) }
+        ensures unread { (client : ClientState) → get self.old.clients.slots key ≡ Some client → client.session ≡ None
+            → (after : ClientState) × (get self.new.clients.slots key ≡ Some after) × IsLike client after × (self.new.live.hub ≡ self.old.live.hub) }
+        ensures disk { (self.new.live.hub.file ≡ self.old.live.hub.file) ⊎ IfFile (Reads D.Disk) self.old.live.hub.file self.new.live.hub.file }
+        ensures recorded { StaysLive D.Disk self.old.live self.new.live }
+        ensures air { self.new.air ≡ self.old.air }
+        ensures others { OthersStay key self.old.clients self.new.clients }
+    {
+        if let Some(client) = self.clients.slots.get_mut(key) {
+            notice(client, bytes);
+            self.live.read_on(client, bytes);
+        }
+    }
+
+    /// Bytes of a source have come, or of a connection of which none are expected.
+    fn take_in(&mut self, key: usize, bytes: &[u8], now: u64)
+        ensures offers { (client : ClientState) → get self.old.clients.slots key ≡ Some client → is_source client.stage ≡ true
+            → (after : ClientState) × (get self.new.clients.slots key ≡ Some after) × GoesOnAsSource client after }
+        ensures ignores { (client : ClientState) → get self.old.clients.slots key ≡ Some client → expects_nothing client.stage ≡ true
+            → (after : ClientState) × (get self.new.clients.slots key ≡ Some after) × IsLike client after }
+        ensures feeds { (client : ClientState) → get self.old.clients.slots key ≡ Some client → client.stage ≡ FeedingOf
+            → IsFedMore (Feeder.Peer key) bytes.now self.old.air self.new.air }
+        ensures air { OthersAirStays (Feeder.Peer key) self.old.air self.new.air }
+        ensures begins { self.old.air ≡ None → BeginsBeside (serials_in self.old.live.hub.file) self.old.options.skeletons (run_in self.new.air) }
+        ensures others { OthersStay key self.old.clients self.new.clients }
+        ensures live { self.new.live ≡ self.old.live }
+    {
+        let Some(client) = self.clients.slots.get_mut(key) else {
+            return;
+        };
+        notice(client, bytes);
+        match client.stage {
+            Stage::Offering => self.offer(key, bytes, now),
             Stage::Feeding => {
                 client.since = now;
                 self.feed(Feeder::Peer(key), bytes);
             }
-            Stage::Waiting
-            | Stage::Sending
-            | Stage::Hearing
-            | Stage::Ending
-            | Stage::Closing
-            | Stage::Cut => {}
+            _ => {}
         }
     }
 
@@ -276,8 +336,7 @@ impl<D: Disk + Drop> Station<D> {
             × (get self.new.clients.slots key ≡ Some after) × IsAnswered resource head client after
             × Joins D.Disk resource head self.old.live.places self.old.live.hub after }
         ensures machine { KeepsMachine D.Disk self.old.live.hub self.new.live.hub }
-        ensures disk { (self.new.live.hub.file ≡ self.old.live.hub.file)
-            ⊎ IfFile (Reads D.Disk) self.old.live.hub.file self.new.live.hub.file }
+        ensures disk { (self.new.live.hub.file ≡ self.old.live.hub.file) ⊎ IfFile (Reads D.Disk) self.old.live.hub.file self.new.live.hub.file }
         ensures recorded { StaysLive D.Disk self.old.live self.new.live }
         ensures air { self.new.air ≡ self.old.air }
         ensures others { OthersStay key self.old.clients self.new.clients }
@@ -346,8 +405,10 @@ impl<D: Disk + Drop> Station<D> {
         ensures live { self.new.live ≡ self.old.live }
         ensures air { self.new.air ≡ self.old.air }
     {
-        if self.has_waited(key, now) {
-            self.refuse(key, Refused::OnTheAir);
+        if let Some(client) = self.clients.slots.get(key) {
+            if is_refused(client, now) {
+                self.refuse(key, Refused::OnTheAir);
+            }
         }
     }
 
@@ -357,8 +418,7 @@ impl<D: Disk + Drop> Station<D> {
         ensures gives { (client : ClientState) → get self.old.clients.slots key ≡ Some client → (after : ClientState)
             × Gives (Shows D.Disk) self.old.live.hub self.new.live.hub (length buffer.old) client result buffer.new after
             × (get self.new.clients.slots key ≡ Some (given result (is_over self.old.air self.old.ending) now after)) }
-        ensures disk { (self.new.live.hub.file ≡ self.old.live.hub.file)
-            ⊎ IfFile (Reads D.Disk) self.old.live.hub.file self.new.live.hub.file }
+        ensures disk { (self.new.live.hub.file ≡ self.old.live.hub.file) ⊎ IfFile (Reads D.Disk) self.old.live.hub.file self.new.live.hub.file }
         ensures recorded { StaysLive D.Disk self.old.live self.new.live }
         ensures others { OthersStay key self.old.clients self.new.clients }
         ensures air { self.new.air ≡ self.old.air }
@@ -371,16 +431,6 @@ impl<D: Disk + Drop> Station<D> {
         let count = self.live.give(client, buffer);
         client.given(count, over, now);
         count
-    }
-
-    /// Whether this connection is a source that has waited for the air long enough.
-    fn has_waited(&self, key: usize, now: u64) -> bool
-        ensures waits { (client : ClientState) → get self.now.clients.slots key ≡ Some client → client.stage ≢ WaitingOf → result ≡ false }
-    {
-        match self.clients.slots.get(key) {
-            Some(client) => is_refused(client, now),
-            None => false,
-        }
     }
 
     /// The first `count` of these bytes, which `next` gave for this connection, were written. The others are kept, to be

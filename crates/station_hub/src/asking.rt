@@ -86,7 +86,7 @@ impl<D: Disk + Drop> LiveHub<D> {
     }
 
     /// Further bytes of a session's request.
-    pub fn read(&mut self, id: u64, client: &mut Client, bytes: &[u8])
+    fn read(&mut self, id: u64, client: &mut Client, bytes: &[u8])
         ensures read { (progress : Result ProgressOf HubFaultOf)
             × Steps (Shows D.Disk) self.old.hub self.new.hub (λ machine. Receive id bytes.now progress)
             × (client.new ≡ with_stage (stage_after progress) client.old) }

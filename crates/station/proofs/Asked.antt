@@ -1,0 +1,98 @@
+-- What becomes of a connection whose bytes have come.
+use Rattle.std.proofs.Common.{◌≡◌, ◌≢◌, ◌⊎◌, ℕ, Bool, true, false, is_some, Option, Some, None, List, ◌++◌, refl, sym, ◌∙◌, ap, subst, inr, inl}
+use Rattle.disk_model.specs.declared.disk.Disk.{Ghosts as DiskModel}
+use Rattle.import_changes.specs.declared.options.Skeletons.{Skeletons}
+use Rattle.serve_clients.specs.Client.{ClientState, cut}
+use Rattle.serve_clients.specs.declared.client.Stage.TheVariants.{Feeding, Offering}
+use Rattle.serve_hub.specs.Listening.{KeepsMachine}
+use Rattle.serve_hub.specs.Parts.{HubParts}
+use Rattle.serve_hub.specs.Showing.{Shows}
+use Rattle.serve_sources.specs.Asking.{IsOther, is_source as asks_as_source}
+use Rattle.serve_sources.specs.declared.asking.Asks.TheVariants as Asks
+use Rattle.serve_sources.specs.declared.own.OwnResource.{OwnResource}
+use Rattle.serve_sources.specs.declared.password.Password.{Password}
+use Rattle.slab.specs.Slab.{Slab, get, with_value}
+use Rattle.station_hub.specs.Asking.{HasAsked, IsConnected, with_head}
+use Rattle.station_hub.specs.Places.{PlacesState}
+use Rattle.station_sources.specs.declared.air.Feeder.{Feeder}
+use Rattle.station_sources.specs.declared.air.OnAir.{OnAir}
+use Rattle.station.specs.Asked.{Awaits, Connects, GetsOwn, IsAnswered, Joins, Offers, moved}
+use Rattle.station.specs.Beginning.{BeginsBeside, run_in}
+use Rattle.station.specs.Found.{placed}
+use Rattle.station.specs.Keeping.{OthersAirStays}
+use Rattle.station.specs.Passing.{GoesOnAsSource, OffersOn, has_offered, is_source}
+use Rattle.station.proofs.Waited.{found_offered}
+
+-- ---- a password
+true_false : true ≡ false → ⊥
+true_false e = cc
+
+pub is_set : (password : Option Password) → is_some password ≡ true → password ≢ None
+is_set password set none = true_false (sym set ∙ ap (λ (one : Option Password). is_some one) none)
+
+pub is_unset : (password : Option Password) → is_some password ≡ false → password ≡ None
+is_unset None none = refl
+is_unset (Some password) none = absurd (true_false none)
+
+-- ---- the air
+pub air_stays : (feeder : Feeder) (old new : Option OnAir) → new ≡ old → OthersAirStays feeder old new
+air_stays feeder None new same = tt
+air_stays feeder (Some air) new same = λ apart. same
+
+pub begins_none : (serials : List ℕ) (skeletons : Skeletons) (air : Option OnAir) → air ≡ None → BeginsBeside serials skeletons (run_in air)
+begins_none serials skeletons None none = tt
+begins_none serials skeletons (Some air) none = absurd (some_none air none)
+  where
+    some_none : (one : OnAir) → Some one ≡ None → ⊥
+    some_none one e = cc
+
+-- ---- a source that goes on
+pub feeds_on : (slots new : Slab ClientState) (key : ℕ) (client other : ClientState) → get slots key ≡ Some client → new ≡ with_value slots key other
+    → other.stage ≡ Feeding → other.session ≡ client.session → (after : ClientState) × (get new key ≡ Some after) × GoesOnAsSource client after
+feeds_on slots new key client other is becomes stage session =
+    (other, ap (λ (one : Slab ClientState). get one key) becomes ∙ placed slots key client other is, (ap has_offered stage, session))
+
+-- ---- what a head asks for
+module _ {D : Type 0} (model : DiskModel D) where
+  pub awaits : (bytes : List ℕ) (hub : HubParts D) (client one after : ClientState) → one ≡ moved client → HasAsked Asks.More bytes one after
+      → Awaits model bytes hub hub client after
+  awaits bytes hub client one after is asked = (refl, subst (λ (it : ClientState). HasAsked Asks.More bytes it after) is asked)
+
+  pub offers : (password : Option Password) (bytes : List ℕ) (old new : HubParts D) (slots : Slab ClientState) (key : ℕ)
+      (client one asked other : ClientState) (found : Option ClientState) → get slots key ≡ Some client → one ≡ moved client
+      → HasAsked Asks.Source bytes one asked → password ≢ None → new ≡ old → other.stage ≡ Offering → other.session ≡ asked.session
+      → OffersOn (get (with_value slots key other) key) found
+      → (after : ClientState) × (found ≡ Some after) × Offers model password bytes old new client after
+  offers password bytes old new slots key client one asked other found is was asks set same stage session offering =
+      let (source, becomes) = subst (λ (it : ClientState). HasAsked Asks.Source bytes it asked) was asks in
+      let (after, left, goes) = found_offered found other (subst (λ (it : Option ClientState). OffersOn it found) (placed slots key client other is) offering) (ap is_source stage) in
+      (after, left, (same, source, set, (goes.0, goes.1 ∙ session ∙ ap (λ (it : ClientState). it.session) becomes)))
+
+  pub gets_own : (places : PlacesState) (bytes : List ℕ) (old new : HubParts D) (resource : OwnResource) (head : Bool)
+      (client one asked : ClientState) (found : Option ClientState) → one ≡ moved client → HasAsked (Asks.Own resource head) bytes one asked
+      → KeepsMachine model old new
+      → (after : ClientState) × (found ≡ Some after) × IsAnswered resource head asked after × Joins model resource head places old after
+      → (after : ClientState) × (found ≡ Some after) × GetsOwn model places bytes old new client after
+  gets_own places bytes old new resource head client one asked found was asks keeps (after, left, answered, joins) =
+      let (own, becomes) = subst (λ (it : ClientState). HasAsked (Asks.Own resource head) bytes it asked) was asks in
+      (after, left, (resource, head, own, keeps, subst (λ (it : ClientState). IsAnswered resource head it after) becomes answered, joins))
+
+  connected : (password : Option Password) (bytes : List ℕ) (old new : HubParts D) (client asked after : ClientState)
+      → IsOther (client.head ++ bytes) ⊎ ((asks_as_source (client.head ++ bytes) ≡ true) × (password ≡ None)) → asked ≡ with_head bytes (moved client)
+      → IsConnected (Shows model) old new asked after ⊎ ((new ≡ old) × (after ≡ cut asked)) → Connects model password bytes old new client after
+  connected password bytes old new client asked after cause becomes connects =
+      (cause, subst (λ (it : ClientState). IsConnected (Shows model) old new it after ⊎ ((new ≡ old) × (after ≡ cut it))) becomes connects)
+
+  pub connects_other : (password : Option Password) (bytes : List ℕ) (old new : HubParts D) (client one asked after : ClientState) → one ≡ moved client
+      → HasAsked Asks.File bytes one asked → IsConnected (Shows model) old new asked after ⊎ ((new ≡ old) × (after ≡ cut asked))
+      → Connects model password bytes old new client after
+  connects_other password bytes old new client one asked after was asks connects =
+      let (other, becomes) = subst (λ (it : ClientState). HasAsked Asks.File bytes it asked) was asks in
+      connected password bytes old new client asked after (inl other) becomes connects
+
+  pub connects_source : (password : Option Password) (bytes : List ℕ) (old new : HubParts D) (client one asked after : ClientState) → one ≡ moved client
+      → HasAsked Asks.Source bytes one asked → password ≡ None → IsConnected (Shows model) old new asked after ⊎ ((new ≡ old) × (after ≡ cut asked))
+      → Connects model password bytes old new client after
+  connects_source password bytes old new client one asked after was asks unset connects =
+      let (source, becomes) = subst (λ (it : ClientState). HasAsked Asks.Source bytes it asked) was asks in
+      connected password bytes old new client asked after (inr (source, unset)) becomes connects

@@ -1,0 +1,64 @@
+use Rattle.std.proofs.Common.{◌≡◌, refl, sym, ◌∙◌, ap, inl, inr}
+use Rattle.serve_clients.specs.Client.{ClientState}
+use Rattle.station_hub.specs.declared.live_hub.LiveHub.{LiveHub}
+use Rattle.station_sources.specs.declared.air.Feeder.TheVariants.{Peer}
+use Rattle.slab.specs.Slab.{get}
+use Rattle.station.specs.Asked.{moved}
+use Rattle.station.specs.Found.{placed, same_client}
+use Rattle.station.proofs.Asked.{air_stays, awaits, connects_other, connects_source, gets_own, is_set, is_unset, offers}
+use Rattle.station.proofs.station.Station.ask_on.Goals as goal
+
+pub returns-in-More-clause-asks : goal.returns-in-More-clause-asks
+returns-in-More-clause-asks g c client is =
+    let same : c.in-Some.client.now ≡ client = same_client c.in-Some.client.now client (c.in-Some.ensures.value ∙ is) in
+    let new = c.ask.new.client in (
+      new,
+      placed c.args.self.now.clients.slots c.args.key client new is,
+      inl (awaits g.D.Disk c.args.bytes.now c.args.self.now.live.hub client c.notice.new.client new (c.notice.ensures ∙ ap moved same) c.in-More.ensures.asks),
+    )
+
+pub returns-in-Source-clause-asks : goal.returns-in-Source-clause-asks
+returns-in-Source-clause-asks g c client is =
+    let same : c.in-Some.client.now ≡ client = same_client c.in-Some.client.now client (c.in-Some.ensures.value ∙ is) in
+    let old = c.args.self.now in
+    let new = c.offer.new.self in
+    let (after, left, offered) =
+    offers g.D.Disk old.options.password c.args.bytes.now old.live.hub new.live.hub old.clients.slots c.args.key client c.notice.new.client c.ask.new.client _
+    (get new.clients.slots c.args.key) is (c.notice.ensures ∙ ap moved same) c.in-Source.ensures.asks
+    (is_set old.options.password (sym c.is_some.ensures ∙ c.if-is_some.true)) (ap (λ (live : LiveHub _). live.hub) c.offer.ensures.live) refl
+    (ap (λ (one : ClientState). one.session) c.client.view_is) c.offer.ensures.source in
+    (after, left, inr (inl offered))
+
+pub returns-in-Own-clause-asks : goal.returns-in-Own-clause-asks
+returns-in-Own-clause-asks g c client is =
+    let same : c.in-Some.client.now ≡ client = same_client c.in-Some.client.now client (c.in-Some.ensures.value ∙ is) in
+    let old = c.args.self.now in
+    let new = c.answer.new.self in
+    let (after, left, own) =
+    gets_own g.D.Disk old.live.places c.args.bytes.now old.live.hub new.live.hub c.in-Own.resource c.in-Own.head client c.notice.new.client c.ask.new.client
+    (get new.clients.slots c.args.key) (c.notice.ensures ∙ ap moved same) c.in-Own.ensures.asks c.answer.ensures.machine
+    (c.answer.ensures.answers c.ask.new.client (placed old.clients.slots c.args.key client c.ask.new.client is)) in
+    (after, left, inr (inr (inl own)))
+
+pub returns-in-Own-clause-air : goal.returns-in-Own-clause-air
+returns-in-Own-clause-air g c = let answered = c.answer in air_stays (Peer c.args.key) c.args.self.now.air answered.new.self.air answered.ensures.air
+
+pub returns-in-Source-2-clause-asks : goal.returns-in-Source-2-clause-asks
+returns-in-Source-2-clause-asks g c client is =
+    let same : c.in-Some.client.now ≡ client = same_client c.in-Some.client.now client (c.in-Some.ensures.value ∙ is) in
+    let old = c.args.self.now in
+    let new = c.connect.new.client in (
+      new,
+      placed old.clients.slots c.args.key client new is,
+      inr (inr (inr (connects_source g.D.Disk old.options.password c.args.bytes.now old.live.hub c.connect.new.self.hub client c.notice.new.client c.ask.new.client new (c.notice.ensures ∙ ap moved same) c.in-Source-2.ensures.asks (is_unset old.options.password (sym c.is_some.ensures ∙ c.if-is_some.false)) c.connect.ensures.connects))),
+    )
+
+pub returns-in-File-clause-asks : goal.returns-in-File-clause-asks
+returns-in-File-clause-asks g c client is =
+    let same : c.in-Some.client.now ≡ client = same_client c.in-Some.client.now client (c.in-Some.ensures.value ∙ is) in
+    let old = c.args.self.now in
+    let new = c.connect-in-File.new.client in (
+      new,
+      placed old.clients.slots c.args.key client new is,
+      inr (inr (inr (connects_other g.D.Disk old.options.password c.args.bytes.now old.live.hub c.connect-in-File.new.self.hub client c.notice.new.client c.ask.new.client new (c.notice.ensures ∙ ap moved same) c.in-File.ensures.asks c.connect-in-File.ensures.connects))),
+    )

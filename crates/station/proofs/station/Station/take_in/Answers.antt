@@ -1,0 +1,36 @@
+use Rattle.std.proofs.Common.{rules, ◌≡◌, Some, refl, ◌∙◌, ap, subst}
+use Rattle.serve_clients.specs.Client.{ClientState}
+use Rattle.slab.specs.Slab.{get}
+use Rattle.serve_clients.specs.declared.clients.Clients.{Clients}
+use Rattle.station.specs.Found.{placed, same_client}
+use Rattle.station.specs.Passing.{IsLike, has_offered}
+use Rattle.station_sources.specs.declared.air.Feeder.TheVariants.{Peer}
+use Rattle.station.proofs.Asked.{air_stays, begins_none, feeds_on}
+use Rattle.station.proofs.Passed.{line_like, source_is}
+use Rattle.station.proofs.station.Station.take_in.Goals as goal
+
+pub returns-in-Feeding-clause-offers : goal.returns-in-Feeding-clause-offers
+returns-in-Feeding-clause-offers g c client is source =
+    let same : c.in-Some.client.now ≡ client = same_client c.in-Some.client.now client (c.in-Some.ensures.value ∙ is) in
+    feeds_on c.args.self.now.clients.slots c.feed.new.self.clients.slots c.args.key client _ is (ap (λ (clients : Clients). clients.slots) c.feed.ensures.clients) c.in-Feeding.is
+    (ap (λ (one : ClientState). one.session) c.client.view_is ∙ ap (λ (one : ClientState). one.session) c.notice.ensures ∙ ap (λ (one : ClientState). one.session) same)
+
+pub returns-in_default-stage : goal.returns-in_default-stage
+returns-in_default-stage g c =
+    let old = c.args.self.now in
+    let new = c.notice.new.client in
+    let likes : (client : ClientState) → get old.clients.slots c.args.key ≡ Some client → IsLike client new =
+    λ client is. subst (λ (one : ClientState). IsLike one new) (same_client c.in-Some.client.now client (c.in-Some.ensures.value ∙ is)) (line_like c.in-Some.client.now new _ c.notice.ensures) in
+    record {
+      offers = λ client is source. (
+        new,
+        placed old.clients.slots c.args.key client new is,
+        (ap has_offered (likes client is).0 ∙ (source_is client source).0, (likes client is).1),
+      );
+      ignores = λ client is nothing. (new, placed old.clients.slots c.args.key client new is, likes client is);
+      feeds = λ client is stage. absurd (c.in_default-stage.not-Feeding (ap (λ (one : ClientState). one.stage) c.client.view_is ∙ (likes client is).0 ∙ stage));
+      air = air_stays (Peer c.args.key) old.air old.air refl;
+      begins = begins_none _ _ old.air;
+      others = search rules;
+      live = refl;
+    }
