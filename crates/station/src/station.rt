@@ -236,8 +236,7 @@ impl<D: Disk + Drop> Station<D> {
             → (after : ClientState) × (get self.new.clients.slots key ≡ Some after) × IsLike client after × (self.new.live.hub ≡ self.old.live.hub) }
         ensures none { get self.old.clients.slots key ≡ None → self.new ≡ self.old }
         // The file is only read, if at all.
-        ensures disk { (self.new.live.hub.file ≡ self.old.live.hub.file)
-            ⊎ IfFile (Reads D.Disk) self.old.live.hub.file self.new.live.hub.file }
+        ensures disk { (self.new.live.hub.file ≡ self.old.live.hub.file) ⊎ IfFile (Reads D.Disk) self.old.live.hub.file self.new.live.hub.file }
         ensures recorded { StaysLive D.Disk self.old.live self.new.live }
         // Bytes of the source that has the air are kept, or that there is no room for them is noted. Those of another
         // connection leave it as it is.
@@ -386,8 +385,7 @@ impl<D: Disk + Drop> Station<D> {
         ensures waits { (client : ClientState) → get self.old.clients.slots key ≡ Some client → client.stage ≡ WaitingOf → (after : ClientState)
             × (get self.new.clients.slots key ≡ Some after) × GoesOnAsSource client after × (self.new.live.hub ≡ self.old.live.hub) }
         ensures none { get self.old.clients.slots key ≡ None → (get self.new.clients.slots key ≡ None) × (self.new.live.hub ≡ self.old.live.hub) }
-        ensures disk { (self.new.live.hub.file ≡ self.old.live.hub.file)
-            ⊎ IfFile (Reads D.Disk) self.old.live.hub.file self.new.live.hub.file }
+        ensures disk { (self.new.live.hub.file ≡ self.old.live.hub.file) ⊎ IfFile (Reads D.Disk) self.old.live.hub.file self.new.live.hub.file }
         ensures recorded { StaysLive D.Disk self.old.live self.new.live }
         ensures others { OthersStay key self.old.clients self.new.clients }
         ensures air { self.new.air ≡ self.old.air }

@@ -15,7 +15,7 @@ ghost use Rattle.station.specs.Passing.{ArePassed, IsLike};
 ghost use Rattle.station.specs.Succeeding.{HaveTurns};
 ghost use Rattle.station.specs.Turning.{GoesOn, IsRead};
 ghost use Rattle.station.specs.Waiting.{until_next};
-ghost use Rattle.station_hub.specs.Waking.{is_due, until_due, woken_at};
+ghost use Rattle.station_hub.specs.Waking.{is_due, listeners_every, until_due, woken_at};
 
 use crate::station::Station;
 use disk_model::Disk;
@@ -230,7 +230,7 @@ impl<D: Disk + Drop> Station<D> {
             → result ≡ until_next self.now.clients.turns.len (until_commit machine.waiting self.now.waiting_since now)
             (until_due (gathers self.now.air self.now.ending) self.now.waking now) }
         ensures turn { 0 < self.now.clients.turns.len → result ≡ 0 }
-        ensures waking { self.now.waking.unheard ≡ true → result ≤ 400 - (now - self.now.waking.woken) }
+        ensures waking { self.now.waking.unheard ≡ true → result ≤ listeners_every - (now - self.now.waking.woken) }
         ensures most { result ≤ 1000 }
     {
         if self.clients.turns() > 0 {
