@@ -1,16 +1,21 @@
 //! What always holds of a station, whatever its calls: for library users, and for whoever wants to know. The program has no
 //! part of it.
 //!
-//! `specs/Calling.antt` says what a station's calls are and what each leaves of it. Over any list of them
-//! `connections_get_their_responses` says what was written to a connection, `stations_import_their_sources` what is
-//! recorded of a source, and `listeners_of_a_station_join_committed_links` where listeners join. They are functions with a
-//! contract alone.
+//! `specs/Calling.antt` says what a station's calls are and what each leaves of it; `src/calls.rt` makes each of them, and
+//! ensures that it is one. Over any list of them `connections_get_their_responses` says what was written to a connection,
+//! `stations_import_their_sources` what is recorded of a source, and `listeners_of_a_station_join_committed_links` where
+//! listeners join. These are functions with a contract alone.
 #![tactic(auto)]
 
+mod calls;
 mod connections;
 mod places;
 mod sources;
 
+pub use calls::{
+    accepted, closed, end_open, input, input_ended, look, next, next_turn, peer_ended, read_failed,
+    received, spent, step, turned, wake, write_failed, wrote,
+};
 pub use connections::connections_get_their_responses;
 pub use places::listeners_of_a_station_join_committed_links;
 pub use sources::stations_import_their_sources;
