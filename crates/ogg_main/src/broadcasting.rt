@@ -1,13 +1,10 @@
 //! A file that is recorded and served, for any number of connections.
 
-use crate::hearing::{HeardDisk, open_hub};
-use crate::logging::Log;
-use crate::password::read_password;
 use crate::running::Running;
-use crate::server::seal_hub;
 use crate::sockets::Sockets;
 use fault_lines::Fault;
 use import_feed::Skeletons;
+use serve_actions::{HeardDisk, Log, hear_file, read_password, seal_hub, tell_serving};
 use station::{Options as StationOptions, Station};
 use std::net::SocketAddr;
 use std::time::Instant;
@@ -50,7 +47,7 @@ fn station_at(
     let mut running = Running {
         rt,
         told: Told::new(rt, false, station.hub().end()),
-        log: Log::new(rt, log, station.counts()),
+        log: Log::new(rt.alloc(), log, station.counts()),
         station,
         sockets,
         start,
@@ -70,7 +67,7 @@ fn close(station: Station<HeardDisk>, ran: Result<(), Fault>) -> Result<(), Faul
 fn listen(rt: &HostRuntime, address: SocketAddr) -> Result<Sockets, Fault> {
     let sockets = Sockets::new(rt, address).map_err(|_| Fault::Net)?;
     if let Ok(address) = sockets.listener.local_addr() {
-        let _ = eprintln!(rt; "serving http://{address}/");
+        tell_serving(rt, address);
     }
     Ok(sockets)
 }
@@ -82,7 +79,7 @@ fn open_station(rt: &HostRuntime, options: Options<'_>) -> Result<Station<HeardD
         None => None,
     };
     let most = options.listeners as usize;
-    let hub = open_hub(rt, options.file, most)?;
+    let hub = hear_file(rt, options.file, most)?;
     let options = StationOptions {
         most,
         skeletons: options.skeletons,

@@ -5,9 +5,6 @@
 #![tactic(auto)]
 
 mod broadcasting;
-mod hearing;
-mod logging;
-mod password;
 mod running;
 mod server;
 mod sockets;

@@ -1,11 +1,10 @@
 //! A station that runs: round after round bytes go between its sockets and the machine, which decides everything.
 
-use crate::hearing::HeardDisk;
-use crate::logging::Log;
 use crate::sockets::{Connection, Sockets, trouble};
-use crate::telling::tell_done;
+use crate::telling::{seconds, tell_done};
 use fault_lines::Fault;
 use import_record::RecordFault;
+use serve_actions::{HeardDisk, Log};
 use station::{After, Done, FULL, Feeder, Station, Trouble, station_line};
 use std::io::{self, Read, Write};
 use std::net::{Shutdown, SocketAddr};
@@ -22,7 +21,7 @@ pub struct Running<'a> {
     pub station: Station<HeardDisk>,
     pub sockets: Sockets,
     pub told: Told<'a>,
-    pub log: Log<'a>,
+    pub log: Log,
     pub start: Instant,
     // when its round began
     pub now: u64,
@@ -109,7 +108,7 @@ impl Running<'_> {
         let Ok(key) = self.station.accepted(self.now) else {
             let _ = (&connection.stream).write(FULL);
             let _ = connection.stream.shutdown(Shutdown::Write);
-            self.log.refused(connection.address);
+            self.log.refused(connection.address, seconds(self.rt));
             return;
         };
         if self.sockets.keep(key, connection).is_ok() {
@@ -147,8 +146,10 @@ impl Running<'_> {
                 let _ = connection.stream.shutdown(Shutdown::Write);
             }
             After::Closes => {
-                let visit = self.station.closed(key);
-                self.log.visited(connection.address, visit);
+                if let Some(visit) = self.station.closed(key) {
+                    self.log
+                        .visited(connection.address, &visit, seconds(self.rt));
+                }
                 self.sockets.connections.remove(&key);
             }
         }
@@ -199,8 +200,7 @@ impl Running<'_> {
             if let Done::Nothing = done {
                 return Ok(false);
             }
-            self.log.done(&done, self.station.counts());
-            tell_done(&mut self.told, &done, self.station.hub())?;
+            tell_done(&mut self.told, &mut self.log, &done, &self.station)?;
         }
         Ok(true)
     }

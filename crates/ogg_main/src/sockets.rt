@@ -1,9 +1,9 @@
 //! The sockets of a station, and standard input: the system tells when they have something.
 
-use crate::hearing::HeardDisk;
 use mio::net::{TcpListener, TcpStream};
 use mio::unix::SourceFd;
 use mio::{Events, Interest, Poll, Token};
+use serve_actions::HeardDisk;
 use station::{Station, Trouble};
 use std::collections::HashMap;
 use std::io::{self, ErrorKind, IsTerminal, Read, Write};

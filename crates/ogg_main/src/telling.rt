@@ -1,13 +1,19 @@
 //! What a station has done, told.
 
-use crate::hearing::HeardDisk;
 use fault_lines::Fault;
-use ogg_serve::Hub;
-use station::Done;
+use serve_actions::{HeardDisk, Log};
+use station::{Done, Station};
+use std::time::{SystemTime, UNIX_EPOCH};
 use stream_actions::Told;
 
-/// The station of this hub has done this, and it is told. It is a fault if the file is lost.
-pub fn tell_done(told: &mut Told<'_>, done: &Done, hub: &Hub<HeardDisk>) -> Result<(), Fault> {
+/// The station has done this, and it is told. It is a fault if the file is lost.
+pub fn tell_done(
+    told: &mut Told<'_>,
+    log: &mut Log,
+    done: &Done,
+    station: &Station<HeardDisk>,
+) -> Result<(), Fault> {
+    let hub = station.hub();
     match done {
         Done::Nothing | Done::Bytes | Done::Flushed(_) => {}
         Done::Stepped(step) => told.stepped(step),
@@ -16,10 +22,14 @@ pub fn tell_done(told: &mut Told<'_>, done: &Done, hub: &Hub<HeardDisk>) -> Resu
             junk,
             taken,
         } => {
+            log.source_ended(station.counts());
             told.mended(*junk);
             told.taken(*offset, taken);
         }
-        Done::GivenUp(fault) => told.given_up(*fault),
+        Done::GivenUp(fault) => {
+            log.source_ended(station.counts());
+            told.given_up(*fault);
+        }
         Done::Reopened => {
             let _ = told.lost(0, hub.end());
         }
@@ -28,4 +38,15 @@ pub fn tell_done(told: &mut Told<'_>, done: &Done, hub: &Hub<HeardDisk>) -> Resu
     }
     told.settle(hub.held(), hub.is_failed(), hub.end());
     Ok(())
+}
+
+/// The system's time in seconds since 1970, or 0 if it can't be read.
+pub fn seconds(rt: &HostRuntime) -> u64 {
+    let Ok(now) = SystemTime::now(rt) else {
+        return 0;
+    };
+    match now.duration_since(UNIX_EPOCH) {
+        Ok(passed) => passed.as_secs(),
+        Err(_) => 0,
+    }
 }

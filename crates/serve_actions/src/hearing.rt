@@ -1,11 +1,12 @@
 //! The file of a station, which is heard while it is recorded.
 ghost use Rattle.std.specs.Prelude.{◌≡◌, IfOk};
 
-use disk_model::{FileDisk, FileMode};
+use disk_model::{Disk, FileDisk, FileMode};
 use disk_tail::TailDisk;
 use fault_lines::Fault;
 use ogg_recorder::Recorder;
 use ogg_serve::Hub;
+use std::alloc::Global;
 use stream_actions::{lock_file, recorder_on};
 
 /// A file whose last bytes are read from memory: they are what listeners hear.
@@ -14,6 +15,17 @@ pub type HeardDisk = TailDisk<FileDisk>;
 /// How many bytes of the file are kept in memory for listeners at most, and half of it at least: a listener joins where
 /// some 64 KiB are committed after it.
 const HEARD: usize = 262_144;
+
+/// A hub over a file that is recorded into while it is heard, with room for this many sessions. The file is made if there
+/// is none, and locked for as long as it is open. The station commits what waits.
+///
+/// Its faults are those of `lock_file` and `recorder_on`, and `Memory`.
+pub fn hear_file(rt: &HostRuntime, file: &str, most: usize) -> Result<Hub<HeardDisk>, Fault>
+    ensures room { IfOk result (λ hub. hub.room ≡ most) }
+{
+    let recorder = open_heard(rt, file)?;
+    hub_for(rt.alloc(), recorder, most)
+}
 
 /// Opens a file to record into it while it is heard, and locks it for as long as it is open. Nothing waits in it.
 fn open_heard(rt: &HostRuntime, file: &str) -> Result<Recorder<HeardDisk>, Fault>
@@ -26,19 +38,29 @@ fn open_heard(rt: &HostRuntime, file: &str) -> Result<Recorder<HeardDisk>, Fault
     }
 }
 
-/// A hub over the file, with room for so many sessions. The station commits what waits.
-pub fn open_hub(rt: &HostRuntime, file: &str, most: usize) -> Result<Hub<HeardDisk>, Fault> {
-    let recorder = open_heard(rt, file)?;
-    let Ok(mut hub) = Hub::with_room(rt.alloc(), recorder, most) else {
-        return Err(Fault::Memory);
-    };
-    hub.group(1024);
-    look_through(&mut hub);
-    Ok(hub)
+/// A hub over the file of this recorder, in which nothing waits, with room for this many sessions.
+fn hub_for<D: Disk + Drop>(
+    alloc: Global,
+    recorder: Recorder<D>,
+    most: usize,
+) -> Result<Hub<D>, Fault>
+    requires { recorder.held ≡ 0 }
+    ensures room { IfOk result (λ hub. hub.room ≡ most) }
+{
+    match Hub::with_room(alloc, recorder, most) {
+        Ok(mut hub) => {
+            hub.group(1024);
+            look_through(&mut hub);
+            Ok(hub)
+        }
+        Err(_) => Err(Fault::Memory),
+    }
 }
 
 /// Has the hub find where all links lie, as for a listing, so that the first request needn't wait for that.
-fn look_through(hub: &mut Hub<HeardDisk>) {
+fn look_through<D: Disk + Drop>(hub: &mut Hub<D>)
+    ensures room { hub.new.room ≡ hub.old.room }
+{
     if let Ok(id) = hub.connect() {
         let _ = hub.receive(id, b"HEAD / HTTP/1.0\r\n\r\n");
         let _ = hub.close(id);

@@ -1,0 +1,73 @@
+//! Hubs over files that are served: they are opened, and closed.
+ghost use Rattle.std.specs.Prelude.{◌≡◌, ◌↔◌, ◌≤◌, IfErr, IfOk, IfSome, IsSome, Some, None, Ok, Err, true, false};
+
+use disk_model::{Disk, FileDisk, FileMode};
+use fault_lines::Fault;
+use ogg_recorder::Recorder;
+use ogg_serve::Hub;
+use std::alloc::Global;
+use stream_actions::{open_recorder, seal_file};
+
+/// A hub over a file, and whether the file had no tail when it was opened.
+#[derive(Drop)]
+pub struct Opened<D: Disk> {
+    pub hub: Hub<D>,
+    pub sealed: bool,
+}
+
+/// Opens a file to be served, which is there already. Nothing waits in it.
+///
+/// Its faults are those of `open_recorder`, and `Memory`.
+pub fn open_hub(rt: &HostRuntime, file: &str) -> Result<Opened<FileDisk>, Fault>
+    ensures file { IfOk result (λ opened. IsSome opened.hub.file) }
+    ensures none { IfOk result (λ opened. IfSome opened.hub.file (λ recorder. recorder.held ≡ 0)) }
+    ensures sealed { IfOk result (λ opened. IfSome opened.hub.file
+        (λ recorder. (opened.sealed ≡ true) ↔ (recorder.tail ≡ 0))) }
+{
+    let recorder = open_recorder(rt, file, FileMode::ReadWrite)?;
+    hub_over(rt.alloc(), recorder)
+}
+
+/// Opens a file to be served while `most` commands share a commit.
+///
+/// Its faults are those of `open_hub`.
+pub fn open_grouped(rt: &HostRuntime, file: &str, most: u32) -> Result<Opened<FileDisk>, Fault> {
+    let mut opened = open_hub(rt, file)?;
+    // `clap` has checked that `most` lies in this range, and nothing waits yet.
+    opened.hub.group(most.clamp(1, 1024));
+    Ok(opened)
+}
+
+/// A hub over the file of this recorder.
+fn hub_over<D: Disk + Drop>(alloc: Global, recorder: Recorder<D>) -> Result<Opened<D>, Fault>
+    ensures file { IfOk result (λ opened. opened.hub.file ≡ Some recorder) }
+    ensures sealed { IfOk result (λ opened. (opened.sealed ≡ true) ↔ (recorder.tail ≡ 0)) }
+{
+    let sealed = recorder.tail() == 0;
+    match Hub::new(alloc, recorder) {
+        Ok(hub) => Ok(Opened { hub, sealed }),
+        Err(_) => Err(Fault::Memory),
+    }
+}
+
+/// Returns the fault that was met. If none was, the file is sealed if it was sealed at first.
+pub fn close<D: Disk + Drop>(opened: Opened<D>, served: Result<(), Fault>) -> Result<(), Fault>
+    ensures met { IfErr served (λ fault. result ≡ Err fault) }
+    ensures left { opened.sealed ≡ false → result ≡ served }
+{
+    let Opened { hub, sealed } = opened;
+    match served {
+        Ok(()) if sealed => seal_hub(hub),
+        _ => served,
+    }
+}
+
+/// Seals the file of a hub, unless it was lost.
+pub fn seal_hub<D: Disk + Drop>(hub: Hub<D>) -> Result<(), Fault>
+    ensures lost { hub.file ≡ None → result ≡ Ok tt }
+{
+    match hub.into_recorder() {
+        Ok(recorder) => seal_file(recorder),
+        Err(_) => Ok(()),
+    }
+}
