@@ -4,7 +4,7 @@ use crate::running::Running;
 use crate::sockets::Sockets;
 use fault_lines::Fault;
 use import_feed::Skeletons;
-use serve_actions::{HeardDisk, Log, hear_file, read_password, seal_hub, tell_serving};
+use serve_actions::{HeardDisk, Log, close_hub, hear_file, read_password, tell_serving};
 use station::{Options as StationOptions, Station};
 use std::net::SocketAddr;
 use std::time::Instant;
@@ -29,16 +29,22 @@ pub struct Options<'a> {
 /// Records what comes into the file, which is made if there is none, and serves it to whoever connects, until a fault; or
 /// until the input has ended, if the file is to be sealed then.
 pub fn station(rt: &HostRuntime, options: Options<'_>) -> Result<(), Fault> {
-    let address: SocketAddr = options.address.parse().map_err(|_| Fault::Net)?;
-    let start = Instant::now(rt).map_err(|_| Fault::Net)?;
-    let station = open_station(rt, options)?;
-    station_at(rt, station, address, start, options.log)
+    let Ok(address) = options.address.parse() else {
+        return Err(Fault::Net);
+    };
+    let Ok(start) = Instant::now(rt) else {
+        return Err(Fault::Net);
+    };
+    let mut station = open_station(rt, options)?;
+    let ran = station_at(rt, &mut station, address, start, options.log);
+    // The connections are gone.
+    close_hub(station.into_hub(), ran)
 }
 
-/// Has the station listen to the address, and runs it.
+/// Has the station listen to the address, and runs it until a fault, or until it has come to its end.
 fn station_at(
     rt: &HostRuntime,
-    station: Station<HeardDisk>,
+    station: &mut Station<HeardDisk>,
     address: SocketAddr,
     start: Instant,
     log: bool,
@@ -53,19 +59,14 @@ fn station_at(
         start,
         now: 0,
     };
-    let ran = running.run_to_end();
-    close(running.into_station(), ran)
-}
-
-/// Returns the fault that was met. If none was, the file of the station is sealed, which has come to its end.
-fn close(station: Station<HeardDisk>, ran: Result<(), Fault>) -> Result<(), Fault> {
-    ran?;
-    seal_hub(station.into_hub())
+    running.run_to_end()
 }
 
 /// Listens to the address, and tells where the station can be reached.
 fn listen(rt: &HostRuntime, address: SocketAddr) -> Result<Sockets, Fault> {
-    let sockets = Sockets::new(rt, address).map_err(|_| Fault::Net)?;
+    let Ok(sockets) = Sockets::new(rt, address) else {
+        return Err(Fault::Net);
+    };
     if let Ok(address) = sockets.listener.local_addr() {
         tell_serving(rt, address);
     }
@@ -87,7 +88,11 @@ fn open_station(rt: &HostRuntime, options: Options<'_>) -> Result<Station<HeardD
         ends_with_input: options.seal,
         log: options.log,
     };
-    let mut station = Station::new(rt.alloc(), hub, options).map_err(|_| Fault::Memory)?;
-    station.end_open();
-    Ok(station)
+    match Station::new(rt.alloc(), hub, options) {
+        Ok(mut station) => {
+            station.end_open();
+            Ok(station)
+        }
+        Err(_) => Err(Fault::Memory),
+    }
 }

@@ -18,12 +18,12 @@ const IN_ROUND: u32 = 64;
 #[derive(Drop)]
 pub struct Running<'a> {
     pub rt: &'a HostRuntime,
-    pub station: Station<HeardDisk>,
+    pub station: &'a mut Station<HeardDisk>,
     pub sockets: Sockets,
     pub told: Told<'a>,
     pub log: Log,
     pub start: Instant,
-    // when its round began
+    // when its round began, in milliseconds since its start
     pub now: u64,
 }
 
@@ -39,16 +39,13 @@ impl Running<'_> {
         }
     }
 
-    /// The station. Its connections are gone.
-    pub fn into_station(self) -> Station<HeardDisk> {
-        self.station
-    }
-
     /// Round after round, until a fault, or until the station has come to its end.
     fn run(&mut self) -> Result<(), Fault> {
         let mut busy = true;
         for _ in 0..u64::MAX {
-            self.wait(busy).map_err(|_| Fault::Net)?;
+            if self.wait(busy).is_err() {
+                return Err(Fault::Net);
+            }
             busy = self.round()?;
             if self.station.is_finished(self.now) {
                 break;
@@ -62,10 +59,11 @@ impl Running<'_> {
         let most = if busy || self.has_input() {
             0
         } else {
-            self.station.until_next(self.milliseconds()?)
+            let now = self.microseconds()? / 1000;
+            self.station.until_next(now)
         };
-        self.sockets.wait(&mut self.station, most)?;
-        self.now = self.milliseconds()?;
+        self.sockets.wait(self.station, most)?;
+        self.now = self.microseconds()? / 1000;
         Ok(())
     }
 
@@ -79,12 +77,7 @@ impl Running<'_> {
         Ok(crowded || recording)
     }
 
-    /// How many milliseconds it has run.
-    fn milliseconds(&self) -> io::Result<u64> {
-        Ok(self.microseconds()? / 1000)
-    }
-
-    /// The same in microseconds.
+    /// How many microseconds it has run.
     fn microseconds(&self) -> io::Result<u64> {
         let passed = self.start.elapsed(self.rt)?;
         Ok(u64::try_from(passed.as_micros()).unwrap_or(u64::MAX))
@@ -135,10 +128,10 @@ impl Running<'_> {
         };
         let buffer = self.sockets.buffer.as_mut_slice();
         if self.station.reads(key) {
-            connection.read(&mut self.station, key, buffer, self.now);
+            connection.read(self.station, key, buffer, self.now);
         }
         if self.station.writes(key) {
-            connection.write(&mut self.station, key, buffer, self.now);
+            connection.write(self.station, key, buffer, self.now);
         }
         match self.station.turned(key, self.now) {
             After::Goes => {}
@@ -200,7 +193,7 @@ impl Running<'_> {
             if let Done::Nothing = done {
                 return Ok(false);
             }
-            tell_done(&mut self.told, &mut self.log, &done, &self.station)?;
+            tell_done(&mut self.told, &mut self.log, &done, self.station)?;
         }
         Ok(true)
     }

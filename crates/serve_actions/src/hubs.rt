@@ -55,15 +55,26 @@ pub fn close<D: Disk + Drop>(opened: Opened<D>, served: Result<(), Fault>) -> Re
     ensures met { IfErr served (λ fault. result ≡ Err fault) }
     ensures left { opened.sealed ≡ false → result ≡ served }
 {
-    let Opened { hub, sealed } = opened;
+    if opened.sealed {
+        close_hub(opened.hub, served)
+    } else {
+        served
+    }
+}
+
+/// Returns the fault that was met. If none was, the file of the hub is sealed, unless it was lost.
+pub fn close_hub<D: Disk + Drop>(hub: Hub<D>, served: Result<(), Fault>) -> Result<(), Fault>
+    ensures met { IfErr served (λ fault. result ≡ Err fault) }
+    ensures lost { hub.file ≡ None → result ≡ served }
+{
     match served {
-        Ok(()) if sealed => seal_hub(hub),
-        _ => served,
+        Ok(()) => seal_hub(hub),
+        Err(fault) => Err(fault),
     }
 }
 
 /// Seals the file of a hub, unless it was lost.
-pub fn seal_hub<D: Disk + Drop>(hub: Hub<D>) -> Result<(), Fault>
+fn seal_hub<D: Disk + Drop>(hub: Hub<D>) -> Result<(), Fault>
     ensures lost { hub.file ≡ None → result ≡ Ok tt }
 {
     match hub.into_recorder() {
