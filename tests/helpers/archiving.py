@@ -49,7 +49,7 @@ def encode(seed):
 def found(data):
     """The streams of a file's pages, front to back: their first packets' seeds, their packets, whether they end."""
     streams, where = [], 0
-    while data[where : where + 4] == b"OggS":
+    while data[where : where + 4] == b"OggS" and len(data) >= where + 27:
         flags, position, serial, sequence = struct.unpack_from("<BqII", data, where + 5)
         count = data[where + 26]
         lacing = data[where + 27 : where + 27 + count]
