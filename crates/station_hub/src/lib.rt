@@ -29,5 +29,5 @@ pub use laws::{
 };
 pub use live_hub::LiveHub;
 pub use patience::{is_due, sooner, until_due};
-pub use telling::{Kind, Kinds, in_seconds, kind_of, tell_player, tell_status};
+pub use telling::{Kind, Kinds, in_seconds, kind_of, kinds_of, tell_player, tell_status};
 pub use waking::Waking;

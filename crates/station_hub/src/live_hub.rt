@@ -51,10 +51,8 @@ impl<D: Disk + Drop> LiveHub<D> {
         ensures begins { IfOk result (λ live. BeginsOver hub live) }
     {
         listeners_join_committed_links();
-        Ok(LiveHub {
-            hub,
-            places: Places::new(alloc)?,
-        })
+        let places = Places::new(alloc)?;
+        Ok(LiveHub { hub, places })
     }
 
     /// The hub, to be looked at.

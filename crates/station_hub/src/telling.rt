@@ -6,7 +6,7 @@ ghost use Rattle.serve_texts.specs.Player.{player_response};
 ghost use Rattle.serve_texts.specs.Status.{status_response};
 ghost use Rattle.station_hub.specs.Telling.{in_seconds, kind_of, with_one};
 
-use serve_clients::{Client, Stage};
+use serve_clients::{Client, Clients, Stage};
 use serve_texts::{Numbers, append_player, append_status};
 use std::alloc::Global;
 
@@ -66,6 +66,22 @@ impl Kinds {
             },
         }
     }
+}
+
+/// How many of these connections there are of each kind.
+pub fn kinds_of(clients: &Clients) -> Kinds {
+    let mut kinds = Kinds {
+        listeners: 0,
+        sessions: 0,
+        sources: 0,
+        others: 0,
+    };
+    for key in 0..clients.slots.capacity() {
+        if let Some(client) = clients.slots.get(key) {
+            kinds = kinds.with_one(kind_of(client.stage));
+        }
+    }
+    kinds
 }
 
 /// Whole seconds.

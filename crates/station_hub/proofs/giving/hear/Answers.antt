@@ -1,4 +1,4 @@
-use Rattle.std.proofs.Common.{◌≡◌, Some, length, sym, ◌∙◌, ap, subst, inl}
+use Rattle.std.proofs.Common.{◌≡◌, Some, length, refl, sym, ◌∙◌, ap, subst, inl, inr}
 use Rattle.serve_live.specs.Hearing.{IsHearing}
 use Rattle.serve_live.specs.Listening.{ListenerState}
 use Rattle.serve_hub.specs.Listening.{HearsMore}
@@ -16,3 +16,21 @@ returns-in-Ok-clause-heard g c machine moment given listener shows is hearing =
       subst (λ (one : ListenerState). (h : IsHearing moment machine.committed one given) → HearsMore moment machine.committed given h.rest (length c.args.buffer.now) c.in-Ok.count c.hear.new.buffer c.hear.new.listener) same (λ h. c.in-Ok.ensures.hears machine moment given shows h) hearing,
       ap (λ (client : ClientState). record client { listener = Some c.hear.new.listener }) c.client.view_is,
     )
+
+pub returns-in-Ok-clause-machine : goal.returns-in-Ok-clause-machine
+returns-in-Ok-clause-machine g c = c.hear.ensures.machine
+
+pub returns-in-Err-clause-machine : goal.returns-in-Err-clause-machine
+returns-in-Err-clause-machine g c = c.hear.ensures.machine
+
+pub returns-in_default-clause-machine : goal.returns-in_default-clause-machine
+returns-in_default-clause-machine g c machine shows = shows
+
+pub returns-in-Ok-clause-disk : goal.returns-in-Ok-clause-disk
+returns-in-Ok-clause-disk g c = inr c.hear.ensures.disk
+
+pub returns-in-Err-clause-disk : goal.returns-in-Err-clause-disk
+returns-in-Err-clause-disk g c = inr c.hear.ensures.disk
+
+pub returns-in_default-clause-disk : goal.returns-in_default-clause-disk
+returns-in_default-clause-disk g c = inl refl

@@ -1,9 +1,12 @@
-use Rattle.std.proofs.Common.{inl, inr, ap, ◌∙◌, subst, ℕ, List, Some, []}
+use Rattle.std.proofs.Common.{inl, inr, refl, ap, ◌∙◌, subst, ℕ, List, Some, Ok, []}
 use Rattle.serve_machine.specs.Calls.{Steps}
-use Rattle.serve_machine.specs.Hub.{Receive}
+use Rattle.serve_machine.specs.Hub.{Connect, Receive}
+use Rattle.serve_hub.specs.Images.{IfFile, Reads}
+use Rattle.serve_hub.specs.Parts.{HubParts}
 use Rattle.serve_hub.specs.Showing.{Shows}
 use Rattle.serve_clients.specs.Client.{ClientState}
 use Rattle.serve_clients.specs.declared.client.Stage.{Stage}
+use Rattle.station_hub.proofs.Keeping.{both, by_session, unchanged}
 use Rattle.station_hub.proofs.live_hub.LiveHub.connect.Goals as goal
 
 pub returns-in-Ok-clause-connects : goal.returns-in-Ok-clause-connects
@@ -18,3 +21,21 @@ returns-in-Ok-clause-connects g c = inl (record {
 
 pub returns-in-Err-clause-connects : goal.returns-in-Err-clause-connects
 returns-in-Err-clause-connects g c = inr (c.in-Err.ensures.refused.1, c.go_to.ensures)
+
+pub returns-in-Ok-clause-recorded : goal.returns-in-Ok-clause-recorded
+returns-in-Ok-clause-recorded g c =
+    let moves = c.calls_move_their_session.ensures.file in
+    both g.D.Disk c.args.self.now.hub c.connect.new.self c.receive-progress.new.self
+    (by_session g.D.Disk moves c.args.self.now.hub c.connect.new.self (Connect (Ok c.in-Ok.id)) c.in-Ok.id refl c.in-Ok.ensures.step)
+    (by_session g.D.Disk moves c.connect.new.self c.receive-progress.new.self (Receive c.in-Ok.id c.as_slice.result.now c.receive-progress.result) c.in-Ok.id refl
+    c.receive-progress.ensures.step)
+
+pub returns-in-Err-clause-recorded : goal.returns-in-Err-clause-recorded
+returns-in-Err-clause-recorded g c = unchanged g.D.Disk c.args.self.now.hub c.connect.new.self c.in-Err.ensures.refused.1
+
+pub returns-in-Err-clause-disk : goal.returns-in-Err-clause-disk
+returns-in-Err-clause-disk g c = inl (ap (λ (hub : HubParts _). hub.file) c.in-Err.ensures.refused.1)
+
+pub returns-in-Ok-clause-disk : goal.returns-in-Ok-clause-disk
+returns-in-Ok-clause-disk g c =
+    inr (subst (λ file. IfFile (Reads g.D.Disk) file c.receive-progress.new.self.file) (ap (λ (hub : HubParts _). hub.file) c.connect.ensures.parts) c.receive-progress.ensures.disk)

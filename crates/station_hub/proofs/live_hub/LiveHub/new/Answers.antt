@@ -8,7 +8,7 @@ use Rattle.station_hub.proofs.live_hub.LiveHub.new.Goals as goal
 
 pub returns-clause-begins : goal.returns-clause-begins
 returns-clause-begins g c =
-    let none = c.in_ok-new.ensures in (
+    let none = c.in_ok-places.ensures in (
       refl,
       λ start machine is.
           subst (λ (places : PlacesState). Tracks start machine places) (sym none)
