@@ -1,5 +1,5 @@
 -- The end of a feed.
-use Rattle.std.proofs.Common.{◌≡◌, ℕ, Bool, true, false, Option, Some, None, Ok, Err, List, [], ◌++◌, refl, sym, ◌∙◌, ap, subst, arith, append-nil, length-append}
+use Rattle.std.proofs.Common.{◌≡◌, ℕ, Bool, true, false, Option, Some, None, Ok, Err, List, [], ◌++◌, refl, sym, ◌∙◌, ap, subst, arith, append-nil, length, length-append}
 use Rattle.std.specs.Io.KnownBytes.{Appends, Consumes}
 use Rattle.std.proofs.KnownBytes.{Consumes-nil}
 use Rattle.ogg_page.specs.Output.{WritesPrefix}
@@ -19,12 +19,12 @@ use Rattle.feed_records.specs.Record.{announcement}
 use Rattle.import_feed.specs.Feed.{Fits, GivesNot, HasTooLong, records_of}
 use Rattle.import_feed.specs.Making.{Breaks, HasGiven, HasTaken, MakesFeed, Stops, StopsAtFault}
 use Rattle.import_feed.specs.Turn.{EndsAt, EndsWell, GivesRest, GivesRestNot, Finishes, GoesOn, IsStarted, StillMakes, TakesAll, Turns, of_input}
-use Rattle.std.specs.Prelude.{IfErr, IfOk, Result}
+use Rattle.std.specs.Prelude.{IfErr, IfOk, Result, ◌-◌, ◌^◌}
 use Rattle.import_feed.specs.declared.made.Made.{Made}
 use Rattle.import_feed.specs.declared.maker.Maker.{Maker}
 use Rattle.import_feed.specs.declared.fault.MakingFault.{MakingFault}
 use Rattle.import_feed.specs.declared.fault.MakingFault.TheVariants.{Page, Chain, PacketTooLong, Unfinished, TooLong, Read, Limit, Write, Memory}
-use Rattle.import_feed.proofs.Lists.{later_of}
+use Rattle.import_feed.proofs.Lists.{counted_on, later_of}
 use Rattle.import_feed.proofs.Turns.{not_given, prefix_written, written_more}
 use Rattle.import_changes.specs.declared.options.ChangeOptions.{ChangeOptions}
 
@@ -171,7 +171,8 @@ ends_whole options from left before now0 now1 old new holds finished ends rest =
           all.gathers.gathers rest.none_waits is;
       stay = subst (λ o. BeginThose o all.gathers.commands given) all.gathers.asked all.gathers.changed.stay;
       pages = rest.page_count ∙ ends.made.pages;
-      counted = omega (arith, rest.counted, ends.made.counted, length-append ends.given rest.more);
+      counted = counted_on (2 ^ 64 - 1) new.made.commands old.made.commands (length rest.more) (length ends.given) (length (ends.given ++ rest.more)) rest.counted
+          ends.made.counted (length-append ends.given rest.more);
     }
 
 -- ---- the begin
@@ -189,7 +190,7 @@ starts options from before now maker is written = record {
     all = record { gathers = is.gathers; fits = tt; written = subst (Appends before now) (sym (append-nil announcement)) written };
     goes = is.goes;
     pages = is.no_pages;
-    counted = omega (arith, is.no_commands);
+    counted = is.no_commands;
   };
 }
 

@@ -1,5 +1,6 @@
--- Lists, item by item.
+-- Lists, item by item, and counts.
 use Rattle.std.proofs.Common.{◌≡◌, ℕ, zero, suc, ◌+◌, ◌<◌, List, [], ◌∷◌, ◌++◌, length, take, get_or, sym, ◌∙◌, ap, subst, arith, append-nil}
+use Rattle.std.specs.Prelude.{min}
 use Rattle.std.specs.List.{AllByRecursion, flat_map}
 use Rattle.std.proofs.lemmas.List.{take_more}
 use Rattle.std.proofs.lemmas.List.Concat.{flat_map-append}
@@ -26,3 +27,8 @@ each_of P (y ∷ xs) (suc i) x h is all = each_of P xs i x (omega arith) is all.
 pub later_of : {X : Type 0} (P : X → Type 0) (xs ys : List X) → AllByRecursion P (xs ++ ys) → AllByRecursion P ys
 later_of P [] ys all = all
 later_of P (x ∷ xs) ys all = later_of P xs ys all.1
+
+-- ---- counts
+-- a count that stops at the greatest value goes on
+pub counted_on : (most count was more before all : ℕ) → count ≡ min (was + more) most → was ≡ min before most → all ≡ before + more → count ≡ min all most
+counted_on most count was more before all counts is adds = omega (arith, counts, is, adds)

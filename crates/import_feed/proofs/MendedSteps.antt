@@ -26,7 +26,7 @@ use Rattle.import_feed.specs.declared.made.Made.{Made}
 use Rattle.import_feed.specs.declared.mending.Mending.{Mending}
 use Rattle.import_feed.specs.declared.fault.MakingFault.{MakingFault}
 use Rattle.import_feed.specs.declared.fault.MakingFault.TheVariants.{Page, Chain, PacketTooLong, Unfinished, TooLong, Read, Limit, Write, Memory}
-use Rattle.import_feed.proofs.Lists.{later_of}
+use Rattle.import_feed.proofs.Lists.{counted_on, later_of}
 use Rattle.import_feed.proofs.Plain.{EndsArePlain, PagesArePlain, PagesHaveLinks, end_plain, steps_plain}
 use Rattle.import_feed.proofs.Turns.{none_prefix, not_given, prefix_written, whole_prefix, written_more}
 
@@ -66,6 +66,10 @@ count_push (t ∷ steps) s = by (has_page t) (count_push steps s)
         ≡ length (if b then t ∷ filter has_page steps else filter has_page steps) + one_if (has_page s)
     by true rest = omega (arith, rest)
     by false rest = rest
+
+-- ---- counts
+none_more : (all before more : ℕ) → all ≡ before + more → more ≡ 0 → all ≡ before
+none_more all before more adds none = omega (arith, adds, none)
 
 -- ---- a step
 -- the same of a state whose changes and counts are the same
@@ -149,7 +153,8 @@ turn_mended tells options before now0 now1 unaware aware0 aware1 old mid after n
           fits = all_both Fits given more has.fits g.fits;
           written = written_more before now0 now1 given more has.written g.written;
           pages = pages;
-          counted = omega (arith, count, g.counted, ap (λ (m : Made). m.commands) t.made, has.counted, length-append given more);
+          counted = count ∙ counted_on (2 ^ 64 - 1) after.made.commands mid.made.commands (length more) (length given) (length (given ++ more)) g.counted
+              (ap (λ (m : Made). m.commands) t.made ∙ has.counted) (length-append given more);
         };
       },
       refl,
@@ -291,7 +296,8 @@ closes_well tells options before now0 now1 unaware aware0 aware1 last old mid ne
       };
       steps_are = refl;
       page_count = g.page_count ∙ ap (λ (m : Made). m.pages) made;
-      counted = omega (arith, g.counted, ap (λ (m : Made). m.commands) made, has.counted, length-append still.given g.more);
+      counted = counted_on (2 ^ 64 - 1) new.made.commands mid.made.commands (length g.more) (length still.given) (length (still.given ++ g.more)) g.counted
+          (ap (λ (m : Made). m.commands) made ∙ has.counted) (length-append still.given g.more);
     }
 
 pub mended_whole : {M : Type 0} (tells : M → Telling → M → Type 0) (options : ChangeOptions) (before now0 now1 : Option (List ℕ)) (unaware aware0 aware1 : M)
@@ -395,13 +401,15 @@ pub counts_page : (old mid after : Mending) (steps : List ImportStep) (s : Impor
     → old.made.pages ≡ min (length (filter has_page steps)) (2 ^ 64 - 1) → mid.made ≡ old.made → after.made.pages ≡ mid.made.pages
     → has_page s ≡ true → pages ≡ min (after.made.pages + 1) (2 ^ 64 - 1) → pages ≡ min (length (filter has_page (steps ++ s ∷ []))) (2 ^ 64 - 1)
 counts_page old mid after steps s pages was made same is more =
-    omega (arith, was, ap (λ (m : Made). m.pages) made, same, ap one_if is, more, count_push steps s)
+    counted_on (2 ^ 64 - 1) pages after.made.pages 1 (length (filter has_page steps)) (length (filter has_page (steps ++ s ∷ []))) more
+    (same ∙ ap (λ (m : Made). m.pages) made ∙ was) (count_push steps s ∙ ap (λ n. length (filter has_page steps) + n) (ap one_if is))
 
 pub counts_none : (old mid after : Mending) (steps : List ImportStep) (s : ImportStep)
     → old.made.pages ≡ min (length (filter has_page steps)) (2 ^ 64 - 1) → mid.made ≡ old.made → after.made.pages ≡ mid.made.pages
     → has_page s ≡ false → after.made.pages ≡ min (length (filter has_page (steps ++ s ∷ []))) (2 ^ 64 - 1)
 counts_none old mid after steps s was made same is =
-    omega (arith, was, ap (λ (m : Made). m.pages) made, same, ap one_if is, count_push steps s)
+    same ∙ ap (λ (m : Made). m.pages) made ∙ was
+    ∙ ap (λ n. min n (2 ^ 64 - 1)) (sym (none_more (length (filter has_page (steps ++ s ∷ []))) (length (filter has_page steps)) (one_if (has_page s)) (count_push steps s) (ap one_if is)))
 
 -- ---- what came of it
 pub mended_made : {M : Type 0} (tells : M → Telling → M → Type 0) (options : ChangeOptions) (result : Result Made MakingFault) (before now : Option (List ℕ))

@@ -1,5 +1,6 @@
 -- What each turn leaves.
 use Rattle.std.proofs.Common.{◌≡◌, ◌≢◌, ℕ, ◌+◌, ◌<◌, Bool, true, false, if◌then◌else◌, Option, Some, None, Result, Ok, Err, IfErr, OnOk, List, [], ◌∷◌, ◌++◌, length, take, refl, sym, ◌∙◌, ap, subst, arith, append_assoc, length-append}
+use Rattle.std.specs.Prelude.{◌-◌, ◌^◌}
 use Rattle.std.specs.List.{AllByRecursion}
 use Rattle.std.specs.Io.KnownBytes.{Appends, Consumes}
 use Rattle.std.proofs.KnownBytes.{Appends-nil, Appends-trans, Consumes-trans}
@@ -23,7 +24,7 @@ use Rattle.import_feed.specs.Turn.{Closes, EndsAt, Gives, GivesNoFurther, GivesR
 use Rattle.import_feed.specs.declared.maker.Maker.{Maker}
 use Rattle.import_feed.specs.declared.fault.MakingFault.{MakingFault}
 use Rattle.import_feed.specs.declared.fault.MakingFault.TheVariants.{Page, Chain, PacketTooLong, Unfinished, TooLong, Read, Limit, Write, Memory}
-use Rattle.import_feed.proofs.Lists.{later_of}
+use Rattle.import_feed.proofs.Lists.{counted_on, later_of}
 use Rattle.import_changes.specs.declared.options.ChangeOptions.{ChangeOptions}
 
 -- ---- bytes read and written
@@ -122,7 +123,7 @@ taken_on options from left now old new links given was gathers t =
         bytes = was.bytes ++ page_bytes page;
         are = are;
         consumed = subst (Consumes from now) all (Consumes-trans from left now (was.bytes ++ old.pages.unread) t.taken was.consumed t.consumed);
-        offset_is = omega (arith, t.offset, was.offset_is, size);
+        offset_is = t.offset ∙ ap (λ n. n + page_size page) was.offset_is ∙ sym size;
       };
       count = either_more (begins_link (chain_state_of links) page) links page
           (λ none. no_page (was.bytes ++ page_bytes page) (links_with links page) are none (omega (arith, size)));
@@ -165,8 +166,9 @@ turn_made options from left0 left1 before now0 now1 old mid after links given wa
           written = written_more before now0 now1 given more was.all.written (subst (λ (l : List Command). Appends now0 now1 (records_of l)) commands g.written);
         };
         goes = subst GoesFurther (sym g.gatherer) gathered.1;
-        pages = omega (arith, g.page_count, page_count, was.pages, on.count);
-        counted = omega (arith, g.counted, command_count, was.counted, length-append given more, ap length commands);
+        pages = ap (λ n. n + 1) (g.page_count ∙ page_count ∙ was.pages) ∙ sym on.count;
+        counted = counted_on (2 ^ 64 - 1) after.made.commands mid.made.commands (length mid.commands.items) (length given) (length (given ++ more)) g.counted
+            (command_count ∙ was.counted) (length-append given more ∙ ap (λ (l : List Command). length given + length l) (sym commands));
       };
     }
 
