@@ -4,7 +4,7 @@ ghost use Rattle.std.specs.Io.KnownBytes.{Appends};
 ghost use Rattle.feed_records.specs.Record.{announcement};
 ghost use Rattle.import_mend.specs.declared.import.Import.{Import as ImportOf};
 ghost use Rattle.import_changes.specs.declared.options.ChangeOptions.{ChangeOptions as OptionsOf};
-ghost use Rattle.import_feed.specs.Mending.{FinishesMended, MendsFeed, StillMends, StopsMended, TakesAllMended};
+ghost use Rattle.import_feed.specs.Mending.{FinishesMended, IsMendingStart, MendsFeed, StillMends, StopsMended, TakesAllMended};
 
 use crate::fault::MakingFault;
 use crate::giving::announce;
@@ -35,17 +35,29 @@ pub fn make_mended_feed<R: Read, W: Write, M: Mends>(
     // The reader has failed, and the same holds; or the feed was written in part.
     ensures stopped { IfErr result (λ fault. StopsMended M.tells options fault (W.contents writer.old) (W.contents writer.new) mends.old mends.new) }
 {
-    let mut mending = match Mending::new(alloc, options) {
-        Ok(mending) => mending,
-        Err(_) => return Err(MakingFault::Memory),
-    };
+    match Mending::new(alloc, options) {
+        Ok(mut mending) => mend_input(&mut mending, reader, writer, mends),
+        Err(_) => Err(MakingFault::Memory),
+    }
+}
+
+/// Mends the whole input, of which nothing was read.
+fn mend_input<R: Read, W: Write, M: Mends>(
+    mending: &mut Mending,
+    reader: &mut R,
+    writer: &mut W,
+    mends: &mut M,
+) -> Result<Made, MakingFault>
+    ensures { (options : OptionsOf) → IsMendingStart options mending.old
+        → FinishesMended M.tells options result (W.contents writer.old) (W.contents writer.new) mends.old mends.new }
+{
     match announce(&mut mending.bytes, writer) {
         Ok(()) => {}
         Err(fault) => return Err(fault),
     }
     let mut counted = reader.by_ref().take(u64::MAX);
-    let outcome = mend_all(&mut mending, &mut counted, writer, mends);
-    finish_mended(&mut mending, outcome, writer, mends)
+    let outcome = mend_all(mending, &mut counted, writer, mends);
+    finish_mended(mending, outcome, writer, mends)
 }
 
 /// Takes all steps.
