@@ -32,16 +32,28 @@ pub fn make_feed<R: Read, W: Write>(
     ensures stopped { IfErr result (λ fault. Stops options fault (R.remaining reader.old) (R.remaining reader.new)
         (W.contents writer.old) (W.contents writer.new)) }
 {
-    let mut maker = match Maker::new(alloc, options) {
-        Ok(maker) => maker,
-        Err(_) => return Err(MakingFault::Memory),
-    };
+    match Maker::new(alloc, options) {
+        Ok(mut maker) => make_of(&mut maker, reader, writer),
+        Err(_) => Err(MakingFault::Memory),
+    }
+}
+
+/// Takes the whole input, of which nothing was read.
+fn make_of<R: Read, W: Write>(
+    maker: &mut Maker,
+    reader: &mut R,
+    writer: &mut W,
+) -> Result<Made, MakingFault>
+    requires { GoesOn maker.old }
+    ensures { (options : OptionsOf) → IsStarted options maker.old
+        → Finishes options result (R.remaining reader.old) (R.remaining reader.new) (W.contents writer.old) (W.contents writer.new) }
+{
     match announce(&mut maker.bytes, writer) {
         Ok(()) => {}
         Err(fault) => return Err(fault),
     }
-    let outcome = take_all(&mut maker, reader, writer);
-    finish(&mut maker, outcome, writer)
+    let outcome = take_all(maker, reader, writer);
+    finish(maker, outcome, writer)
 }
 
 /// Takes all pages.
