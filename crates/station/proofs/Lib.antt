@@ -1,6 +1,7 @@
 mod Asked
 mod Hearing
 mod Leaving
+mod Offered
 mod Passed
 mod Recorded
 mod Reopening

@@ -95,10 +95,20 @@ impl<D: Disk + Drop> Station<D> {
     pub fn new(alloc: Global, hub: Hub<D>, options: Options) -> Result<Station<D>, Memory>
         ensures live { IfOk result (λ station. BeginsOver hub station.live) }
     {
-        Ok(Station {
+        let clients = Clients::new(alloc, options.most.saturating_add(TURNED_AWAY))?;
+        let live = LiveHub::new(alloc, hub)?;
+        Ok(Station::begun(alloc, live, clients, options))
+    }
+
+    /// Nobody has the air, and nothing was done yet.
+    fn begun(alloc: Global, live: LiveHub<D>, clients: Clients, options: Options) -> Station<D>
+        ensures { result.live ≡ live }
+    {
+        Station {
             alloc,
-            live: LiveHub::new(alloc, hub)?,
-            clients: Clients::new(alloc, options.most.saturating_add(TURNED_AWAY))?,
+            live,
+            clients,
+            options,
             air: None,
             waiting_since: 0,
             reopened: None,
@@ -109,8 +119,7 @@ impl<D: Disk + Drop> Station<D> {
             commits_a_second: 0,
             ending: None,
             waking: Waking::at(0),
-            options,
-        })
+        }
     }
 
     /// The hub.

@@ -208,13 +208,23 @@ impl<D: Disk + Drop> Station<D> {
         ensures records { RecordsLive D.Disk self.old.live self.new.live }
         ensures passed { ArePassed self.old.clients.slots self.new.clients.slots }
     {
-        let Some(air) = self.air.take() else {
-            return;
-        };
+        if let Some(air) = self.air.take() {
+            self.left_by(&air, given_up, now);
+        }
+    }
+
+    /// This source isn't on the air any more.
+    fn left_by(&mut self, air: &OnAir, given_up: bool, now: u64)
+        ensures parts { FeederParts (parting_answer (given_up || failed_in self.new.live.hub.file) air.now) air.now self.old.clients.slots self.new.clients.slots }
+        ensures succeeded { self.old.air ≡ None → IsSucceeded self.old.clients.slots self.new.clients.slots self.new.air }
+        ensures begins { self.old.air ≡ None → BeginsBeside (serials_in self.new.live.hub.file) self.old.options.skeletons (run_in self.new.air) }
+        ensures records { RecordsLive D.Disk self.old.live self.new.live }
+        ensures passed { ArePassed self.old.clients.slots self.new.clients.slots }
+    {
         self.waking = self.waking.with_more();
         self.end_open();
         let lost = self.is_lost(given_up);
-        self.answer_feeder(&air, lost);
+        self.answer_feeder(air, lost);
         self.offer_again(now);
     }
 
@@ -229,9 +239,7 @@ impl<D: Disk + Drop> Station<D> {
     fn answer_feeder(&mut self, air: &OnAir, lost: bool)
         ensures parts { FeederParts (parting_answer lost air.now) air.now self.old.clients.slots self.new.clients.slots }
         ensures waits { SameWait self.old.clients.slots self.new.clients.slots }
-        ensures live { self.new.live ≡ self.old.live }
-        ensures air { self.new.air ≡ self.old.air }
-        ensures options { self.new.options ≡ self.old.options }
+        ensures rest { self.new ≡ record self.old { clients = self.new.clients } }
         ensures passed { ArePassed self.old.clients.slots self.new.clients.slots }
     {
         if let Feeder::Peer(key) = air.feeder() {
@@ -245,9 +253,7 @@ impl<D: Disk + Drop> Station<D> {
             → (after : ClientState) × (get self.new.clients.slots key ≡ Some after) × HasParted answer client after }
         ensures waits { SameWait self.old.clients.slots self.new.clients.slots }
         ensures others { OthersStay key self.old.clients self.new.clients }
-        ensures live { self.new.live ≡ self.old.live }
-        ensures air { self.new.air ≡ self.old.air }
-        ensures options { self.new.options ≡ self.old.options }
+        ensures rest { self.new ≡ record self.old { clients = self.new.clients } }
         ensures passed { ArePassed self.old.clients.slots self.new.clients.slots }
     {
         let Some(client) = self.clients.slots.get_mut(key) else {

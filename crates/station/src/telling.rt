@@ -11,7 +11,7 @@ ghost use Rattle.station.specs.Telling.{mends_of};
 use crate::station::Station;
 use disk_model::Disk;
 use serve_texts::{Mends, Numbers};
-use station_hub::{Kinds, in_seconds, kind_of, tell_status};
+use station_hub::{in_seconds, kinds_of, tell_status};
 use station_sources::{MendCounts, counted};
 
 fn mends_of(counts: MendCounts) -> Mends
@@ -31,25 +31,9 @@ fn mends_of(counts: MendCounts) -> Mends
 }
 
 impl<D: Disk + Drop> Station<D> {
-    /// How many connections there are of each kind.
-    fn kinds(&self) -> Kinds {
-        let mut kinds = Kinds {
-            listeners: 0,
-            sessions: 0,
-            sources: 0,
-            others: 0,
-        };
-        for key in 0..self.clients.slots.capacity() {
-            if let Some(client) = self.clients.slots.get(key) {
-                kinds = kinds.with_one(kind_of(client.stage));
-            }
-        }
-        kinds
-    }
-
     /// How the station fares.
     fn numbers(&self, now: u64) -> Numbers {
-        let kinds = self.kinds();
+        let kinds = kinds_of(&self.clients);
         let on_air = self.air.is_some();
         Numbers {
             committed_bytes: self.live.hub().end(),

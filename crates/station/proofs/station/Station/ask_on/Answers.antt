@@ -1,11 +1,13 @@
 use Rattle.std.proofs.Common.{◌≡◌, refl, sym, ◌∙◌, ap, inl, inr}
+use Rattle.serve_hub.specs.Parts.{serials_in}
 use Rattle.serve_clients.specs.Client.{ClientState}
 use Rattle.station_hub.specs.declared.live_hub.LiveHub.{LiveHub}
 use Rattle.station_sources.specs.declared.air.Feeder.TheVariants.{Peer}
 use Rattle.slab.specs.Slab.{get}
 use Rattle.station.specs.Asked.{moved}
 use Rattle.station.specs.Found.{placed, same_client}
-use Rattle.station.proofs.Asked.{air_stays, awaits, connects_other, connects_source, gets_own, is_set, is_unset, offers}
+use Rattle.station.proofs.Asked.{air_stays, awaits, begins_none, connects_other, connects_source, gets_own, is_set, is_unset, offers}
+use Rattle.station.proofs.Offered.{others_placed}
 use Rattle.station.proofs.station.Station.ask_on.Goals as goal
 
 pub returns-in-More-clause-asks : goal.returns-in-More-clause-asks
@@ -62,3 +64,88 @@ returns-in-File-clause-asks g c client is =
       placed old.clients.slots c.args.key client new is,
       inr (inr (inr (connects_other g.D.Disk old.options.password c.args.bytes.now old.live.hub c.connect-in-File.new.self.hub client c.notice.new.client c.ask.new.client new (c.notice.ensures ∙ ap moved same) c.in-File.ensures.asks c.connect-in-File.ensures.connects))),
     )
+
+pub returns-in-More-clause-disk : goal.returns-in-More-clause-disk
+returns-in-More-clause-disk g c = inl refl
+
+pub returns-in-More-clause-recorded : goal.returns-in-More-clause-recorded
+returns-in-More-clause-recorded g c = ((λ before shows. (before, shows, refl)), refl)
+
+pub returns-in-More-clause-begins : goal.returns-in-More-clause-begins
+returns-in-More-clause-begins g c free = begins_none (serials_in c.args.self.now.live.hub.file) c.args.self.now.options.skeletons c.args.self.now.air free
+
+pub returns-in-More-clause-air : goal.returns-in-More-clause-air
+returns-in-More-clause-air g c =
+    air_stays (Peer c.args.key) c.args.self.now.air c.args.self.now.air refl
+
+pub returns-in_default-clause-disk : goal.returns-in_default-clause-disk
+returns-in_default-clause-disk g c = inl refl
+
+pub returns-in_default-clause-recorded : goal.returns-in_default-clause-recorded
+returns-in_default-clause-recorded g c = ((λ before shows. (before, shows, refl)), refl)
+
+pub returns-in_default-clause-begins : goal.returns-in_default-clause-begins
+returns-in_default-clause-begins g c free = begins_none (serials_in c.args.self.now.live.hub.file) c.args.self.now.options.skeletons c.args.self.now.air free
+
+pub returns-in_default-clause-air : goal.returns-in_default-clause-air
+returns-in_default-clause-air g c =
+    air_stays (Peer c.args.key) c.args.self.now.air c.args.self.now.air refl
+
+pub returns-in-More-clause-others : goal.returns-in-More-clause-others
+returns-in-More-clause-others g c other apart = others_placed c.args.self.now.clients.slots c.args.key c.ask.new.client other apart
+
+pub returns-in_default-clause-others : goal.returns-in_default-clause-others
+returns-in_default-clause-others g c other apart = refl
+
+pub returns-in-Own-clause-disk : goal.returns-in-Own-clause-disk
+returns-in-Own-clause-disk g c = c.answer.ensures.disk
+
+pub returns-in-Own-clause-recorded : goal.returns-in-Own-clause-recorded
+returns-in-Own-clause-recorded g c = c.answer.ensures.recorded
+
+pub returns-in-Own-clause-begins : goal.returns-in-Own-clause-begins
+returns-in-Own-clause-begins g c free = begins_none (serials_in c.args.self.now.live.hub.file) c.args.self.now.options.skeletons c.answer.new.self.air (c.answer.ensures.air ∙ free)
+
+pub returns-in-Own-clause-others : goal.returns-in-Own-clause-others
+returns-in-Own-clause-others g c other apart = c.answer.ensures.others other apart ∙ others_placed c.args.self.now.clients.slots c.args.key _ other apart
+
+pub returns-in-Source-2-clause-disk : goal.returns-in-Source-2-clause-disk
+returns-in-Source-2-clause-disk g c = c.connect.ensures.disk
+
+pub returns-in-Source-2-clause-recorded : goal.returns-in-Source-2-clause-recorded
+returns-in-Source-2-clause-recorded g c = (c.connect.ensures.recorded, c.connect.ensures.places)
+
+pub returns-in-Source-2-clause-begins : goal.returns-in-Source-2-clause-begins
+returns-in-Source-2-clause-begins g c free = begins_none (serials_in c.args.self.now.live.hub.file) c.args.self.now.options.skeletons c.args.self.now.air free
+
+pub returns-in-Source-2-clause-air : goal.returns-in-Source-2-clause-air
+returns-in-Source-2-clause-air g c =
+    air_stays (Peer c.args.key) c.args.self.now.air c.args.self.now.air refl
+
+pub returns-in-Source-2-clause-others : goal.returns-in-Source-2-clause-others
+returns-in-Source-2-clause-others g c other apart = others_placed c.args.self.now.clients.slots c.args.key c.connect.new.client other apart
+
+pub returns-in-File-clause-disk : goal.returns-in-File-clause-disk
+returns-in-File-clause-disk g c = c.connect-in-File.ensures.disk
+
+pub returns-in-File-clause-recorded : goal.returns-in-File-clause-recorded
+returns-in-File-clause-recorded g c = (c.connect-in-File.ensures.recorded, c.connect-in-File.ensures.places)
+
+pub returns-in-File-clause-begins : goal.returns-in-File-clause-begins
+returns-in-File-clause-begins g c free = begins_none (serials_in c.args.self.now.live.hub.file) c.args.self.now.options.skeletons c.args.self.now.air free
+
+pub returns-in-File-clause-air : goal.returns-in-File-clause-air
+returns-in-File-clause-air g c =
+    air_stays (Peer c.args.key) c.args.self.now.air c.args.self.now.air refl
+
+pub returns-in-File-clause-others : goal.returns-in-File-clause-others
+returns-in-File-clause-others g c other apart = others_placed c.args.self.now.clients.slots c.args.key c.connect-in-File.new.client other apart
+
+pub returns-in-Source-clause-disk : goal.returns-in-Source-clause-disk
+returns-in-Source-clause-disk g c = inl (ap (λ (live : LiveHub _). live.hub.file) c.offer.ensures.live)
+
+pub returns-in-Source-clause-begins : goal.returns-in-Source-clause-begins
+returns-in-Source-clause-begins g c = c.offer.ensures.begins
+
+pub returns-in-Source-clause-others : goal.returns-in-Source-clause-others
+returns-in-Source-clause-others g c other apart = c.offer.ensures.others other apart ∙ others_placed c.args.self.now.clients.slots c.args.key _ other apart

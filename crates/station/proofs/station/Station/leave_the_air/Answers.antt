@@ -1,50 +1,25 @@
-use Rattle.std.proofs.Common.{◌≡◌, Bool, ◌||◌, Some, sym, ◌∙◌, ap, subst}
-use Rattle.slab.specs.Slab.{get}
-use Rattle.serve_hub.specs.Parts.{failed_in, serials_in}
-use Rattle.station_hub.specs.Live.{RecordsLive}
-use Rattle.station_hub.specs.declared.live_hub.LiveHub.{LiveHub}
-use Rattle.station.specs.Beginning.{BeginsBeside, run_in}
-use Rattle.station.specs.declared.station.Options.{Options}
-use Rattle.station.specs.Parting.{HasParted}
-use Rattle.station.specs.Passing.{ArePassed}
+use Rattle.std.proofs.Common.{◌≡◌, None, sym, ◌∙◌, ap, subst, ◌||◌}
+use Rattle.serve_hub.specs.Parts.{failed_in}
+use Rattle.station.specs.Parting.{FeederParts}
+use Rattle.station.proofs.Leaving.{same_air}
 use Rattle.station_sources.specs.Air.{parting_answer}
 use Rattle.station_sources.specs.declared.air.OnAir.{OnAir}
-use Rattle.station.specs.Succeeding.{IsSucceeded, waits}
-use Rattle.station.proofs.Leaving.{same_air}
-use Rattle.station.proofs.Passed.{all_then}
-use Rattle.station.proofs.Succeeding.{parted_waits, succeeded}
 use Rattle.station.proofs.station.Station.leave_the_air.Goals as goal
 
-pub returns : goal.returns
-returns g c = record {
-  parts = λ air is key client feeder found feeding.
-      let same : c.in-Some.air ≡ air = same_air c.in-Some.air air (c.in-Some.ensures.value ∙ is) in
-      let still : get c.end_open.new.self.clients.slots key ≡ Some client = ap (λ s. get s.clients.slots key) c.end_open.ensures.rest ∙ found in
-      let (after, left, parted) = c.answer_feeder.ensures.parts key client (ap (λ (one : OnAir). one.feeder) same ∙ feeder) still feeding in
-      let told = c.is_lost-lost.result in
-      let lost : told ≡ (c.args.given_up || failed_in c.offer_again.new.self.live.hub.file) =
-      c.is_lost-lost.ensures ∙ ap (λ live. c.args.given_up || failed_in live.hub.file) (sym (c.offer_again.ensures.live ∙ c.answer_feeder.ensures.live)) in (
-        after,
-        c.offer_again.ensures.others key (ap waits left ∙ parted_waits (parting_answer told c.in-Some.air) client after parted) ∙ left,
-        subst (λ (b : Bool). HasParted (parting_answer b air) client after) lost
-            (subst (λ (one : OnAir). HasParted (parting_answer told one) client after) same parted),
-      );
-  records =
-      subst (λ live. RecordsLive g.D.Disk c.args.self.now.live live) (sym (c.offer_again.ensures.live ∙ c.answer_feeder.ensures.live))
-      c.end_open.ensures.records;
-  passed =
-      subst (λ slots. ArePassed slots c.offer_again.new.self.clients.slots) (ap (λ s. s.clients.slots) c.end_open.ensures.rest)
-      (all_then c.end_open.new.self.clients.slots c.answer_feeder.new.self.clients.slots c.offer_again.new.self.clients.slots
-      c.answer_feeder.ensures.passed c.offer_again.ensures.passed);
-  succeeded = λ was.
-      let before = c.end_open.new.self.clients.slots in
-      subst (λ slots. IsSucceeded slots c.offer_again.new.self.clients.slots c.offer_again.new.self.air) (ap (λ s. s.clients.slots) c.end_open.ensures.rest)
-      (succeeded before c.answer_feeder.new.self.clients.slots c.offer_again.new.self.clients.slots c.offer_again.new.self.air c.answer_feeder.ensures.waits
-      (c.offer_again.ensures.succeeded (c.answer_feeder.ensures.air ∙ ap (λ s. s.air) c.end_open.ensures.rest ∙ c.take.ensures.after)));
-  begins = λ was.
-      let before = c.answer_feeder.new.self in
-      subst (λ (live : LiveHub _). BeginsBeside (serials_in live.hub.file) c.args.self.now.options.skeletons (run_in c.offer_again.new.self.air)) (sym c.offer_again.ensures.live)
-      (subst (λ (one : Options). BeginsBeside (serials_in before.live.hub.file) one.skeletons (run_in c.offer_again.new.self.air))
-      (c.answer_feeder.ensures.options ∙ ap (λ s. s.options) c.end_open.ensures.rest)
-      (c.offer_again.ensures.begins (c.answer_feeder.ensures.air ∙ ap (λ s. s.air) c.end_open.ensures.rest ∙ c.take.ensures.after)));
-}
+pub returns-in-Some-clause-parts : goal.returns-in-Some-clause-parts
+returns-in-Some-clause-parts g c air is =
+    let new = c.left_by.new.self in
+    subst (λ (one : OnAir). FeederParts (parting_answer (c.args.given_up || failed_in new.live.hub.file) one) one c.args.self.now.clients.slots new.clients.slots)
+    (same_air c.in-Some.air air (c.in-Some.ensures.value ∙ is)) c.left_by.ensures.parts
+
+pub returns-in-Some-clause-succeeded : goal.returns-in-Some-clause-succeeded
+returns-in-Some-clause-succeeded g c some = c.left_by.ensures.succeeded c.take.ensures.after
+
+pub returns-in-Some-clause-begins : goal.returns-in-Some-clause-begins
+returns-in-Some-clause-begins g c some = c.left_by.ensures.begins c.take.ensures.after
+
+pub returns-in-Some-clause-records : goal.returns-in-Some-clause-records
+returns-in-Some-clause-records g c = c.left_by.ensures.records
+
+pub returns-in-Some-clause-passed : goal.returns-in-Some-clause-passed
+returns-in-Some-clause-passed g c = c.left_by.ensures.passed

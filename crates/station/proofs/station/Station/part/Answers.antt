@@ -8,6 +8,8 @@ use Rattle.serve_sources.specs.declared.outcome.Outcome.{Outcome}
 use Rattle.station.specs.Parting.{HasParted}
 use Rattle.station.specs.Found.{placed, same_client}
 use Rattle.station.specs.Passing.{GoesOnAsSource, has_offered, is_source}
+use Rattle.station.specs.Succeeding.{is_waiting}
+use Rattle.station.proofs.Offered.{others_placed, waits_placed}
 use Rattle.station.proofs.Passed.{placed_passed}
 use Rattle.station.proofs.station.Station.part.Goals as goal
 
@@ -61,3 +63,42 @@ returns-in-None-clause-passed g c =
     sym (ap (λ (one : ClientState). is_source one.stage) c.client.view_is) ∙ feeding c.client.inside.stage c.if-ne.ensures in
     placed_passed c.args.self.now.clients.slots c.args.key old c.go_to.new.self (sym c.in-Some.ensures.value)
     (inr (source, (ap (λ (one : ClientState). has_offered one.stage) c.go_to.ensures, ap (λ (one : ClientState). one.session) c.go_to.ensures)))
+
+pub returns-in-Some-answer-clause-others : goal.returns-in-Some-answer-clause-others
+returns-in-Some-answer-clause-others g c other apart = others_placed c.args.self.now.clients.slots c.args.key c.tell_last.new.self other apart
+
+pub returns-in-None-clause-others : goal.returns-in-None-clause-others
+returns-in-None-clause-others g c other apart = others_placed c.args.self.now.clients.slots c.args.key c.go_to.new.self other apart
+
+-- it waits neither before nor after
+feeding_waits : (stage : Stage) → false ≡ not (sameb the_type stage Feeding) → is_waiting stage ≡ false
+feeding_waits Waiting e = cc
+feeding_waits Offering e = refl
+feeding_waits Feeding e = refl
+feeding_waits Asking e = refl
+feeding_waits Reading e = refl
+feeding_waits Sending e = refl
+feeding_waits Hearing e = refl
+feeding_waits Ending e = refl
+feeding_waits Closing e = refl
+feeding_waits Cut e = refl
+
+last_waits : (text : List ℕ) (old new : ClientState) → (new ≡ with_stage Ending (told text old)) ⊎ (new ≡ cut old) → is_waiting new.stage ≡ false
+last_waits text old new (inl is) = ap (λ (one : ClientState). is_waiting one.stage) is
+last_waits text old new (inr is) = ap (λ (one : ClientState). is_waiting one.stage) is
+
+pub returns-in-Some-answer-clause-waits : goal.returns-in-Some-answer-clause-waits
+returns-in-Some-answer-clause-waits g c =
+    let old = c.in-Some.client.now in
+    let waited : is_waiting old.stage ≡ false =
+    sym (ap (λ (one : ClientState). is_waiting one.stage) c.client.view_is) ∙ feeding_waits c.client.inside.stage c.if-ne.ensures in
+    waits_placed c.args.self.now.clients.slots c.args.key old c.tell_last.new.self (sym c.in-Some.ensures.value)
+    (last_waits _ old c.tell_last.new.self c.tell_last.ensures ∙ sym waited)
+
+pub returns-in-None-clause-waits : goal.returns-in-None-clause-waits
+returns-in-None-clause-waits g c =
+    let old = c.in-Some.client.now in
+    let waited : is_waiting old.stage ≡ false =
+    sym (ap (λ (one : ClientState). is_waiting one.stage) c.client.view_is) ∙ feeding_waits c.client.inside.stage c.if-ne.ensures in
+    waits_placed c.args.self.now.clients.slots c.args.key old c.go_to.new.self (sym c.in-Some.ensures.value)
+    (ap (λ (one : ClientState). is_waiting one.stage) c.go_to.ensures ∙ sym waited)

@@ -28,3 +28,90 @@ returns-then-is_due-clause-commits g c machine shows works due = has_flushed g c
 
 pub returns-then-is_due-clause-flushed : goal.returns-then-is_due-clause-flushed
 returns-then-is_due-clause-flushed g c reply is = (refl, has_flushed g c)
+
+pub returns-then-is_failed-clause-succeeded : goal.returns-then-is_failed-clause-succeeded
+returns-then-is_failed-clause-succeeded g c = c.reopen.ensures.succeeded
+
+pub returns-then-is_failed-clause-begins : goal.returns-then-is_failed-clause-begins
+returns-then-is_failed-clause-begins g c = c.reopen.ensures.begins
+
+pub returns-then-is_failed-clause-noted : goal.returns-then-is_failed-clause-noted
+returns-then-is_failed-clause-noted g c = c.reopen.ensures.noted
+
+pub returns-then-is_failed-clause-resumes : goal.returns-then-is_failed-clause-resumes
+returns-then-is_failed-clause-resumes g c = c.reopen.ensures.resumes
+
+pub returns-then-is_failed-clause-records : goal.returns-then-is_failed-clause-records
+returns-then-is_failed-clause-records g c = c.reopen.ensures.records
+
+pub returns-then-is_failed-clause-passed : goal.returns-then-is_failed-clause-passed
+returns-then-is_failed-clause-passed g c = c.reopen.ensures.passed
+
+pub returns-then-is_failed-clause-failed : goal.returns-then-is_failed-clause-failed
+returns-then-is_failed-clause-failed g c failed = c.reopen.ensures.reopens
+
+pub returns-then-not-waited-clause-takes : goal.returns-then-not-waited-clause-takes
+returns-then-not-waited-clause-takes g c = c.step_air-done.ensures.takes
+
+pub returns-then-not-waited-clause-parts : goal.returns-then-not-waited-clause-parts
+returns-then-not-waited-clause-parts g c = c.step_air-done.ensures.parts
+
+pub returns-then-not-waited-clause-succeeded : goal.returns-then-not-waited-clause-succeeded
+returns-then-not-waited-clause-succeeded g c = c.step_air-done.ensures.succeeded
+
+pub returns-then-not-waited-clause-begins : goal.returns-then-not-waited-clause-begins
+returns-then-not-waited-clause-begins g c = c.step_air-done.ensures.begins
+
+pub returns-then-not-waited-clause-nothing : goal.returns-then-not-waited-clause-nothing
+returns-then-not-waited-clause-nothing g c = c.step_air-done.ensures.nothing
+
+pub returns-then-not-waited-clause-records : goal.returns-then-not-waited-clause-records
+returns-then-not-waited-clause-records g c = c.step_air-done.ensures.records
+
+pub returns-then-not-waited-clause-passed : goal.returns-then-not-waited-clause-passed
+returns-then-not-waited-clause-passed g c = c.step_air-done.ensures.passed
+
+pub returns-then-not-waited-clause-noted : goal.returns-then-not-waited-clause-noted
+returns-then-not-waited-clause-noted g c air is reopened = absurd (c.step_air-done.ensures.goes_on reopened)
+
+pub returns-then-not-waited-clause-resumes : goal.returns-then-not-waited-clause-resumes
+returns-then-not-waited-clause-resumes g c air machine is shows reopened = absurd (c.step_air-done.ensures.goes_on reopened)
+
+pub returns-then-not-waited-clause-flushed : goal.returns-then-not-waited-clause-flushed
+returns-then-not-waited-clause-flushed g c reply is = absurd (c.step_air-done.ensures.rests reply is)
+
+pub returns-then-not-waited-clause-rests : goal.returns-then-not-waited-clause-rests
+returns-then-not-waited-clause-rests g c machine reply shows is = absurd (c.step_air-done.ensures.rests reply is)
+
+pub returns-else-not-waited-clause-takes : goal.returns-else-not-waited-clause-takes
+returns-else-not-waited-clause-takes g c = c.step_air-done.ensures.takes
+
+pub returns-else-not-waited-clause-parts : goal.returns-else-not-waited-clause-parts
+returns-else-not-waited-clause-parts g c = c.step_air-done.ensures.parts
+
+pub returns-else-not-waited-clause-succeeded : goal.returns-else-not-waited-clause-succeeded
+returns-else-not-waited-clause-succeeded g c = c.step_air-done.ensures.succeeded
+
+pub returns-else-not-waited-clause-begins : goal.returns-else-not-waited-clause-begins
+returns-else-not-waited-clause-begins g c = c.step_air-done.ensures.begins
+
+pub returns-else-not-waited-clause-nothing : goal.returns-else-not-waited-clause-nothing
+returns-else-not-waited-clause-nothing g c = c.step_air-done.ensures.nothing
+
+pub returns-else-not-waited-clause-records : goal.returns-else-not-waited-clause-records
+returns-else-not-waited-clause-records g c = c.step_air-done.ensures.records
+
+pub returns-else-not-waited-clause-passed : goal.returns-else-not-waited-clause-passed
+returns-else-not-waited-clause-passed g c = c.step_air-done.ensures.passed
+
+pub returns-else-not-waited-clause-noted : goal.returns-else-not-waited-clause-noted
+returns-else-not-waited-clause-noted g c air is reopened = absurd (c.step_air-done.ensures.goes_on reopened)
+
+pub returns-else-not-waited-clause-resumes : goal.returns-else-not-waited-clause-resumes
+returns-else-not-waited-clause-resumes g c air machine is shows reopened = absurd (c.step_air-done.ensures.goes_on reopened)
+
+pub returns-else-not-waited-clause-flushed : goal.returns-else-not-waited-clause-flushed
+returns-else-not-waited-clause-flushed g c reply is = absurd (c.step_air-done.ensures.rests reply is)
+
+pub returns-else-not-waited-clause-rests : goal.returns-else-not-waited-clause-rests
+returns-else-not-waited-clause-rests g c machine reply shows is = absurd (c.step_air-done.ensures.rests reply is)
