@@ -20,24 +20,63 @@ const BYTES: usize = 30;
 pub fn is_right(alloc: Global, number: u64) -> Result<bool, AllocError> {
     for call in 0..=2 * STEPS {
         let mut dice = Dice::of(number);
-        let first = bytes_of(&mut dice);
-        let n = dice.up_to(BYTES);
+        let bytes = bytes_of(&mut dice);
+        let first = &bytes[..dice.up_to(BYTES)];
         let room = dice.up_to(ROOM);
-        let fused = FuseDisk::fail_once(MemDisk::of(alloc, &first[..n])?, call);
-        let mut disk = TailDisk::new(alloc, fused, room)?;
-        let mut wanted = first[..n].to_vec(alloc)?;
-        let mut same = dice;
-        if !runs(&mut disk, &mut wanted, &mut dice, false)? {
-            return Ok(false);
-        }
-        let late = LateDisk::over(MemDisk::of(alloc, &first[..n])?, call);
-        let mut disk = TailDisk::new(alloc, late, room)?;
-        let mut wanted = first[..n].to_vec(alloc)?;
-        if !runs(&mut disk, &mut wanted, &mut same, true)? {
+        if !is_right_fused(alloc, first, room, dice, call)?
+            || !is_right_late(alloc, first, room, dice, call)?
+        {
             return Ok(false);
         }
     }
     Ok(true)
+}
+
+/// Whether a list runs as it should while the disk's call with this number fails.
+fn is_right_fused(
+    alloc: Global,
+    first: &[u8],
+    room: usize,
+    dice: Dice,
+    call: u64,
+) -> Result<bool, AllocError> {
+    let fused = FuseDisk::fail_once(MemDisk::of(alloc, first)?, call);
+    runs_on(
+        TailDisk::new(alloc, fused, room)?,
+        first.to_vec(alloc)?,
+        dice,
+        false,
+    )
+}
+
+/// The same while the call is told as failed, though it was done.
+fn is_right_late(
+    alloc: Global,
+    first: &[u8],
+    room: usize,
+    dice: Dice,
+    call: u64,
+) -> Result<bool, AllocError> {
+    let late = LateDisk::over(MemDisk::of(alloc, first)?, call);
+    runs_on(
+        TailDisk::new(alloc, late, room)?,
+        first.to_vec(alloc)?,
+        dice,
+        true,
+    )
+}
+
+/// Whether each step finds what it should on this disk, which has the wanted bytes.
+fn runs_on<D: Disk + Drop>(
+    disk: D,
+    wanted: Vec<u8>,
+    dice: Dice,
+    late: bool,
+) -> Result<bool, AllocError> {
+    let mut disk = disk;
+    let mut wanted = wanted;
+    let mut dice = dice;
+    runs(&mut disk, &mut wanted, &mut dice, late)
 }
 
 /// Whether each step finds what it should. `late` says whether a write or a cut that fails was done.

@@ -14,20 +14,51 @@ pub fn is_read_after_stop(alloc: Global, number: u64) -> Result<bool, AllocError
     let pieces = dice.up_to(12) as u64;
     let room = dice.up_to(MOST);
     let fused = FuseDisk::stop_after(MemDisk::of(alloc, b"")?, 2 * pieces + 1);
-    let mut disk = TailDisk::new(alloc, fused, room)?;
-    let mut wanted = Vec::new(alloc);
+    has_the_last(
+        TailDisk::new(alloc, fused, room)?,
+        Vec::new(alloc),
+        pieces,
+        room,
+        dice,
+    )
+}
+
+/// Whether this many pieces are appended to this disk, and the last bytes are then read.
+fn has_the_last<D: Disk + Drop>(
+    disk: D,
+    wanted: Vec<u8>,
+    pieces: u64,
+    room: usize,
+    dice: Dice,
+) -> Result<bool, AllocError> {
+    let mut disk = disk;
+    let mut wanted = wanted;
+    let mut dice = dice;
+    Ok(
+        are_appended(&mut disk, &mut wanted, pieces, &mut dice)?
+            && reads(&mut disk, &wanted, room, &mut dice),
+    )
+}
+
+/// Whether this many pieces are appended.
+fn are_appended<D: Disk>(
+    disk: &mut D,
+    wanted: &mut Vec<u8>,
+    pieces: u64,
+    dice: &mut Dice,
+) -> Result<bool, AllocError> {
     for _ in 0..pieces {
-        let mut piece = [0; MOST];
+        let mut bytes = [0; MOST];
         for k in 0..MOST {
-            piece[k] = dice.byte();
+            bytes[k] = dice.byte();
         }
-        let n = dice.up_to(MOST);
-        wanted.extend_from_slice(&piece[..n])?;
-        if !append(&mut disk, &piece[..n]) {
+        let piece = &bytes[..dice.up_to(MOST)];
+        wanted.extend_from_slice(piece)?;
+        if !append(disk, piece) {
             return Ok(false);
         }
     }
-    Ok(reads(&mut disk, &wanted, room, &mut dice))
+    Ok(true)
 }
 
 /// Two calls.
