@@ -124,14 +124,28 @@ fn recorded(
     most: u32,
     replies: &mut Vec<u8>,
 ) -> Result<(Came, u64), Fail> {
-    let mut feed = feed;
     let mut recorder = opened(alloc, disk, most)?;
-    let came = match record_feed(alloc, &mut feed, replies, &mut recorder) {
+    let came = ran(alloc, feed, &mut recorder, replies);
+    Ok((came, end_of(alloc, recorder.give_back().into_inner())?))
+}
+
+/// Records the feed.
+fn ran<D: Disk>(
+    alloc: Global,
+    feed: &[u8],
+    recorder: &mut Recorder<D>,
+    replies: &mut Vec<u8>,
+) -> Came {
+    let mut feed = feed;
+    match record_feed(alloc, &mut feed, replies, recorder) {
         Ok(tally) => Ok((tally.commands, tally.kept, tally.refused, tally.end)),
         Err(fault) => Err(fault),
-    };
-    let found = opened(alloc, recorder.give_back().into_inner(), 1)?;
-    Ok((came, found.end()))
+    }
+}
+
+/// The end of the committed bytes that an opening of this disk finds.
+fn end_of(alloc: Global, disk: MemDisk) -> Result<u64, Fail> {
+    Ok(opened(alloc, disk, 1)?.end())
 }
 
 #[test]

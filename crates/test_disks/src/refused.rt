@@ -106,15 +106,33 @@ fn opened_at_last(alloc: Global, disk: MemDisk) -> Result<Recorder<MemDisk>, Fai
 /// Records the feed onto a new disk. It returns whether the feed was read to its end or memory was refused to it, and
 /// the end of the committed bytes that an opening then finds.
 fn recorded(alloc: Global, feed: &[u8], replies: &mut Vec<u8>) -> Result<(bool, u64), Fail> {
-    let mut feed = feed;
     let mut recorder = opened(alloc, disk_of(alloc, b"")?)?;
-    let is_read = match record_feed(alloc, &mut feed, replies, &mut recorder) {
-        Ok(_) => true,
-        Err(RunFault::Feed(FeedFault::Memory)) => false,
-        Err(fault) => return Err(fault.into()),
-    };
-    let found = opened(alloc, recorder.give_back())?;
-    Ok((is_read, found.end()))
+    let answer = ran(alloc, feed, &mut recorder, replies);
+    let end = end_of(alloc, recorder.give_back())?;
+    match answer {
+        Ok(()) => Ok((true, end)),
+        Err(RunFault::Feed(FeedFault::Memory)) => Ok((false, end)),
+        Err(fault) => Err(fault.into()),
+    }
+}
+
+/// Records the feed.
+fn ran(
+    alloc: Global,
+    feed: &[u8],
+    recorder: &mut Recorder<MemDisk>,
+    replies: &mut Vec<u8>,
+) -> Result<(), RunFault> {
+    let mut feed = feed;
+    match record_feed(alloc, &mut feed, replies, recorder) {
+        Ok(_) => Ok(()),
+        Err(fault) => Err(fault),
+    }
+}
+
+/// The end of the committed bytes that an opening of this disk finds.
+fn end_of(alloc: Global, disk: MemDisk) -> Result<u64, Fail> {
+    Ok(opened(alloc, disk)?.end())
 }
 
 /// Whether a run has left this.
@@ -210,19 +228,23 @@ fn given(
 /// Opens the file again after `Disk`, and gives the begin if the file doesn't have it.
 fn begins_again(
     alloc: Global,
-    mut recorder: Recorder<MemDisk>,
+    recorder: Recorder<MemDisk>,
     command: &Command,
     end: u64,
 ) -> Result<bool, Fail> {
-    if recorder.command(command) != Err(Refusal::Failed) {
-        return Ok(false);
-    }
     let mut again = opened(alloc, recorder.give_back())?;
-    if again.end() == end {
-        return Ok(true);
-    }
-    let answer = again.command(command);
-    Ok(is_begun(&again, answer, end))
+    Ok(again.end() == end || is_begun_by(&mut again, command, end))
+}
+
+/// Whether a command is refused, since the disk has failed.
+fn has_failed(recorder: &mut Recorder<MemDisk>, command: &Command) -> bool {
+    recorder.command(command) == Err(Refusal::Failed)
+}
+
+/// Gives the begin, and returns whether it is kept.
+fn is_begun_by(recorder: &mut Recorder<MemDisk>, command: &Command, end: u64) -> bool {
+    let answer = recorder.command(command);
+    is_begun(recorder, answer, end)
 }
 
 /// Gives the recorder of a file with `end` committed bytes a begin that has a page of 31 bytes, and returns whether
@@ -230,16 +252,34 @@ fn begins_again(
 /// the file is opened again, and the command is given again if the file doesn't have it.
 fn begins(
     alloc: Global,
-    mut recorder: Recorder<MemDisk>,
+    recorder: Recorder<MemDisk>,
     command: &Command,
     end: u64,
 ) -> Result<bool, Fail> {
+    let mut recorder = recorder;
     let later = end.saturating_add(31);
-    let answer = given(&mut recorder, command, end)?;
-    if answer != Err(Refusal::Disk) {
-        return Ok(is_begun(&recorder, answer, later));
+    match begun(&mut recorder, command, end, later)? {
+        Some(is_begun) => Ok(is_begun),
+        None => begins_again(alloc, recorder, command, later),
     }
-    Ok(recorder.end() == end && begins_again(alloc, recorder, command, later)?)
+}
+
+/// Gives the begin, and returns whether it is kept; or `None` after `Disk`, if the end is as it was and the recorder
+/// has failed.
+fn begun(
+    recorder: &mut Recorder<MemDisk>,
+    command: &Command,
+    end: u64,
+    later: u64,
+) -> Result<Option<bool>, Fail> {
+    let answer = given(recorder, command, end)?;
+    if answer != Err(Refusal::Disk) {
+        return Ok(Some(is_begun(recorder, answer, later)));
+    }
+    if recorder.end() == end && has_failed(recorder, command) {
+        return Ok(None);
+    }
+    Ok(Some(false))
 }
 
 #[test]

@@ -77,18 +77,19 @@ fn next_sequence<S: PageSource>(window: &mut Window<S>) -> Option<u32> {
 }
 
 /// The numbers of the first two pages, if the recorder is their source.
-fn sequences(alloc: Global, recorder: Recorder<MemDisk>) -> Result<[Option<u32>; 2], Fail> {
+fn sequences<D: Disk + Drop>(recorder: Recorder<D>, buffer: PageBuffer) -> [Option<u32>; 2] {
     let end = recorder.end();
-    let mut window = Window::new(recorder, PageBuffer::new(alloc)?, 0, end);
-    Ok([next_sequence(&mut window), next_sequence(&mut window)])
+    let mut window = Window::new(recorder, buffer, 0, end);
+    [next_sequence(&mut window), next_sequence(&mut window)]
 }
 
 #[test]
 fn what_is_committed_is_read_while_a_command_waits(rt: HostRuntime) -> Result<(), Fail> {
+    let buffer = PageBuffer::new(rt.alloc())?;
     let (answer, mut recorder) = waiting(rt.alloc())?;
     assert!(rt; answer == Answer::Held(3));
     assert!(rt; (recorder.count(), recorder.held(), recorder.end()) == (3, 1, 64));
     assert!(rt; read(&mut recorder) == Some(*b"hello"));
-    assert!(rt; sequences(rt.alloc(), recorder)? == [Some(0), Some(1)]);
+    assert!(rt; sequences(recorder, buffer) == [Some(0), Some(1)]);
     Ok(())
 }

@@ -1,6 +1,7 @@
 //! Files made by hand, opened.
 use super::tools::{ByHand, ROW_1, ROW_2, ROW_3, ends, file_of, joined, try_open};
 use crate::fused::{Fuse, fused};
+use disk_model::Disk;
 use gate_file::OpenFault;
 use link_chain::ChainFault;
 use ogg_page::PageFault;
@@ -102,7 +103,15 @@ fn found_at_last(alloc: Global) -> Result<(OpenFault, Option<u64>), Fail> {
     let disk = fused(alloc, &joined(alloc, &[ROW_1, ROW_2])?, Fuse::FailOnce(1))?;
     match Recorder::open(alloc, disk) {
         Ok(_) => Err(Fail::from("opened")),
-        Err((fault, disk)) => Ok((fault, try_open(alloc, disk).map(|recorder| recorder.end()))),
+        Err((fault, disk)) => Ok((fault, end_of(alloc, disk))),
+    }
+}
+
+/// The end of the committed bytes that an opening of this disk finds.
+fn end_of<D: Disk + Drop>(alloc: Global, disk: D) -> Option<u64> {
+    match try_open(alloc, disk) {
+        Some(recorder) => Some(recorder.end()),
+        None => None,
     }
 }
 

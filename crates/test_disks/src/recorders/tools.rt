@@ -23,7 +23,7 @@ pub(super) enum Given {
 }
 
 /// What the recorder answers: how many commands were accepted; or how many, and the length of the file; or why not.
-#[derive(Clone, Copy, Debug, PartialEq, Eq)]
+#[derive(Clone, Copy, PartialEq, Eq)]
 pub(super) enum Answer {
     Held(u64),
     Kept(u64, u64),
