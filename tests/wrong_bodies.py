@@ -28,9 +28,9 @@ A wrong body is refused if the check doesn't prove its function, and names a goa
 failure if that function is proved, if only its proof file names what isn't there any more, if the check has no verdict
 on it, or if a function is refused in which nothing was changed.
 
-Each crate has a control besides: a right body of another shape, made by giving a variable another name in a function
-whose proof file cites it. That it is proved, or that nothing can be told of it, is right; that it is refused is a
-failure, since so might be any right body.
+Each crate has a control besides, planted among them: a right body of another shape, made by giving a variable another
+name in a function whose proof file cites it. That it is proved, or that nothing can be told of it, is right; that it is
+refused is a failure, since so might be any right body.
 
 The crates below must be built, as './check' and './kudzuturret' leave them, and not be older than their files. As many
 crates are tried side by side as there are processors. What a check says is read as the kit in KIT says it; the first
@@ -153,9 +153,10 @@ class Edit:
             raise BadEdit("it names no function that must be refused, or changes nothing")
 
     @staticmethod
-    def control(function):
-        """A right body of this function, which has another shape."""
-        edit = Edit("control", f"refused: {function}\nfile: src\nold: none\nnew: none\n")
+    def control(function, file, old, new):
+        """A right body of this function, which has another shape: its text before and after."""
+        edit = Edit("control", f"refused: {function}\nfile: {file}\nold: none\nnew: none\n")
+        edit.changes = [(file, old, new)]
         edit.is_right = True
         return edit
 
@@ -252,42 +253,45 @@ class Crate:
         built = self.rlib.stat().st_mtime
         return any(it.stat().st_mtime > built for part in self.PARTS for it in (self.folder / part).rglob("*.*"))
 
-    def control(self):
-        """A copy with a right body of another shape, or none if no function of the crate can be changed so."""
-        copy = Copy(self.folder)
-        sources = copy.sources()
+    def controls(self):
+        """Right bodies of another shape, one for each function of the crate that can be changed so."""
+        sources = Copy(self.folder).sources()
         ends = {file: len(text.splitlines()) + 1 for file, text in sources.items()}
         for file, functions in functions_of(sources).items():
+            lines = sources[file].splitlines(keepends=True)
             for (begin, name), (end, _) in itertools.pairwise([*functions, (ends[file], "")]):
                 answers = self.folder / "proofs" / name.replace("::", "/") / "Answers.antt"
                 if not answers.is_file():
                     continue
                 cited = answers.read_text(encoding="utf-8")
-                lines = sources[file].splitlines(keepends=True)
                 text = "".join(lines[begin - 1 : end - 1])
                 for variable in re.findall(r"(?m)^ +let (?:mut |\(|Some\()*(\w+)", text):
                     # A field or a call of this name would get another name too.
                     other = rf"[.{{]\s*{variable}\b|\b{variable}:|\b{variable} {{|\b{variable}\(|{variable},? }}"
                     if re.search(rf"[-.]{variable}\b", cited) and not re.search(other, text):
-                        renamed = re.sub(rf"\b{variable}\b", f"{variable}_named", text)
-                        copy.texts[file] = "".join([*lines[: begin - 1], renamed, *lines[end - 1 :]])
-                        copy.edits.append(Edit.control(name))
-                        return copy
-        return None
+                        yield Edit.control(name, file, text, re.sub(rf"\b{variable}\b", f"{variable}_named", text))
+                        break
 
     def copies(self, alone):
-        """The copies that try the crate's wrong bodies, and a line for each that can't be planted."""
+        """The copies that try the crate's wrong bodies and its control, and a line for each that can't be planted."""
         copies, bad = [], []
+
+        def take(edit):
+            if alone or not any(it.take(edit) for it in copies):
+                copies.append(Copy(self.folder))
+                copies[-1].take(edit)
+
         for path in sorted((self.folder / "wrong-bodies").glob("*")):
             try:
                 edit = Edit(path.stem, path.read_text(encoding="utf-8"))
                 edit.plant({}, self.folder)
+                take(edit)
             except (BadEdit, ValueError) as why:
                 bad.append(f"{self.name}/{path.name}: {why}")
-                continue
-            if alone or not any(it.take(edit) for it in copies):
-                copies.append(Copy(self.folder))
-                copies[-1].take(edit)
+        controls = [*self.controls()] if copies else []
+        # A copy more is a check more: so the control is of a function that is as it was in one of those that there are.
+        if controls and not any(not alone and it.take(control) for control in controls for it in copies):
+            take(controls[0])
         return copies, bad
 
 
@@ -450,7 +454,7 @@ def main():
             why = f"{lacking[0]} isn't built" if lacking else f"what was built of {stale[0]} is older than its files"
             lines.append((False, f"{crate.name}: {why}: ./check and ./kudzuturret build it"))
         elif copies:
-            trials.append((crate, [*copies, *filter(None, [crate.control()])]))
+            trials.append((crate, copies))
     # Those with most to try first, so that no processor waits for the last.
     trials.sort(key=lambda it: -sum(len(copy.edits) for copy in it[1]))
 
