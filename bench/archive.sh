@@ -1,9 +1,10 @@
 #!/usr/bin/env bash
-# Measures `archive` of a file of 1 GB, in pages of 4 kB and of 60 kB, beside `cp` with a sync and beside
-# `feed | record --group 256`. CPU seconds (user and system) and seconds by the clock are the best of three runs that take
-# turns. Not part of the tests.
+# Measures `archive` of a file of 1 GB, in pages of 4 kB and of 60 kB, beside `cp` with a sync, beside
+# `feed | record --group 256`, and beside a C program that only makes the calls that write as many pages in such groups: it
+# reads nothing and makes no page. CPU seconds (user and system) and seconds by the clock are the best of three runs that
+# take turns. Not part of the tests.
 #
-#     apt-get install libogg-dev && bench/archive.sh [BYTES]      none: 1000000000
+#     apt-get install libogg-dev libsqlite3-dev && bench/archive.sh [BYTES]      none: 1000000000
 #
 # The files are made below TMPDIR, or /tmp: choose a folder on the disk that is to be measured.
 . "$(dirname "$0")/common.bash"
@@ -13,6 +14,7 @@ export recorder=$program work
 
 built "$program"
 cc -O2 -o "$work/pages_made" "$here/pages_made.c" -logg || exit 1
+cc -O2 -o "$work/commits" "$here/record_commits.c" -lsqlite3 || exit 1
 
 # took FILE COMMAND ..: adds the CPU seconds and the seconds by the clock that the command took.
 took() {
@@ -27,10 +29,13 @@ print(f"{spent.ru_utime + spent.ru_stime:.2f} {time.monotonic() - begun:.2f}")
 END
 }
 
+# The competitors, as the rows name them.
+declare -A names=([pair]='`feed` and `record --group 256`' [cp]='cp and a sync' [calls]='the calls alone')
+
 # least FILE COLUMN: the fewest seconds.
 least() { sort -n -k "$2" "$1" | head -n 1 | cut -d ' ' -f "$2"; }
 
-printf '%-12s %8s %12s %12s %12s %10s %10s\n' pages MB 'archive, s' 'pair, s' 'cp, s' 'MB/s CPU' 'of pair'
+printf '%-12s %8s %12s %12s %12s %12s %10s %10s\n' pages MB 'archive, s' 'pair, s' 'cp, s' 'calls, s' 'MB/s CPU' 'of pair'
 for packet in 4000 60000; do
     "$work/pages_made" "$bytes" "$packet" >"$work/file"
     rm -f "$work"/*.s
@@ -42,16 +47,19 @@ for packet in 4000 60000; do
             "$recorder" feed <"$work/file" | "$recorder" record "$work/pair.ogg" --group 256 >"$work/replies"'
         rm -f "$work/copy.ogg"
         took "$work/cp.s" bash -c 'cp "$work/file" "$work/copy.ogg" && sync "$work/copy.ogg"'
+        rm -f "$work/raw"
+        took "$work/calls.s" bash -c '"$work/commits" plain "$work/raw" $(($1 / $2)) "$2" 256 >"$work/replies"' _ "$bytes" "$packet"
     done
     # `archive` has ended the stream, and a byte 00 stands after the pages of both.
     pages=$(($(stat -c %s "$work/pair.ogg") - 1))
     cmp -n "$pages" "$work/out.ogg" "$work/pair.ogg" || exit 1
     for column in 1 2; do
-        for other in pair cp; do
+        for other in pair cp calls; do
             row "\`archive\`, pages of $packet bytes" "$([ $column = 1 ] && echo CPU s || echo s)" "$(least "$work/archive.s" $column)" \
-                "$([ $other = cp ] && echo cp and a sync || echo '`feed` and `record --group 256`')" "$(least "$work/$other.s" $column)"
+                "${names[$other]}" "$(least "$work/$other.s" $column)"
         done
-        echo "$packet $(stat -c %s "$work/file") $(least "$work/archive.s" $column) $(least "$work/pair.s" $column) $(least "$work/cp.s" $column) $column" |
-            awk '{ printf "%-12s %8.1f %12.2f %12.2f %12.2f %10.0f %10.2f %s\n", $1, $2 / 1e6, $3, $4, $5, $2 / 1e6 / $3, $3 / $4, $6 == 1 ? "CPU" : "clock" }'
+        seconds=$(for it in archive pair cp calls; do least "$work/$it.s" $column; done)
+        echo "$packet" "$(stat -c %s "$work/file")" $seconds $column |
+            awk '{ printf "%-12s %8.1f %12.2f %12.2f %12.2f %12.2f %10.0f %10.2f %s\n", $1, $2 / 1e6, $3, $4, $5, $6, $2 / 1e6 / $3, $3 / $4, $7 == 1 ? "CPU" : "clock" }'
     done
 done
