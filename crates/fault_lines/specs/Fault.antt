@@ -21,7 +21,7 @@ use Rattle.ogg_finish.specs.FinishFault as Fin
 use Rattle.ogg_split.specs.SplitFault as S
 use Rattle.serve_machine.specs.HubFault as H
 use Rattle.fault_lines.specs.declared.fault.Fault.{Fault}
-use Rattle.fault_lines.specs.declared.fault.Fault.TheVariants.{File, Locked, Memory, Open, Feed, Write, TooMany, Index, Split, Finish, Make, Archive, Mended, Net, Serve, Failed, Refused, Seal}
+use Rattle.fault_lines.specs.declared.fault.Fault.TheVariants.{File, Locked, Foreign, Memory, Open, Feed, Write, TooMany, Index, Split, Finish, Make, Archive, Mended, Net, Serve, Failed, Refused, Seal}
 
 -- a number and a name, and then this
 abbrev pub coded : ℕ → List ℕ → List ℕ → List ℕ
@@ -64,6 +64,7 @@ make_rest MakeMemory = line_end
 abbrev pub fault_line : Fault → List ℕ
 fault_line File = codes "fault file" ++ line_end
 fault_line Locked = codes "fault locked" ++ line_end
+fault_line Foreign = codes "fault foreign" ++ line_end
 fault_line Memory = codes "fault memory" ++ line_end
 fault_line (Open fault) = codes "fault open " ++ coded (O.code_of fault) (O.name_of fault) (open_rest fault)
 fault_line (Feed fault) = codes "fault feed " ++ coded (F.code_of fault) (F.name_of fault) line_end

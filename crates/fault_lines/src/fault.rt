@@ -27,6 +27,9 @@ pub enum Fault {
     /// Another program writes the file.
     #[error("another program writes the file")]
     Locked,
+    /// A file holds something else than a recording.
+    #[error("the file holds something else than a recording")]
+    Foreign,
     /// Memory was refused.
     #[error("memory was refused")]
     Memory,
@@ -104,6 +107,7 @@ fn line_of(fault: Fault) -> Line
     match fault {
         Fault::File => words(b"fault file"),
         Fault::Locked => words(b"fault locked"),
+        Fault::Foreign => words(b"fault foreign"),
         Fault::Memory => words(b"fault memory"),
         Fault::Open(fault) => {
             let mut line = open_rest(fault);
