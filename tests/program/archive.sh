@@ -71,6 +71,28 @@ archive "$work" <"$work/whole"
 came "a folder" 1 '' 'fault file\n'
 archive /dev/full <"$work/whole"
 came "no regular file" 1 '' 'fault open 1 Disk\n'
+# A file of another kind stays as it is; one of ours that a stop left with nothing committed doesn't.
+for front in 'ID3\4\0\0\0\0\0\7' '\377\373\220\0' 'fLaC' '# ' '\0\0\0\030ftypM4A ' '\0\0\0\0ftyp'; do
+    printf "$front" >"$work/other"
+    cp "$work/other" "$work/was"
+    archive "$work/other" <"$work/whole"
+    came "a file of another kind, $front" 1 '' 'fault foreign\n'
+    check "a file of another kind, $front: it is as it was" cmp "$work/other" "$work/was"
+    run record "$work/other" --end-open <"$work/feed"
+    came "a file of another kind, $front, that record goes on with" 1 '' 'fault foreign\n'
+    run record "$work/other" --renumber --seal <"$work/feed"
+    came "a file of another kind, $front, that record goes on with by other serials" 1 '' 'fault foreign\n'
+    check "a file of another kind, $front: it is still as it was" cmp "$work/other" "$work/was"
+done
+for front in '' 'x' '\0' '\0ggS\0\2' '\0ab' '\0\0\0\0\0\0\0\0\0\0' '\0\0\0\030ftyq'; do
+    printf "$front" >"$work/stopped.ogg"
+    archive "$work/stopped.ogg" --seal <"$work/whole"
+    came "nothing committed, $front" 0 '' 'archived 1 2 122 0\n'
+done
+printf 'Once upon a time there was a recorder.' >"$work/other"
+archive "$work/other" <"$work/whole"
+came "a text that begins as a page does" 1 '' 'fault open 2 Page 0 2 Pattern\n'
+
 mkfifo "$work/pipe"
 "$program" record "$work/locked.ogg" <"$work/pipe" >/dev/null 2>&1 &
 exec 7>"$work/pipe"

@@ -53,6 +53,13 @@ up "$work/open.ogg" </dev/null
 check "what was open is ended" until_listed 'stream 1 91 3 ended'
 down
 
+# A file of another kind stays as it is.
+printf 'ID3\4' >"$work/other"
+cp "$work/other" "$work/was"
+run station "$work/other" 127.0.0.1:0 </dev/null
+came "a file of another kind" 1 '' 'fault foreign\n'
+check "a file of another kind: it is as it was" cmp "$work/other" "$work/was"
+
 # A source over HTTP, and how many connections there may be.
 printf 'secret\nanother line\n' >"$work/password"
 up "$work/http.ogg" --password-file "$work/password" --listeners 2 --no-skeleton </dev/null

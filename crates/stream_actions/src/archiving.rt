@@ -1,6 +1,6 @@
 //! A stream that is recorded as it comes.
 
-use crate::recorders::{open_recorder, reopen, seal_if};
+use crate::recorders::{open_own_recorder, reopen, seal_if};
 use crate::telling::Told;
 use disk_model::{FileDisk, FileMode};
 use fault_lines::Fault;
@@ -30,8 +30,8 @@ pub struct ArchiveOptions {
 /// open is ended first. What is mended or refused is told on standard error, and at the end what was recorded.
 ///
 /// It is `Archive` if standard input is the file itself, which isn't opened then, or if the stream isn't recorded to
-/// its end. It is `Locked`, `File`, `Memory` or `Open` if the file can't be opened, first or after a fault of the disk,
-/// and `Failed` if the disk fails again before anything more is kept. It is `Refused` or `Mended` after a refusal, or
+/// its end. It is `Locked`, `File`, `Foreign`, `Memory` or `Open` if the file can't be opened, first or after a fault of
+/// the disk, and `Failed` if the disk fails again before anything more is kept. It is `Refused` or `Mended` after a refusal, or
 /// in a strict run a mend, and `Seal` if the file isn't cut. What was told as recorded stays in the file.
 pub fn archive(rt: &HostRuntime, file: &str, options: ArchiveOptions) -> Result<(), Fault> {
     if is_input(rt, file) {
@@ -43,7 +43,7 @@ pub fn archive(rt: &HostRuntime, file: &str, options: ArchiveOptions) -> Result<
 
 /// Opens the file, which is made if there is none, and ends what an earlier run left open in it.
 fn open_ended(rt: &HostRuntime, file: &str, most: u32) -> Result<Recorder<FileDisk>, Fault> {
-    let mut recorder = open_recorder(rt, file, FileMode::Create)?;
+    let mut recorder = open_own_recorder(rt, file)?;
     // `clap` has checked that `most` lies in this range, and nothing waits yet.
     recorder.group(most.clamp(1, 1024));
     end_open(&mut recorder)?;

@@ -1,7 +1,8 @@
 //! The commands that read a feed from standard input.
+ghost use Rattle.std.specs.Prelude.{◌≡◌, IfOk};
 
 use crate::mends::MendLines;
-use crate::recorders::{open_recorder, seal_if};
+use crate::recorders::{open_own_recorder, open_recorder, seal_if};
 use disk_model::{FileDisk, FileMode};
 use fault_lines::Fault;
 use feed_mux::{check_feed_for, mux_for};
@@ -60,11 +61,18 @@ pub struct RecordEnds {
     pub seal: bool,
 }
 
+impl RecordEnds {
+    /// Whether it goes on with what an earlier run has left.
+    fn goes_on(self) -> bool {
+        self.end_open || self.renumber
+    }
+}
+
 /// Records the feed on standard input into the file, which is made if there is none, and writes the replies to
 /// standard output. `most` commands share a commit. If `strict` says so, the feed ends after the first refusal.
 ///
-/// It is `Locked`, `File`, `Memory` or `Open` if the file can't be opened: nothing of the feed is read then. It is
-/// `Feed`, `TooMany`, `Write`, `Memory` or `Refused` as for `mux`, `Failed` if the disk has failed, and `Seal` if the
+/// It is `Locked`, `File`, `Memory` or `Open` if the file can't be opened, and `Foreign` if it was to go on with a file
+/// that holds something else than a recording: nothing of the feed is read then. It is `Feed`, `TooMany`, `Write`, `Memory` or `Refused` as for `mux`, `Failed` if the disk has failed, and `Seal` if the
 /// file isn't cut. What was told as kept stays in the file.
 pub fn record(
     rt: &HostRuntime,
@@ -73,10 +81,21 @@ pub fn record(
     most: u32,
     strict: bool,
 ) -> Result<(), Fault> {
-    let mut recorder = open_recorder(rt, file, FileMode::Create)?;
+    let mut recorder = open_file(rt, file, ends)?;
     // `clap` has checked that `most` lies in this range, and nothing waits yet.
     recorder.group(most.clamp(1, 1024));
     record_by(rt, recorder, ends, strict)
+}
+
+/// Opens the file to record into it. What goes on with a file may not begin in one that holds something else.
+fn open_file(rt: &HostRuntime, file: &str, ends: RecordEnds) -> Result<Recorder<FileDisk>, Fault>
+    ensures { IfOk result (λ recorder. recorder.held ≡ 0) }
+{
+    if ends.goes_on() {
+        open_own_recorder(rt, file)
+    } else {
+        open_recorder(rt, file, FileMode::Create)
+    }
 }
 
 /// Records the feed on standard input by this recorder, and writes the replies to standard output.
@@ -110,8 +129,7 @@ fn record_ended<W: Write + Drop>(
     feed: &mut BufReader<Stdin>,
     replies: &mut ReplyLines<W>,
 ) -> Result<(), Fault> {
-    let ends_open = ends.end_open || ends.renumber;
-    if ends_open && end_open_streams(&mut recorder, replies).is_err() {
+    if ends.goes_on() && end_open_streams(&mut recorder, replies).is_err() {
         return Err(Fault::Write);
     }
     if ends.renumber {
