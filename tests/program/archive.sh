@@ -59,6 +59,21 @@ came "junk in front" 0 '' 'mended 1 Junk 0 4\narchived 1 2 122 1\n'
 run finish "$work/junk.ogg"
 check "junk in front: the stream" cmp "$work/out" "$work/whole"
 
+# Bytes that are of no page are told of while they come, if they are many.
+head -c 5000000 /dev/zero | cat - "$work/whole" >"$work/junk"
+archive "$work/silent.ogg" <"$work/junk"
+check "much junk: status" [ "$status" -eq 0 ]
+check "much junk: what was told: $(cat "$work/err")" python3 - "$work/err" <<'END'
+import re, sys
+lines = open(sys.argv[1]).read().splitlines()
+told = [int(re.fullmatch(r"no page in the (\d+) bytes from 0 on", it)[1]) for it in lines[:-2]]
+assert lines[-2:] == ["mended 1 Junk 0 5000000", "archived 1 2 122 1"], lines
+assert told and told[0] >= 1048576 and all(b >= 2 * a for a, b in zip(told, told[1:])), told
+END
+head -c 1000000 /dev/zero | cat "$work/whole" - "$work/whole" >"$work/junk"
+archive "$work/some.ogg" <"$work/junk"
+came "some junk between pages" 0 '' 'mended 1 Junk 122 1000000\narchived 2 4 244 1\n'
+
 # What is refused is told, and what follows is recorded. A position that goes back breaks a rule.
 pages "02 0 1 0 3 abc" "00 9 1 1 5 hello" "00 5 1 2 1 x" "04 9 1 3 3 end" >"$work/back"
 archive "$work/back.ogg" <"$work/back"

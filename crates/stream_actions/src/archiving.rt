@@ -243,7 +243,10 @@ fn record_steps(
                 told.mended(junk);
                 return Ok(());
             }
-            Ok(step) => told.stepped(&step),
+            Ok(step) => {
+                told.stepped(&step);
+                told.searched(&step, import.offset());
+            }
             Err(fault) => return Err(Fault::Archive(fault)),
         }
         told.settle(recorder.held(), recorder.is_failed(), recorder.end());

@@ -10,6 +10,7 @@
 mod archiving;
 mod mends;
 mod recorders;
+mod searching;
 mod streams;
 mod telling;
 

@@ -2,6 +2,7 @@
 //! to.
 
 use crate::mends::MendLines;
+use crate::searching::Search;
 use fault_lines::{Fault, write_fault};
 use import_feed::Mends;
 use import_mend::Mend;
@@ -30,6 +31,7 @@ pub struct Told<'a> {
     is_refused: bool,
     // the length of the file when it was opened again
     reopened: Option<u64>,
+    search: Search,
     // the caller has a line of its own for the terminal
     shows_other: bool,
     shown: Option<Instant>,
@@ -52,6 +54,7 @@ impl<'a> Told<'a> {
             packets: 0,
             is_refused: false,
             reopened: None,
+            search: Search::at(0),
             shows_other: false,
             shown: None,
         }
@@ -80,6 +83,25 @@ impl<'a> Told<'a> {
                 self.taken(*offset, taken);
             }
             Step::Ended { junk } => self.mended(*junk),
+        }
+    }
+
+    /// After a step the stream was read up to this offset. A mend is told only with the page after it, so if many bytes
+    /// without a page come, as of a stream that is no Ogg at all, that is told while they come.
+    pub(crate) fn searched(&mut self, step: &Step, offset: u64) {
+        match step {
+            Step::Page { .. } => self.search = Search::at(offset),
+            Step::PassedOver => self.passed_over(offset),
+            Step::Flushed(_) => {}
+            Step::Ended { .. } => {}
+        }
+    }
+
+    /// Bytes up to this offset are of no page.
+    fn passed_over(&mut self, offset: u64) {
+        if let Some(bytes) = self.search.passed(offset) {
+            let line = self.search.line(bytes);
+            self.tell(line.as_slice());
         }
     }
 
