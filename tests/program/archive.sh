@@ -72,7 +72,7 @@ assert told and told[0] >= 1048576 and all(b >= 2 * a for a, b in zip(told, told
 END
 head -c 1000000 /dev/zero | cat "$work/whole" - "$work/whole" >"$work/junk"
 archive "$work/some.ogg" <"$work/junk"
-came "some junk between pages" 0 '' 'mended 1 Junk 122 1000000\narchived 2 4 244 1\n'
+came "some junk between pages" 0 '' 'mended 1 Junk 95 1000000\narchived 2 4 244 1\n'
 
 # What is refused is told, and what follows is recorded. A position that goes back breaks a rule.
 pages "02 0 1 0 3 abc" "00 9 1 1 5 hello" "00 5 1 2 1 x" "04 9 1 3 3 end" >"$work/back"

@@ -202,7 +202,8 @@ came "an empty password" 1 '' 'fault file\n'
 head -c 4097 /dev/zero | tr '\0' x >"$work/password"
 run station "$work/http.ogg" 127.0.0.1:0 --password-file "$work/password" </dev/null
 came "a password file that is too long" 1 '' 'fault file\n'
-run station "$work/password" 127.0.0.1:0 </dev/null
+: >"$work/empty.ogg"
+run station "$work/empty.ogg" 127.0.0.1:0 </dev/null
 kill_status=$status
 check "an empty file is gone on with, until it is stopped" [ "$kill_status" = 124 ]
 

@@ -7,7 +7,7 @@ use fault_lines::Fault;
 use ogg_recorder::Recorder;
 use ogg_serve::Hub;
 use std::alloc::Global;
-use stream_actions::{lock_file, recorder_on};
+use stream_actions::{lock_file, own_recorder_on};
 
 /// A file whose last bytes are read from memory: they are what listeners hear.
 pub type HeardDisk = TailDisk<FileDisk>;
@@ -19,7 +19,7 @@ const HEARD: usize = 262_144;
 /// A hub over a file that is recorded into while it is heard, with room for this many sessions. The file is made if there
 /// is none, and locked for as long as it is open. The station commits what waits.
 ///
-/// Its faults are those of `lock_file` and `recorder_on`, and `Memory`.
+/// Its faults are those of `lock_file` and `own_recorder_on`, and `Memory`.
 pub fn hear_file(rt: &HostRuntime, file: &str, most: usize) -> Result<Hub<HeardDisk>, Fault>
     ensures room { IfOk result (λ hub. hub.room ≡ most) }
 {
@@ -33,7 +33,7 @@ fn open_heard(rt: &HostRuntime, file: &str) -> Result<Recorder<HeardDisk>, Fault
 {
     let disk = lock_file(rt, file, FileMode::Create)?;
     match TailDisk::new(rt.alloc(), disk, HEARD) {
-        Ok(disk) => recorder_on(rt.alloc(), disk),
+        Ok(disk) => own_recorder_on(rt.alloc(), disk),
         Err(_) => Err(Fault::Memory),
     }
 }

@@ -15,6 +15,6 @@ mod streams;
 mod telling;
 
 pub use archiving::{ArchiveOptions, archive};
-pub use recorders::{lock_file, open_recorder, own_recorder_on, recorder_on, seal_file};
+pub use recorders::{lock_file, open_recorder, own_recorder_on, seal_file};
 pub use streams::{RecordEnds, check, feed, mux, record};
 pub use telling::Told;

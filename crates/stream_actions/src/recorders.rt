@@ -52,7 +52,7 @@ pub fn lock_file(rt: &HostRuntime, file: &str, mode: FileMode) -> Result<FileDis
 /// A recorder on a disk. Nothing waits in it.
 ///
 /// It is `Open`, with what `Recorder::open` has met, if what the disk has can't be recorded on; the disk is let go.
-pub fn recorder_on<D: Disk + Drop>(alloc: Global, disk: D) -> Result<Recorder<D>, Fault>
+pub(crate) fn recorder_on<D: Disk + Drop>(alloc: Global, disk: D) -> Result<Recorder<D>, Fault>
     ensures held { IfOk result (λ recorder. recorder.held ≡ 0) }
     ensures open { IfErr result (λ fault. (opening : OpenFaultOf) × (fault ≡ Fault.Open opening)) }
 {
