@@ -1,7 +1,10 @@
 //! Sessions of a hub, whose file is recorded meanwhile.
-use crate::tools::{GET_ALL, OF_THREE, OF_TWO, TWO, ask, gives, hub_again, hub_over};
+use crate::tools::{
+    GET_ALL, OF_THREE, OF_TWO, TWO, ask, gives, holds, holds_failing, hub_again, hub_failing,
+    hub_of,
+};
 use chain_rules::{Command, Refusal};
-use disk_model::{Disk, FuseDisk, MemDisk};
+use disk_model::Disk;
 use ogg_recorder::Kept;
 use ogg_serve::{Hub, HubFault, OpenFault, Outcome, Progress};
 use std::process::Abort;
@@ -39,8 +42,7 @@ fn keeps_its_answer<D: Disk + Drop>(hub: &mut Hub<D>) -> bool {
 fn a_session_gets_what_was_committed_when_its_head_was_complete(
     rt: HostRuntime,
 ) -> Result<(), Fail> {
-    let mut hub = hub_over(rt.alloc(), MemDisk::of(rt.alloc(), TWO)?, 1)?;
-    assert!(rt; keeps_its_answer(&mut hub));
+    assert!(rt; holds(hub_of(rt.alloc(), TWO, 1), keeps_its_answer)?);
     Ok(())
 }
 
@@ -75,8 +77,7 @@ fn answers_as_flushed<D: Disk + Drop>(hub: &mut Hub<D>) -> bool {
 
 #[test]
 fn what_waits_is_in_no_answer_until_a_flush(rt: HostRuntime) -> Result<(), Fail> {
-    let mut hub = hub_over(rt.alloc(), MemDisk::of(rt.alloc(), TWO)?, 8)?;
-    assert!(rt; answers_as_flushed(&mut hub));
+    assert!(rt; holds(hub_of(rt.alloc(), TWO, 8), answers_as_flushed)?);
     Ok(())
 }
 
@@ -111,8 +112,7 @@ fn has_64_sessions<D: Disk + Drop>(hub: &mut Hub<D>) -> bool {
 
 #[test]
 fn sessions_are_64_and_heads_come_byte_by_byte(rt: HostRuntime) -> Result<(), Fail> {
-    let mut hub = hub_over(rt.alloc(), MemDisk::of(rt.alloc(), TWO)?, 1)?;
-    assert!(rt; has_64_sessions(&mut hub));
+    assert!(rt; holds(hub_of(rt.alloc(), TWO, 1), has_64_sessions)?);
     Ok(())
 }
 
@@ -135,9 +135,7 @@ fn outlives<D: Disk + Drop>(hub: &mut Hub<D>) -> bool {
 fn sessions_outlive_a_disk_that_fails(rt: HostRuntime) -> Result<(), Fail> {
     // The opening makes five calls of the disk, the request's head one, and the command four, the last of which is a
     // sync. The reopening begins with a sync.
-    let inner = FuseDisk::fail_once(MemDisk::of(rt.alloc(), TWO)?, 10);
-    let mut hub = hub_over(rt.alloc(), FuseDisk::fail_once(inner, 11), 1)?;
-    assert!(rt; outlives(&mut hub));
+    assert!(rt; holds_failing(hub_failing(rt.alloc(), 10, 11), outlives)?);
     Ok(())
 }
 
@@ -209,7 +207,6 @@ fn keeps_its_answer_again<D: Disk + Drop>(hub: &mut Hub<D>) -> bool {
 /// `rt try --test --fail-alloc N` refuses the `N`th request for memory.
 #[test]
 fn a_session_gets_its_answer_after_memory_was_refused(rt: HostRuntime) -> Result<(), Fail> {
-    let mut hub = hub_again(rt.alloc(), TWO)?;
-    assert!(rt; keeps_its_answer_again(&mut hub));
+    assert!(rt; holds(hub_again(rt.alloc(), TWO), keeps_its_answer_again)?);
     Ok(())
 }

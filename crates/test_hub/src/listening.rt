@@ -1,7 +1,7 @@
 //! Listeners of a hub, whose file is recorded meanwhile.
-use crate::tools::{TWO, hub_again, hub_over};
+use crate::tools::{TWO, holds, holds_failing, hub_again, hub_failing, hub_of};
 use chain_rules::{Begin, Command, Listed, NewStream};
-use disk_model::{Disk, FuseDisk, MemDisk};
+use disk_model::Disk;
 use ogg_serve::{Hub, HubFault, JoinPlace, Listener, OpenFault, Outcome};
 use std::alloc::{AllocError, Global};
 use std::process::Abort;
@@ -90,8 +90,12 @@ fn hears_two_links<D: Disk + Drop>(hub: &mut Hub<D>, next: &Command) -> bool {
 #[test]
 fn a_listener_hears_commands_as_they_are_kept(rt: HostRuntime) -> Result<(), Fail> {
     let next = begin_link(rt.alloc(), 2)?;
-    let mut hub = hub_over(rt.alloc(), MemDisk::of(rt.alloc(), TWO)?, 1)?;
-    assert!(rt; hears_two_links(&mut hub, &next));
+    assert!(rt;
+        holds(
+            hub_of(rt.alloc(), TWO, 1),
+            |hub| hears_two_links(hub, &next)
+        )?
+    );
     Ok(())
 }
 
@@ -111,8 +115,12 @@ fn waits_for_the_next_link<D: Disk + Drop>(hub: &mut Hub<D>, next: &Command) -> 
 #[test]
 fn a_listener_waits_for_the_next_link(rt: HostRuntime) -> Result<(), Fail> {
     let next = begin_link(rt.alloc(), 2)?;
-    let mut hub = hub_over(rt.alloc(), MemDisk::of(rt.alloc(), TWO)?, 8)?;
-    assert!(rt; waits_for_the_next_link(&mut hub, &next));
+    assert!(rt;
+        holds(
+            hub_of(rt.alloc(), TWO, 8),
+            |hub| waits_for_the_next_link(hub, &next)
+        )?
+    );
     Ok(())
 }
 
@@ -157,9 +165,7 @@ fn goes_on_after_a_reopening<D: Disk + Drop>(hub: &mut Hub<D>) -> bool {
 #[test]
 fn a_listener_outlives_a_reopening_that_fails(rt: HostRuntime) -> Result<(), Fail> {
     // The opening makes five calls of the disk, the join two, and what is heard four. The reopening begins with a sync.
-    let disk = FuseDisk::fail_once(MemDisk::of(rt.alloc(), TWO)?, 12);
-    let mut hub = hub_over(rt.alloc(), disk, 1)?;
-    assert!(rt; goes_on_after_a_reopening(&mut hub));
+    assert!(rt; holds_failing(hub_failing(rt.alloc(), 12, 0), goes_on_after_a_reopening)?);
     Ok(())
 }
 
@@ -181,9 +187,7 @@ fn hears_after_a_fault<D: Disk + Drop>(hub: &mut Hub<D>) -> bool {
 #[test]
 fn a_listener_stays_as_it_was_after_a_fault(rt: HostRuntime) -> Result<(), Fail> {
     // The opening makes five calls of the disk, the join two, and each buffer that is filled one.
-    let disk = FuseDisk::fail_once(MemDisk::of(rt.alloc(), TWO)?, 9);
-    let mut hub = hub_over(rt.alloc(), disk, 1)?;
-    assert!(rt; hears_after_a_fault(&mut hub));
+    assert!(rt; holds_failing(hub_failing(rt.alloc(), 9, 0), hears_after_a_fault)?);
     Ok(())
 }
 
@@ -203,7 +207,6 @@ fn joins_again<D: Disk + Drop>(hub: &mut Hub<D>) -> bool {
 /// `rt try --test --fail-alloc N` refuses the `N`th request for memory.
 #[test]
 fn a_listener_joins_after_memory_was_refused(rt: HostRuntime) -> Result<(), Fail> {
-    let mut hub = hub_again(rt.alloc(), TWO)?;
-    assert!(rt; joins_again(&mut hub));
+    assert!(rt; holds(hub_again(rt.alloc(), TWO), joins_again)?);
     Ok(())
 }

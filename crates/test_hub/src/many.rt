@@ -1,8 +1,8 @@
 //! A hub with room for 200 sessions.
-use crate::tools::{GET_ALL, OF_TWO, TWO, gives};
+use crate::tools::{GET_ALL, OF_TWO, TWO, gives, holds, recorder_of};
 use disk_model::{Disk, MemDisk};
-use ogg_recorder::Recorder;
 use ogg_serve::{Hub, HubFault, Progress};
+use std::alloc::Global;
 use std::process::Abort;
 use std::test::Fail;
 
@@ -34,14 +34,16 @@ fn serves_200<D: Disk + Drop>(hub: &mut Hub<D>) -> bool {
     hub.connect() == Ok(200)
 }
 
+/// A hub over the two pages that has the room.
+fn hub_with_room(alloc: Global) -> Result<Hub<MemDisk>, Fail> {
+    match Hub::with_room(alloc, recorder_of(alloc, TWO)?, 200) {
+        Ok(hub) => Ok(hub),
+        Err(_) => Err(Fail::from("no hub")),
+    }
+}
+
 #[test]
 fn each_of_200_sessions_is_answered(rt: HostRuntime) -> Result<(), Fail> {
-    let Ok(recorder) = Recorder::open(rt.alloc(), MemDisk::of(rt.alloc(), TWO)?) else {
-        return Err(Fail::from("not opened"));
-    };
-    let Ok(mut hub) = Hub::with_room(rt.alloc(), recorder, 200) else {
-        return Err(Fail::from("no hub"));
-    };
-    assert!(rt; serves_200(&mut hub));
+    assert!(rt; holds(hub_with_room(rt.alloc()), serves_200)?);
     Ok(())
 }

@@ -162,7 +162,21 @@ fn is_pulled(
     Ok(got.as_slice() == want)
 }
 
-/// Whether the case's response comes by buffers of one byte, of some, and of all.
+/// Whether pulls of one byte, of some, and of all give the bytes that are wanted.
+fn is_pulled_by_each(
+    alloc: Global,
+    request: Request,
+    index: &Index,
+    files: (&[u8], &[u8]),
+) -> Result<bool, Fail> {
+    Ok(
+        is_pulled(alloc, request, index, files, 1)?
+            && is_pulled(alloc, request, index, files, 7)?
+            && is_pulled(alloc, request, index, files, 65_536)?,
+    )
+}
+
+/// Whether the case's response comes by buffers of each size.
 fn is_given(
     alloc: Global,
     index: &Index,
@@ -179,20 +193,29 @@ fn is_given(
     };
     let content = if one { own } else { bytes };
     let want = joined(alloc, text, content, start, end)?;
-    Ok(
-        is_pulled(alloc, request, index, (bytes, &want), 1)?
-            && is_pulled(alloc, request, index, (bytes, &want), 7)?
-            && is_pulled(alloc, request, index, (bytes, &want), 65_536)?,
-    )
+    is_pulled_by_each(alloc, request, index, (bytes, &want))
+}
+
+/// Whether each case's response comes.
+fn are_given(alloc: Global, index: &Index, files: (&[u8], &[u8])) -> Result<bool, Fail> {
+    for case in &CASES {
+        if !is_given(alloc, index, files, case)? {
+            return Ok(false);
+        }
+    }
+    Ok(true)
+}
+
+/// The same of the index of these bytes.
+fn are_given_of(alloc: Global, bytes: &[u8], own: &[u8]) -> Result<bool, Fail> {
+    let index = Index::scan(alloc, bytes)?;
+    are_given(alloc, &index, (bytes, own))
 }
 
 #[test]
 fn buffers_of_each_size_give_the_response(rt: HostRuntime) -> Result<(), Fail> {
     let bytes = file_of(rt.alloc(), false)?;
     let own = file_of(rt.alloc(), true)?;
-    let index = Index::scan(rt.alloc(), bytes.as_slice())?;
-    for case in &CASES {
-        assert!(rt; is_given(rt.alloc(), &index, (&bytes, &own), case)?);
-    }
+    assert!(rt; are_given_of(rt.alloc(), &bytes, &own)?);
     Ok(())
 }

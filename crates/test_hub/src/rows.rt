@@ -2,8 +2,8 @@
 //!
 //! The link has pages of 31, 33 and 27 bytes.
 use crate::fakes::{FakeReader, FakeWriter};
-use crate::tools::{GET_ALL, OF_THREE, OF_TWO, TWO, hub_over};
-use disk_model::{Disk, MemDisk};
+use crate::tools::{GET_ALL, OF_THREE, OF_TWO, TWO, holds, hub_of};
+use disk_model::Disk;
 use ogg_serve::{Hub, LiveFeed, Progress, Served, live_one};
 use std::alloc::Global;
 use std::test::Fail;
@@ -79,13 +79,20 @@ fn is_answered<D: Disk + Drop>(hub: &mut Hub<D>, request: &[u8], head: &[u8], pa
     }
 }
 
-#[test]
-fn parts_of_a_link_are_given_as_their_ranges_say(rt: HostRuntime) -> Result<(), Fail> {
-    let mut hub = hub_over(rt.alloc(), MemDisk::of(rt.alloc(), THREE)?, 1)?;
+/// Whether each range is answered as it says.
+fn are_answered<D: Disk + Drop>(hub: &mut Hub<D>) -> bool {
     for &(request, head, from, to) in &RANGES {
         let part = THREE.get(from..to).unwrap_or(&[]);
-        assert!(rt; is_answered(&mut hub, request, head, part));
+        if !is_answered(hub, request, head, part) {
+            return false;
+        }
     }
+    true
+}
+
+#[test]
+fn parts_of_a_link_are_given_as_their_ranges_say(rt: HostRuntime) -> Result<(), Fail> {
+    assert!(rt; holds(hub_of(rt.alloc(), THREE, 1), are_answered)?);
     Ok(())
 }
 
@@ -107,12 +114,25 @@ fn got<D: Disk + Drop>(
     }
 }
 
+/// Whether the end is recorded while the file before it is sent, and is sent to who comes next.
+fn is_recorded<D: Disk + Drop>(
+    alloc: Global,
+    hub: &mut Hub<D>,
+    feed: &mut LiveFeed<&[u8], FakeWriter>,
+) -> bool {
+    got(alloc, hub, feed, OF_TWO) == Some(175)
+        && hub.end() == 91
+        && got(alloc, hub, feed, OF_THREE) == Some(202)
+}
+
 #[test]
 fn the_end_is_recorded_while_the_file_before_it_is_sent(rt: HostRuntime) -> Result<(), Fail> {
     let alloc = rt.alloc();
-    let mut hub = hub_over(alloc, MemDisk::of(alloc, TWO)?, 1)?;
-    let mut feed = LiveFeed::new(alloc, END, FakeWriter::new(Vec::new(alloc), 0));
-    assert!(rt; got(alloc, &mut hub, &mut feed, OF_TWO) == Some(175) && hub.end() == 91);
-    assert!(rt; got(alloc, &mut hub, &mut feed, OF_THREE) == Some(202));
+    assert!(rt;
+        holds(hub_of(alloc, TWO, 1), |hub| {
+            let mut feed = LiveFeed::new(alloc, END, FakeWriter::new(Vec::new(alloc), 0));
+            is_recorded(alloc, hub, &mut feed)
+        })?
+    );
     Ok(())
 }

@@ -1,5 +1,5 @@
 //! Hubs and sessions for the tests.
-use disk_model::{Disk, MemDisk};
+use disk_model::{Disk, FuseDisk, MemDisk};
 use ogg_recorder::{Recorder, record_feed};
 use ogg_serve::{Hub, Progress};
 use std::alloc::Global;
@@ -27,7 +27,7 @@ pub(super) const OF_THREE: &[u8] =
     OggS\0\x04\x05\0\0\0\0\0\0\0\x01\0\0\0\x02\0\0\0\xdb\x9d\x91\x8b\0";
 
 /// A hub over this disk, whose commands share commits in groups of `most`.
-pub(super) fn hub_over<D: Disk + Drop>(alloc: Global, disk: D, most: u32) -> Result<Hub<D>, Fail> {
+fn hub_over<D: Disk + Drop>(alloc: Global, disk: D, most: u32) -> Result<Hub<D>, Fail> {
     match Recorder::open(alloc, disk) {
         Ok(mut recorder) => {
             if most > 0 && most <= 1024 && recorder.held() == 0 {
@@ -39,6 +39,54 @@ pub(super) fn hub_over<D: Disk + Drop>(alloc: Global, disk: D, most: u32) -> Res
             }
         }
         Err(_) => Err(Fail::from("not opened")),
+    }
+}
+
+/// A recorder of these bytes, on a disk in memory.
+pub(super) fn recorder_of(alloc: Global, bytes: &[u8]) -> Result<Recorder<MemDisk>, Fail> {
+    match Recorder::open(alloc, MemDisk::of(alloc, bytes)?) {
+        Ok(recorder) => Ok(recorder),
+        Err(_) => Err(Fail::from("not opened")),
+    }
+}
+
+/// A hub over a disk in memory with these bytes, whose commands share commits in groups of `most`.
+pub(super) fn hub_of(alloc: Global, bytes: &[u8], most: u32) -> Result<Hub<MemDisk>, Fail> {
+    hub_over(alloc, MemDisk::of(alloc, bytes)?, most)
+}
+
+/// A disk of which two calls may fail.
+pub(super) type Failing = FuseDisk<FuseDisk<MemDisk>>;
+
+/// A hub over the two pages, on a disk of which the calls with these numbers fail once. No call has the number 0.
+pub(super) fn hub_failing(alloc: Global, first: u64, second: u64) -> Result<Hub<Failing>, Fail> {
+    let inner = FuseDisk::fail_once(MemDisk::of(alloc, TWO)?, first);
+    hub_over(alloc, FuseDisk::fail_once(inner, second), 1)
+}
+
+/// Whether this holds of the hub, which is then dropped. A test that owned the hub itself would be dear to prove.
+pub(super) fn holds<F: FnOnce(&mut Hub<MemDisk>) -> bool>(
+    hub: Result<Hub<MemDisk>, Fail>,
+    check: F,
+) -> Result<bool, Fail>
+    requires { F.IsAlwaysCallable check }
+{
+    match hub {
+        Ok(mut hub) => Ok(check(&mut hub)),
+        Err(fault) => Err(fault),
+    }
+}
+
+/// The same of a hub whose disk may fail.
+pub(super) fn holds_failing<F: FnOnce(&mut Hub<Failing>) -> bool>(
+    hub: Result<Hub<Failing>, Fail>,
+    check: F,
+) -> Result<bool, Fail>
+    requires { F.IsAlwaysCallable check }
+{
+    match hub {
+        Ok(mut hub) => Ok(check(&mut hub)),
+        Err(fault) => Err(fault),
     }
 }
 
@@ -94,16 +142,24 @@ const BEGIN_AND_PUT: &[u8] = b"\x01\x2f\0\0\0\0\x01\0\x01\0\0\0\x01\0\x03\0\0\0a
     \0\0\0\0\0\0\0\0\0\0\0\0\0\0\0\0\0\0\0\0\0\0\0\0\0\0\0\0\0\
     \x02\x17\0\0\0\x01\0\x01\0\0\0\x05\0\0\0\0\0\0\0\x05\0\0\0hello";
 
-/// A hub over a file to which two commands were given since it was opened. From now on `most` commands share a commit.
-pub(super) fn hub_after_two(alloc: Global, most: u32) -> Result<Hub<MemDisk>, Fail> {
+/// Whether a recorder keeps the two commands.
+fn keeps_both<D: Disk>(alloc: Global, recorder: &mut Recorder<D>) -> bool {
     let mut feed = BEGIN_AND_PUT;
     let mut replies = Vec::new(alloc);
-    let Ok(mut recorder) = Recorder::open(alloc, MemDisk::of(alloc, b"")?) else {
-        return Err(Fail::from("not opened"));
-    };
-    let tally = record_feed(alloc, &mut feed, &mut replies, &mut recorder)?;
-    if tally.kept != 2 || recorder.held() != 0 || most < 1 || most > 1024 {
-        return Err(Fail::from("not kept"));
+    match record_feed(alloc, &mut feed, &mut replies, recorder) {
+        Ok(tally) => tally.kept == 2,
+        Err(_) => false,
+    }
+}
+
+/// A hub over this recorder. From now on `most` commands share a commit.
+fn grouped<D: Disk + Drop>(
+    alloc: Global,
+    recorder: Recorder<D>,
+    most: u32,
+) -> Result<Hub<D>, Fail> {
+    if recorder.held() != 0 || most < 1 || most > 1024 {
+        return Err(Fail::from("not grouped"));
     }
     match Hub::new(alloc, recorder) {
         Ok(mut hub) => {
@@ -111,5 +167,15 @@ pub(super) fn hub_after_two(alloc: Global, most: u32) -> Result<Hub<MemDisk>, Fa
             Ok(hub)
         }
         Err(_) => Err(Fail::from("no hub")),
+    }
+}
+
+/// A hub over a file to which two commands were given since it was opened. From now on `most` commands share a commit.
+pub(super) fn hub_after_two(alloc: Global, most: u32) -> Result<Hub<MemDisk>, Fail> {
+    let mut recorder = recorder_of(alloc, b"")?;
+    if keeps_both(alloc, &mut recorder) {
+        grouped(alloc, recorder, most)
+    } else {
+        Err(Fail::from("not kept"))
     }
 }
