@@ -39,6 +39,7 @@ printf '%-12s %8s %12s %12s %12s %12s %10s %10s\n' pages MB 'archive, s' 'pair, 
 for packet in 4000 60000; do
     "$work/pages_made" "$bytes" "$packet" >"$work/file"
     rm -f "$work"/*.s
+    sync
     for _ in 1 2 3; do
         rm -f "$work/out.ogg"
         took "$work/archive.s" bash -c '"$recorder" archive "$work/out.ogg" <"$work/file" 2>"$work/err"'

@@ -5,8 +5,9 @@
 #            file and its replies are compared with ours, byte for byte
 #   calls    a C program that makes only these calls: it reads no feed and makes no page, and there is no checksum
 #   sqlite   SQLite (WAL, synchronous=FULL, a row a commit, groups in one transaction)
-# Each feed goes through all four in turn, ROUNDS times (none: 3), and the best time of each counts: a disk's time varies more
-# than the programs do. The seconds are by the clock, since what a commit costs is the disk's. Not part of the tests.
+# Each feed goes through all four in turn, ROUNDS times (none: 9), and the best time of each counts: a disk's time varies more
+# than the programs do. What was written before is on the disk when the first one begins. The seconds are by the clock,
+# since what a commit costs is the disk's. Not part of the tests.
 #
 #     apt-get install libogg-dev libsqlite3-dev && bench/record.sh [FOLDER]    the files lie in FOLDER, else in a temporary one
 [ $# -eq 0 ] || TMPDIR=$1
@@ -38,7 +39,8 @@ sys.stdout.buffer.write(begin([1]))
 for n in range(count):
     sys.stdout.buffer.write(put([(1, n, bytes(n * 31 % 256 for _ in range(size)))]))
 END
-    for _ in $(seq "${ROUNDS:-3}"); do
+    sync
+    for _ in $(seq "${ROUNDS:-9}"); do
         rm -f "$work"/file.*
         ours+="$(clock "$work/ours" "$program" record "$work/file.ogg" --group "$4") "
         libogg+="$(clock "$work/theirs" "$work/libogg" "$work/file.libogg" "$4") "
