@@ -20,7 +20,7 @@ pub record IsFilled (run : List Timed) (begun : ℕ) (lacing : List ℕ) (positi
   pub open_is : 0 < length lacing → nat_lt 0 done ≡ ends_open lacing
 
 -- ---- lacing values
-small_lacing : (n : ℕ) → n < 255 → lacing_of n ≡ n ∷ []
+pub small_lacing : (n : ℕ) → n < 255 → lacing_of n ≡ n ∷ []
 unfolding lacing_of
 small_lacing n h =
     let none : n / 255 ≡ 0 = omega arith in

@@ -4,3 +4,4 @@ pub mod Placing
 pub mod Appending
 pub mod BytesLeft
 pub mod PageByPage
+pub mod WholePage

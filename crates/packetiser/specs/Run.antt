@@ -91,3 +91,8 @@ flagged flags (page ∷ pages) = record page { flags = page.flags + flags } ∷ 
 -- how many bytes the packets of a run have together
 abbrev pub lengths : List Timed → ℕ
 lengths run = sum_by (λ item. length item.packet) run
+
+-- the page of a packet that lies whole in it
+abbrev pub whole_page : ℕ → ℕ → ℕ → Timed → Page
+whole_page serial sequence flags item =
+    record { flags = flags; position = item.position; serial = serial; sequence = sequence; lacing = lace item.packet; body = item.packet }

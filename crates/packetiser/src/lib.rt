@@ -11,6 +11,7 @@
 mod encoding;
 mod item;
 mod laws;
+mod lone;
 mod paging;
 mod place;
 mod size;
