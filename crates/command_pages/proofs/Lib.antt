@@ -7,3 +7,4 @@ pub mod LaidHeaders
 pub mod LaidRuns
 pub mod MadePages
 pub mod Commands
+pub mod LoneEntry

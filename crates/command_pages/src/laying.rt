@@ -94,8 +94,9 @@ fn lay_one(streams: &[StreamState], entries: &[Entry], out: &mut Vec<u8>) -> Res
     ensures full { OnErr result (vec_capacity out.old < vec_len out.old + size_of_pages (pages_of_runs streams.now (runs_of entries.now))) }
     ensures capacity { vec_capacity out.old ≤ vec_capacity out.new }
 {
-    let front = front_run(streams, 0, entries);
-    match lay_run(front.serial, front.next as u32, 0, front.run, out) {
+    let entry = &entries[0];
+    let next = next_sequence(streams, entry.serial);
+    match lay_run(entry.serial, next as u32, 0, entries, out) {
         Ok(_) => Ok(()),
         Err(memory) => Err(memory),
     }

@@ -22,5 +22,5 @@ pub use laying::lay_command;
 pub use limits::{FEW_STREAMS, SEQUENCES, SIZE_OF_END};
 pub use ogg_page::Memory;
 pub use paging::CommandPages;
-pub use runs::size_of_runs;
+pub use runs::{size_of_entry, size_of_runs};
 pub use sizes::{size_of_begin, split_headers};

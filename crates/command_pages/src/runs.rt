@@ -1,5 +1,5 @@
 //! The runs of a put: neighbouring packets of one stream, which go into pages together.
-ghost use Rattle.std.specs.Prelude.{◌≡◌, ◌≤◌, ◌<◌, ◌+◌, ◌^◌, ℕ, List, ◌∷◌, IfSome, length, sum_by, nat_eq, take, drop, take_while, map};
+ghost use Rattle.std.specs.Prelude.{◌≡◌, ◌≤◌, ◌<◌, ◌+◌, ◌^◌, ℕ, List, [], ◌∷◌, IfSome, length, sum_by, nat_eq, take, drop, take_while, map};
 ghost use Rattle.std.specs.List.{fold};
 ghost use Rattle.std.specs.Option.{SomeIff};
 ghost use Rattle.packetiser.specs.Run.{pages_for, run_lacing, run_bytes};
@@ -15,7 +15,7 @@ ghost use Rattle.ogg_command.specs.declared.command.Entry.{Entry as EntryOf};
 use crate::limits::SEQUENCES;
 use link_chain::{StreamState, place_of, stream_at};
 use ogg_command::Entry;
-use packetiser::{pages_of, size_of, values_and_bytes};
+use packetiser::{pages_of, size_of, values_and_bytes, values_of};
 
 /// The sequence number after this many pages, if each of them can have a number.
 fn number_behind(next: u64, pages: u64) -> Option<u64>
@@ -147,6 +147,25 @@ pub fn size_of_runs(streams: &mut [StreamState], entries: &[Entry]) -> Option<u6
         place = front.place;
     }
     Some(size)
+}
+
+/// How many bytes the pages of a put of one packet have, or `None` if one of them can't have a number. Its stream, which
+/// is at this place, is brought past the pages; after `None` the streams are as they were.
+pub fn size_of_entry(streams: &mut [StreamState], place: usize, entry: &Entry) -> Option<u64>
+    requires distinct { HaveOwnSerials streams.old }
+    requires place { IsPlace streams.old entry.now.serial place }
+    requires short { length entry.now.packet ≤ longest_batch }
+    ensures value { result ≡ numbered_size (pages_of_runs streams.old (runs_of (entry.now ∷ []))) }
+    ensures small { IfSome result (λ size. size ≤ longest_put) }
+    ensures after { IfSome result (λ _. streams.new ≡ fold with_run streams.old (runs_of (entry.now ∷ []))) }
+{
+    let bytes = entry.packet.len() as u64;
+    let values = values_of(bytes);
+    let Some(sequence) = number_behind(next_at(streams, place), pages_of(values)) else {
+        return None;
+    };
+    bring_stream(streams, place, sequence, entry.position);
+    Some(size_of(values, bytes))
 }
 
 /// How many of the entries, from the first on, have its serial.
