@@ -24,3 +24,4 @@ pub mod TakenExamples
 pub mod OwnSerials
 pub mod Planned
 pub mod Adding
+pub mod LonePut

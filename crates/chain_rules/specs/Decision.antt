@@ -18,6 +18,7 @@ use Rattle.ogg_command.specs.declared.command.Begin.{Begin}
 use Rattle.ogg_command.specs.declared.command.SkeletonHead.{SkeletonHead}
 use Rattle.ogg_command.specs.declared.command.NewStream.{NewStream}
 use Rattle.ogg_command.specs.declared.command.Entry.{Entry}
+use Rattle.ogg_command.specs.declared.command.Put.{Put}
 use Rattle.ogg_command.specs.declared.refusal.Refusal.{Refusal}
 use Rattle.ogg_command.specs.declared.refusal.Refusal.TheVariants.{LinkOpen, NoLink, Empty, TooMany, SerialTaken, NoHeader, HeadTooLong, PacketTooLong, BadType, BadRate, UnknownSerial, StreamEnded, PositionRange, PositionBack, BatchTooLong, SequenceEnd, LinksFull, FileFull}
 
@@ -91,6 +92,10 @@ entry_rules streams entry =
 abbrev pub entries_rules : List StreamState → List Entry → List (Rule Refusal)
 entries_rules streams [] = []
 entries_rules streams (entry ∷ entries) = entry_rules streams entry ++ entries_rules (with_position entry.serial entry.position streams) entries
+
+-- the put of one packet
+abbrev pub put_of : Entry → Put
+put_of entry = record { entries = entry ∷ [] }
 
 -- ---- End
 abbrev pub end_rules : ChainState → ℕ → List (Rule Refusal)

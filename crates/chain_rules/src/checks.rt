@@ -15,6 +15,7 @@ ghost use Rattle.chain_rules.specs.Limits.{longest_batch, most_entries, most_str
 use crate::begin::{broken_by_parts, has_many_parts, is_long_begin};
 use crate::entries::broken_by_entries;
 use crate::limits::{LONGEST_BATCH, LONGEST_FILE, MOST_ENTRIES};
+use crate::lone::check_one;
 use command_pages::{FEW_STREAMS, SEQUENCES, SIZE_OF_END, size_of_begin, size_of_runs};
 use link_chain::{MOST_LINKS, MOST_STREAMS, Serials, StreamState, is_open, stream_in};
 use ogg_command::{Begin, Command, Entry, Put, Refusal};
@@ -143,8 +144,12 @@ pub fn decide_put(
     ensures after { IfOk result (λ _. take (length streams.now) room.new
         ≡ fold with_run streams.now (runs_of put.now.entries)) }
 {
-    if let Some(refusal) = broken_by_put(streams, put.entries.as_slice()) {
+    let entries = put.entries.as_slice();
+    if let Some(refusal) = broken_by_put(streams, entries) {
         return Err(refusal);
+    }
+    if entries.len() == 1 {
+        return check_one(room, streams, bytes, &entries[0]);
     }
     check_by(room, streams, bytes, put)
 }

@@ -22,7 +22,7 @@ pub fn move_stream(streams: &mut [StreamState], place: usize, position: u64)
 }
 
 /// The first rule that an entry of the stream at this place breaks.
-fn broken_by_entry(streams: &[StreamState], place: usize, entry: &Entry) -> Option<Refusal>
+pub fn broken_by_entry(streams: &[StreamState], place: usize, entry: &Entry) -> Option<Refusal>
     requires { IsPlace streams.now entry.now.serial place }
     ensures { result ≡ first_broken (entry_rules streams.now entry.now) }
 {

@@ -19,6 +19,7 @@ mod checks;
 mod entries;
 mod laws;
 mod limits;
+mod lone;
 mod plan;
 mod shape;
 
