@@ -1,8 +1,10 @@
 -- What reading a record says of the reader's bytes.
 use Rattle.std.proofs.Common.{◌≡◌, ◌≢◌, ℕ, ◌+◌, ◌<◌, ◌≤◌, List, [], ◌∷◌, ◌++◌, ◌⊎◌, inl, inr, length, refl, sym, ap, ◌∙◌, subst, arith, append_assoc, append-nil, length-append, Bool, Option, None, Some, true, false}
-use Rattle.std.specs.Prelude.{nat_lt, Result, Ok, Err, IfErr}
+use Rattle.std.specs.Prelude.{nat_lt, Result, Ok, Err, IfOk, IfErr, IfSome, IfNone, if◌then◌else◌, drop}
 use Rattle.std.proofs.lemmas.Bool.{lt-ltb, le-ltb}
-use Rattle.std.specs.Io.KnownBytes.{Consumes, Keeps, IsAtEnd}
+use Rattle.std.proofs.lemmas.List.{drop_at}
+use Rattle.std.specs.Io.KnownBytes.{Consumes, Keeps, IsAtEnd, prepend_known}
+use Rattle.std.specs.Io.BufRead.{DropsConsumable}
 use Rattle.std.proofs.KnownBytes.{Consumes-nil, Consumes-trans}
 use Rattle.ogg_command.specs.declared.command.Command.TheVariants.{Begin as BeginOf, Put as PutOf, End as EndOf}
 use Rattle.ogg_page.specs.Numbers.{u32_bytes}
@@ -12,11 +14,12 @@ use Rattle.feed_records.specs.declared.item.Record.{Record as RecordOf}
 use Rattle.feed_records.specs.declared.item.Record.TheVariants.{Command as CommandOf, Flush}
 use Rattle.feed_records.specs.declared.item.Item.{Item}
 use Rattle.feed_records.specs.declared.item.Item.TheVariants.{Announcement, Record as RecordItem}
-use Rattle.feed_records.specs.Record.{HasItem, announcement, item_bytes, kind_in, most_payload, payload_in}
+use Rattle.feed_records.specs.Record.{HasItem, HasRecord, announcement, item_bytes, kind_in, most_payload, payload_in, record_of}
 use Rattle.feed_codec.specs.RecordKind.{number_of}
-use Rattle.feed_codec.specs.Room.{FeedRoom, LacksRoomFor}
-use Rattle.feed_codec.specs.Feed.{GivesEnd, HasFaultAt, HasItemFault, TakesItemPart, TakesWhereMemoryEnds, head_fault, is_kind, payload_length}
-use Rattle.feed_codec.specs.Reading.{HasHeadFault, IsHead, IsShort, head_bytes}
+use Rattle.feed_codec.specs.Room.{FeedRoom}
+use Rattle.feed_codec.specs.Building.{Makes, Spells}
+use Rattle.feed_codec.specs.Feed.{Continues, FeedState, GivesEnd, GivesRecord, HasFault, HasFaultAt, HasItemFault, TakesHead, TakesItemPart, TakesWhereMemoryEnds, front_of, head_fault, is_kind, payload_length}
+use Rattle.feed_codec.specs.Reading.{BeginsWithPut, HasHeadFault, HasPayload, IsHead, IsShort, head_bytes, put_head}
 use Rattle.feed_codec.specs.Payload.{IsItem, IsPayload}
 use Rattle.feed_codec.specs.declared.head.Head.{Head}
 use Rattle.feed_codec.specs.declared.head.RecordKind.{RecordKind}
@@ -127,28 +130,106 @@ has_item false v Announcement kind named same is fits = cc (named, same)
 has_item first v (RecordItem (CommandOf command)) kind named same is fits = record { numbers = is.0; fits = record { fields = is.1; payload = fits } }
 has_item first v (RecordItem Flush) kind named same is fits = tt
 
-pub read_record : (first : Bool) (v : Version) (old mid new : Option (List ℕ)) (head : Head) (payload : List ℕ) (item : Item) → IsHead first head → Consumes old mid (head_bytes head) → Consumes mid new payload
-    → length payload ≡ head.length → IsItem v item → kind_in item ≡ number_of head.kind → payload_in v item ≡ payload
-    → HasItem first v item × Consumes old new (item_bytes v item)
+-- what the payload spells was taken with its head
+item_read : (first : Bool) (v : Version) (old new : Option (List ℕ)) (head : Head) (payload : List ℕ) (item : Item) → HasPayload first v head payload → Consumes old new (head_bytes head ++ payload)
+    → Spells v (number_of head.kind) payload item → HasItem first v item × Consumes old new (item_bytes v item)
 unfolding item_bytes
-read_record first v old mid new head payload item is c d whole held kind spelled =
-    let size : length (payload_in v item) ≡ head.length = ap length spelled ∙ whole in
+item_read first v old new head payload item has c spells =
+    let size : length (payload_in v item) ≡ head.length = ap length spells.payload_is ∙ has.whole in
     let record_is : head_bytes head ++ payload ≡ item_bytes v item =
-    ap (λ k. k ∷ (u32_bytes head.length ++ payload)) (sym kind)
+    ap (λ k. k ∷ (u32_bytes head.length ++ payload)) (sym spells.kind_is)
     ∙ ap (λ n. kind_in item ∷ (u32_bytes n ++ payload)) (sym size)
-    ∙ ap (λ l. kind_in item ∷ (u32_bytes (length (payload_in v item)) ++ l)) (sym spelled) in (
-      has_item first v item head.kind is.kind kind held (omega (arith, size, is.fits)),
-      subst (Consumes old new) record_is (Consumes-trans old mid new (head_bytes head) payload c d),
+    ∙ ap (λ l. kind_in item ∷ (u32_bytes (length (payload_in v item)) ++ l)) (sym spells.payload_is) in (
+      has_item first v item head.kind has.is_head.kind spells.kind_is spells.held (omega (arith, size, has.is_head.fits)),
+      subst (Consumes old new) record_is c,
     )
 
+-- ---- what is made of a payload
+
+-- the record that is made was read
+pub record_made : (room : ℕ) (rooms : List ℕ) (first : Bool) (v : Version) (old new : Option (List ℕ)) (head : Head) (payload : List ℕ) (r : Result (Option RecordOf) FeedFault)
+    → HasPayload first v head payload → Consumes old new (head_bytes head ++ payload) → Makes room rooms v (number_of head.kind) payload r
+    → IfOk r (λ found. IfSome found (λ given. HasRecord v given × Consumes old new (record_of v given)))
+record_made room rooms first v old new head payload (Ok None) has c made = absurd made
+record_made room rooms first v old new head payload (Ok (Some given)) has c made = item_read first v old new head payload (RecordItem given) has c made
+record_made room rooms first v old new head payload (Err fault) has c made = tt
+
+-- or what it spells lacks room, and was taken
+pub none_made : (room : FeedRoom) (first : Bool) (v : Version) (old new : Option (List ℕ)) (head : Head) (payload : List ℕ) (r : Result (Option RecordOf) FeedFault)
+    → HasPayload first v head payload → Consumes old new (head_bytes head ++ payload) → Makes room.entries room.packets v (number_of head.kind) payload r
+    → IfErr r (λ fault. fault ≡ Memory → TakesItemPart room first v old new)
+none_made room first v old new head payload (Ok found) has c made = tt
+none_made room first v old new head payload (Err fault) has c (memory, (item, spells, lacks)) =
+    λ same. let read = item_read first v old new head payload item has c spells in inr (item, read.0, lacks, read.1)
+
+-- there is a record, or memory was refused
+pub makes_no_end : (P : Type 0) (room : ℕ) (rooms : List ℕ) (v : Version) (kind : ℕ) (payload : List ℕ) (r : Result (Option RecordOf) FeedFault) → Makes room rooms v kind payload r
+    → IfOk r (λ found. IfNone found P)
+makes_no_end P room rooms v kind payload (Ok None) made = absurd made
+makes_no_end P room rooms v kind payload (Ok (Some given)) made = tt
+makes_no_end P room rooms v kind payload (Err fault) made = tt
+
+pub makes_no_fault : (P : FeedFault → Type 0) (room : ℕ) (rooms : List ℕ) (v : Version) (kind : ℕ) (payload : List ℕ) (r : Result (Option RecordOf) FeedFault) → Makes room rooms v kind payload r
+    → IfErr r (λ fault. fault ≢ Read → fault ≢ Memory → P fault)
+makes_no_fault P room rooms v kind payload (Ok found) made = tt
+makes_no_fault P room rooms v kind payload (Err fault) made = λ read memory. absurd (memory made.0)
+
+-- what spells an announcement is one
+announcement_spelled : (v : Version) (payload : List ℕ) → IsPayload v 0 payload → Spells v 0 payload Announcement
+announcement_spelled v payload (Announcement, held, kind, spelled) = record { held = held; kind_is = kind; payload_is = spelled }
+announcement_spelled v payload (RecordItem (CommandOf (BeginOf begin)), held, kind, spelled) = absurd (omega (arith, kind))
+announcement_spelled v payload (RecordItem (CommandOf (PutOf put)), held, kind, spelled) = absurd (omega (arith, kind))
+announcement_spelled v payload (RecordItem (CommandOf (EndOf serial)), held, kind, spelled) = absurd (omega (arith, kind))
+announcement_spelled v payload (RecordItem Flush, held, kind, spelled) = absurd (omega (arith, kind))
+
+pub announcement_read : (first : Bool) (old new : Option (List ℕ)) (head : Head) (payload : List ℕ) → HasPayload first One head payload → head.kind ≡ AnnouncementKind
+    → Consumes old new (head_bytes head ++ payload) → Consumes old new announcement
+announcement_read first old new head payload has announced c =
+    let number : number_of head.kind ≡ 0 = ap number_of announced in
+    let spells : Spells One 0 payload Announcement = announcement_spelled One payload (subst (λ k. IsPayload One k payload) number has.spelled) in
+    let read = item_read first One old new head payload Announcement has c (subst (λ k. Spells One k payload Announcement) (sym number) spells) in
+    read.1
+
+-- ---- a put at hand
+
+-- a head of a put, and its payload after it
+pub put_begins : (v : Version) (bytes front behind payload rest : List ℕ) (head : Head) → bytes ≡ front ++ behind → IsHead false head → front ≡ head_bytes head → head.kind ≡ Put
+    → behind ≡ payload ++ rest → length payload ≡ head.length → IsPayload v 2 payload → BeginsWithPut v bytes payload
+put_begins v bytes front behind payload rest head cut is front_is named behind_is long spelled =
+    let same : front ≡ head_bytes (put_head payload) =
+    front_is ∙ ap (λ k. number_of k ∷ u32_bytes head.length) named ∙ ap (λ n. 2 ∷ u32_bytes n) (sym long) in
+    record {
+      put = record { is_head = record { kind = refl; fits = omega (arith, long, is.fits) }; whole = refl; spelled = spelled };
+      rest = rest;
+      front = cut ∙ ap (λ l. l ++ behind) same ∙ ap (λ l. head_bytes (put_head payload) ++ l) behind_is ∙ sym (append_assoc (head_bytes (put_head payload)) payload rest);
+    }
+
+-- what was in the buffer of a reader and is consumed stood at its front
+pub buffer_consumed : (unknown : Bool) (inner new : Option (List ℕ)) (buffer front rest : List ℕ) (n : ℕ) → buffer ≡ front ++ rest → length front ≡ n
+    → DropsConsumable (if unknown then None else prepend_known buffer inner) new (Some (length buffer)) n
+    → Consumes (if unknown then None else prepend_known buffer inner) new front
+buffer_consumed true inner new buffer front rest n whole long drops = tt
+buffer_consumed false None new buffer front rest n whole long drops = tt
+buffer_consumed false (Some xs) new buffer front rest n whole long drops =
+    let left : new ≡ Some (drop n (buffer ++ xs)) = drops (omega (arith, ap length whole, length-append front rest, long)) in
+    let all : buffer ++ xs ≡ front ++ (rest ++ xs) = ap (λ l. l ++ xs) whole ∙ append_assoc front rest xs in
+    let behind : drop n (buffer ++ xs) ≡ rest ++ xs = ap (drop n) all ∙ drop_at front (rest ++ xs) n long in
+    subst (λ o. Consumes (Some (buffer ++ xs)) o front) (sym left) (all ∙ ap (λ l. front ++ l) (sym behind))
+
+pub put_consumed : (unknown : Bool) (inner new : Option (List ℕ)) (buffer payload : List ℕ) (v : Version) (n : ℕ) → BeginsWithPut v buffer payload → n ≡ 5 + length payload
+    → DropsConsumable (if unknown then None else prepend_known buffer inner) new (Some (length buffer)) n
+    → Consumes (if unknown then None else prepend_known buffer inner) new (head_bytes (put_head payload) ++ payload)
+put_consumed unknown inner new buffer payload v n begins whole drops =
+    buffer_consumed unknown inner new buffer (head_bytes (put_head payload) ++ payload) begins.rest n begins.front
+    (omega (arith, whole, length-append (u32_bytes (length payload)) payload, length-u32_bytes (length payload))) drops
+
 -- memory was refused when a payload was to be read
-no_payload : (room : FeedRoom) (first : Bool) (v : Version) (old new : Option (List ℕ)) (head : Head) → IsHead first head → Consumes old new (head_bytes head)
-    → room.payload < head.length → TakesItemPart room first v old new
-no_payload room first v old new head is c short =
+no_payload : (room : ℕ) (first : Bool) (old new : Option (List ℕ)) (head : Head) → IsHead first head → Consumes old new (head_bytes head)
+    → room < head.length → TakesHead room first old new
+no_payload room first old new head is c short =
     let whole : number_of head.kind ∷ (u32_bytes head.length ++ []) ≡ head_bytes head = ap (λ l. number_of head.kind ∷ l) (append-nil (u32_bytes head.length)) in
     let size : payload_length (head_bytes head) ≡ head.length =
-    ap payload_length (sym whole) ∙ length_field (number_of head.kind) head.length [] (omega (arith, is.fits)) in
-    inl (
+    ap payload_length (sym whole) ∙ length_field (number_of head.kind) head.length [] (omega (arith, is.fits)) in (
       head_bytes head,
       omega (arith, length-u32_bytes head.length),
       ap (λ l. head_fault first (number_of head.kind ∷ l)) (sym (append-nil (u32_bytes head.length))) ∙ head_is_fine first head.kind head.length [] is.kind is.fits,
@@ -166,38 +247,63 @@ payload_fault first v old mid head fault Untouched Small is c read memory (inl s
 payload_fault first v old mid head fault Untouched Small is c read memory (inr (inl (same, stays, small))) = absurd (memory same)
 payload_fault first v old mid head fault Untouched Small is c read memory (inr (inr (same, short))) = subst (HasItemFault first v old) (sym same) (short_payload first v old mid head is c short)
 
-pub payload_memory : (room : FeedRoom) (first : Bool) (v : Version) (old mid new : Option (List ℕ)) (head : Head) (fault : FeedFault) (Untouched : Type 0) → IsHead first head
+pub payload_memory : (room : ℕ) (first : Bool) (old mid new : Option (List ℕ)) (head : Head) (fault : FeedFault) (Untouched : Type 0) → IsHead first head
     → Consumes old mid (head_bytes head) → (Untouched → new ≡ mid) → fault ≡ Memory
-    → PayloadFault fault Untouched (room.payload < head.length) (IsShort mid head.length) → TakesItemPart room first v old new
-payload_memory room first v old mid new head fault Untouched is c same memory (inl found) = let both = sym found ∙ memory in absurd (cc both)
-payload_memory room first v old mid new head fault Untouched is c same memory (inr (inl (found, untouched, small))) =
-    no_payload room first v old new head is (subst (λ m. Consumes old m (head_bytes head)) (sym (same untouched)) c) small
-payload_memory room first v old mid new head fault Untouched is c same memory (inr (inr (found, short))) = let both = sym found ∙ memory in absurd (cc both)
-
--- memory was refused for a command
-pub no_command : (room : FeedRoom) (first : Bool) (v : Version) (old mid new : Option (List ℕ)) (head : Head) (payload : List ℕ) (item : Item) → IsHead first head
-    → Consumes old mid (head_bytes head) → Consumes mid new payload → length payload ≡ head.length → IsItem v item → kind_in item ≡ number_of head.kind
-    → payload_in v item ≡ payload → LacksRoomFor room.entries room.packets item → TakesItemPart room first v old new
-no_command room first v old mid new head payload item is c d whole held kind spelled lacks =
-    let taken = read_record first v old mid new head payload item is c d whole held kind spelled in
-    inr (item, taken.0, lacks, taken.1)
+    → PayloadFault fault Untouched (room < head.length) (IsShort mid head.length) → TakesHead room first old new
+payload_memory room first old mid new head fault Untouched is c same memory (inl found) = let both = sym found ∙ memory in absurd (cc both)
+payload_memory room first old mid new head fault Untouched is c same memory (inr (inl (found, untouched, small))) =
+    no_payload room first old new head is (subst (λ m. Consumes old m (head_bytes head)) (sym (same untouched)) c) small
+payload_memory room first old mid new head fault Untouched is c same memory (inr (inr (found, short))) = let both = sym found ∙ memory in absurd (cc both)
 
 -- a feed that has read its announcement has as much room for a payload as before, or more
-pub later_room : (was now : FeedRoom) (first : Bool) (v : Version) (old new : Option (List ℕ)) → was.payload ≤ now.payload → now.entries ≡ was.entries → now.packets ≡ was.packets
-    → TakesItemPart now first v old new → TakesItemPart was first v old new
-later_room was now first v old new grows entries packets (inl (head, long, fine, short, c)) = inl (head, long, fine, omega (arith, grows, short), c)
-later_room was now first v old new grows entries packets (inr (item, held, lacks, c)) =
-    inr (item, held, subst (λ rooms. LacksRoomFor was.entries rooms item) packets (subst (λ n. LacksRoomFor n now.packets item) entries lacks), c)
+later_room : (was now entries : ℕ) (packets : List ℕ) (first : Bool) (v : Version) (old new : Option (List ℕ)) → was ≤ now
+    → TakesItemPart (record { payload = now; entries = entries; packets = packets }) first v old new → TakesItemPart (record { payload = was; entries = entries; packets = packets }) first v old new
+later_room was now entries packets first v old new grows (inl (head, long, fine, short, c)) = inl (head, long, fine, omega (arith, grows, short), c)
+later_room was now entries packets first v old new grows (inr taken) = inr taken
 
-pub memory_behind_announcement : (was now : FeedRoom) (before left behind : Option (List ℕ)) (r : Result (Option RecordOf) FeedFault) → Consumes before left announcement
-    → was.payload ≤ now.payload → now.entries ≡ was.entries → now.packets ≡ was.packets
-    → IfErr r (λ fault. fault ≡ Memory → TakesItemPart now false Two left behind)
-    → IfErr r (λ fault. fault ≡ Memory → TakesWhereMemoryEnds was None before behind)
-memory_behind_announcement was now before left behind (Ok found) read grows entries packets full = tt
-memory_behind_announcement was now before left behind (Err fault) read grows entries packets full =
-    λ memory. inr (left, read, later_room was now false Two left behind grows entries packets (full memory))
+pub memory_behind_announcement : (was now entries : ℕ) (packets : List ℕ) (before left behind : Option (List ℕ)) (r : Result (Option RecordOf) FeedFault) → Consumes before left announcement
+    → was ≤ now → IfErr r (λ fault. fault ≡ Memory → TakesItemPart (record { payload = now; entries = entries; packets = packets }) false Two left behind)
+    → IfErr r (λ fault. fault ≡ Memory → TakesWhereMemoryEnds (record { payload = was; entries = entries; packets = packets }) None before behind)
+memory_behind_announcement was now entries packets before left behind (Ok found) read grows full = tt
+memory_behind_announcement was now entries packets before left behind (Err fault) read grows full =
+    λ memory. inr (left, read, later_room was now entries packets false Two left behind grows (full memory))
 
--- ---- the end
+pub fault_behind_announcement : (before left : Option (List ℕ)) (r : Result (Option RecordOf) FeedFault) → Consumes before left announcement
+    → IfErr r (λ fault. fault ≢ Read → fault ≢ Memory → HasItemFault false Two left fault)
+    → IfErr r (λ fault. fault ≢ Read → fault ≢ Memory → HasFault None before fault)
+fault_behind_announcement before left (Ok found) c has = tt
+fault_behind_announcement None left (Err fault) c has = λ read memory. tt
+fault_behind_announcement (Some bytes) None (Err fault) c has = absurd c
+fault_behind_announcement (Some bytes) (Some rest) (Err fault) c has = λ read memory. inr (rest, c, has read memory)
+
+-- ---- the answers of a feed
+
+-- a record that was read after what stands in front of it
+pub gives_behind : (known : Option Version) (v : Version) (before left behind : Option (List ℕ)) (r : Result (Option RecordOf) FeedFault) → Continues known v → Consumes before left (front_of known v)
+    → IfOk r (λ found. IfSome found (λ given. HasRecord v given × Consumes left behind (record_of v given)))
+    → IfOk r (λ found. IfSome found (λ given. GivesRecord known (Some v) before behind given))
+gives_behind known v before left behind (Ok None) same c read = tt
+gives_behind known v before left behind (Ok (Some given)) same c read =
+    record { version = v; is_record = read.0; continues = same; known = refl; read = Consumes-trans before left behind (front_of known v) (record_of v given) c read.1 }
+gives_behind known v before left behind (Err fault) same c read = tt
+
+-- a record that was at hand, in a feed that is read on
+pub gives_at_hand : (was now : FeedState) (v : Version) (old new : Option (List ℕ)) (r : Result (Option RecordOf) FeedFault) → was.outcome ≡ None → now.outcome ≡ None → was.version ≡ Some v → now.version ≡ Some v
+    → IfOk r (λ found. IfSome found (λ given. HasRecord v given × Consumes old new (record_of v given)))
+    → IfOk r (λ found. IfSome found (λ given. (was.outcome ≡ None) × (now.outcome ≡ None) × GivesRecord was.version now.version old new given))
+gives_at_hand was now v old new (Ok None) going goes_on known same read = tt
+gives_at_hand was now v old new (Ok (Some given)) going goes_on known same read = (
+  going,
+  goes_on,
+  rw (known, same) (record { version = v; is_record = read.0; continues = refl; known = refl; read = read.1 }),
+)
+gives_at_hand was now v old new (Err fault) going goes_on known same read = tt
+
+pub end_behind_announcement : (before left behind : Option (List ℕ)) (r : Result (Option RecordOf) FeedFault) → Consumes before left announcement
+    → IfOk r (λ found. IfNone found (IsAtEnd left × Keeps left behind)) → IfOk r (λ found. IfNone found (GivesEnd None before behind))
+end_behind_announcement before left behind (Ok None) c (end, kept) = record { version = Two; left = left; read = c; end = end; kept = kept }
+end_behind_announcement before left behind (Ok (Some given)) c ends = tt
+end_behind_announcement before left behind (Err fault) c ends = tt
 
 pub end_here : (before behind : Option (List ℕ)) → IsAtEnd before × Keeps before behind → GivesEnd None before behind
 end_here before behind (end, kept) = record { version = One; left = before; read = Consumes-nil before; end = end; kept = kept }

@@ -18,6 +18,7 @@ use Rattle.feed_records.specs.declared.version.Version.TheVariants.{One, Two}
 use Rattle.feed_records.specs.declared.item.Record.TheVariants.{Command as CommandOf, Flush}
 use Rattle.feed_records.specs.declared.item.Item.TheVariants.{Announcement, Record as RecordItem}
 use Rattle.feed_records.specs.Record.{packet_bytes, media_bytes, skeleton_bytes, field_bytes, fields_bytes, stream_bytes, entry_bytes, payload_of, FitsFields, FitsField, FitsMessage, FitsHeader, FitsStream, FitsEntry}
+use Rattle.feed_codec.specs.Building.{Spells}
 use Rattle.feed_codec.specs.Payload.{Begins, BeginsNone, AreMany, IsPacket, IsMedia, IsFieldOfFeed, AreFields, IsEntryOfFeed, IsStreamOfFeed, IsTail, IsBehind, skeleton_head_bytes, IsPayload}
 use Rattle.feed_records.specs.Tail.{Tail, tail_bytes, Behind, behind_bytes, behind_of_stream}
 use Rattle.feed_codec.proofs.Lists.{all_front, all_back, all_as, split_joins}
@@ -471,6 +472,12 @@ begin_facts v payload rest n skeleton streams small hs is many e = (
   (omega (arith, many.0, small), all_as (IsStreamOfFeed v) (FitsStream v) (λ p h. h.fits) streams many.1),
   sym (is ∙ ap (λ l. skeleton_bytes skeleton ++ l) e),
 )
+
+pub put_spelled : (v : Version) (payload : List ℕ) (n : ℕ) (entries : List Entry) → n < 2 ^ 16 → AreMany IsEntryOfFeed n entries → payload ≡ u16_bytes (length entries) ++ flat_map entry_bytes entries
+    → Spells v 2 payload (RecordItem (CommandOf (PutOf (record { entries = entries }))))
+put_spelled v payload n entries small many e =
+    let facts = put_facts v payload n entries small many e in
+    record { held = (facts.0, facts.1); kind_is = refl; payload_is = facts.2 }
 
 pub put_found : (v : Version) (payload : List ℕ) (n : ℕ) (entries : List Entry) → n < 2 ^ 16 → AreMany IsEntryOfFeed n entries → payload ≡ u16_bytes (length entries) ++ flat_map entry_bytes entries
     → IsPayload v 2 payload

@@ -1,19 +1,21 @@
 -- Packets for which no room is kept.
-use Rattle.std.proofs.Common.{◌≡◌, ◌<◌, ◌+◌, ◌-◌, ◌++◌, ℕ, suc, List, [], ◌∷◌, ◌∙◌, ap, inl, inr, drop, length, arith, append-nil, append_assoc, length-append, subst, sym}
+use Rattle.std.proofs.Common.{◌≡◌, ◌<◌, ◌+◌, ◌-◌, ◌++◌, ℕ, suc, List, [], ◌∷◌, ◌∙◌, ap, inl, inr, drop, length, arith, append-nil, append_assoc, length-append, subst, sym, ◌^◌}
 use Rattle.std.specs.Prelude.{slice_index}
 use Rattle.std.specs.List.{flat_map}
 use Rattle.std.proofs.lemmas.Grind.{flat_map-append}
 use Rattle.std.proofs.lemmas.List.{drop-drop}
 use Rattle.ogg_command.specs.declared.command.Entry.{Entry}
 use Rattle.ogg_command.specs.declared.command.Command.TheVariants.{Put as PutOf}
+use Rattle.ogg_page.specs.Numbers.{u16_bytes}
 use Rattle.feed_records.specs.declared.item.Record.TheVariants.{Command as CommandOf}
 use Rattle.feed_records.specs.declared.item.Item.{Item}
 use Rattle.feed_records.specs.declared.item.Item.TheVariants.{Record as RecordItem}
-use Rattle.ogg_command.specs.Command.{IsCommand}
 use Rattle.feed_records.specs.declared.version.Version.{Version}
-use Rattle.feed_records.specs.Record.{FitsFields, entry_bytes, kind_in, payload_in, payload_of}
-use Rattle.feed_codec.specs.Payload.{AreMany, Begins, IsEntryOfFeed, IsItem}
+use Rattle.feed_records.specs.Record.{entry_bytes}
+use Rattle.feed_codec.specs.Building.{Spells}
+use Rattle.feed_codec.specs.Payload.{AreMany, Begins, IsEntryOfFeed}
 use Rattle.feed_codec.specs.Room.{LacksEntryRoom, LacksPacketRoom, LacksRoomFor}
+use Rattle.feed_codec.proofs.PayloadFacts.{counted_found, put_spelled}
 use Rattle.ogg_page.specs.Laws.PageBytes.{all_both}
 
 -- a packet is too long for its room, after those that stand before it
@@ -25,13 +27,15 @@ lacks_later rooms (first ∷ front) entry more short =
     let same : drop (suc (length front)) rooms ≡ drop (length front) (drop 1 rooms) = ap (λ n. drop n rooms) one ∙ sym (drop-drop (length front) 1 rooms) in
     inr (lacks_later (drop 1 rooms) front entry more (subst (λ l. slice_index l 0 < length entry.packet) same short))
 
--- what a put lacks
-pub put_lacks : (v : Version) (payload : List ℕ) (room : ℕ) (rooms : List ℕ) (number : ℕ) → number ≡ 2
-    → ((entries : List Entry) × IsCommand (PutOf (record { entries = entries })) × FitsFields v (PutOf (record { entries = entries }))
-    × (payload_of v (PutOf (record { entries = entries })) ≡ payload) × LacksEntryRoom room rooms entries)
-    → (item : Item) × IsItem v item × (kind_in item ≡ number) × (payload_in v item ≡ payload) × LacksRoomFor room rooms item
-put_lacks v payload room rooms number two (entries, is, fits, spelled, lacks) =
-    (RecordItem (CommandOf (PutOf (record { entries = entries }))), (is, fits), sym two, spelled, lacks)
+-- a put whose entries lack room
+pub put_lacks : (v : Version) (payload rest : List ℕ) (n room : ℕ) (rooms : List ℕ) → n < 2 ^ 16 → payload ≡ u16_bytes n ++ rest
+    → ((entries : List Entry) × AreMany IsEntryOfFeed n entries × (rest ≡ flat_map entry_bytes entries) × LacksEntryRoom room rooms entries)
+    → (item : Item) × Spells v 2 payload item × LacksRoomFor room rooms item
+put_lacks v payload rest n room rooms small whole (entries, many, spelled, lacks) = (
+  RecordItem (CommandOf (PutOf (record { entries = entries }))),
+  put_spelled v payload n entries small many (counted_found IsEntryOfFeed entry_bytes payload rest n entries whole many spelled),
+  lacks,
+)
 
 -- a put's entries, of which one is too long for its room
 pub entry_lacks : (room : ℕ) (rooms bytes behind : List ℕ) (done count : ℕ) (front : List Entry) (entry : Entry) → done < count → length front ≡ done

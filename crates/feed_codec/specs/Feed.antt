@@ -53,12 +53,16 @@ HasFault (Some version) (Some bytes) fault = HasFaultAt false version bytes faul
 HasFault None (Some bytes) fault =
     HasFaultAt true One bytes fault ⊎ ((rest : List ℕ) × (bytes ≡ announcement ++ rest) × HasFaultAt false Two rest fault)
 
--- What was taken from a reader when memory was refused: a head without a fault, if there was no room for its payload,
--- or a whole record, if there was none for its command.
+-- a head without a fault was taken from a reader, and there is too little room for its payload
+abbrev pub TakesHead : ℕ → Bool → Option (List ℕ) → Option (List ℕ) → Type 0
+TakesHead room first old new =
+    (head : List ℕ) × (length head ≡ head_size) × (head_fault first head ≡ None) × (room < payload_length head) × Consumes old new head
+
+-- What was taken from a reader when memory was refused: a head, if there was no room for its payload, or a whole
+-- record, if there was none for its command.
 abbrev pub TakesItemPart : FeedRoom → Bool → Version → Option (List ℕ) → Option (List ℕ) → Type 0
 TakesItemPart room first version old new =
-    ((head : List ℕ) × (length head ≡ head_size) × (head_fault first head ≡ None) × (room.payload < payload_length head)
-    × Consumes old new head)
+    TakesHead room.payload first old new
     ⊎ ((item : Item) × HasItem first version item × LacksRoomFor room.entries room.packets item
     × Consumes old new (item_bytes version item))
 

@@ -4,3 +4,4 @@ pub mod Reading
 pub mod Room
 pub mod Payload
 pub mod PayloadParts
+pub mod Building

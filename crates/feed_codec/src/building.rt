@@ -1,48 +1,45 @@
 //! Records, built from payloads that have been checked.
-ghost use Rattle.std.specs.Prelude.{◌≡◌, ◌++◌, [], IfOk, OnErr, Ok, List, ℕ, vec_capacity};
-ghost use Rattle.feed_codec.specs.Room.{LacksEntryRoom, LacksRoomFor, rooms_of};
-ghost use Rattle.feed_records.specs.declared.item.Item.{Item as ItemOf};
+ghost use Rattle.std.specs.Prelude.{◌≡◌, ◌≢◌, ◌++◌, [], IfOk, OnErr, List, ℕ, vec_capacity};
+ghost use Rattle.feed_codec.specs.Building.{Makes};
+ghost use Rattle.feed_codec.specs.Room.{LacksEntryRoom, rooms_of};
 ghost use Rattle.ogg_command.specs.declared.command.Entry.{Entry as EntryOf};
 ghost use Rattle.std.specs.List.{flat_map};
-ghost use Rattle.feed_records.specs.Record.{packet_bytes, field_bytes, fields_bytes, entry_bytes, stream_bytes, kind_in, kind_of, payload_in, payload_of, FitsFields};
+ghost use Rattle.feed_records.specs.Record.{packet_bytes, field_bytes, fields_bytes, entry_bytes, stream_bytes, kind_of, payload_of, FitsFields};
 ghost use Rattle.feed_codec.specs.RecordKind.{number_of};
-ghost use Rattle.feed_codec.specs.Payload.{Begins, AreMany, IsPacket, IsFieldOfFeed, AreFields, IsEntryOfFeed, IsStreamOfFeed, IsItem, IsPayload};
+ghost use Rattle.feed_codec.specs.Payload.{Begins, AreMany, IsPacket, IsFieldOfFeed, AreFields, IsEntryOfFeed, IsStreamOfFeed, IsPayload};
 ghost use Rattle.ogg_command.specs.Command.{IsCommand};
 ghost use Rattle.skeleton3.specs.Fields.{shown};
 
 use crate::head::RecordKind;
 use crate::payload::{split_entry, split_field, split_packet, split_skeleton, split_tail};
 use crate::spare::Spare;
-use feed_records::{Item, Record, Version};
+use feed_records::{Record, Version};
+use feed_replies::FeedFault;
 use ogg_command::{Begin, Command, Entry, Listed, Memory, NewStream, Put};
 use ogg_page::{take_u16, take_u32};
 use skeleton3::Field;
 use std::alloc::Global;
 
-/// What the payload spells. A put is made of spare memory, as far as there is some.
-pub fn item_of(
+/// The record that the payload spells. A put is made of spare memory, as far as there is some. The fault is `Memory`.
+pub fn build_record(
     alloc: Global,
     spare: &mut Spare,
     version: Version,
     kind: RecordKind,
     payload: &[u8],
-) -> Result<Item, Memory>
-    requires { IsPayload version (number_of kind) payload.now }
-    ensures ok { IfOk result (λ item. IsItem version item
-        × (kind_in item ≡ number_of kind) × (payload_in version item ≡ payload.now)) }
-    ensures full { OnErr result ((item : ItemOf) × IsItem version item
-        × (kind_in item ≡ number_of kind) × (payload_in version item ≡ payload.now)
-        × LacksRoomFor (vec_capacity spare.old.entries) (rooms_of spare.old.packets.items) item) }
-    ensures spare { result ≡ Ok Item.Announcement → spare.new ≡ spare.old }
+) -> Result<Option<Record>, FeedFault>
+    requires record { kind ≢ RecordKind.Announcement }
+    requires payload { IsPayload version (number_of kind) payload.now }
+    ensures { Makes (vec_capacity spare.old.entries) (rooms_of spare.old.packets.items) version (number_of kind) payload.now result }
 {
     let command = match kind {
-        RecordKind::Announcement => return Ok(Item::Announcement),
-        RecordKind::Flush => return Ok(Item::Record(Record::Flush)),
+        RecordKind::Announcement => unreachable!(),
         RecordKind::Begin => begin_of(alloc, version, payload)?,
-        RecordKind::Put => put_of(alloc, spare, version, payload)?,
+        RecordKind::Put => return put_of(alloc, spare, version, payload),
         RecordKind::End => end_of(version, payload),
+        RecordKind::Flush => return Ok(Some(Record::Flush)),
     };
-    Ok(Item::Record(Record::Command(command)))
+    Ok(Some(Record::Command(command)))
 }
 
 fn end_of(_version: Version, payload: &[u8]) -> Command
@@ -65,23 +62,20 @@ fn begin_of(alloc: Global, version: Version, payload: &[u8]) -> Result<Command, 
     Ok(Command::Begin(Begin { skeleton, streams }))
 }
 
-fn put_of(
+/// The put that the payload spells. It is made as the answer of a feed and handed on as it is, since moving a record from
+/// one enum into the next costs more than all else of a small put.
+pub fn put_of(
     alloc: Global,
     spare: &mut Spare,
     _version: Version,
     payload: &[u8],
-) -> Result<Command, Memory>
+) -> Result<Option<Record>, FeedFault>
     requires { IsPayload _version 2 payload.now }
-    ensures ok { IfOk result (λ command. IsCommand command × FitsFields _version command
-        × (kind_of command ≡ 2) × (payload_of _version command ≡ payload.now)) }
-    ensures full { OnErr result ((entries : List EntryOf) × IsCommand (Command.Put (record { entries = entries }))
-        × FitsFields _version (Command.Put (record { entries = entries }))
-        × (payload_of _version (Command.Put (record { entries = entries })) ≡ payload.now)
-        × LacksEntryRoom (vec_capacity spare.old.entries) (rooms_of spare.old.packets.items) entries) }
+    ensures { Makes (vec_capacity spare.old.entries) (rooms_of spare.old.packets.items) _version 2 payload.now result }
 {
     let (count, rest) = take_u16(payload);
     let entries = entries_of(alloc, spare, count, rest)?;
-    Ok(Command::Put(Put { entries }))
+    Ok(Some(Record::Command(Command::Put(Put { entries }))))
 }
 
 /// The entries that the bytes spell.

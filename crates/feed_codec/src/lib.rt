@@ -8,6 +8,7 @@
 //! What a record is stands in `specs/Record.antt` of feed_records.
 #![tactic(auto)]
 
+mod at_hand;
 mod building;
 mod head;
 mod laws;

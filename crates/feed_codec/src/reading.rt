@@ -1,20 +1,22 @@
 //! Feeds, read one record at a time.
-ghost use Rattle.std.specs.Prelude.{◌≡◌, ◌≢◌, ◌≤◌, ◌<◌, ◌⊎◌, false, IfOk, IfErr, IfSome, IfNone, OnOk, length, take, vec_len, vec_capacity, Some, None, Err, Ok};
+ghost use Rattle.std.specs.Prelude.{◌≡◌, ◌≢◌, ◌≤◌, ◌<◌, ◌⊎◌, ◌++◌, false, IfOk, IfErr, IfSome, IfNone, OnOk, length, take, vec_len, vec_capacity, Some, None, Err, Ok};
 ghost use Rattle.feed_codec.specs.Room.{feed_room};
+ghost use Rattle.std.specs.Io.Buffered.{reader_remaining};
 ghost use Rattle.std.specs.Io.KnownBytes.{Consumes, Keeps, IsAtEnd};
-ghost use Rattle.feed_records.specs.Record.{HasItem, HasRecord, item_bytes, record_of};
-ghost use Rattle.feed_codec.specs.Feed.{GivesEnd, GivesRecord, HasFault, HasItemFault, TakesItemPart, TakesWhereMemoryEnds, answer_at};
-ghost use Rattle.feed_codec.specs.Reading.{IsHead, head_bytes, HasHeadFault, IsShort};
+ghost use Rattle.feed_records.specs.Record.{HasRecord, record_of};
+ghost use Rattle.feed_codec.specs.Feed.{GivesEnd, GivesRecord, HasFault, HasItemFault, TakesHead, TakesItemPart, TakesWhereMemoryEnds, answer_at};
+ghost use Rattle.feed_codec.specs.Reading.{HasPayload, IsHead, head_bytes, HasHeadFault, IsShort};
 
-use crate::building::item_of;
-use crate::head::{Head, head_of};
+use crate::at_hand::put_at_front;
+use crate::building::{build_record, put_of};
+use crate::head::{Head, RecordKind, head_of};
 use crate::payload::is_payload;
 use crate::spare::Spare;
-use feed_records::{HEAD, Item, Record, Version};
+use feed_records::{HEAD, Record, Version};
 use feed_replies::FeedFault;
 use ogg_command::Command;
 use std::alloc::Global;
-use std::io::Read;
+use std::io::{BufRead, BufReader, Read};
 use std::marker::Model;
 
 /// Reads records, one after the other. Between them it keeps the memory of one payload, and that of the commands that
@@ -100,17 +102,60 @@ impl Feed {
             &mut self.version,
             reader,
         );
-        match answer {
-            Ok(Some(record)) => Ok(Some(record)),
-            Ok(None) => {
-                self.outcome = Some(Ok(()));
-                Ok(None)
-            }
-            Err(fault) => {
-                self.outcome = Some(Err(fault));
-                Err(fault)
-            }
+        // The answer is handed on as it is: moving a record costs more than reading a small one.
+        match &answer {
+            Ok(Some(_)) => {}
+            Ok(None) => self.outcome = Some(Ok(())),
+            Err(fault) => self.outcome = Some(Err(*fault)),
         }
+        answer
+    }
+
+    /// The same of a reader that reads ahead. A put that lies whole in the reader's buffer isn't copied before its
+    /// command is made.
+    pub fn next_at_hand<R: Read>(
+        &mut self,
+        reader: &mut BufReader<R>,
+    ) -> Result<Option<Record>, FeedFault>
+        // Only the record is consumed, and the announcement too if the record is the first.
+        ensures record { IfOk result (λ found. IfSome found (λ given. (self.old.feed.outcome ≡ None) × (self.new.feed.outcome ≡ None)
+            × GivesRecord self.old.feed.version self.new.feed.version
+            (reader_remaining R.remaining reader.old) (reader_remaining R.remaining reader.new) given)) }
+
+        // At the end no byte is left.
+        ensures end { IfOk result (λ found. IfNone found (self.old.feed.outcome ≡ None
+            → GivesEnd self.old.feed.version
+            (reader_remaining R.remaining reader.old) (reader_remaining R.remaining reader.new))) }
+
+        // A fault is the first of bytes that begin with no record. Or the reader failed. Or memory was refused, and
+        // then the feed had too little room.
+        ensures fault { IfErr result (λ fault. self.old.feed.outcome ≡ None → fault ≢ FeedFault.Read → fault ≢ FeedFault.Memory
+            → HasFault self.old.feed.version (reader_remaining R.remaining reader.old) fault) }
+        ensures memory { result ≡ Err FeedFault.Memory → self.old.feed.outcome ≡ None
+            → TakesWhereMemoryEnds self.old.room self.old.feed.version
+            (reader_remaining R.remaining reader.old) (reader_remaining R.remaining reader.new) }
+
+        ensures room { self.old.room.payload ≤ self.new.room.payload }
+
+        // The end and each fault stay.
+        ensures ends { IfOk result (λ found. IfNone found (self.new.feed.outcome ≡ Some (Ok tt))) }
+        ensures fails { IfErr result (λ fault. self.new.feed.outcome ≡ Some (Err fault)) }
+        ensures stays { IfSome self.old.feed.outcome (λ outcome. (result ≡ answer_at outcome)
+            × (self.new ≡ self.old) × (reader.new ≡ reader.old)) }
+    {
+        let (Some(version), None) = (self.version, self.outcome) else {
+            return self.next(reader);
+        };
+        let Some(payload) = put_at_front(version, reader.buffer()) else {
+            return self.next(reader);
+        };
+        let taken = HEAD + payload.len();
+        let answer = put_of(self.alloc, &mut self.spare, version, payload);
+        reader.consume(taken);
+        if let Err(fault) = &answer {
+            self.outcome = Some(Err(*fault));
+        }
+        answer
     }
 
     /// Takes back a command that isn't needed any more. The next ones are made of its memory, as far as it goes: of a
@@ -167,15 +212,17 @@ fn first_record<R: Read>(
         (R.remaining reader.old) (R.remaining reader.new)) }
     ensures room { vec_capacity payload.old ≤ vec_capacity payload.new }
 {
-    match next_item(alloc, spare, payload, true, Version::One, reader) {
-        Ok(Some(Item::Record(record))) => {
-            *version = Some(Version::One);
-            Ok(Some(record))
-        }
-        Ok(Some(Item::Announcement)) => {
-            *version = Some(Version::Two);
-            later_record(alloc, spare, payload, Version::Two, reader)
-        }
+    match next_payload(payload, true, Version::One, reader) {
+        Ok(Some(head)) => match head.kind {
+            RecordKind::Announcement => {
+                *version = Some(Version::Two);
+                later_record(alloc, spare, payload, Version::Two, reader)
+            }
+            kind => {
+                *version = Some(Version::One);
+                build_record(alloc, spare, Version::One, kind, &payload[..head.length])
+            }
+        },
         Ok(None) => Ok(None),
         Err(fault) => Err(fault),
     }
@@ -200,35 +247,31 @@ fn later_record<R: Read>(
         (R.remaining reader.old) (R.remaining reader.new)) }
     ensures room { vec_capacity payload.old ≤ vec_capacity payload.new }
 {
-    match next_item(alloc, spare, payload, false, version, reader) {
-        Ok(Some(Item::Record(record))) => Ok(Some(record)),
-        // No announcement follows.
-        Ok(Some(Item::Announcement)) => unreachable!(),
+    match next_payload(payload, false, version, reader) {
+        Ok(Some(head)) => build_record(alloc, spare, version, head.kind, &payload[..head.length]),
         Ok(None) => Ok(None),
         Err(fault) => Err(fault),
     }
 }
 
-/// What stands at the front, or none if no byte is left.
-fn next_item<R: Read>(
-    alloc: Global,
-    spare: &mut Spare,
+/// Reads the head and the payload of what stands at the front, and checks both: the payload is at the front of the
+/// buffer then. There is no head if no byte is left.
+fn next_payload<R: Read>(
     payload: &mut Vec<u8>,
     first: bool,
     version: Version,
     reader: &mut R,
-) -> Result<Option<Item>, FeedFault>
-    ensures item { IfOk result (λ found. IfSome found (λ item. HasItem first version item
-        × Consumes (R.remaining reader.old) (R.remaining reader.new) (item_bytes version item))) }
+) -> Result<Option<Head>, FeedFault>
+    ensures head { IfOk result (λ found. IfSome found (λ head. (head.length ≤ vec_len payload.new)
+        × HasPayload first version head (take head.length payload.new.items)
+        × Consumes (R.remaining reader.old) (R.remaining reader.new) (head_bytes head ++ take head.length payload.new.items))) }
     ensures end { IfOk result (λ found. IfNone found (
         IsAtEnd (R.remaining reader.old) × Keeps (R.remaining reader.old) (R.remaining reader.new))) }
     ensures fault { IfErr result (λ fault. fault ≢ FeedFault.Read → fault ≢ FeedFault.Memory
         → HasItemFault first version (R.remaining reader.old) fault) }
     ensures memory { IfErr result (λ fault. fault ≡ FeedFault.Memory
-        → TakesItemPart (feed_room payload.old spare.old.entries spare.old.packets.items) first version
-        (R.remaining reader.old) (R.remaining reader.new)) }
+        → TakesHead (vec_capacity payload.old) first (R.remaining reader.old) (R.remaining reader.new)) }
     ensures room { vec_capacity payload.old ≤ vec_capacity payload.new }
-    ensures spare { result ≡ Ok (Some Item.Announcement) → spare.new ≡ spare.old }
 {
     let head = match next_head(first, reader) {
         Ok(Some(head)) => head,
@@ -239,14 +282,11 @@ fn next_item<R: Read>(
         Ok(()) => {}
         Err(fault) => return Err(fault),
     }
-    let payload = &payload[..head.length];
-    // Checked before any memory is asked for, so that a malformed payload costs none.
-    if !is_payload(version, head.kind, payload) {
-        return Err(FeedFault::Form);
-    }
-    match item_of(alloc, spare, version, head.kind, payload) {
-        Ok(item) => Ok(Some(item)),
-        Err(_) => Err(FeedFault::Memory),
+    // Checked before any memory is asked for the command, so that a malformed payload costs none.
+    if is_payload(version, head.kind, &payload[..head.length]) {
+        Ok(Some(head))
+    } else {
+        Err(FeedFault::Form)
     }
 }
 
