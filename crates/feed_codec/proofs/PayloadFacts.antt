@@ -6,7 +6,7 @@ use Rattle.std.specs.List.{AllByRecursion, IsSplitAt, flat_map}
 use Rattle.std.proofs.lemmas.Bool.{eqb-true}
 use Rattle.std.proofs.lemmas.List.Concat.{flat_map-append}
 use Rattle.ogg_page.specs.Page.{IsByte}
-use Rattle.ogg_command.specs.Command.{AreFieldBytes, IsCommand, IsNewStream, IsEntry, IsSkeletonHead, IsSkeleton}
+use Rattle.ogg_command.specs.Command.{AreFieldBytes, IsNewStream, IsEntry, IsSkeletonHead, IsSkeleton}
 use Rattle.ogg_command.specs.declared.command.Command.TheVariants.{Begin as BeginOf, Put as PutOf, End as EndOf}
 use Rattle.ogg_command.specs.declared.command.SkeletonHead.{SkeletonHead}
 use Rattle.ogg_command.specs.declared.command.NewStream.{NewStream}
@@ -16,9 +16,10 @@ use Rattle.skeleton3.specs.Fields.{NamedValue}
 use Rattle.feed_records.specs.declared.version.Version.{Version}
 use Rattle.feed_records.specs.declared.version.Version.TheVariants.{One, Two}
 use Rattle.feed_records.specs.declared.item.Record.TheVariants.{Command as CommandOf, Flush}
+use Rattle.feed_records.specs.declared.item.Item.{Item}
 use Rattle.feed_records.specs.declared.item.Item.TheVariants.{Announcement, Record as RecordItem}
-use Rattle.feed_records.specs.Record.{packet_bytes, media_bytes, skeleton_bytes, field_bytes, fields_bytes, stream_bytes, entry_bytes, payload_of, FitsFields, FitsField, FitsMessage, FitsHeader, FitsStream, FitsEntry}
-use Rattle.feed_codec.specs.Building.{Spells}
+use Rattle.feed_records.specs.Record.{packet_bytes, media_bytes, skeleton_bytes, field_bytes, fields_bytes, stream_bytes, entry_bytes, FitsField, FitsMessage, FitsHeader, FitsStream, FitsEntry}
+use Rattle.feed_codec.specs.Building.{Spells, SpellsCommand}
 use Rattle.feed_codec.specs.Payload.{Begins, BeginsNone, AreMany, IsPacket, IsMedia, IsFieldOfFeed, AreFields, IsEntryOfFeed, IsStreamOfFeed, IsTail, IsBehind, skeleton_head_bytes, IsPayload}
 use Rattle.feed_records.specs.Tail.{Tail, tail_bytes, Behind, behind_bytes, behind_of_stream}
 use Rattle.feed_codec.proofs.Lists.{all_front, all_back, all_as, split_joins}
@@ -454,42 +455,43 @@ pub counted_found : {X : Type 0} (Is : X → Type 0) (spell : X → List ℕ) (b
     → AreMany Is n xs → rest ≡ flat_map spell xs → bytes ≡ u16_bytes (length xs) ++ flat_map spell xs
 counted_found Is spell bytes rest n xs is many e = is ∙ ap (λ l. u16_bytes n ++ l) e ∙ ap (λ k. u16_bytes k ++ flat_map spell xs) (sym many.0)
 
--- what holds of a command that was made of these parts
-pub put_facts : (v : Version) (payload : List ℕ) (n : ℕ) (entries : List Entry) → n < 2 ^ 16 → AreMany IsEntryOfFeed n entries → payload ≡ u16_bytes (length entries) ++ flat_map entry_bytes entries
-    → IsCommand (PutOf (record { entries = entries })) × FitsFields v (PutOf (record { entries = entries })) × (payload_of v (PutOf (record { entries = entries })) ≡ payload)
-put_facts v payload n entries small many e = (
-  all_as IsEntryOfFeed IsEntry (λ p h. h.numbers) entries many.1,
-  (omega (arith, many.0, small), all_as IsEntryOfFeed FitsEntry (λ p h. h.fits) entries many.1),
-  sym e,
-)
-
-pub begin_facts : (v : Version) (payload rest : List ℕ) (n : ℕ) (skeleton : Option SkeletonHead) (streams : List NewStream) → n < 2 ^ 16 → IsSkeleton skeleton → payload ≡ skeleton_bytes skeleton ++ rest
-    → AreMany (IsStreamOfFeed v) n streams → rest ≡ u16_bytes (length streams) ++ flat_map (stream_bytes v) streams
-    → IsCommand (BeginOf (record { skeleton = skeleton; streams = streams })) × FitsFields v (BeginOf (record { skeleton = skeleton; streams = streams }))
-    × (payload_of v (BeginOf (record { skeleton = skeleton; streams = streams })) ≡ payload)
-begin_facts v payload rest n skeleton streams small hs is many e = (
-  (hs, all_as (IsStreamOfFeed v) IsNewStream (λ p h. h.numbers) streams many.1),
-  (omega (arith, many.0, small), all_as (IsStreamOfFeed v) (FitsStream v) (λ p h. h.fits) streams many.1),
-  sym (is ∙ ap (λ l. skeleton_bytes skeleton ++ l) e),
-)
-
+-- what was made of these parts is what the payload spells
 pub put_spelled : (v : Version) (payload : List ℕ) (n : ℕ) (entries : List Entry) → n < 2 ^ 16 → AreMany IsEntryOfFeed n entries → payload ≡ u16_bytes (length entries) ++ flat_map entry_bytes entries
-    → Spells v 2 payload (RecordItem (CommandOf (PutOf (record { entries = entries }))))
-put_spelled v payload n entries small many e =
-    let facts = put_facts v payload n entries small many e in
-    record { held = (facts.0, facts.1); kind_is = refl; payload_is = facts.2 }
+    → SpellsCommand v payload (PutOf (record { entries = entries }))
+put_spelled v payload n entries small many e = record {
+  held = (
+    all_as IsEntryOfFeed IsEntry (λ p h. h.numbers) entries many.1,
+    (omega (arith, many.0, small), all_as IsEntryOfFeed FitsEntry (λ p h. h.fits) entries many.1),
+  );
+  kind_is = refl;
+  payload_is = sym e;
+}
+
+pub begin_spelled : (v : Version) (payload rest : List ℕ) (n : ℕ) (skeleton : Option SkeletonHead) (streams : List NewStream) → n < 2 ^ 16 → IsSkeleton skeleton → payload ≡ skeleton_bytes skeleton ++ rest
+    → AreMany (IsStreamOfFeed v) n streams → rest ≡ u16_bytes (length streams) ++ flat_map (stream_bytes v) streams
+    → SpellsCommand v payload (BeginOf (record { skeleton = skeleton; streams = streams }))
+begin_spelled v payload rest n skeleton streams small hs is many e = record {
+  held = (
+    (hs, all_as (IsStreamOfFeed v) IsNewStream (λ p h. h.numbers) streams many.1),
+    (omega (arith, many.0, small), all_as (IsStreamOfFeed v) (FitsStream v) (λ p h. h.fits) streams many.1),
+  );
+  kind_is = refl;
+  payload_is = sym (is ∙ ap (λ l. skeleton_bytes skeleton ++ l) e);
+}
+
+-- so it is a payload
+is_spelled : (v : Version) (kind : ℕ) (payload : List ℕ) (item : Item) → Spells v kind payload item → IsPayload v kind payload
+is_spelled v kind payload item spells = (item, spells.held, spells.kind_is, spells.payload_is)
 
 pub put_found : (v : Version) (payload : List ℕ) (n : ℕ) (entries : List Entry) → n < 2 ^ 16 → AreMany IsEntryOfFeed n entries → payload ≡ u16_bytes (length entries) ++ flat_map entry_bytes entries
     → IsPayload v 2 payload
 put_found v payload n entries small many e =
-    let facts = put_facts v payload n entries small many e in
-    (RecordItem (CommandOf (PutOf (record { entries = entries }))), (facts.0, facts.1), refl, facts.2)
+    is_spelled v 2 payload (RecordItem (CommandOf (PutOf (record { entries = entries })))) (put_spelled v payload n entries small many e)
 
 pub begin_found : (v : Version) (payload rest : List ℕ) (n : ℕ) (skeleton : Option SkeletonHead) (streams : List NewStream) → n < 2 ^ 16 → IsSkeleton skeleton → payload ≡ skeleton_bytes skeleton ++ rest
     → AreMany (IsStreamOfFeed v) n streams → rest ≡ u16_bytes (length streams) ++ flat_map (stream_bytes v) streams → IsPayload v 1 payload
 begin_found v payload rest n skeleton streams small hs is many e =
-    let facts = begin_facts v payload rest n skeleton streams small hs is many e in
-    (RecordItem (CommandOf (BeginOf (record { skeleton = skeleton; streams = streams }))), (facts.0, facts.1), refl, facts.2)
+    is_spelled v 1 payload (RecordItem (CommandOf (BeginOf (record { skeleton = skeleton; streams = streams })))) (begin_spelled v payload rest n skeleton streams small hs is many e)
 
 pub end_found : (v : Version) (payload : List ℕ) → length payload ≡ 4 → AllByRecursion IsByte payload → IsPayload v 3 payload
 end_found v payload l all =

@@ -8,13 +8,12 @@ use Rattle.ogg_command.specs.declared.command.Entry.{Entry}
 use Rattle.ogg_command.specs.declared.command.Command.TheVariants.{Put as PutOf}
 use Rattle.ogg_page.specs.Numbers.{u16_bytes}
 use Rattle.feed_records.specs.declared.item.Record.TheVariants.{Command as CommandOf}
-use Rattle.feed_records.specs.declared.item.Item.{Item}
 use Rattle.feed_records.specs.declared.item.Item.TheVariants.{Record as RecordItem}
 use Rattle.feed_records.specs.declared.version.Version.{Version}
 use Rattle.feed_records.specs.Record.{entry_bytes}
-use Rattle.feed_codec.specs.Building.{Spells}
+use Rattle.feed_codec.specs.Building.{LacksRoomOf}
 use Rattle.feed_codec.specs.Payload.{AreMany, Begins, IsEntryOfFeed}
-use Rattle.feed_codec.specs.Room.{LacksEntryRoom, LacksPacketRoom, LacksRoomFor}
+use Rattle.feed_codec.specs.Room.{LacksEntryRoom, LacksPacketRoom}
 use Rattle.feed_codec.proofs.PayloadFacts.{counted_found, put_spelled}
 use Rattle.ogg_page.specs.Laws.PageBytes.{all_both}
 
@@ -30,7 +29,7 @@ lacks_later rooms (first ∷ front) entry more short =
 -- a put whose entries lack room
 pub put_lacks : (v : Version) (payload rest : List ℕ) (n room : ℕ) (rooms : List ℕ) → n < 2 ^ 16 → payload ≡ u16_bytes n ++ rest
     → ((entries : List Entry) × AreMany IsEntryOfFeed n entries × (rest ≡ flat_map entry_bytes entries) × LacksEntryRoom room rooms entries)
-    → (item : Item) × Spells v 2 payload item × LacksRoomFor room rooms item
+    → LacksRoomOf room rooms v 2 payload
 put_lacks v payload rest n room rooms small whole (entries, many, spelled, lacks) = (
   RecordItem (CommandOf (PutOf (record { entries = entries }))),
   put_spelled v payload n entries small many (counted_found IsEntryOfFeed entry_bytes payload rest n entries whole many spelled),

@@ -1,13 +1,12 @@
 //! Records, built from payloads that have been checked.
 ghost use Rattle.std.specs.Prelude.{◌≡◌, ◌≢◌, ◌++◌, [], IfOk, OnErr, List, ℕ, vec_capacity};
-ghost use Rattle.feed_codec.specs.Building.{Makes};
+ghost use Rattle.feed_codec.specs.Building.{LacksRoomOf, Makes, SpellsCommand};
 ghost use Rattle.feed_codec.specs.Room.{LacksEntryRoom, rooms_of};
 ghost use Rattle.ogg_command.specs.declared.command.Entry.{Entry as EntryOf};
 ghost use Rattle.std.specs.List.{flat_map};
-ghost use Rattle.feed_records.specs.Record.{packet_bytes, field_bytes, fields_bytes, entry_bytes, stream_bytes, kind_of, payload_of, FitsFields};
+ghost use Rattle.feed_records.specs.Record.{packet_bytes, field_bytes, fields_bytes, entry_bytes, stream_bytes};
 ghost use Rattle.feed_codec.specs.RecordKind.{number_of};
 ghost use Rattle.feed_codec.specs.Payload.{Begins, AreMany, IsPacket, IsFieldOfFeed, AreFields, IsEntryOfFeed, IsStreamOfFeed, IsPayload};
-ghost use Rattle.ogg_command.specs.Command.{IsCommand};
 ghost use Rattle.skeleton3.specs.Fields.{shown};
 
 use crate::head::RecordKind;
@@ -32,50 +31,53 @@ pub fn build_record(
     requires payload { IsPayload version (number_of kind) payload.now }
     ensures { Makes (vec_capacity spare.old.entries) (rooms_of spare.old.packets.items) version (number_of kind) payload.now result }
 {
-    let command = match kind {
+    // Each record is made where it is returned: to move one from enum to enum costs more than all else of a small put.
+    match kind {
         RecordKind::Announcement => unreachable!(),
-        RecordKind::Begin => begin_of(alloc, version, payload)?,
-        RecordKind::Put => return put_of(alloc, spare, version, payload),
-        RecordKind::End => end_of(version, payload),
-        RecordKind::Flush => return Ok(Some(Record::Flush)),
-    };
-    Ok(Some(Record::Command(command)))
+        RecordKind::Begin => Ok(Some(Record::Command(Command::Begin(begin_of(
+            alloc, version, payload,
+        )?)))),
+        RecordKind::Put => Ok(Some(Record::Command(Command::Put(put_of(
+            alloc, spare, version, payload,
+        )?)))),
+        RecordKind::End => Ok(Some(Record::Command(Command::End(serial_of(version, payload))))),
+        RecordKind::Flush => Ok(Some(Record::Flush)),
+    }
 }
 
-fn end_of(_version: Version, payload: &[u8]) -> Command
+fn serial_of(_version: Version, payload: &[u8]) -> u32
     requires { IsPayload _version 3 payload.now }
-    ensures { IsCommand result × FitsFields _version result
-        × (kind_of result ≡ 3) × (payload_of _version result ≡ payload.now) }
+    ensures { SpellsCommand _version payload.now (Command.End result) }
 {
     let (serial, _) = take_u32(payload);
-    Command::End(serial)
+    serial
 }
 
-fn begin_of(alloc: Global, version: Version, payload: &[u8]) -> Result<Command, Memory>
+fn begin_of(alloc: Global, version: Version, payload: &[u8]) -> Result<Begin, Memory>
     requires { IsPayload version 1 payload.now }
-    ensures { IfOk result (λ command. IsCommand command × FitsFields version command
-        × (kind_of command ≡ 1) × (payload_of version command ≡ payload.now)) }
+    ensures { IfOk result (λ begin. SpellsCommand version payload.now (Command.Begin begin)) }
 {
     let (skeleton, rest) = split_skeleton(payload).unwrap();
     let (count, rest) = take_u16(rest);
     let streams = streams_of(alloc, version, count, rest)?;
-    Ok(Command::Begin(Begin { skeleton, streams }))
+    Ok(Begin { skeleton, streams })
 }
 
-/// The put that the payload spells. It is made as the answer of a feed and handed on as it is, since moving a record from
-/// one enum into the next costs more than all else of a small put.
+/// The put that the payload spells, made of spare memory, as far as there is some.
 pub fn put_of(
     alloc: Global,
     spare: &mut Spare,
     _version: Version,
     payload: &[u8],
-) -> Result<Option<Record>, FeedFault>
+) -> Result<Put, Memory>
     requires { IsPayload _version 2 payload.now }
-    ensures { Makes (vec_capacity spare.old.entries) (rooms_of spare.old.packets.items) _version 2 payload.now result }
+    ensures ok { IfOk result (λ put. SpellsCommand _version payload.now (Command.Put put)) }
+    ensures full { OnErr result
+        (LacksRoomOf (vec_capacity spare.old.entries) (rooms_of spare.old.packets.items) _version 2 payload.now) }
 {
     let (count, rest) = take_u16(payload);
     let entries = entries_of(alloc, spare, count, rest)?;
-    Ok(Some(Record::Command(Command::Put(Put { entries }))))
+    Ok(Put { entries })
 }
 
 /// The entries that the bytes spell.

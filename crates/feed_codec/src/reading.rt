@@ -150,12 +150,15 @@ impl Feed {
             return self.next(reader);
         };
         let taken = HEAD + payload.len();
-        let answer = put_of(self.alloc, &mut self.spare, version, payload);
+        let put = put_of(self.alloc, &mut self.spare, version, payload);
         reader.consume(taken);
-        if let Err(fault) = &answer {
-            self.outcome = Some(Err(*fault));
+        match put {
+            Ok(put) => Ok(Some(Record::Command(Command::Put(put)))),
+            Err(_) => {
+                self.outcome = Some(Err(FeedFault::Memory));
+                Err(FeedFault::Memory)
+            }
         }
-        answer
     }
 
     /// Takes back a command that isn't needed any more. The next ones are made of its memory, as far as it goes: of a

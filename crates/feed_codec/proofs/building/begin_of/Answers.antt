@@ -1,7 +1,7 @@
-use Rattle.std.proofs.Common.{List, ℕ, refl}
+use Rattle.std.proofs.Common.{List, ℕ}
 use Rattle.feed_records.specs.Record.{stream_bytes}
 use Rattle.feed_codec.specs.Payload.{IsStreamOfFeed}
-use Rattle.feed_codec.proofs.PayloadFacts.{begin_behind, begin_facts, counted_long, counted_stand, counted_found}
+use Rattle.feed_codec.proofs.PayloadFacts.{begin_behind, begin_spelled, counted_long, counted_stand, counted_found}
 use Rattle.feed_codec.proofs.building.begin_of.Goals as goal
 
 pub take_u16-count-requires : goal.take_u16-count-requires
@@ -23,6 +23,5 @@ returns c =
     let behind : List ℕ = c.unwrap-skeleton.result.1.now in
     let n : ℕ = c.take_u16-count.result.0 in
     let (many, whole) = c.in_ok-streams.ensures in
-    let facts = begin_facts c.args.version c.args.payload.now behind n c.unwrap-skeleton.result.0 c.in_ok-streams.streams c.take_u16-count.ensures.fits split.0 split.1 many
-    (counted_found (IsStreamOfFeed c.args.version) (stream_bytes c.args.version) behind c.take_u16-count.result.1.now n c.in_ok-streams.streams c.take_u16-count.ensures.value many whole) in
-    (facts.0, facts.1, refl, facts.2)
+    begin_spelled c.args.version c.args.payload.now behind n c.unwrap-skeleton.result.0 c.in_ok-streams.streams c.take_u16-count.ensures.fits split.0 split.1 many
+    (counted_found (IsStreamOfFeed c.args.version) (stream_bytes c.args.version) behind c.take_u16-count.result.1.now n c.in_ok-streams.streams c.take_u16-count.ensures.value many whole)

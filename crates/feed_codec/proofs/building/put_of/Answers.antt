@@ -16,18 +16,17 @@ entries_of-requires c =
     counted_stand IsEntryOfFeed entry_bytes c.args.payload.now c.take_u16-count.result.1.now c.take_u16-count.result.0
     c.take_u16-count.ensures.fits c.take_u16-count.ensures.value (put_behind c.args._version c.args.payload.now c.requires)
 
-pub returns-in_err-entries : goal.returns-in_err-entries
-returns-in_err-entries c =
+pub returns-in_err-entries-clause-full : goal.returns-in_err-entries-clause-full
+returns-in_err-entries-clause-full c =
     let p = err_from_is_err_and c.from_residual.result c.from_residual.ensures.1 in
     rw p.1 (
-      p.2,
-      put_lacks c.args._version c.args.payload.now c.take_u16-count.result.1.now c.take_u16-count.result.0
-          (vec_capacity c.args.spare.now.entries) (rooms_of c.args.spare.now.packets.items)
-          c.take_u16-count.ensures.fits c.take_u16-count.ensures.value c.in_err-entries.ensures.full,
+    put_lacks c.args._version c.args.payload.now c.take_u16-count.result.1.now c.take_u16-count.result.0
+    (vec_capacity c.args.spare.now.entries) (rooms_of c.args.spare.now.packets.items)
+    c.take_u16-count.ensures.fits c.take_u16-count.ensures.value c.in_err-entries.ensures.full
     )
 
-pub returns : goal.returns
-returns c =
+pub returns-clause-ok : goal.returns-clause-ok
+returns-clause-ok c =
     let payload : List ℕ = c.args.payload.now in
     let n : ℕ = c.take_u16-count.result.0 in
     let (many, whole) = c.in_ok-entries.ensures.ok in

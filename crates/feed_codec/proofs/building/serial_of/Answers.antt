@@ -2,7 +2,7 @@ use Rattle.std.proofs.Common.{◌≡◌, ◌++◌, List, [], ℕ, refl, sym, ap,
 use Rattle.ogg_page.specs.Numbers.{u32_bytes}
 use Rattle.feed_codec.proofs.Lists.{nothing}
 use Rattle.feed_codec.proofs.PayloadFacts.{end_behind}
-use Rattle.feed_codec.proofs.building.end_of.Goals as goal
+use Rattle.feed_codec.proofs.building.serial_of.Goals as goal
 
 pub take_u32-serial-requires : goal.take_u32-serial-requires
 take_u32-serial-requires c = let size = end_behind c.args._version c.args.payload.now c.requires in omega (arith, size)
@@ -12,4 +12,4 @@ returns c =
     let size = end_behind c.args._version c.args.payload.now c.requires in
     let serial : List ℕ = u32_bytes c.take_u32-serial.result.0 in
     let none : c.take_u32-serial.result.1.now ≡ [] = nothing c.take_u32-serial.result.1.now (omega (arith, size, c.take_u32-serial.ensures.rest)) in
-    (c.take_u32-serial.ensures.fits, tt, refl, sym (c.take_u32-serial.ensures.value ∙ ap (λ l. serial ++ l) none ∙ append-nil serial))
+    record { held = (c.take_u32-serial.ensures.fits, tt); kind_is = refl; payload_is = sym (c.take_u32-serial.ensures.value ∙ ap (λ l. serial ++ l) none ∙ append-nil serial) }
