@@ -34,13 +34,18 @@ pub fn build_record(
     // Each record is made where it is returned: to move one from enum to enum costs more than all else of a small put.
     match kind {
         RecordKind::Announcement => unreachable!(),
-        RecordKind::Begin => Ok(Some(Record::Command(Command::Begin(begin_of(
-            alloc, version, payload,
-        )?)))),
-        RecordKind::Put => Ok(Some(Record::Command(Command::Put(put_of(
-            alloc, spare, version, payload,
-        )?)))),
-        RecordKind::End => Ok(Some(Record::Command(Command::End(serial_of(version, payload))))),
+        RecordKind::Begin => {
+            let begin = begin_of(alloc, version, payload)?;
+            Ok(Some(Record::Command(Command::Begin(begin))))
+        }
+        RecordKind::Put => {
+            let put = put_of(alloc, spare, version, payload)?;
+            Ok(Some(Record::Command(Command::Put(put))))
+        }
+        RecordKind::End => {
+            let serial = serial_of(version, payload);
+            Ok(Some(Record::Command(Command::End(serial))))
+        }
         RecordKind::Flush => Ok(Some(Record::Flush)),
     }
 }

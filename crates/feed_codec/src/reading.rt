@@ -66,6 +66,8 @@ impl Feed {
 
     /// The record at the front, or none at the end. An announcement in front of all records is passed over. After the
     /// end or a fault each call returns the same answer, and nothing is read.
+    // What this takes of the stack, `next_at_hand` isn't to clear for each put.
+    #[inline(never)]
     pub fn next<R: Read>(&mut self, reader: &mut R) -> Result<Option<Record>, FeedFault>
         // Only the record is consumed, and the announcement too if the record is the first.
         ensures record { IfOk result (λ found. IfSome found (λ given. (self.old.feed.outcome ≡ None) × (self.new.feed.outcome ≡ None)
@@ -102,7 +104,7 @@ impl Feed {
             &mut self.version,
             reader,
         );
-        // The answer is handed on as it is: moving a record costs more than reading a small one.
+        // The answer is handed on as it is: to move a record costs more than all else of a small one.
         match &answer {
             Ok(Some(_)) => {}
             Ok(None) => self.outcome = Some(Ok(())),
@@ -111,8 +113,8 @@ impl Feed {
         answer
     }
 
-    /// The same of a reader that reads ahead. A put that lies whole in the reader's buffer isn't copied before its
-    /// command is made.
+    /// The same of a reader that reads ahead. A put that lies whole in the reader's buffer is made of it where it lies:
+    /// its payload isn't copied first.
     pub fn next_at_hand<R: Read>(
         &mut self,
         reader: &mut BufReader<R>,
