@@ -1,4 +1,5 @@
 pub mod Bounds
+mod Coming
 pub mod States
 mod Sent
 mod Staying

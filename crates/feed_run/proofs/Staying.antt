@@ -33,7 +33,7 @@ stays_told false a b c line p told = stays_part false a b c line p told
 stays_told true a b c line p told = stays_prefix true a b c line p told
 
 -- the end of the feed is one reason among others
-ends_for : (enough : Bool) (known : Option Version) (old new : Option (List ℕ)) → GivesEnd known old new → EndsFeed enough known old new
+pub ends_for : (enough : Bool) (known : Option Version) (old new : Option (List ℕ)) → GivesEnd known old new → EndsFeed enough known old new
 ends_for false known old new end = end
 ends_for true known old new end = inl end
 

@@ -6,6 +6,7 @@ use Rattle.ogg_page.specs.Output.{WritesPart, WritesPrefix}
 use Rattle.feed_records.specs.declared.item.Record.{Record}
 use Rattle.feed_records.specs.declared.item.Record.TheVariants.{Flush}
 use Rattle.feed_records.specs.declared.version.Version.{Version}
+use Rattle.feed_replies.specs.declared.fault.FeedFault.{FeedFault}
 use Rattle.feed_replies.specs.declared.fault.FeedFault.TheVariants.{Read, Memory}
 use Rattle.feed_replies.specs.declared.fault.RunFault.{RunFault}
 use Rattle.feed_replies.specs.declared.fault.RunFault.TheVariants.{Feed, Write, TooMany}
@@ -15,8 +16,6 @@ use Rattle.feed_codec.specs.Feed.{FeedState, GivesEnd, GivesRecord, HasFault}
 use Rattle.feed_records.specs.Record.{HasRecord, opening, record_of}
 use Rattle.feed_replies.specs.Reply.{reply_line}
 use Rattle.feed_run.specs.declared.counting.Counts.{Counts}
-use Rattle.feed_run.specs.declared.next.Next.{Next}
-use Rattle.feed_run.specs.declared.next.Next.TheVariants.{Run, Close}
 use Rattle.feed_run.specs.Answering.{AnswersAll}
 use Rattle.feed_run.specs.Counting.{counts_with, IsTally}
 
@@ -91,10 +90,12 @@ Leaves (Err TooMany) known count enough old new =
     (count ≡ most_records) × (later : Option Version) × (next : Record) × GivesRecord known later old new next
 Leaves (Err Write) known count enough old new = ⊥
 
--- What comes next in a feed after the first `count` records: a record that was read; or no further record is run.
-abbrev pub Comes : Next → FeedState → FeedState → ℕ → Bool → Option (List ℕ) → Option (List ℕ) → Type 0
-Comes (Run given) was now count enough old new = (count < most_records) × (now.outcome ≡ None) × GivesRecord was.version now.version old new given
-Comes (Close outcome) was now count enough old new = Leaves outcome was.version count enough old new
+-- What comes next in a feed: a record that was read; its end, or that no further record is wanted; or a fault, which is
+-- that of its bytes if the reader didn't fail and memory wasn't refused.
+abbrev pub Comes : Result (Option Record) FeedFault → FeedState → FeedState → Bool → Option (List ℕ) → Option (List ℕ) → Type 0
+Comes (Ok (Some given)) was now enough old new = (now.outcome ≡ None) × GivesRecord was.version now.version old new given
+Comes (Ok None) was now enough old new = EndsFeed enough was.version old new
+Comes (Err fault) was now enough old new = fault ≢ Read → fault ≢ Memory → HasFault was.version old fault
 
 -- A writer failed over a record with these pages and this reply. If it failed at the pages, not all of them are
 -- written, the record hasn't been run, and nothing of its line is written. If it failed at the line, all of the pages

@@ -1,7 +1,11 @@
 //! How much of a feed is at hand.
-ghost use Rattle.std.specs.Prelude.{IsTrue};
+ghost use Rattle.std.specs.Prelude.{◌≡◌, ◌≢◌, ◌≤◌, IfOk, IfErr, IfSome, IfNone, IsTrue, None, Some, Ok, Err};
+ghost use Rattle.feed_codec.specs.Feed.{GivesEnd, GivesRecord, HasFault, TakesWhereMemoryEnds, answer_at};
 ghost use Rattle.feed_run.specs.Ahead.{BeginsWithRecord};
 
+use feed_codec::Feed;
+use feed_records::Record;
+use feed_replies::FeedFault;
 use ogg_page::{take_u8, take_u32};
 use std::io::{BufReader, Read};
 
@@ -11,19 +15,48 @@ const HEAD: usize = 5;
 /// The kind of the record that announces a feed's version.
 const ANNOUNCEMENT: u8 = 0;
 
-/// Tells whether the next record of a feed can be read without waiting for more of it.
-pub trait Ahead<R> {
+/// Tells whether the next record of a feed can be read without waiting for more of it, and reads it.
+pub trait Ahead<R: Read> {
     /// Whether the next record is whole at hand.
     fn has_record(reader: &R) -> bool;
+
+    /// Reads the next record, as `Feed::next` does.
+    fn next_record(feed: &mut Feed, reader: &mut R) -> Result<Option<Record>, FeedFault>
+        // Only the record is consumed, and the announcement too if the record is the first.
+        ensures record { IfOk result (λ found. IfSome found (λ given. (feed.old.feed.outcome ≡ None) × (feed.new.feed.outcome ≡ None)
+            × GivesRecord feed.old.feed.version feed.new.feed.version (R.remaining reader.old) (R.remaining reader.new) given)) }
+
+        // At the end no byte is left.
+        ensures end { IfOk result (λ found. IfNone found (feed.old.feed.outcome ≡ None
+            → GivesEnd feed.old.feed.version (R.remaining reader.old) (R.remaining reader.new))) }
+
+        // A fault is the first of bytes that begin with no record. Or the reader failed. Or memory was refused, and
+        // then the feed had too little room.
+        ensures fault { IfErr result (λ fault. feed.old.feed.outcome ≡ None → fault ≢ FeedFault.Read → fault ≢ FeedFault.Memory
+            → HasFault feed.old.feed.version (R.remaining reader.old) fault) }
+        ensures memory { result ≡ Err FeedFault.Memory → feed.old.feed.outcome ≡ None
+            → TakesWhereMemoryEnds feed.old.room feed.old.feed.version (R.remaining reader.old) (R.remaining reader.new) }
+
+        ensures room { feed.old.room.payload ≤ feed.new.room.payload }
+
+        // The end and each fault stay.
+        ensures ends { IfOk result (λ found. IfNone found (feed.new.feed.outcome ≡ Some (Ok tt))) }
+        ensures fails { IfErr result (λ fault. feed.new.feed.outcome ≡ Some (Err fault)) }
+        ensures stays { IfSome feed.old.feed.outcome (λ outcome. (result ≡ answer_at outcome)
+            × (feed.new ≡ feed.old) × (reader.new ≡ reader.old)) };
 }
 
 /// Of this reader nothing is known to be at hand.
 #[derive(Clone, Copy, Debug, PartialEq, Eq)]
 pub struct Unknown;
 
-impl<R> Ahead<R> for Unknown {
+impl<R: Read> Ahead<R> for Unknown {
     fn has_record(_: &R) -> bool {
         false
+    }
+
+    fn next_record(feed: &mut Feed, reader: &mut R) -> Result<Option<Record>, FeedFault> {
+        feed.next(reader)
     }
 }
 
@@ -34,6 +67,13 @@ pub struct Buffered;
 impl<R: Read> Ahead<BufReader<R>> for Buffered {
     fn has_record(reader: &BufReader<R>) -> bool {
         begins_with_record(reader.buffer())
+    }
+
+    fn next_record(
+        feed: &mut Feed,
+        reader: &mut BufReader<R>,
+    ) -> Result<Option<Record>, FeedFault> {
+        feed.next_at_hand(reader)
     }
 }
 

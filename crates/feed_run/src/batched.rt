@@ -70,18 +70,17 @@ impl<W: Write + Drop> Batched<W> {
         }
     }
 
-    /// Writes what waits, unless it waits on. It fails if a writer has failed before.
-    fn send_unless<P: Write>(&mut self, waits: bool, pages: &mut P) -> Result<(), WriteFault>
+    /// Writes what waits if there may be no room for a further line. It fails if a writer has failed before.
+    fn make_room<P: Write>(&mut self, pages: &mut P) -> Result<(), WriteFault>
         ensures lines { Keeps (append_known (W.contents self.old.out) self.old.waiting.items)
             (append_known (W.contents self.new.out) self.new.waiting.items) }
         ensures pages { Keeps (P.contents pages.old) (P.contents pages.new) }
         ensures out { WritesPrefix (W.contents self.old.out) (W.contents self.new.out) self.old.waiting.items }
-        ensures sent { waits ≡ false → OnOk result (self.new.waiting.items ≡ []) }
         ensures left { 0 < length self.old.waiting.items → OnErr result (0 < length self.new.waiting.items) }
         ensures stays { self.old.failed ≡ true → self.new.failed ≡ true }
         ensures together { self.new.together ≡ self.old.together }
     {
-        if waits && !self.failed {
+        if !self.failed && self.waiting.len() <= ROOM - LONGEST_LINE {
             return Ok(());
         }
         self.send(pages)
@@ -135,11 +134,12 @@ impl<W: Write + Drop> Replies for Batched<W> {
         // A line that may not wait is out, and so are those before it.
         ensures sent { may_wait self.old.together reply.now ≡ false → OnOk result (self.new.waiting.items ≡ []) }
     {
-        let has_room = self.waiting.len() <= ROOM - LONGEST_LINE;
-        self.send_unless(has_room, pages)?;
+        self.make_room(pages)?;
         write_reply(reply, &mut self.waiting)?;
-        let waits = self.may_wait(reply);
-        self.send_unless(waits, pages)
+        if self.may_wait(reply) {
+            return Ok(());
+        }
+        self.send(pages)
     }
 
     fn ready<P: Write>(&mut self, pages: &mut P)

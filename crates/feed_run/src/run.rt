@@ -6,7 +6,7 @@ use crate::ahead::{Ahead, Unknown};
 use crate::answering::answer;
 use crate::counting::Counts;
 use crate::flushing::flush_waiting;
-use crate::next::{Next, Outcome, answer_at, next_for};
+use crate::next::{MOST_RECORDS, Outcome, answer_at, next_for};
 use crate::replies::Replies;
 use crate::runner::Runner;
 use feed_codec::Feed;
@@ -130,38 +130,34 @@ impl FeedRun {
         if let Some(outcome) = self.outcome {
             return answer_at(outcome);
         }
-        match next_for::<A, R, P, S>(&mut self.feed, self.records, reader, pages, replies) {
-            Next::Run(given) => match answer(
-                &mut self.feed,
-                self.counts,
-                given,
-                runner,
-                pages,
-                replies,
-            ) {
-                Ok((reply, counts)) => {
-                    self.records += 1;
-                    self.counts = counts;
-                    Ok(Some(reply))
-                }
-                Err(_) => {
-                    self.outcome = Some(Err(RunFault::Write));
-                    Err(RunFault::Write)
-                }
-            },
-            Next::Close(outcome) => {
-                self.outcome = Some(outcome);
-                match flush_waiting(runner, pages, replies) {
-                    Ok(Some(reply)) => {
-                        self.counts = self.counts.with(&Record::Flush, reply);
+        let outcome = match next_for::<A, R, P, S>(&mut self.feed, reader, pages, replies) {
+            Ok(Some(given)) if self.records < MOST_RECORDS => {
+                return match answer(&mut self.feed, self.counts, given, runner, pages, replies) {
+                    Ok((reply, counts)) => {
+                        self.records += 1;
+                        self.counts = counts;
                         Ok(Some(reply))
                     }
-                    Ok(None) => answer_at(outcome),
                     Err(_) => {
                         self.outcome = Some(Err(RunFault::Write));
                         Err(RunFault::Write)
                     }
-                }
+                };
+            }
+            Ok(Some(_)) => Err(RunFault::TooMany),
+            Ok(None) => Ok(()),
+            Err(fault) => Err(RunFault::Feed(fault)),
+        };
+        self.outcome = Some(outcome);
+        match flush_waiting(runner, pages, replies) {
+            Ok(Some(reply)) => {
+                self.counts = self.counts.with(&Record::Flush, reply);
+                Ok(Some(reply))
+            }
+            Ok(None) => answer_at(outcome),
+            Err(_) => {
+                self.outcome = Some(Err(RunFault::Write));
+                Err(RunFault::Write)
             }
         }
     }
