@@ -1,5 +1,6 @@
 //! How much of a feed is at hand.
 ghost use Rattle.std.specs.Prelude.{◌≡◌, ◌≢◌, ◌≤◌, IfOk, IfErr, IfSome, IfNone, IsTrue, None, Some, Ok, Err};
+ghost use Rattle.std.specs.Io.Buffered.{reader_buffer};
 ghost use Rattle.feed_codec.specs.Feed.{GivesEnd, GivesRecord, HasFault, TakesWhereMemoryEnds, answer_at};
 ghost use Rattle.feed_run.specs.Ahead.{BeginsWithRecord};
 
@@ -17,8 +18,12 @@ const ANNOUNCEMENT: u8 = 0;
 
 /// Tells whether the next record of a feed can be read without waiting for more of it, and reads it.
 pub trait Ahead<R: Read> {
+    /// What holds of a reader if the next record is said to be at hand.
+    ghost at_hand: { R → Type 0 };
+
     /// Whether the next record is whole at hand.
-    fn has_record(reader: &R) -> bool;
+    fn has_record(reader: &R) -> bool
+        ensures { IsTrue result → at_hand reader.now };
 
     /// Reads the next record, as `Feed::next` does.
     fn next_record(feed: &mut Feed, reader: &mut R) -> Result<Option<Record>, FeedFault>
@@ -51,6 +56,8 @@ pub trait Ahead<R: Read> {
 pub struct Unknown;
 
 impl<R: Read> Ahead<R> for Unknown {
+    ghost at_hand = { λ _. ⊥ };
+
     fn has_record(_: &R) -> bool {
         false
     }
@@ -65,6 +72,8 @@ impl<R: Read> Ahead<R> for Unknown {
 pub struct Buffered;
 
 impl<R: Read> Ahead<BufReader<R>> for Buffered {
+    ghost at_hand = { λ reader. BeginsWithRecord (reader_buffer reader) };
+
     fn has_record(reader: &BufReader<R>) -> bool {
         begins_with_record(reader.buffer())
     }

@@ -28,6 +28,8 @@ pub fn next_for<A: Ahead<R>, R: Read, P: Write, S: Replies>(
     ensures pages { Stays S.waits (P.contents pages.old) (P.contents pages.new) }
     ensures lines { Stays S.waits (S.lines replies.old) (S.lines replies.new) }
     ensures enough { S.enough replies.old ≡ true → S.enough replies.new ≡ true }
+    // The reader isn't waited for while something waits.
+    ensures sent { (A.at_hand reader.old → ⊥) → S.is_out replies.new }
 {
     if !A::has_record(reader) {
         replies.ready(pages);

@@ -1,5 +1,5 @@
 //! What takes the replies of a run.
-ghost use Rattle.std.specs.Prelude.{◌≡◌, ℕ, List, Option, Bool, true, false, OnOk, OnErr};
+ghost use Rattle.std.specs.Prelude.{◌≡◌, ℕ, List, Option, Bool, true, false, OnOk, OnErr, ⊤};
 ghost use Rattle.std.specs.Io.KnownBytes.{Appends};
 ghost use Rattle.feed_replies.specs.Reply.{reply_line};
 ghost use Rattle.feed_run.specs.Run.{Stays, TellsPart};
@@ -22,6 +22,9 @@ pub trait Replies {
     /// Whether it wants no further record.
     ghost enough: { Self → Bool };
 
+    /// Nothing waits with it, or it wants no further record.
+    ghost is_out: { Self → Type 0 };
+
     /// Takes a reply, whose pages were written before. After a fault it may have taken a part of the line, or
     /// all of it if lines may wait with it.
     fn reply<P: Write>(&mut self, reply: &Reply, pages: &mut P) -> Result<(), WriteFault>
@@ -35,7 +38,8 @@ pub trait Replies {
     fn ready<P: Write>(&mut self, pages: &mut P)
         ensures lines { Stays waits (lines self.old) (lines self.new) }
         ensures pages { Stays waits (P.contents pages.old) (P.contents pages.new) }
-        ensures enough { enough self.old ≡ true → enough self.new ≡ true };
+        ensures enough { enough self.old ≡ true → enough self.new ≡ true }
+        ensures sent { is_out self.new };
 
     /// Whether it wants no further record.
     fn has_enough(&self) -> bool
@@ -49,6 +53,8 @@ impl<W: Write> Replies for W {
     ghost waits = { false };
 
     ghost enough = { λ _. false };
+
+    ghost is_out = { λ _. ⊤ };
 
     fn reply<P: Write>(&mut self, reply: &Reply, _: &mut P) -> Result<(), WriteFault> {
         write_reply(reply, self)
