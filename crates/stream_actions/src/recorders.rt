@@ -1,5 +1,5 @@
 //! Files that commands are recorded into: they are opened, and sealed.
-ghost use Rattle.std.specs.Prelude.{◌≡◌, ◌↔◌, IfOk, IfErr, IsErr, IsTrue, Err, codes, drop};
+ghost use Rattle.std.specs.Prelude.{◌≡◌, ◌↔◌, ◌⊎◌, IfOk, IfErr, IsTrue, Err, codes, drop};
 ghost use Rattle.disk_model.specs.Fault.{HasCause};
 ghost use Rattle.gate_file.specs.declared.fault.OpenFault.{OpenFault as OpenFaultOf};
 ghost use Rattle.stream_actions.specs.Foreign.{IsForeign, front_of};
@@ -68,7 +68,8 @@ pub(crate) fn recorder_on<D: Disk + Drop>(alloc: Global, disk: D) -> Result<Reco
 /// its faults are those of `recorder_on`.
 pub fn own_recorder_on<D: Disk + Drop>(alloc: Global, mut disk: D) -> Result<Recorder<D>, Fault>
     ensures held { IfOk result (λ recorder. recorder.held ≡ 0) }
-    ensures foreign { D.is_honest disk → IsForeign (front_of (D.state disk).contents) → IsErr result }
+    ensures foreign { D.is_honest disk → IsForeign (front_of (D.state disk).contents)
+        → (result ≡ Err Fault.Foreign) ⊎ (result ≡ Err (Fault.Open OpenFaultOf.Disk)) }
     ensures only { D.is_honest disk → result ≡ Err Fault.Foreign → IsForeign (front_of (D.state disk).contents) }
 {
     match is_foreign(&mut disk) {
