@@ -180,13 +180,12 @@ checksum-folded front bytes rest sum word is four =
     ∙ ap (λ l. number_of (left_of l)) (sym (joined (to_be_bytes w32 (bit_xor sum word)) rest))
     ∙ sym (is_number (to_be_bytes w32 (bit_xor sum word) ++ rest))
 
--- ---- words, each followed by zeros
-abbrev pub word_before : ℕ → ℕ → ℕ
-word_before zeros word = checksum_of (to_be_bytes w32 word ++ replicate zeros 0)
+-- ---- four bytes, or the word that they spell, followed by zeros
+abbrev pub bytes_before : ℕ → List ℕ → ℕ
+bytes_before zeros bytes = checksum_of (bytes ++ replicate zeros 0)
 
-word_apart : (bytes rest : List ℕ) (word : ℕ) → IsWord bytes word → checksum_of (bytes ++ rest) ≡ bit_xor (word_before (length rest) word) (checksum_of rest)
-word_apart bytes rest word four =
-    checksum-apart bytes rest ∙ ap (λ l. bit_xor (checksum_of (l ++ replicate (length rest) 0)) (checksum_of rest)) (sym four.spelled)
+abbrev pub word_before : ℕ → ℕ → ℕ
+word_before zeros word = bytes_before zeros (to_be_bytes w32 word)
 
 first_apart : (front bytes rest : List ℕ) (sum word : ℕ) → sum ≡ checksum_of front → IsWord bytes word →
     checksum_of (front ++ (bytes ++ rest)) ≡ bit_xor (word_before (length rest) (bit_xor sum word)) (checksum_of rest)
@@ -197,46 +196,36 @@ pub no_checksum : checksum_of [] ≡ 0
 unfolding checksum_of message_bits remainder number_of
 no_checksum = refl
 
-last_word : (bytes : List ℕ) (word : ℕ) → IsWord bytes word → checksum_of (bytes ++ []) ≡ word_before 0 word
-last_word bytes word four = ap (λ l. checksum_of (l ++ [])) (sym four.spelled)
-
--- one word after a message with this checksum, two words and four
+-- one word after a message with this checksum, and then no bytes, four and twelve
 pub checksum-on_four : (front a : List ℕ) (sum v : ℕ) → sum ≡ checksum_of front → IsWord a v →
     word_before 0 (bit_xor sum v) ≡ checksum_of (front ++ (a ++ []))
 checksum-on_four front a sum v is h = sym (checksum-folded front a [] sum v is h)
 
-pub checksum-on_eight : (front a b : List ℕ) (sum v w : ℕ) → sum ≡ checksum_of front → IsWord a v → IsWord b w →
-    bit_xor (word_before 0 w) (word_before 4 (bit_xor sum v)) ≡ checksum_of (front ++ (a ++ (b ++ [])))
-checksum-on_eight front a b sum v w is ha hb =
-    let four : length (b ++ []) ≡ 4 = omega (arith, length-append b [], hb.long) in
-    xor_comm (word_before 0 w) (word_before 4 (bit_xor sum v))
-    ∙ ap (λ n. bit_xor (word_before 4 (bit_xor sum v)) n) (sym (last_word b w hb))
+pub checksum-on_eight : (front a b : List ℕ) (sum v : ℕ) → sum ≡ checksum_of front → IsWord a v → length b ≡ 4 →
+    bit_xor (bytes_before 0 b) (word_before 4 (bit_xor sum v)) ≡ checksum_of (front ++ (a ++ (b ++ [])))
+checksum-on_eight front a b sum v is ha hb =
+    let four : length (b ++ []) ≡ 4 = omega (arith, length-append b [], hb) in
+    xor_comm (bytes_before 0 b) (word_before 4 (bit_xor sum v))
     ∙ ap (λ n. bit_xor (word_before n (bit_xor sum v)) (checksum_of (b ++ []))) (sym four)
     ∙ sym (first_apart front a (b ++ []) sum v is ha)
 
-pub checksum-on_sixteen : (front a b c d : List ℕ) (sum v w x y : ℕ) → sum ≡ checksum_of front → IsWord a v → IsWord b w → IsWord c x → IsWord d y →
-    bit_xor (bit_xor (bit_xor (word_before 8 w) (word_before 4 x)) (word_before 0 y)) (word_before 12 (bit_xor sum v))
+pub checksum-on_sixteen : (front a b c d : List ℕ) (sum v : ℕ) → sum ≡ checksum_of front → IsWord a v → length b ≡ 4 → length c ≡ 4 → length d ≡ 4 →
+    bit_xor (bit_xor (bit_xor (bytes_before 8 b) (bytes_before 4 c)) (bytes_before 0 d)) (word_before 12 (bit_xor sum v))
     ≡ checksum_of (front ++ (a ++ (b ++ (c ++ (d ++ [])))))
-checksum-on_sixteen front a b c d sum v w x y is ha hb hc hd =
-    let four : length (d ++ []) ≡ 4 = omega (arith, length-append d [], hd.long) in
-    let eight : length (c ++ (d ++ [])) ≡ 8 = omega (arith, length-append c (d ++ []), hc.long, four) in
-    let twelve : length (b ++ (c ++ (d ++ []))) ≡ 12 = omega (arith, length-append b (c ++ (d ++ [])), hb.long, eight) in
-    let third : checksum_of (c ++ (d ++ [])) ≡ bit_xor (word_before 4 x) (word_before 0 y) =
-    word_apart c (d ++ []) x hc
-    ∙ ap (λ n. bit_xor (word_before n x) (checksum_of (d ++ []))) four
-    ∙ ap (bit_xor (word_before 4 x)) (last_word d y hd) in
-    let second : checksum_of (b ++ (c ++ (d ++ []))) ≡ bit_xor (word_before 8 w) (bit_xor (word_before 4 x) (word_before 0 y)) =
-    word_apart b (c ++ (d ++ [])) w hb
-    ∙ ap (λ n. bit_xor (word_before n w) (checksum_of (c ++ (d ++ [])))) eight
-    ∙ ap (bit_xor (word_before 8 w)) third in
-    let first : checksum_of (front ++ (a ++ (b ++ (c ++ (d ++ [])))))
-    ≡ bit_xor (word_before 12 (bit_xor sum v)) (bit_xor (word_before 8 w) (bit_xor (word_before 4 x) (word_before 0 y))) =
-    first_apart front a (b ++ (c ++ (d ++ []))) sum v is ha
-    ∙ ap (λ n. bit_xor (word_before n (bit_xor sum v)) (checksum_of (b ++ (c ++ (d ++ []))))) twelve
-    ∙ ap (bit_xor (word_before 12 (bit_xor sum v))) second in
-    xor_comm (bit_xor (bit_xor (word_before 8 w) (word_before 4 x)) (word_before 0 y)) (word_before 12 (bit_xor sum v))
-    ∙ ap (bit_xor (word_before 12 (bit_xor sum v))) (xor_assoc (word_before 8 w) (word_before 4 x) (word_before 0 y))
-    ∙ sym first
+checksum-on_sixteen front a b c d sum v is ha hb hc hd =
+    let four : length (d ++ []) ≡ 4 = omega (arith, length-append d [], hd) in
+    let eight : length (c ++ (d ++ [])) ≡ 8 = omega (arith, length-append c (d ++ []), hc, four) in
+    let twelve : length (b ++ (c ++ (d ++ []))) ≡ 12 = omega (arith, length-append b (c ++ (d ++ [])), hb, eight) in
+    let third : checksum_of (c ++ (d ++ [])) ≡ bit_xor (bytes_before 4 c) (bytes_before 0 d) =
+    checksum-apart c (d ++ []) ∙ ap (λ n. bit_xor (bytes_before n c) (checksum_of (d ++ []))) four in
+    let second : checksum_of (b ++ (c ++ (d ++ []))) ≡ bit_xor (bytes_before 8 b) (bit_xor (bytes_before 4 c) (bytes_before 0 d)) =
+    checksum-apart b (c ++ (d ++ []))
+    ∙ ap (λ n. bit_xor (bytes_before n b) (checksum_of (c ++ (d ++ [])))) eight
+    ∙ ap (bit_xor (bytes_before 8 b)) third in
+    xor_comm (bit_xor (bit_xor (bytes_before 8 b) (bytes_before 4 c)) (bytes_before 0 d)) (word_before 12 (bit_xor sum v))
+    ∙ ap (bit_xor (word_before 12 (bit_xor sum v))) (xor_assoc (bytes_before 8 b) (bytes_before 4 c) (bytes_before 0 d) ∙ sym second)
+    ∙ ap (λ n. bit_xor (word_before n (bit_xor sum v)) (checksum_of (b ++ (c ++ (d ++ []))))) (sym twelve)
+    ∙ sym (first_apart front a (b ++ (c ++ (d ++ []))) sum v is ha)
 
 -- ---- the bytes of a word, each followed by zeros
 checksum-first : (byte : ℕ) (rest : List ℕ) → checksum_of (byte ∷ rest) ≡ bit_xor (entry_before (length rest) byte) (checksum_of rest)

@@ -1,6 +1,6 @@
 //! The checksum of a page.
 ghost use Rattle.std.specs.Prelude.{◌≡◌, ◌<◌, ◌≤◌, ◌++◌, replicate, List, ℕ};
-ghost use Rattle.std.specs.Int.{to_be_bytes, w32};
+ghost use Rattle.std.specs.Int.{to_be_bytes, to_le_bytes, w32};
 ghost use Rattle.page_checksum.specs.Checksum.{bytes_of, checksum_of, entry_before};
 
 use crate::folding::checksum_by_folding;
@@ -50,15 +50,21 @@ pub(crate) fn checksum_by_tables(before: u32, bytes: &[u8]) -> u32
     checksum_on_each(sum, rest)
 }
 
-/// The same of sixteen bytes.
+/// The same of sixteen bytes, as four words. What came before adds to the first, which is read with
+/// its highest byte first. The others are read as they lie in memory, without a swap of their bytes.
 fn checksum_on_sixteen(before: u32, bytes: &[u8; 16]) -> u32
     ensures { (front : List ℕ) → before ≡ checksum_of front → result ≡ checksum_of (front ++ bytes.now) }
 {
-    let first = u32::from_be_bytes([bytes[0], bytes[1], bytes[2], bytes[3]]);
-    let second = u32::from_be_bytes([bytes[4], bytes[5], bytes[6], bytes[7]]);
-    let third = u32::from_be_bytes([bytes[8], bytes[9], bytes[10], bytes[11]]);
-    let fourth = u32::from_be_bytes([bytes[12], bytes[13], bytes[14], bytes[15]]);
-    checksum_on_words(before, first, second, third, fourth)
+    let first = before ^ u32::from_be_bytes([bytes[0], bytes[1], bytes[2], bytes[3]]);
+    // Each of these is one read. Of `from_le_bytes` LLVM makes four, a byte each, which is slower.
+    let second = u32::from_be_bytes([bytes[7], bytes[6], bytes[5], bytes[4]]);
+    let third = u32::from_be_bytes([bytes[11], bytes[10], bytes[9], bytes[8]]);
+    let fourth = u32::from_be_bytes([bytes[15], bytes[14], bytes[13], bytes[12]]);
+    // The first word is the last to be added, since only that word waits for the bytes before.
+    checksum_of_low_first(second, 8)
+        ^ checksum_of_low_first(third, 4)
+        ^ checksum_of_low_first(fourth, 0)
+        ^ checksum_of_word(first, 12)
 }
 
 /// The checksum of some bytes and then of sixteen, from the checksum of the bytes before. The sixteen
@@ -81,8 +87,8 @@ fn checksum_on_eight(before: u32, bytes: &[u8; 8]) -> u32
     ensures { (front : List ℕ) → before ≡ checksum_of front → result ≡ checksum_of (front ++ bytes.now) }
 {
     let first = before ^ u32::from_be_bytes([bytes[0], bytes[1], bytes[2], bytes[3]]);
-    let second = u32::from_be_bytes([bytes[4], bytes[5], bytes[6], bytes[7]]);
-    checksum_of_word(second, 0) ^ checksum_of_word(first, 4)
+    let second = u32::from_be_bytes([bytes[7], bytes[6], bytes[5], bytes[4]]);
+    checksum_of_low_first(second, 0) ^ checksum_of_word(first, 4)
 }
 
 /// The same of four bytes.
@@ -98,6 +104,15 @@ fn checksum_of_word(word: u32, zeros: usize) -> u32
     ensures { result ≡ checksum_of (to_be_bytes w32 word ++ replicate zeros 0) }
 {
     let [b0, b1, b2, b3] = word.to_be_bytes();
+    entry(b0, zeros + 3) ^ entry(b1, zeros + 2) ^ entry(b2, zeros + 1) ^ entry(b3, zeros)
+}
+
+/// The checksum of a word's bytes, the lowest first, with this number of zeros after them.
+fn checksum_of_low_first(word: u32, zeros: usize) -> u32
+    requires { zeros ≤ 12 }
+    ensures { result ≡ checksum_of (to_le_bytes w32 word ++ replicate zeros 0) }
+{
+    let [b0, b1, b2, b3] = word.to_le_bytes();
     entry(b0, zeros + 3) ^ entry(b1, zeros + 2) ^ entry(b2, zeros + 1) ^ entry(b3, zeros)
 }
 

@@ -1,7 +1,7 @@
--- Words, each spelled by four bytes with the highest first, and an array byte by byte.
+-- Words, each spelled by four bytes with the highest or the lowest first, and an array byte by byte.
 use Rattle.std.proofs.Common.{◌≡◌, ℕ, zero, suc, ◌^◌, ◌<◌, List, [], ◌∷◌, ◌++◌, length, get_or, refl, sym, ◌∙◌, ap, arith}
-use Rattle.std.specs.Int.{to_be_bytes, from_be_bytes, w32}
-use Rattle.std.proofs.lemmas.Nat.{be_bytes_4}
+use Rattle.std.specs.Int.{to_be_bytes, to_le_bytes, from_be_bytes, w32}
+use Rattle.std.proofs.lemmas.Nat.{be_bytes_4, le_bytes_4}
 use Rattle.page_checksum.specs.Checksum.{bytes_of}
 
 -- these four bytes spell this number
@@ -53,6 +53,11 @@ word_of k xs word small is =
       fits = omega (arith, is, small k, small (suc k), small (suc (suc k)), small (suc (suc (suc k))));
       spelled = be_bytes_4 (gets k 4 xs) word refl each is;
     }
+
+-- the four bytes from this one on, read from the last to the first, are those of a word with its lowest byte first
+pub low_bytes : (k : ℕ) (xs : List ℕ) (word : ℕ) → ((i : ℕ) → get_or xs i 0 < 256) →
+    word ≡ from_be_bytes w32 (get_or xs (suc (suc (suc k))) 0 ∷ get_or xs (suc (suc k)) 0 ∷ get_or xs (suc k) 0 ∷ get_or xs k 0 ∷ []) → to_le_bytes w32 word ≡ gets k 4 xs
+low_bytes k xs word small is = le_bytes_4 (gets k 4 xs) word refl (four_small k xs small) (omega (arith, is))
 
 two_small : (a b : ℕ) → a < 256 → b < 256 → (i : ℕ) → get_or (a ∷ b ∷ 0 ∷ 0 ∷ []) i 0 < 256
 two_small a b ha hb zero = ha
