@@ -32,37 +32,10 @@ pub fn lay_run<T: TimedPacket>(
         + size_for (length (run_lacing (map T.timed run.now))) (length (run_bytes (map T.timed run.now)))) }
     ensures capacity { vec_capacity out.old ≤ vec_capacity out.new }
 {
-    let Some(item) = lone_packet(run) else {
-        return lay_pages(serial, first_sequence, flags, run, out);
-    };
-    match lay_packet(serial, first_sequence, flags, item, out) {
-        Ok(()) => Ok(1),
-        Err(memory) => Err(memory),
+    if let Some(item) = lone_packet(run) {
+        lay_packet(serial, first_sequence, flags, item, out)?;
+        return Ok(1);
     }
-}
-
-/// Appends the pages of any run, one after the other, and returns their number. After `Memory` the vector is unchanged.
-fn lay_pages<T: TimedPacket>(
-    serial: u32,
-    first_sequence: u32,
-    flags: u8,
-    run: &[T],
-    out: &mut Vec<u8>,
-) -> Result<u32, Memory>
-    requires lengths { lengths (map T.timed run.now) + length run.now ≤ 2 ^ 62 }
-    requires numbers { first_sequence + pages_for (length (run_lacing (map T.timed run.now))) ≤ 2 ^ 32 }
-    requires count { pages_for (length (run_lacing (map T.timed run.now))) < 2 ^ 32 }
-    requires flags { flags < 255 }
-    ensures pages { IfOk result (λ count. count ≡ pages_for (length (run_lacing (map T.timed run.now)))) }
-    ensures ok { IfOk result (λ _. out.new.items ≡ out.old.items
-        ++ bytes_of_pages (flagged flags (pages_of_run serial first_sequence (map T.timed run.now)))) }
-    ensures err { OnErr result (out.new.items ≡ out.old.items) }
-    ensures len { OnOk result (vec_len out.new ≡ vec_len out.old
-        + size_for (length (run_lacing (map T.timed run.now))) (length (run_bytes (map T.timed run.now)))) }
-    ensures full { OnErr result (vec_capacity out.old < vec_len out.old
-        + size_for (length (run_lacing (map T.timed run.now))) (length (run_bytes (map T.timed run.now)))) }
-    ensures capacity { vec_capacity out.old ≤ vec_capacity out.new }
-{
     let (values, bytes) = values_and_bytes(run);
     out.reserve(size_of(values, bytes) as usize)?;
     let count = pages_of(values);
