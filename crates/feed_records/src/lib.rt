@@ -16,6 +16,6 @@ mod writing;
 
 pub use fits::fits_record_2;
 pub use item::{Item, Record};
-pub use version::Version;
+pub use version::{ANNOUNCEMENT, Version};
 pub use widths::{COUNT, ENTRY_FRONT, HEAD, LENGTH, MOST_PAYLOAD, SERIAL, STREAM_FRONT, TAIL};
 pub use writing::{write_command, write_command_2, write_flush, write_version};

@@ -9,7 +9,7 @@ ghost use Rattle.feed_records.specs.Writing.{Grows, stream_size};
 
 use crate::item::Record;
 use crate::size::payload_size;
-use crate::version::Version;
+use crate::version::{ANNOUNCEMENT, Version};
 use crate::widths::HEAD;
 use ogg_command::{Command, Entry, Listed, Memory, NewStream, SkeletonHead};
 use skeleton3::Field;
@@ -56,7 +56,7 @@ pub fn write_version(out: &mut Vec<u8>) -> Result<(), Memory>
     ensures err { OnErr result (out.new.items ≡ out.old.items) }
     ensures full { OnErr result (vec_capacity out.old < vec_len out.old + 6) }
 {
-    out.extend_from_slice(&[0, 1, 0, 0, 0, 2])
+    out.extend_from_slice(&[ANNOUNCEMENT, 1, 0, 0, 0, 2])
 }
 
 fn write_record(version: Version, command: &Command, out: &mut Vec<u8>) -> Result<(), Memory>

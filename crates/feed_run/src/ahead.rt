@@ -5,16 +5,10 @@ ghost use Rattle.feed_codec.specs.Feed.{GivesEnd, GivesRecord, HasFault, TakesWh
 ghost use Rattle.feed_run.specs.Ahead.{BeginsWithRecord};
 
 use feed_codec::Feed;
-use feed_records::Record;
+use feed_records::{ANNOUNCEMENT, HEAD, Record};
 use feed_replies::FeedFault;
 use ogg_page::{take_u8, take_u32};
 use std::io::{BufReader, Read};
-
-/// How many bytes a record has before its payload: its kind, and the payload's length.
-const HEAD: usize = 5;
-
-/// The kind of the record that announces a feed's version.
-const ANNOUNCEMENT: u8 = 0;
 
 /// Tells whether the next record of a feed can be read without waiting for more of it, and reads it.
 pub trait Ahead<R: Read> {
