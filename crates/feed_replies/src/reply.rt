@@ -48,23 +48,23 @@ fn put_line(reply: &Reply, line: &mut [u8; LINE]) -> usize
     ensures bound { result ≤ 48 }
     ensures line { drop result line.new ≡ reply_line reply.now }
 {
-    let end = put_text(b"\n", line, LINE);
+    let end = put_text(*b"\n", line, LINE);
     match *reply {
         Reply::Kept(kept) => {
             let end = put_number(kept.end, line, end);
-            let end = put_text(b" ", line, end);
+            let end = put_text(*b" ", line, end);
             let end = put_number(kept.count, line, end);
-            put_text(b"kept ", line, end)
+            put_text(*b"kept ", line, end)
         }
         Reply::Refused(refusal) => {
-            let end = put_text(refusal.name().as_bytes(), line, end);
-            let end = put_text(b" ", line, end);
+            let end = put_name(refusal.name().as_bytes(), line, end);
+            let end = put_text(*b" ", line, end);
             let end = put_number(u64::from(refusal.code()), line, end);
-            put_text(b"refused ", line, end)
+            put_text(*b"refused ", line, end)
         }
         Reply::Held(count) => {
             let end = put_number(count, line, end);
-            put_text(b"held ", line, end)
+            put_text(*b"held ", line, end)
         }
     }
 }
@@ -80,14 +80,27 @@ fn put_number(number: u64, line: &mut [u8; LINE], end: usize) -> usize
     write_digits(number, line, end)
 }
 
-/// Writes the text so that it ends at `end`, and returns where it starts.
-fn put_text(text: &[u8], line: &mut [u8; LINE], end: usize) -> usize
+/// Writes the text so that it ends at `end`, and returns where it starts. The compiler knows the length of an array, and
+/// that it lies apart from the line, so a move or two write it.
+fn put_text<const N: usize>(text: [u8; N], line: &mut [u8; LINE], end: usize) -> usize
     requires within { end ≤ 48 }
-    requires room { length text.now ≤ end }
-    ensures start { result + length text.now ≡ end }
-    ensures text { drop result line.new ≡ text.now ++ drop end line.old }
+    requires room { N ≤ end }
+    ensures start { result + N ≡ end }
+    ensures text { drop result line.new ≡ text.entry ++ drop end line.old }
 {
-    let start = end - text.len();
-    line[start..end].copy_from_slice(text);
+    let start = end - N;
+    line[start..end].copy_from_slice(&text);
+    start
+}
+
+/// The same, of a name, whose length the compiler doesn't know.
+fn put_name(name: &[u8], line: &mut [u8; LINE], end: usize) -> usize
+    requires within { end ≤ 48 }
+    requires room { length name.now ≤ end }
+    ensures start { result + length name.now ≡ end }
+    ensures text { drop result line.new ≡ name.now ++ drop end line.old }
+{
+    let start = end - name.len();
+    line[start..end].copy_from_slice(name);
     start
 }

@@ -16,9 +16,9 @@ pub returns-in-Refused-clause-line : goal.returns-in-Refused-clause-line
 returns-in-Refused-clause-line c =
     let end = ends_line c.args.line.now (drop c.put_text-end.result c.put_text-end.new.line) c.told-line c.put_text-end.ensures.text in
     let code = c.put_number-end-in-Refused.ensures.text
-    ∙ ap (λ n. decimal n ++ drop c.put_text-end-in-Refused-2.result c.put_text-end-in-Refused-2.new.line) (c.from.ensures ∙ c.code.ensures) in
-    let name = c.put_text-end-in-Refused.ensures.text
+    ∙ ap (λ n. decimal n ++ drop c.put_text-end-in-Refused.result c.put_text-end-in-Refused.new.line) (c.from.ensures ∙ c.code.ensures) in
+    let name = c.put_name-end.ensures.text
     ∙ ap (λ l. l ++ drop c.put_text-end.result c.put_text-end.new.line) (c.as_bytes.ensures.value ∙ c.name.ensures) in
     in_a_row (codes "refused ") (decimal (code_of c.in-Refused.refusal)) (codes " ") (name_of c.in-Refused.refusal) line_end _ _ _ _ _
-    c.put_text-in-Refused.ensures.text code c.put_text-end-in-Refused-2.ensures.text name end
+    c.put_text-in-Refused.ensures.text code c.put_text-end-in-Refused.ensures.text name end
     ∙ ap reply_line (sym c.in-Refused.is)
