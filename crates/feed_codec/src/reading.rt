@@ -154,13 +154,12 @@ impl Feed {
         let taken = HEAD + payload.len();
         let put = put_of(self.alloc, &mut self.spare, version, payload);
         reader.consume(taken);
-        match put {
-            Ok(put) => Ok(Some(Record::Command(Command::Put(put)))),
-            Err(_) => {
-                self.outcome = Some(Err(FeedFault::Memory));
-                Err(FeedFault::Memory)
-            }
-        }
+        // All else returns early: if the record were one of the values of a `match`, it would be moved once more.
+        let Ok(put) = put else {
+            self.outcome = Some(Err(FeedFault::Memory));
+            return Err(FeedFault::Memory);
+        };
+        Ok(Some(Record::Command(Command::Put(put))))
     }
 
     /// Takes back a command that isn't needed any more. The next ones are made of its memory, as far as it goes: of a

@@ -11,8 +11,8 @@ use Rattle.feed_codec.specs.Room.{feed_room}
 use Rattle.feed_codec.proofs.FeedFacts.{gives_at_hand, none_made, put_consumed, record_made}
 use Rattle.feed_codec.proofs.reading.Feed.next_at_hand.Goals as goal
 
-pub returns-in-Err-clause-memory : goal.returns-in-Err-clause-memory
-returns-in-Err-clause-memory g c =
+pub returns-in_default-put-clause-memory : goal.returns-in_default-put-clause-memory
+returns-in_default-put-clause-memory g c =
     let payload : List ℕ = c.in-Some.payload.now in
     let old : Option (List ℕ) = reader_remaining g.R.Read.remaining c.args.reader.now in
     let new : Option (List ℕ) = reader_remaining g.R.Read.remaining c.consume.new.self in
@@ -20,11 +20,11 @@ returns-in-Err-clause-memory g c =
     let taken : Consumes old new (head_bytes (put_head payload) ++ payload) =
     put_consumed (reader_capacity c.args.reader.now == 0) (g.R.Read.remaining (reader_inner c.args.reader.now)) new (reader_buffer c.args.reader.now) payload c.in-Some-None.version _ begins refl c.consume.ensures.bytes in
     let room = feed_room c.self.inside.payload c.self.inside.spare.entries c.self.inside.spare.packets.items in
-    let full = none_made room false c.in-Some-None.version old new (put_head payload) payload (Err Memory) begins.put taken (refl, c.in-Err.ensures.full) in
+    let full = none_made room false c.in-Some-None.version old new (put_head payload) payload (Err Memory) begins.put taken (refl, c.in_default-put.ensures.full) in
     λ _. subst (λ (s : FeedWithRoom). s.feed.outcome ≡ None → TakesWhereMemoryEnds s.room s.feed.version old new) c.self.view_is (λ _. rw c.in-Some-None.is-0 (full refl))
 
-pub returns-in-Ok-clause-record : goal.returns-in-Ok-clause-record
-returns-in-Ok-clause-record g c =
+pub returns-clause-record : goal.returns-clause-record
+returns-clause-record g c =
     let payload : List ℕ = c.in-Some.payload.now in
     let old : Option (List ℕ) = reader_remaining g.R.Read.remaining c.args.reader.now in
     let new : Option (List ℕ) = reader_remaining g.R.Read.remaining c.consume.new.self in
