@@ -14,13 +14,13 @@ use crate::payload::is_payload;
 use crate::spare::Spare;
 use feed_records::{HEAD, Record, Version};
 use feed_replies::FeedFault;
-use ogg_command::Command;
+use ogg_command::{Command, Put};
 use std::alloc::Global;
 use std::io::{BufRead, BufReader, Read};
 use std::marker::Model;
 
-/// Reads records, one after the other. Between them it keeps the memory of one payload, and that of the commands that
-/// are given back. A contract sees three things: the version of the feed, once it is known; how the feed has ended, if
+/// Reads records, one after the other. Between them it keeps the memory of one payload, and that of the puts that are
+/// given back. A contract sees three things: the version of the feed, once it is known; how the feed has ended, if
 /// it has; and the room that it keeps.
 #[derive(Debug, Drop)]
 pub struct Feed {
@@ -162,13 +162,13 @@ impl Feed {
         Ok(Some(Record::Command(Command::Put(put))))
     }
 
-    /// Takes back a command that isn't needed any more. The next ones are made of its memory, as far as it goes: of a
-    /// put's memory, up to 4,096 packets of up to 4,096 bytes each are kept. The call never fails: if the list of what
-    /// is kept has no room, the memory goes back to the system.
-    pub fn give_back(&mut self, command: Command)
+    /// Takes back a put that isn't needed any more. The next ones are made of its memory, as far as it goes: of up to
+    /// 4,096 packets it is kept, of each up to 4,096 bytes. The call never fails: if the list of what is kept has no
+    /// room, the memory goes back to the system.
+    pub fn give_back(&mut self, put: Put)
         ensures { self.new.feed ≡ self.old.feed }
     {
-        self.spare.keep(command);
+        self.spare.keep(put);
     }
 }
 

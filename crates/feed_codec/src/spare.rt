@@ -1,8 +1,8 @@
-//! Memory of commands that were given back, for the next ones.
+//! Memory of puts that were given back, for the next ones.
 ghost use Rattle.std.specs.Prelude.{◌≡◌, ◌≤◌, ◌<◌, [], drop, length, slice_index, IfOk, OnErr, vec_len, vec_capacity};
 ghost use Rattle.feed_codec.specs.Room.{rooms_of};
 
-use ogg_command::{Command, Entry, Listed, Memory};
+use ogg_command::{Entry, Listed, Memory, Put};
 use std::alloc::Global;
 use std::mem;
 
@@ -13,7 +13,7 @@ const MOST_KEPT: usize = 4096;
 /// long packets holds no more than it needs.
 const LONGEST_KEPT: usize = 4096;
 
-/// Memory of commands that were given back.
+/// Memory of puts that were given back.
 #[derive(Debug, Drop)]
 pub struct Spare {
     entries: Vec<Entry>,
@@ -59,12 +59,10 @@ impl Spare {
     }
 
     /// Keeps a put's memory, as far as there is room for it in the list.
-    pub fn keep(&mut self, command: Command) {
-        if let Command::Put(put) = command {
-            let mut entries = put.entries.into_vec();
-            keep_packets(&mut self.packets, &mut entries);
-            self.entries = entries;
-        }
+    pub fn keep(&mut self, put: Put) {
+        let mut entries = put.entries.into_vec();
+        keep_packets(&mut self.packets, &mut entries);
+        self.entries = entries;
     }
 }
 

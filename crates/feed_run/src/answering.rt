@@ -17,6 +17,7 @@ use crate::runner::Runner;
 use feed_codec::Feed;
 use feed_records::Record;
 use feed_replies::Reply;
+use ogg_command::Command;
 use ogg_page::WriteFault;
 use std::io::Write;
 
@@ -70,8 +71,10 @@ pub fn answer<T: Runner, P: Write, S: Replies>(
 {
     let reply = run_record(runner, &given, pages)?;
     let counts = counts.with(&given, reply);
-    if let Record::Command(command) = given {
-        feed.give_back(command);
+    match given {
+        Record::Command(Command::Put(put)) => feed.give_back(put),
+        Record::Command(Command::Begin(_begin)) => {}
+        Record::Command(Command::End(_)) | Record::Flush => {}
     }
     replies.reply(&reply, pages)?;
     Ok((reply, counts))
