@@ -1,7 +1,7 @@
 #!/usr/bin/env python3
 """Tries the wrong bodies: functions with an error put in, which their contracts must refuse.
 
-    tests/wrong_bodies.py [--alone] [CRATE ..]      none: every crate
+    tests/wrong_bodies.py [--alone] [--minutes N] [CRATE ..]      none: every crate
 
 crates/CRATE/wrong-bodies/NAME.edit is named for its mistake. It names the promise that it breaks, one of those in
 crates/CRATE/promises.txt, and the function that must be refused, as a check prints it, and has the lines that are
@@ -18,8 +18,10 @@ the wrong body does, where docs/PROOFS.md lists it among the mistakes that an im
 
 The wrong bodies of a crate are planted together in one copy of it, and one check says of each function whether it is
 proved. None of them hides another: the proof of a function rests on the contracts of what it calls, not on the bodies,
-and the check tells a function that isn't proved from one that only calls such a function. Two in one function go into
-two copies. With --alone each has a copy of its own, which takes hours.
+and the check tells a function that isn't proved from one that only calls such a function. A second one in the same
+function changes a twin of it: a function of another name that stands behind it, with the same contract and the same
+proof file. A trait's function can't have one, so there is a second copy then, and so there is for a wrong body that
+changes more than one function. With --alone each has a copy of its own, which takes hours.
 
 The functions that aren't changed have a hole for a proof: their contracts are taken as they stand, since 'rt ci' proves
 them. So only the changed functions are proved again.
@@ -33,17 +35,22 @@ name in a function whose proof file cites it. That it is proved, or that nothing
 refused is a failure, since so might be any right body.
 
 The crates below must be built, as './check' and './kudzuturret' leave them, and not be older than their files. As many
-crates are tried side by side as there are processors. What a check says is read as the kit in KIT says it; the first
-line tells of another kit. The last line is 'N passed, M failed'; the status is 0 if nothing failed.
+crates are tried side by side as there are processors. With --minutes no check begins after so many: the crates that
+were changed last are tried first then, and a line names what wasn't tried. What a check says is read as the kit in KIT
+says it; the first line tells of another kit. The last line is 'N passed, M failed'; the status is 0 if nothing failed.
 """
+import argparse
 import itertools
+import math
 import os
 import re
 import shutil
 import subprocess
 import sys
 import tempfile
+import time
 from concurrent.futures import ThreadPoolExecutor, as_completed
+from copy import copy as clone
 from pathlib import Path
 
 TOP = Path(__file__).resolve().parent.parent
@@ -116,6 +123,18 @@ def named_functions(text, module, types):
             yield number, "::".join([*outer, found[1]])
 
 
+def copy_proof(proofs, function, twin):
+    """Gives a function's twin a copy of the function's proof."""
+    known, other = (it.split("::") for it in (function, twin))
+    folder = proofs.joinpath(*other)
+    if proofs.joinpath(*known).is_dir():
+        shutil.copytree(proofs.joinpath(*known), folder)
+    for file in folder.rglob("*.antt"):
+        text = file.read_text(encoding="utf-8")
+        text = text.replace(f".proofs.{'.'.join(known)}.", f".proofs.{'.'.join(other)}.")
+        file.write_text(re.sub(rf"\b{known[-1]}_spec\b", f"{other[-1]}_spec", text), encoding="utf-8")
+
+
 class BadEdit(Exception):
     """Why a wrong body can't be planted."""
 
@@ -130,6 +149,8 @@ class Edit:
         self.refused = []
         self.changes = []
         self.is_right = False
+        # If it changes a twin, the function that this is the twin of.
+        self.twin_of = ""
         file = old = None
         for line in text.splitlines():
             word, _, rest = line.partition(":")
@@ -160,6 +181,27 @@ class Edit:
         edit.is_right = True
         return edit
 
+    def of_twin(self, copied):
+        """The same wrong body in a twin of its function that is put behind it in this copy, or why that can't be."""
+        function, file = self.refused[0], self.changes[0][0]
+        if len(self.refused) > 1 or any(it != file for it, _, _ in self.changes):
+            raise BadEdit("more than one function is changed, or more than one file")
+        *module, name = function.split("::")
+        twin = f"{name}_twin{len(copied.edits)}"
+        # The twin is what the function was before the copy changed it.
+        text = Copy(copied.folder).text_of(file, function)
+        for _, old, new in self.changes:
+            if text.count(old) != 1:
+                raise BadEdit(f"an 'old:' isn't in {function}")
+            text = text.replace(old, new)
+        text = re.sub(rf"\bfn {name}\b", f"fn {twin}", text, count=1)
+        first = copied.text_of(file, function)
+        edit = clone(self)
+        edit.refused = ["::".join([*module, twin])]
+        edit.changes = [(file, first, f"{first}\n{text}")]
+        edit.twin_of = function
+        return edit
+
     def plant(self, texts, folder):
         """The texts, which are by file, with the changed lines, or why that can't be."""
         planted = dict(texts)
@@ -188,9 +230,9 @@ class Copy:
 
     def take(self, edit):
         """Plants one more, and says whether that could be done."""
-        if {*self.functions()} & {*edit.refused}:
-            return False
         try:
+            if {*self.functions()} & {*edit.refused}:
+                edit = edit.of_twin(self)
             self.texts = edit.plant(self.texts, self.folder)
         except BadEdit:
             return False
@@ -202,6 +244,22 @@ class Copy:
         files = {it.relative_to(self.folder).as_posix(): it for it in (self.folder / "src").rglob("*.rt")}
         return {file: self.texts.get(file) or it.read_text(encoding="utf-8") for file, it in files.items()}
 
+    def text_of(self, file, function):
+        """The text of a function, from its attributes on, if it may have a twin."""
+        sources = self.sources()
+        lines = sources.get(file, "").splitlines(keepends=True)
+        begin = next((line - 1 for line, name in functions_of(sources).get(file, []) if name == function), None)
+        if begin is None:
+            raise BadEdit(f"{file} has no function {function}")
+        indent = re.match(" *", lines[begin])[0]
+        outer = next((found for it in reversed(lines[:begin]) if (found := IMPL.match(it))), None)
+        if indent and outer and outer[2]:
+            raise BadEdit(f"{function} is a trait's")
+        end = next(at for at in range(begin, len(lines)) if lines[at].startswith((indent + "}", indent + "{}")))
+        while lines[begin - 1].lstrip().startswith("#["):
+            begin -= 1
+        return "".join(lines[begin : end + 1])
+
     def write(self, at):
         """Writes the copy, with a hole in place of the proof of each function that isn't changed."""
         for part in ("src", "specs", "proofs"):
@@ -209,6 +267,9 @@ class Copy:
                 shutil.copytree(self.folder / part, at / part)
         for file, text in self.texts.items():
             (at / file).write_text(text, encoding="utf-8")
+        for edit in self.edits:
+            if edit.twin_of:
+                copy_proof(at / "proofs", edit.twin_of, edit.refused[0])
         found = functions_of(self.sources())
         for function in {name for functions in found.values() for _, name in functions} - {*self.functions()}:
             names = function.split("::")
@@ -359,11 +420,18 @@ class Checker:
                 words += ["--only", it]
             return self.ran(words, at)
 
-    def tried(self, crate, copies):
-        """The lines to print of the crate's copies, each with whether it tells of a wrong body that was refused."""
+    def tried(self, crate, copies, end):
+        """The lines to print of the crate's copies, each with whether it tells of a wrong body that was refused.
+
+        For a copy that wasn't tried before the end, a moment of the clock, this is None.
+        """
         lines = []
         with tempfile.TemporaryDirectory(prefix="wrong-bodies-") as room:
             for copy in copies:
+                if time.monotonic() > end:
+                    names = " ".join(it.name for it in copy.edits)
+                    lines.append((None, f"{crate.name}: not tried for want of time: {names}"))
+                    continue
                 try:
                     lines += verdicts(crate, copy, *self.check(crate, copy, room))
                 except subprocess.TimeoutExpired:
@@ -376,7 +444,7 @@ def right_body(checker):
     crate = checker.crates["text_line"]
     copy = Copy(crate.folder)
     copy.take(Edit("right_body", RIGHT))
-    found = checker.tried(crate, [copy])
+    found = checker.tried(crate, [copy], math.inf)
     if found == [(False, "text_line/right_body: NOT REFUSED: line::Line::as_slice: no holes")]:
         return [(True, "text_line: a right body is not refused")]
     return [(False, f"text_line: a right body seems wrong: {line}") for _, line in found]
@@ -400,16 +468,17 @@ def verdicts(crate, copy, output, status):
     for edit in copy.edits:
         for function in edit.refused:
             verdict = said.get(function, "not among the crate's functions")
+            name = edit.twin_of or function
             if edit.is_right:
                 is_told = is_refused(verdict) and function in sure
-                yield not is_told, f"{crate.name}: a right body of {function} is {'refused' if is_told else 'not refused'}"
+                yield not is_told, f"{crate.name}: a right body of {name} is {'refused' if is_told else 'not refused'}"
             elif is_refused(verdict) and function in shown:
                 form = "" if function in sure else ", with its proof's names gone: make it again, so that a clause shows"
                 yield True, f"{crate.name}/{edit.name}: refused{form}"
             elif is_refused(verdict) and errors[function]:
-                yield False, f"{crate.name}/{edit.name}: only the proof file of {function} misses what was taken away"
+                yield False, f"{crate.name}/{edit.name}: only the proof file of {name} misses what was taken away"
             else:
-                yield False, f"{crate.name}/{edit.name}: NOT REFUSED: {function}: {verdict[:160]}"
+                yield False, f"{crate.name}/{edit.name}: NOT REFUSED: {name}: {verdict[:160]}"
     for function in shown - {*copy.functions()}:
         if is_refused(said.get(function, "")):
             yield False, f"{crate.name}: nothing was changed in {function}: {said[function][:160]}"
@@ -432,9 +501,20 @@ def side_by_side():
     return max(1, min(len(os.sched_getaffinity(0)), free // MEMORY))
 
 
+def last_change(crate):
+    """When the crate was changed last, by the history; a moment of long ago if there is none."""
+    words = ["git", "log", "-1", "--format=%ct", "--", str(crate.folder)]
+    told = subprocess.run(words, cwd=TOP, stdout=subprocess.PIPE, stderr=subprocess.DEVNULL, text=True)
+    return int(told.stdout.strip() or 0)
+
+
 def main():
-    asked = [it for it in sys.argv[1:] if it != "--alone"]
-    alone = "--alone" in sys.argv
+    parser = argparse.ArgumentParser(allow_abbrev=False)
+    parser.add_argument("--alone", action="store_true")
+    parser.add_argument("--minutes", type=float, default=math.inf)
+    parser.add_argument("crates", nargs="*")
+    words = parser.parse_args()
+    asked, end = words.crates, time.monotonic() + 60 * words.minutes
     checker = Checker.found()
     unknown = [it for it in asked if it not in checker.crates]
     if unknown:
@@ -445,7 +525,7 @@ def main():
         print(f"this is {kit}; what its checks say is read as {KIT} says it", flush=True)
     trials, lines = [], []
     for crate in checker.crates.values():
-        copies, bad = crate.copies(alone) if not asked or crate.name in asked else ([], [])
+        copies, bad = crate.copies(words.alone) if not asked or crate.name in asked else ([], [])
         lines += [(False, it) for it in bad]
         below = checker.below(crate) if copies else []
         lacking = [it.name for it in below if not it.rlib.is_dir()]
@@ -455,17 +535,19 @@ def main():
             lines.append((False, f"{crate.name}: {why}: ./check and ./kudzuturret build it"))
         elif copies:
             trials.append((crate, copies))
-    # Those with most to try first, so that no processor waits for the last.
-    trials.sort(key=lambda it: -sum(len(copy.edits) for copy in it[1]))
+    # Those with most to try first, so that no processor waits for the last, unless there may be no time for all.
+    trials.sort(key=lambda it: sum(len(copy.edits) for copy in it[1]), reverse=True)
+    if end < math.inf:
+        trials.sort(key=lambda it: last_change(it[0]), reverse=True)
 
     passed = failed = 0
     with ThreadPoolExecutor(side_by_side()) as pool:
         found = [] if asked else [pool.submit(right_body, checker)]
-        found += [pool.submit(checker.tried, *it) for it in trials]
+        found += [pool.submit(checker.tried, *it, end) for it in trials]
         for told in itertools.chain([lines], (it.result() for it in as_completed(found))):
             for is_well, line in told:
                 print(line, flush=True)
-                passed, failed = passed + is_well, failed + (not is_well)
+                passed, failed = passed + (is_well is True), failed + (is_well is False)
     print(f"{passed} passed, {failed} failed")
     return 0 if passed and not failed else 1
 
