@@ -123,9 +123,11 @@ class Build:
 
     def __init__(self) -> None:
         self.uses = crates()
-        self.seconds = seconds_of(self.uses)
-        self.chains = chains(self.uses, self.seconds)
         self.lanes = lanes()
+        self.seconds = seconds_of(self.uses)
+        # All processors prove the program, which keeps two of them busy.
+        self.seconds[PROGRAM] /= min(self.lanes, 2)
+        self.chains = chains(self.uses, self.seconds)
         self.read = max(time.time(), newest_source())
         self.began = self.told = time.monotonic()
         self.finished: set[str] = set()
@@ -145,6 +147,16 @@ class Build:
     def idle(self) -> int:
         """How many processors no check uses."""
         return max(self.lanes - sum(self.jobs.values()), 0)
+
+    def jobs_for(self, name: str, ready: int) -> int:
+        """How many processors a crate may use that is begun, where so many are ready.
+
+        Processors that no other crate waits for are shared. If the others are proved before the chain of those that
+        wait for this crate is, it has two, though that makes its check dearer and more runs than there are processors.
+        """
+        left = sum(self.seconds[it] for it in self.uses if it not in self.finished)
+        fewest = 2 if self.chains[name] > left / self.lanes else 1
+        return max(self.idle() // ready, min(fewest, self.lanes))
 
     def pace(self) -> float:
         """How many seconds here are one of those that are written down."""
@@ -240,8 +252,7 @@ class Build:
                 while sorter.is_active():
                     ready = sorted([*ready, *sorter.get_ready()], key=self.chains.__getitem__)
                     while ready and self.idle():
-                        # Processors that no other crate waits for are shared.
-                        jobs = max(self.idle() // len(ready), 1)
+                        jobs = self.jobs_for(ready[-1], len(ready))
                         name = ready.pop()
                         self.started[name], self.jobs[name] = time.monotonic(), jobs
                         running[pool.submit(self.prove, name, jobs)] = name
