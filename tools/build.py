@@ -148,16 +148,6 @@ class Build:
         """How many processors no check uses."""
         return max(self.lanes - sum(self.jobs.values()), 0)
 
-    def jobs_for(self, name: str, ready: int) -> int:
-        """How many processors a crate may use that is begun, where so many are ready.
-
-        Processors that no other crate waits for are shared. If the others are proved before the chain of those that
-        wait for this crate is, it has two, though that makes its check dearer and more runs than there are processors.
-        """
-        left = sum(self.seconds[it] for it in self.uses if it not in self.finished)
-        fewest = 2 if self.chains[name] > left / self.lanes else 1
-        return max(self.idle() // ready, min(fewest, self.lanes))
-
     def pace(self) -> float:
         """How many seconds here are one of those that are written down."""
         return self.took / self.said if self.said else 1.0
@@ -252,7 +242,8 @@ class Build:
                 while sorter.is_active():
                     ready = sorted([*ready, *sorter.get_ready()], key=self.chains.__getitem__)
                     while ready and self.idle():
-                        jobs = self.jobs_for(ready[-1], len(ready))
+                        # Processors that no other crate waits for are shared.
+                        jobs = max(self.idle() // len(ready), 1)
                         name = ready.pop()
                         self.started[name], self.jobs[name] = time.monotonic(), jobs
                         running[pool.submit(self.prove, name, jobs)] = name
