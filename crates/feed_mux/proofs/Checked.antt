@@ -2,7 +2,7 @@
 use Rattle.std.proofs.Common.{◌≡◌, ℕ, List, [], ◌∷◌, ◌++◌, refl, ap, ◌∙◌}
 use Rattle.feed_replies.specs.declared.reply.Reply.{Reply}
 use Rattle.feed_records.specs.declared.item.Record.{Record}
-use Rattle.feed_run.specs.Answering.{AnswersAll}
+use Rattle.feed_runner.specs.Answering.{AnswersAll}
 use Rattle.feed_mux.specs.Checking.{ChecksRecord}
 use Rattle.feed_mux.specs.Progress.{Progress, AnswersRecord}
 

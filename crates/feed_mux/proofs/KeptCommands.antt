@@ -12,8 +12,8 @@ use Rattle.feed_replies.specs.declared.reply.Reply.{Reply}
 use Rattle.feed_replies.specs.declared.reply.Reply.TheVariants.{Held, Kept as KeptOf, Refused}
 use Rattle.feed_records.specs.declared.item.Record.{Record}
 use Rattle.feed_records.specs.declared.item.Record.TheVariants.{Command as CommandOf, Flush}
-use Rattle.feed_run.specs.Answering.{AnswersAll}
-use Rattle.feed_run.specs.Counting.{kept_after, kept_of, left_by}
+use Rattle.feed_runner.specs.Answering.{AnswersAll}
+use Rattle.feed_runner.specs.Counting.{kept_after, kept_of, left_by}
 use Rattle.feed_mux.specs.Progress.{Progress, AnsweredBy, AnswersRecord, with_command}
 
 -- from the progress `before`, a run that keeps these commands writes these bytes and reaches the progress `behind`

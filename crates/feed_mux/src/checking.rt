@@ -8,7 +8,8 @@ ghost use Rattle.feed_mux.specs.Reached.{HasReached};
 
 use chain_rules::{Command, Plan, Refusal, Shape, refusals_are_of_the_table};
 use feed_replies::{Kept, Reply, RunFault, Tally};
-use feed_run::{Ahead, Replies, Runner, Unknown, run_feed_for};
+use feed_run::{Ahead, Unknown, run_feed_for};
+use feed_runner::{Replies, Runner};
 use ogg_page::WriteFault;
 use std::alloc::Global;
 use std::io::{self, Read, Sink, Write};

@@ -6,9 +6,10 @@ ghost use Rattle.chain_rules.specs.Commands.{AreKept, bytes_of_commands, links_b
 ghost use Rattle.chain_rules.specs.Recording.{Holds, after};
 ghost use Rattle.feed_records.specs.declared.item.Record.{Record};
 ghost use Rattle.feed_replies.specs.declared.reply.Reply.{Reply};
-ghost use Rattle.feed_run.specs.Answering.{AnswersAll};
-ghost use Rattle.feed_run.specs.Counting.{commands_in, kept_of};
-ghost use Rattle.feed_run.specs.Run.{IsClosed, Stays, Streams};
+ghost use Rattle.feed_runner.specs.Answering.{AnswersAll};
+ghost use Rattle.feed_runner.specs.Counting.{commands_in, kept_of};
+ghost use Rattle.feed_run.specs.Run.{IsClosed, Streams};
+ghost use Rattle.feed_runner.specs.Telling.{Stays};
 ghost use Rattle.feed_mux.specs.Checking.{ChecksRecord};
 ghost use Rattle.feed_mux.specs.Progress.{Progress, AnswersRecord, at_start, nothing_held};
 

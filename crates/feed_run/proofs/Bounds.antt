@@ -6,8 +6,8 @@ use Rattle.feed_replies.specs.declared.reply.Reply.{Reply}
 use Rattle.feed_replies.specs.declared.reply.Reply.TheVariants.{Held, Kept as KeptOf, Refused}
 use Rattle.feed_records.specs.declared.item.Record.{Record}
 use Rattle.feed_records.specs.declared.item.Record.TheVariants.{Command as CommandOf, Flush}
-use Rattle.feed_run.specs.declared.counting.Counts.{Counts}
-use Rattle.feed_run.specs.Counting.{counts_with, left_by}
+use Rattle.feed_runner.specs.declared.counting.Counts.{Counts}
+use Rattle.feed_runner.specs.Counting.{counts_with, left_by}
 
 left_few : (refusal : Refusal) (waiting : ℕ) → left_by refusal 0 waiting ≤ waiting
 left_few Failed waiting = omega arith

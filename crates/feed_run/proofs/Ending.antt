@@ -6,11 +6,11 @@ use Rattle.feed_replies.specs.declared.reply.Reply.{Reply}
 use Rattle.feed_replies.specs.declared.tally.Tally.{Tally}
 use Rattle.feed_replies.specs.declared.fault.RunFault.{RunFault}
 use Rattle.feed_replies.specs.declared.fault.RunFault.TheVariants.{Feed, Write, TooMany}
-use Rattle.feed_run.specs.declared.counting.Counts.{Counts}
-use Rattle.feed_run.specs.Counting.{Counted, IsTally}
+use Rattle.feed_runner.specs.declared.counting.Counts.{Counts}
+use Rattle.feed_runner.specs.Counting.{Counted, IsTally}
 use Rattle.feed_run.specs.Run.{Outcome, RunState, Streams, answer_at, ClosesOne, EndsBy, EndsOne, HasRun, Leaves, RunsOne, RunsTo, RunsWhole, Steps, StopsBy, StopsOne, most_records}
 use Rattle.feed_run.proofs.Kept.{counted_on}
-use Rattle.feed_run.specs.Laws.InTurn.{as_many}
+use Rattle.feed_runner.specs.Laws.InTurn.{as_many}
 use Rattle.feed_run.specs.Laws.ReadOn.{none_run}
 use Rattle.feed_run.proofs.Turns.{has_run_on}
 

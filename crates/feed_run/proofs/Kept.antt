@@ -7,8 +7,8 @@ use Rattle.feed_replies.specs.declared.reply.Reply.{Reply}
 use Rattle.feed_replies.specs.declared.reply.Reply.TheVariants.{Held, Kept as KeptOf, Refused}
 use Rattle.feed_records.specs.declared.item.Record.{Record}
 use Rattle.feed_records.specs.declared.item.Record.TheVariants.{Command as CommandOf, Flush}
-use Rattle.feed_run.specs.declared.counting.Counts.{Counts}
-use Rattle.feed_run.specs.Counting.{Counted, commands_in, counts_with, kept_after, kept_by, kept_of, left_after, left_by, waiting_after}
+use Rattle.feed_runner.specs.declared.counting.Counts.{Counts}
+use Rattle.feed_runner.specs.Counting.{Counted, commands_in, counts_with, kept_after, kept_by, kept_of, left_after, left_by, waiting_after}
 
 commands-append : (xs : List Record) (x : Record) → length (commands_in (xs ++ x ∷ [])) ≡ length (commands_in xs) + length (commands_in (x ∷ []))
 commands-append [] x = omega arith

@@ -1,7 +1,6 @@
 pub mod Bounds
 mod Coming
 pub mod States
-mod Sent
 mod Staying
 pub mod Kept
 pub mod Turns

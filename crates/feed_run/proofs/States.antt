@@ -3,8 +3,8 @@ use Rattle.std.proofs.Common.{◌≡◌, ◌+◌, ℕ, Option, None, sym, ap, �
 use Rattle.feed_records.specs.declared.version.Version.{Version}
 use Rattle.feed_replies.specs.declared.reply.Reply.{Reply}
 use Rattle.feed_records.specs.declared.item.Record.{Record}
-use Rattle.feed_run.specs.declared.counting.Counts.{Counts}
-use Rattle.feed_run.specs.Counting.{counts_with}
+use Rattle.feed_runner.specs.declared.counting.Counts.{Counts}
+use Rattle.feed_runner.specs.Counting.{counts_with}
 use Rattle.feed_run.specs.Run.{RunState, Outcome, with_record}
 
 abbrev pub state : Option Version → ℕ → Counts → Option Outcome → RunState

@@ -1,15 +1,15 @@
 -- What stays while nothing is written, and what then comes.
-use Rattle.std.proofs.Common.{◌≡◌, ◌++◌, ◌∙◌, ℕ, List, [], Option, Some, None, Bool, true, false, Ok, Err, refl, sym, ap, subst, inl, inr, take, drop, append_assoc, append-nil, take-append-drop, length, arith}
+use Rattle.std.proofs.Common.{◌≡◌, ◌++◌, ◌∙◌, ℕ, List, [], Option, Some, None, Bool, true, false, Ok, Err, refl, sym, ap, subst, inl, inr}
 use Rattle.std.proofs.KnownBytes.{Appends-nil, Keeps-trans}
-use Rattle.std.proofs.Math.Seq.{take-length}
-use Rattle.std.specs.Io.KnownBytes.{Appends, Keeps, append_known}
+use Rattle.std.specs.Io.KnownBytes.{Appends}
 use Rattle.ogg_page.specs.Output.{WritesPart, WritesPrefix}
 use Rattle.feed_replies.specs.declared.fault.RunFault.TheVariants.{Feed, Write, TooMany}
 use Rattle.feed_records.specs.declared.version.Version.{Version}
 use Rattle.feed_codec.specs.Feed.{GivesEnd}
 use Rattle.feed_replies.specs.Reply.{reply_line}
 use Rattle.feed_replies.specs.declared.reply.Reply.{Reply}
-use Rattle.feed_run.specs.Run.{EndsFeed, Leaves, Outcome, Stays, StopsAt, TellsPart}
+use Rattle.feed_run.specs.Run.{EndsFeed, Leaves, Outcome, StopsAt}
+use Rattle.feed_runner.specs.Telling.{Stays, TellsPart}
 
 pub stays_trans : (waits : Bool) (a b c : Option (List ℕ)) → Stays waits a b → Stays waits b c → Stays waits a c
 stays_trans false a b c p q = q ∙ p
@@ -37,19 +37,6 @@ pub ends_for : (enough : Bool) (known : Option Version) (old new : Option (List 
 ends_for false known old new end = end
 ends_for true known old new end = inl end
 
--- of bytes that wait, these were written, and the others wait
-pub drained : (a b : Option (List ℕ)) (text : List ℕ) (count : ℕ) → Appends a b (take count text)
-    → Keeps (append_known a text) (append_known b (drop count text))
-drained None b text count p = tt
-drained (Some x) None text count p = absurd p
-drained (Some x) (Some y) text count p =
-    ap (λ l. l ++ drop count text) p ∙ append_assoc x (take count text) (drop count text) ∙ ap (λ l. x ++ l) (take-append-drop count text)
-
-pub drained_all : (a b : Option (List ℕ)) (text : List ℕ) → Appends a b text → Keeps (append_known a text) (append_known b [])
-drained_all None b text p = tt
-drained_all (Some x) None text p = absurd p
-drained_all (Some x) (Some y) text p = append-nil y ∙ p
-
 pub stays_none : (waits : Bool) (a b : Option (List ℕ)) → Stays waits a b → Appends a b []
 stays_none waits a b p = stays_appends waits a b b [] p (Appends-nil b)
 
@@ -74,13 +61,3 @@ leaves_still (Ok _) known count enough more old new stays leaves = ends_still en
 leaves_still (Err (Feed fault)) known count enough more old new stays leaves = leaves
 leaves_still (Err TooMany) known count enough more old new stays leaves = leaves
 leaves_still (Err Write) known count enough more old new stays leaves = leaves
-
--- a line was told, and then what waited was written as far as it went
-pub told_so_far : (a b c : Option (List ℕ)) (one two line : List ℕ) → Keeps a (append_known b one) → two ≡ one ++ line
-    → Keeps (append_known b two) c → WritesPrefix a c line
-told_so_far None b c one two line kept told sent = (0, omega arith, tt)
-told_so_far (Some x) None c one two line kept told sent = absurd kept
-told_so_far (Some x) (Some y) None one two line kept told sent = absurd sent
-told_so_far (Some x) (Some y) (Some z) one two line kept told sent =
-    let whole : z ≡ x ++ line = sent ∙ ap (λ l. y ++ l) told ∙ sym (append_assoc y one line) ∙ ap (λ l. l ++ line) kept in
-    (length line, omega arith, subst (λ l. z ≡ x ++ l) (sym (take-length line)) whole)

@@ -1,8 +1,8 @@
 -- What a run over a feed has read and written, record by record, at its end, and when it was stopped. Ours.
 use Rattle.std.specs.Prelude.{◌≡◌, ◌≢◌, ◌⊎◌, ◌≤◌, ◌<◌, ◌+◌, ℕ, Option, Some, None, Result, Ok, Err, List, [], ◌∷◌, ◌++◌, length, Bool, true, false}
 use Rattle.std.specs.List.{flat_map, AllByRecursion}
-use Rattle.std.specs.Io.KnownBytes.{Appends, Consumes, Keeps}
-use Rattle.ogg_page.specs.Output.{WritesPart, WritesPrefix}
+use Rattle.std.specs.Io.KnownBytes.{Appends, Consumes}
+use Rattle.ogg_page.specs.Output.{WritesPart}
 use Rattle.feed_records.specs.declared.item.Record.{Record}
 use Rattle.feed_records.specs.declared.item.Record.TheVariants.{Flush}
 use Rattle.feed_records.specs.declared.version.Version.{Version}
@@ -15,9 +15,10 @@ use Rattle.feed_replies.specs.declared.tally.Tally.{Tally}
 use Rattle.feed_codec.specs.Feed.{FeedState, GivesEnd, GivesRecord, HasFault}
 use Rattle.feed_records.specs.Record.{HasRecord, opening, record_of}
 use Rattle.feed_replies.specs.Reply.{reply_line}
-use Rattle.feed_run.specs.declared.counting.Counts.{Counts}
-use Rattle.feed_run.specs.Answering.{AnswersAll}
-use Rattle.feed_run.specs.Counting.{counts_with, IsTally}
+use Rattle.feed_runner.specs.declared.counting.Counts.{Counts}
+use Rattle.feed_runner.specs.Answering.{AnswersAll}
+use Rattle.feed_runner.specs.Counting.{counts_with, IsTally}
+use Rattle.feed_runner.specs.Telling.{Stays, TellsPart}
 
 -- how many records a run takes
 abbrev pub most_records : ℕ
@@ -38,16 +39,6 @@ streams feed pages lines = record { feed = feed; pages = pages; lines = lines; w
 
 abbrev pub streams_to : Option (List ℕ) → Option (List ℕ) → Option (List ℕ) → Bool → Bool → Streams
 streams_to feed pages lines waits enough = record { feed = feed; pages = pages; lines = lines; waits = waits; enough = enough }
-
--- Nothing was written or told. If something may wait, it may have gone out.
-abbrev pub Stays : Bool → Option (List ℕ) → Option (List ℕ) → Type 0
-Stays false old new = new ≡ old
-Stays true old new = Keeps old new
-
--- A taker of replies failed at this line: it was told a part of the line, or all of it if the line may wait with it.
-abbrev pub TellsPart : Bool → Option (List ℕ) → Option (List ℕ) → List ℕ → Type 0
-TellsPart false old new line = WritesPart old new line
-TellsPart true old new line = WritesPrefix old new line
 
 -- how a run has ended: at the feed's end, or by a fault
 abbrev pub Outcome : Type 0

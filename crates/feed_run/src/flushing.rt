@@ -2,13 +2,12 @@
 ghost use Rattle.std.specs.Prelude.{◌≡◌, ◌<◌, ◌≤◌, ◌+◌, [], IfOk, IfSome, IfNone, OnErr, true};
 ghost use Rattle.std.specs.Io.KnownBytes.{Appends};
 ghost use Rattle.feed_replies.specs.Reply.{reply_line};
-ghost use Rattle.feed_run.specs.Run.{Stays, TellsPart};
+ghost use Rattle.feed_runner.specs.Telling.{Stays, TellsPart};
 ghost use Rattle.feed_records.specs.declared.item.Record.{Record as RecordOf};
 ghost use Rattle.feed_replies.specs.declared.reply.Reply.{Reply as ReplyOf};
 
-use crate::replies::Replies;
-use crate::runner::Runner;
 use feed_replies::Reply;
+use feed_runner::{Replies, Runner};
 use ogg_page::WriteFault;
 use std::io::Write;
 

@@ -4,9 +4,10 @@ ghost use Rattle.std.specs.Io.KnownBytes.{Appends};
 ghost use Rattle.feed_records.specs.declared.item.Record.{Record};
 ghost use Rattle.feed_replies.specs.declared.reply.Reply.{Reply};
 ghost use Rattle.feed_replies.specs.Reply.{reply_line};
-ghost use Rattle.feed_run.specs.Run.{HasRun, RunState, RunsOne, StopsAt, Streams, TellsPart};
+ghost use Rattle.feed_run.specs.Run.{HasRun, RunState, RunsOne, StopsAt, Streams};
+ghost use Rattle.feed_runner.specs.Telling.{TellsPart};
 
-use crate::runner::Runner;
+use feed_runner::Runner;
 
 /// A run that hasn't begun has run nothing; and a run that takes one more step has run that record after the
 /// others. So steps are a run if each begins in the state to which the one before it has led, whatever happens

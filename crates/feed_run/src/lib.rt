@@ -5,29 +5,18 @@
 //! of the feed, and after 4,294,967,295 records it flushes what waits, and ends. `run_feed` takes all steps. A
 //! refusal ends nothing.
 //!
-//! Start at `specs/Answering.antt`, which says what records answered in turn are, and at
-//! `specs/Run.antt`, which says what a run has read and written.
+//! Start at `specs/Run.antt`, which says what a run has read and written.
 #![tactic(auto)]
 
 mod ahead;
 mod answering;
-mod batched;
-mod counting;
 mod flushing;
 mod laws;
 mod next;
-mod refusing;
-mod replies;
 mod run;
-mod runner;
 mod whole;
 
 pub use ahead::{Ahead, Buffered, Unknown};
-pub use batched::{Batched, Together};
-pub use counting::Counts;
 pub use laws::{records_without_pages_are_run, runs_go_on};
-pub use refusing::FirstRefusal;
-pub use replies::Replies;
 pub use run::FeedRun;
-pub use runner::Runner;
 pub use whole::{run_feed, run_feed_for};

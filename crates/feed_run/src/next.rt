@@ -1,12 +1,13 @@
 //! What comes next in a feed.
 ghost use Rattle.std.specs.Prelude.{◌≡◌, None, true};
-ghost use Rattle.feed_run.specs.Run.{Comes, Stays, answer_at};
+ghost use Rattle.feed_run.specs.Run.{Comes, answer_at};
+ghost use Rattle.feed_runner.specs.Telling.{Stays};
 
 use crate::ahead::Ahead;
-use crate::replies::Replies;
 use feed_codec::Feed;
 use feed_records::Record;
 use feed_replies::{FeedFault, Reply, RunFault};
+use feed_runner::Replies;
 use std::io::{Read, Write};
 
 /// How many records a run takes. The announcement of a feed's version isn't counted.

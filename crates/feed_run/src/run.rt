@@ -4,14 +4,12 @@ ghost use Rattle.feed_run.specs.Run.{RunState, streams, streams_to, Steps, EndsO
 
 use crate::ahead::{Ahead, Unknown};
 use crate::answering::answer;
-use crate::counting::Counts;
 use crate::flushing::flush_waiting;
 use crate::next::{MOST_RECORDS, Outcome, answer_at, next_for};
-use crate::replies::Replies;
-use crate::runner::Runner;
 use feed_codec::Feed;
 use feed_records::Record;
 use feed_replies::{Reply, RunFault, Tally};
+use feed_runner::{Counts, Replies, Runner};
 use std::alloc::Global;
 use std::io::{Read, Write};
 use std::marker::Model;

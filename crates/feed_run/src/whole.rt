@@ -3,10 +3,9 @@ ghost use Rattle.std.specs.Prelude.{◌≡◌, ◌<◌, ◌^◌, IfOk, IfErr};
 ghost use Rattle.feed_run.specs.Run.{streams, streams_to, RunsWhole, EndsBy};
 
 use crate::ahead::{Ahead, Unknown};
-use crate::replies::Replies;
 use crate::run::FeedRun;
-use crate::runner::Runner;
 use feed_replies::{RunFault, Tally};
+use feed_runner::{Replies, Runner};
 use std::alloc::Global;
 use std::io::{Read, Write};
 

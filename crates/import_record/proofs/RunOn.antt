@@ -8,8 +8,8 @@ use Rattle.ogg_command.specs.declared.command.Command.{Command}
 use Rattle.feed_records.specs.declared.item.Record.{Record}
 use Rattle.feed_records.specs.declared.item.Record.TheVariants.{Command as CommandOf}
 use Rattle.feed_replies.specs.declared.reply.Reply.{Reply}
-use Rattle.feed_run.specs.Answering.{AnswersAll}
-use Rattle.feed_run.specs.Laws.InTurn.{as_many, one_more}
+use Rattle.feed_runner.specs.Answering.{AnswersAll}
+use Rattle.feed_runner.specs.Laws.InTurn.{as_many, one_more}
 use Rattle.import_record.specs.Running.{HasRun, StopsAt, answered_by, answered_with, nothing, records_of}
 use Rattle.import_record.specs.declared.answering.Answered.{Answered}
 

@@ -8,9 +8,9 @@ use Rattle.ogg_command.specs.declared.command.Command.TheVariants.{Begin, Put, E
 use Rattle.feed_records.specs.declared.item.Record.{Record}
 use Rattle.feed_replies.specs.declared.reply.Reply.{Reply}
 use Rattle.import_changes.specs.Changed.{ChangeState, HasChangedBeside, IsPlain}
-use Rattle.feed_run.specs.Answering.{AnswersAll}
-use Rattle.feed_run.specs.Counting.{commands_in}
-use Rattle.feed_run.specs.Laws.InTurn.{answers_both}
+use Rattle.feed_runner.specs.Answering.{AnswersAll}
+use Rattle.feed_runner.specs.Counting.{commands_in}
+use Rattle.feed_runner.specs.Laws.InTurn.{answers_both}
 use Rattle.import_gather.specs.Giving.{IsPlain as IsPlainOf}
 use Rattle.import_mend.specs.Gives.{Mending}
 use Rattle.import_mend.specs.Whole.{TakesPages}

@@ -9,7 +9,7 @@ use Rattle.feed_records.specs.declared.item.Record.{Record}
 use Rattle.feed_records.specs.declared.item.Record.TheVariants.{Command as CommandOf}
 use Rattle.feed_replies.specs.declared.reply.Reply.{Reply}
 use Rattle.feed_replies.specs.declared.reply.Reply.TheVariants.{Held, Kept, Refused}
-use Rattle.feed_run.specs.Answering.{AnswersAll}
+use Rattle.feed_runner.specs.Answering.{AnswersAll}
 use Rattle.import_record.specs.declared.answering.Answered.{Answered}
 
 -- ---- what became of them

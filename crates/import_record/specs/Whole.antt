@@ -8,8 +8,8 @@ use Rattle.feed_records.specs.declared.item.Record.{Record}
 use Rattle.feed_records.specs.declared.item.Record.TheVariants.{Flush}
 use Rattle.feed_replies.specs.declared.reply.Reply.{Reply}
 use Rattle.import_changes.specs.Changed.{HasChangedBeside}
-use Rattle.feed_run.specs.Answering.{AnswersAll}
-use Rattle.feed_run.specs.Counting.{commands_in}
+use Rattle.feed_runner.specs.Answering.{AnswersAll}
+use Rattle.feed_runner.specs.Counting.{commands_in}
 use Rattle.import_mend.specs.Whole.{HasMended}
 use Rattle.import_mend.specs.declared.mend.Mend.{Mend}
 use Rattle.ogg_page.specs.Page.{Page}

@@ -3,7 +3,7 @@ ghost use Rattle.std.specs.Prelude.{◌≡◌, IfOk, OnErr};
 ghost use Rattle.import_record.specs.Running.{HasRun, StopsAt, answered_with, first_of, nothing, plus, with_taken};
 
 use feed_replies::Reply;
-use feed_run::Runner;
+use feed_runner::Runner;
 use ogg_command::{Command, Refusal};
 use ogg_page::WriteFault;
 use std::io::Write;

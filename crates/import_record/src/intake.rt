@@ -11,7 +11,7 @@ use crate::Memory;
 use crate::answering::{Answered, run_all};
 use crate::begun::{Begun, keep_all_open, keep_all_streams};
 use crate::fault::RecordFault;
-use feed_run::Runner;
+use feed_runner::Runner;
 use import_changes::{ChangeOptions, Changes};
 use import_gather::Gatherer;
 use import_mend::{Mend, Mender};

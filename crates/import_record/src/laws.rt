@@ -9,20 +9,20 @@ ghost use Rattle.import_record.specs.Begun.{streams_after};
 ghost use Rattle.import_record.specs.Steps.{Become, IntakeState};
 ghost use Rattle.import_record.specs.Whole.{Done, Event, GoOn, IsRecorded, IsResumed, Records, pages_in};
 ghost use Rattle.chain_rules.specs.Commands.{bytes_of_commands};
-ghost use Rattle.ogg_recorder.specs.Recorded.{HasSteps, HasWaiting};
-ghost use Rattle.feed_run.specs.Counting.{kept_after};
+ghost use Rattle.file_recorder.specs.Steps.{HasSteps, HasWaiting};
+ghost use Rattle.feed_runner.specs.Counting.{kept_after};
 ghost use Rattle.ogg_command.specs.declared.command.Command.{Command as CommandOf};
-ghost use Rattle.ogg_recorder.specs.Recorder.{committed};
-ghost use Rattle.ogg_recorder.specs.Recovery.{Links};
-ghost use Rattle.ogg_recorder.specs.Running.{Answers, Progress};
+ghost use Rattle.file_recorder.specs.Recorder.{committed};
+ghost use Rattle.file_recorder.specs.Recovery.{Links};
+ghost use Rattle.file_recorder.specs.Running.{Answers, Progress};
 
 use disk_model::Disk;
-use feed_run::Runner;
+use feed_runner::Runner;
+use file_recorder::records_are_steps;
 use import_mend::{
     commands_begin_links_without_a_skeleton, commands_hold_sound_links,
     pages_found_are_the_good_pages,
 };
-use ogg_recorder::records_are_steps;
 
 /// Pages that are taken in turn, with flushes between them, are a run of commands. The commands are those of the mended
 /// pages, and these hold what sound links hold; their streams are begun under serials that weren't taken before.

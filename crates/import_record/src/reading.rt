@@ -15,7 +15,7 @@ use crate::Memory;
 use crate::fault::RecordFault;
 use crate::intake::{Intake, Taken};
 use feed_replies::Reply;
-use feed_run::Runner;
+use feed_runner::Runner;
 use import_changes::ChangeOptions;
 use import_mend::Mend;
 use import_pages::{PageReader, PageReaderFault};

@@ -13,7 +13,7 @@ use Rattle.feed_records.specs.declared.item.Record.{Record}
 use Rattle.feed_records.specs.declared.item.Record.TheVariants.{Command as CommandOf, Flush}
 use Rattle.feed_replies.specs.declared.reply.Reply.{Reply}
 use Rattle.feed_replies.specs.declared.reply.Reply.TheVariants.{Refused}
-use Rattle.feed_run.specs.Refusing.{refuses}
+use Rattle.feed_runner.specs.Refusing.{refuses}
 use Rattle.import_renumber.specs.Renumbering.{Answered, AnswersBegin, AnswersLater, AnswersUnder, BeginsUnder, Failed, IsSpare, IsUnder, Renumbering, begun_serials, end_given, put_given}
 
 module _ {S R : Type 0} (answers : S → Record → Reply → List ℕ → S → Type 0) (is_in : S → R → Type 0) where

@@ -16,7 +16,7 @@ use Rattle.feed_records.specs.declared.item.Record.{Record}
 use Rattle.feed_records.specs.declared.item.Record.TheVariants.{Command as CommandOf, Flush}
 use Rattle.feed_replies.specs.declared.reply.Reply.{Reply}
 use Rattle.feed_replies.specs.declared.reply.Reply.TheVariants.{Refused}
-use Rattle.feed_run.specs.Refusing.{refuses}
+use Rattle.feed_runner.specs.Refusing.{refuses}
 use Rattle.import_changes.specs.Naming.{AreNamed, AreNames, IsFirstFree, name_of, serials_of, stream_named}
 
 -- What the next command depends on: the state of the runner below; the serials that streams of its file have had; and of

@@ -2,14 +2,14 @@
 ghost use Rattle.std.specs.Prelude.{◌≡◌, ◌<◌, ◌≤◌, ◌+◌, ◌^◌, ◌++◌, [], ℕ, List, Ok, Err, IfOk, OnErr, false, nat_eq, length};
 ghost use Rattle.std.specs.List.{list_any};
 ghost use Rattle.std.specs.Map.{values_of};
-ghost use Rattle.feed_run.specs.Refusing.{refuses};
+ghost use Rattle.feed_runner.specs.Refusing.{refuses};
 ghost use Rattle.import_renumber.specs.Renumbering.{Answered, BeginsUnder, Failed, IsHeadFree, IsSpare, IsUnder, Renumbering, begun_serials, end_given, put_given};
 ghost use Rattle.ogg_command.specs.declared.command.Command.{Command as CommandOf};
 
 use crate::Memory;
 use crate::copying::{entries_given, given_to, streams_named};
 use feed_replies::Reply;
-use feed_run::Runner;
+use feed_runner::Runner;
 use import_changes::{free_serial, name_all};
 use link_chain::Serials;
 use ogg_command::{Begin, Command, Listed, NewStream, Put, Refusal, SkeletonHead};

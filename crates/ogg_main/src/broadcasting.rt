@@ -4,11 +4,11 @@ use crate::running::Running;
 use crate::sockets::Sockets;
 use fault_lines::Fault;
 use import_feed::Skeletons;
+use record_actions::Told;
 use serve_actions::{HeardDisk, Log, close_hub, hear_file, read_password, tell_serving};
 use station::{Options as StationOptions, Station};
 use std::net::SocketAddr;
 use std::time::Instant;
-use stream_actions::Told;
 
 /// What a station is asked to do.
 #[derive(Clone, Copy)]

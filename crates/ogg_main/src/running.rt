@@ -4,12 +4,12 @@ use crate::sockets::{Connection, Sockets, trouble};
 use crate::telling::{seconds, tell_done};
 use fault_lines::Fault;
 use import_record::RecordFault;
+use record_actions::Told;
 use serve_actions::{HeardDisk, Log};
 use station::{After, Done, FULL, Feeder, Station, Trouble, station_line};
 use std::io::{self, Read, Write};
 use std::net::{Shutdown, SocketAddr};
 use std::time::Instant;
-use stream_actions::Told;
 
 /// How many connections are accepted in one round, and how many steps of the recording are taken.
 const IN_ROUND: u32 = 64;

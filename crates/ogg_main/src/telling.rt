@@ -1,10 +1,10 @@
 //! What a station has done, told.
 
 use fault_lines::Fault;
+use record_actions::Told;
 use serve_actions::{HeardDisk, Log};
 use station::{Done, Station};
 use std::time::{SystemTime, UNIX_EPOCH};
-use stream_actions::Told;
 
 /// The station has done this, and it is told. It is a fault if the file is lost.
 pub fn tell_done(

@@ -10,11 +10,11 @@ use Rattle.feed_records.specs.declared.item.Record.{Record}
 use Rattle.feed_records.specs.declared.item.Record.TheVariants.{Flush}
 use Rattle.feed_replies.specs.declared.reply.Reply.{Reply}
 use Rattle.feed_replies.specs.declared.tally.Tally.{Tally}
-use Rattle.feed_run.specs.Answering.{AnswersAll}
-use Rattle.feed_run.specs.Laws.InTurn.{one_more}
+use Rattle.feed_runner.specs.Answering.{AnswersAll}
+use Rattle.feed_runner.specs.Laws.InTurn.{one_more}
 use Rattle.feed_run.specs.Run.{Streams, Outcome, RunsTo, RunsWhole, StopsAt, EndsBy, IsClosed}
-use Rattle.ogg_recorder.specs.Recorder.{RecorderState}
-use Rattle.ogg_recorder.specs.Running.{Progress, Answers, waiting_in}
+use Rattle.file_recorder.specs.Recorder.{RecorderState}
+use Rattle.file_recorder.specs.Running.{Progress, Answers, waiting_in}
 use Rattle.ogg_recorder.specs.Recorded.{Answered, answered_with, answered_by}
 
 module _ {S : Type 0} (answers : S → Record → Reply → List ℕ → S → Type 0) where

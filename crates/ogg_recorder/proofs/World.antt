@@ -8,8 +8,8 @@ use Rattle.feed_replies.specs.declared.reply.Reply.{Reply}
 use Rattle.gate_file.specs.Commit.{CommitsTo}
 use Rattle.gate_file.specs.Gate.{EachImage}
 use Rattle.link_chain.specs.Recording.{Recording, Holds}
-use Rattle.feed_run.specs.Answering.{AnswersAll}
-use Rattle.feed_run.specs.Counting.{kept_after}
+use Rattle.feed_runner.specs.Answering.{AnswersAll}
+use Rattle.feed_runner.specs.Counting.{kept_after}
 use Rattle.chain_rules.specs.Commands.{bytes_of_commands}
 use Rattle.chain_rules.specs.Recording.{add}
 use Rattle.ogg_command.specs.declared.command.Command.{Command}
@@ -18,10 +18,11 @@ use Rattle.history.specs.World.{World, Step, Held, Kept, Flushed, Refused, Fault
 use Rattle.history.specs.History.{StandsIn, AreSteps}
 use Rattle.history.specs.Recovery.{recovers_only}
 use Rattle.history.specs.Runs.{ShowsSome, AreCommands, accepted}
-use Rattle.ogg_recorder.specs.Recovery.{Links, Commits, Shows, Accepts}
-use Rattle.ogg_recorder.specs.Recorder.{RecorderState, committed, IsRecorderStep}
-use Rattle.ogg_recorder.specs.Running.{Progress, Answers}
-use Rattle.ogg_recorder.specs.Recorded.{answered, HasWaiting, HasSteps, HasRecorded, Stands}
+use Rattle.file_recorder.specs.Recovery.{Links, Commits, Shows, Accepts}
+use Rattle.file_recorder.specs.Recorder.{RecorderState, committed, IsRecorderStep}
+use Rattle.file_recorder.specs.Running.{Progress, Answers}
+use Rattle.ogg_recorder.specs.Recorded.{answered, HasRecorded}
+use Rattle.file_recorder.specs.Steps.{HasWaiting, HasSteps, Stands}
 use Rattle.ogg_recorder.proofs.Ended.{All}
 
 acknowledges : {D : Type 0} (w : World Command) (steps : List (Step Command × D)) → AreCommands steps → (run w steps).acknowledged ≡ w.acknowledged ++ acknowledged w steps

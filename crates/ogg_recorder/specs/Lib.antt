@@ -1,9 +1,1 @@
-pub mod Recovery
-pub mod RecoveryLaws
-pub mod Taking
-pub mod Recorder
-pub mod Answer
-pub mod Running
-pub mod Small
-pub mod Ending
 pub mod Recorded

@@ -1,35 +1,20 @@
-//! A recorder: commands go into a file of links, and whenever the machine stops, the file holds whole commands.
-//!
-//! `Recorder::open` finds the committed bytes of a file that a stop may have left, and takes their pages into a
-//! chain, in one pass. `command` answers by the rules. The pages of a command that isn't refused are staged one at a
-//! time. One byte then decides whether they count, with those of the other commands of its group. Each call says what
-//! every image shows at each moment since it began, and that it is a step of the file's history.
-//!
-//! Start at `specs/Recovery.antt`, which says what is recovered from an image, and go on to `specs/Recorder.antt`,
-//! which says where a recorder stands in a history; `acknowledged_commands_survive` is what follows for every list of
-//! calls. `specs/Running.antt` says how a recorder runs the records of a feed.
+//! The run over a whole feed whose commands go into a file of links.
 //!
 //! `record_feed` reads one record of a feed after the other and has a `Recorder` run it. Each command is answered by a
 //! line, which is written before the next record is read, once the command is on the disk or waits for its group. A
 //! refusal ends nothing, and after a disk fault each further command is refused. What waits is kept at the feed's end.
-//! `specs/Recorded.antt` says what a run has recorded at each moment and at its end.
+//! The recorder itself is file_recorder's, which says what it promises; it is handed on here with what always holds of
+//! it.
+//!
+//! Start at `specs/Recorded.antt`, which says what a run has recorded at each moment and at its end.
 #![tactic(auto)]
 
-mod commanding;
-mod ending;
-mod laws;
-mod opening;
-mod recorder;
 mod recording;
-mod running;
-mod staging;
 
-pub use ending::end_open_streams;
 pub use feed_replies::{Kept, Outcome, RunFault, Tally};
-pub use gate_file::OpenFault;
-pub use laws::{
-    Recorded, acknowledged_commands_survive, images_show_one_recording, records_are_steps,
+pub use file_recorder::{
+    Recorded, Recorder, acknowledged_commands_survive, end_open_streams, images_show_one_recording,
+    records_are_steps, reply_to, reply_to_flush,
 };
-pub use recorder::Recorder;
+pub use gate_file::OpenFault;
 pub use recording::{record_feed, record_feed_for};
-pub use running::{reply_to, reply_to_flush};

@@ -5,14 +5,14 @@ ghost use Rattle.link_chain.specs.Recording.{Recording};
 ghost use Rattle.ogg_command.specs.declared.command.Command.{Command as CommandOf};
 ghost use Rattle.history.specs.World.{World};
 ghost use Rattle.feed_run.specs.Run.{RunsWhole, EndsBy, streams, streams_to};
-ghost use Rattle.ogg_recorder.specs.Running.{Progress, Answers, progress, waiting_in};
+ghost use Rattle.file_recorder.specs.Running.{Progress, Answers, progress, waiting_in};
 ghost use Rattle.ogg_recorder.specs.Recorded.{HasRecorded, answered_to, answered_by};
 
-use crate::laws::{Recorded, records_are_steps};
-use crate::recorder::Recorder;
 use disk_model::Disk;
 use feed_replies::{RunFault, Tally};
-use feed_run::{Ahead, Replies, Unknown, run_feed_for};
+use feed_run::{Ahead, Unknown, run_feed_for};
+use feed_runner::Replies;
+use file_recorder::{Recorded, Recorder, records_are_steps};
 use history::{disks_stand_in_their_world, runs_show_first_commands};
 use std::alloc::Global;
 use std::io::{self, Read, Sink, Write};

@@ -6,12 +6,12 @@ use Rattle.feed_records.specs.declared.item.Record.{Record}
 use Rattle.feed_records.specs.declared.item.Record.TheVariants.{Command as CommandOf, Flush}
 use Rattle.feed_replies.specs.declared.reply.Kept.{Kept}
 use Rattle.feed_replies.specs.declared.reply.Reply.{Reply}
-use Rattle.feed_run.specs.Answering.{AnswersAll}
+use Rattle.feed_runner.specs.Answering.{AnswersAll}
 use Rattle.gate_file.specs.declared.fault.OpenFault.{OpenFault}
 use Rattle.ogg_command.specs.declared.command.Command.{Command}
 use Rattle.ogg_command.specs.declared.refusal.Refusal.{Refusal}
 use Rattle.ogg_command.specs.declared.refusal.Refusal.TheVariants.{Failed, Memory, Disk}
-use Rattle.ogg_recorder.specs.Running.{reply_of, reply_of_flush}
+use Rattle.file_recorder.specs.Running.{reply_of, reply_of_flush}
 use Rattle.feed_replies.specs.declared.outcome.Outcome.{Outcome}
 use Rattle.feed_replies.specs.declared.outcome.Outcome.TheVariants.{Held as WasHeld, Kept as WasKept}
 use Rattle.serve_hub.specs.Running.{Progress, Answers}

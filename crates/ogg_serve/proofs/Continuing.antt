@@ -18,10 +18,10 @@ use Rattle.ogg_command.specs.declared.refusal.Refusal.{Refusal}
 use Rattle.ogg_command.specs.declared.refusal.Refusal.TheVariants.{Disk, Failed}
 use Rattle.history.specs.World.{World, Call, Opening, Step, Faulted, Looked, Opened, happens, run, disk_after}
 use Rattle.history.specs.History.{StandsIn, run-append, disk_after-append, steps-append}
-use Rattle.ogg_recorder.specs.Answer.{call_of, command_step, flush_step}
-use Rattle.ogg_recorder.specs.Recorder.{RecorderState, IsRecorderStep}
-use Rattle.ogg_recorder.specs.Recovery.{Shows as ShowsRecording, Accepts}
-use Rattle.ogg_recorder.specs.Running.{reply_of, reply_of_flush}
+use Rattle.file_recorder.specs.Answer.{call_of, command_step, flush_step}
+use Rattle.file_recorder.specs.Recorder.{RecorderState, IsRecorderStep}
+use Rattle.file_recorder.specs.Recovery.{Shows as ShowsRecording, Accepts}
+use Rattle.file_recorder.specs.Running.{reply_of, reply_of_flush}
 use Rattle.feed_replies.specs.declared.outcome.Outcome.{Outcome}
 use Rattle.feed_replies.specs.declared.outcome.Outcome.TheVariants.{Held as WasHeld, Kept as WasKept}
 use Rattle.serve_hub.specs.declared.opening.Lost.{Lost}

@@ -11,7 +11,7 @@ use Rattle.feed_replies.specs.declared.reply.Reply.{Reply}
 use Rattle.feed_records.specs.declared.version.Version.{Version}
 use Rattle.feed_run.specs.Run.{Outcome, Streams, RunState, Steps, StopsBy, StopsAt}
 use Rattle.gate_file.specs.declared.fault.OpenFault.{OpenFault}
-use Rattle.ogg_recorder.specs.Recorder.{RecorderState}
+use Rattle.file_recorder.specs.Recorder.{RecorderState}
 use Rattle.serve_hub.specs.declared.opening.Lost.{Lost}
 use Rattle.serve_hub.specs.Images.{IfFile, Fails, Flushes, Reads, Records, disk_in, failures_in, failures_of}
 use Rattle.serve_hub.specs.Parts.{HubParts, OnlyFile}

@@ -5,8 +5,8 @@ use Rattle.disk_model.specs.Image.{DiskState, IsImage}
 use Rattle.disk_model.specs.Leaving.{started, weakened}
 use Rattle.gate_file.specs.Reading.{OnlyReads, nothing_read, reads_then}
 use Rattle.history.specs.Showing.{IsAsBefore}
-use Rattle.ogg_recorder.specs.Recorder.{RecorderState, over_disk}
-use Rattle.ogg_recorder.specs.Recovery.{Shows}
+use Rattle.file_recorder.specs.Recorder.{RecorderState, over_disk}
+use Rattle.file_recorder.specs.Recovery.{Shows}
 use Rattle.serve_hub.specs.Images.{IfFile, Fails, Reads}
 
 module _ {D : Type 0} (model : DiskModel D) where

@@ -7,8 +7,8 @@ use Rattle.chain_rules.specs.Recording.{add}
 use Rattle.ogg_command.specs.declared.command.Command.{Command}
 use Rattle.history.specs.World.{World, Step, run, disk_after}
 use Rattle.history.specs.History.{AreSteps, StandsIn}
-use Rattle.ogg_recorder.specs.Recorder.{RecorderState, IsIn}
-use Rattle.ogg_recorder.specs.Recovery.{Shows, Accepts}
+use Rattle.file_recorder.specs.Recorder.{RecorderState, IsIn}
+use Rattle.file_recorder.specs.Recovery.{Shows, Accepts}
 use Rattle.serve_hub.specs.declared.opening.Lost.{Lost}
 use Rattle.serve_hub.specs.Images.{disk_in}
 use Rattle.serve_hub.specs.Parts.{HubParts}

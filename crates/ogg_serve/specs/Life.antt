@@ -11,7 +11,7 @@ use Rattle.feed_records.specs.declared.version.Version.{Version}
 use Rattle.feed_run.specs.Run.{HasRun, Outcome, RunState, RunsTo, StopsOne, Streams, most_records, streams}
 use Rattle.ogg_command.specs.declared.refusal.Refusal.{Refusal}
 use Rattle.ogg_command.specs.declared.refusal.Refusal.TheVariants.{Disk}
-use Rattle.ogg_recorder.specs.Running.{reply_of, reply_of_flush}
+use Rattle.file_recorder.specs.Running.{reply_of, reply_of_flush}
 use Rattle.feed_replies.specs.declared.outcome.Outcome.{Outcome as Recorded}
 use Rattle.serve_machine.specs.Hub.{HubState, command_step, flush_step, reopen_step}
 use Rattle.ogg_serve.specs.Feeding.{FeedState, says_failed}

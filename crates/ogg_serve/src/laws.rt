@@ -4,11 +4,11 @@ ghost use Rattle.link_chain.specs.Recording.{Recording};
 ghost use Rattle.chain_rules.specs.Recording.{add};
 ghost use Rattle.feed_records.specs.declared.item.Record.{Record};
 ghost use Rattle.feed_replies.specs.declared.reply.Reply.{Reply};
-ghost use Rattle.feed_run.specs.Answering.{AnswersAll};
+ghost use Rattle.feed_runner.specs.Answering.{AnswersAll};
 ghost use Rattle.ogg_command.specs.declared.command.Command.{Command as CommandOf};
 ghost use Rattle.history.specs.World.{World, Step as StepOf, run};
 ghost use Rattle.history.specs.History.{IsHistory};
-ghost use Rattle.ogg_recorder.specs.Recovery.{Shows, Accepts};
+ghost use Rattle.file_recorder.specs.Recovery.{Shows, Accepts};
 ghost use Rattle.serve_hub.specs.Parts.{HubParts};
 ghost use Rattle.serve_machine.specs.Hub.{HubState};
 ghost use Rattle.serve_machine.specs.Own.{KeepsFile};
@@ -38,7 +38,7 @@ pub fn feeds_are_run_beside_sessions<D: Disk, F: Read, L: Write>()
 {}
 
 /// What a hub's calls add to a history makes a history. So whatever sessions are served, and whatever of a feed is
-/// recorded meanwhile, `acknowledged_commands_survive` (ogg_recorder) says what every image shows, between the calls of
+/// recorded meanwhile, `acknowledged_commands_survive` (file_recorder) says what every image shows, between the calls of
 /// the disk and in each of them: a prefix of the commands, with every acknowledged one.
 pub fn histories_go_on_beside_sessions<D: Disk>()
     ensures { (first : Recording) (begun disk : D) (w : World CommandOf) (steps : List (StepOf CommandOf × D)) (old new : HubParts D)

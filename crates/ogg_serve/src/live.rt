@@ -15,8 +15,8 @@ use crate::pieces::{Served, read_head, send_piece};
 use crate::serve::MOST_PIECES;
 use crate::trying::Tries;
 use disk_model::Disk;
+use file_recorder::Recorded;
 use history::disks_stand_in_their_world;
-use ogg_recorder::Recorded;
 use serve_hub::{Hub, HubFault};
 use serve_machine::{
     calls_move_their_session, committed_bytes_grow, other_sessions_stay, sessions_are_numbered,

@@ -4,10 +4,10 @@ ghost use Rattle.std.specs.Prelude.{◌≡◌, IfOk};
 use disk_model::{Disk, FileDisk, FileMode};
 use disk_tail::TailDisk;
 use fault_lines::Fault;
-use ogg_recorder::Recorder;
+use file_recorder::Recorder;
 use ogg_serve::Hub;
+use record_actions::{lock_file, own_recorder_on};
 use std::alloc::Global;
-use stream_actions::{lock_file, own_recorder_on};
 
 /// A file whose last bytes are read from memory: they are what listeners hear.
 pub type HeardDisk = TailDisk<FileDisk>;

@@ -3,10 +3,10 @@ ghost use Rattle.std.specs.Prelude.{◌≡◌, ◌↔◌, ◌≤◌, IfErr, IfOk
 
 use disk_model::{Disk, FileDisk, FileMode};
 use fault_lines::Fault;
-use ogg_recorder::Recorder;
+use file_recorder::Recorder;
 use ogg_serve::Hub;
+use record_actions::{open_recorder, seal_file};
 use std::alloc::Global;
-use stream_actions::{open_recorder, seal_file};
 
 /// A hub over a file, and whether the file had no tail when it was opened.
 #[derive(Drop)]

@@ -4,12 +4,12 @@ ghost use Rattle.std.specs.Prelude.{◌≤◌, length};
 
 use crate::lines::{SourceCounts, begin_line, end_line, serving_line};
 use ogg_page::write_whole;
+use record_actions::Told;
 use serve_sources::FULL;
 use serve_texts::Visit;
 use station_sources::Counts;
 use std::alloc::{AllocError, Global};
 use std::net::SocketAddr;
-use stream_actions::Told;
 
 /// The greatest length of an address that is told. None is longer.
 const LONGEST_ADDRESS: usize = 64;

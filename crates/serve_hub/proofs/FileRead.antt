@@ -12,8 +12,8 @@ use Rattle.chain_rules.specs.Recording.{add}
 use Rattle.history.specs.Showing.{IsAsBefore}
 use Rattle.history.specs.World.{World, now_in}
 use Rattle.ogg_command.specs.declared.command.Command.{Command}
-use Rattle.ogg_recorder.specs.Recorder.{RecorderState, IsIn, over_disk}
-use Rattle.ogg_recorder.specs.Recovery.{Shows as ShowsImage}
+use Rattle.file_recorder.specs.Recorder.{RecorderState, IsIn, over_disk}
+use Rattle.file_recorder.specs.Recovery.{Shows as ShowsImage}
 use Rattle.serve_machine.specs.Hub.{HubState, Session}
 use Rattle.serve_hub.specs.Images.{IfFile, Reads}
 use Rattle.serve_hub.specs.Showing.{Commits, ShowsFile}

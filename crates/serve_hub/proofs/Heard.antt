@@ -3,7 +3,7 @@ use Rattle.std.proofs.Common.{◌≡◌, ℕ, ◌<◌, Some, Option, Result, Lis
 use Rattle.std.specs.Prelude.{IfOk, min}
 use Rattle.disk_model.specs.declared.disk.Disk.{Ghosts as DiskModel}
 use Rattle.disk_model.specs.Image.{DiskState}
-use Rattle.ogg_recorder.specs.Recorder.{RecorderState}
+use Rattle.file_recorder.specs.Recorder.{RecorderState}
 use Rattle.serve_live.specs.Hearing.{IsHearing}
 use Rattle.serve_live.specs.Listening.{ListenerState}
 use Rattle.serve_live.specs.Live.{Moment}

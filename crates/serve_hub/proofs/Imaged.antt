@@ -13,8 +13,8 @@ use Rattle.history.specs.Showing.{IsAsBefore}
 use Rattle.history.specs.World.{World, Opened, happens}
 use Rattle.history.specs.History.{StandsIn}
 use Rattle.ogg_command.specs.declared.command.Command.{Command}
-use Rattle.ogg_recorder.specs.Recorder.{RecorderState, IsIn, recorder_state, IsRecorderStep}
-use Rattle.ogg_recorder.specs.Recovery.{Commits, Shows}
+use Rattle.file_recorder.specs.Recorder.{RecorderState, IsIn, recorder_state, IsRecorderStep}
+use Rattle.file_recorder.specs.Recovery.{Commits, Shows}
 use Rattle.serve_hub.specs.Images.{Reopens}
 
 pub fault_is : (fault : OpenFault) → ◌≡◌ {A = Result ⊤ OpenFault} (Err fault) (Err Disk) → fault ≡ Disk

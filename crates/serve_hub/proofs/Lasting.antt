@@ -9,7 +9,7 @@ use Rattle.gate_file.specs.Commit.{ArePages, CommitsTo, CommitsToEither}
 use Rattle.gate_file.specs.Gate.{EachImage}
 use Rattle.link_chain.specs.Laws.InTurn.{bytes_flattened, pages_flattened}
 use Rattle.link_chain.specs.Links.{flattened}
-use Rattle.ogg_recorder.specs.Recorder.{RecorderState}
+use Rattle.file_recorder.specs.Recorder.{RecorderState}
 use Rattle.serve_live.specs.Hearing.{IsHearing}
 use Rattle.serve_live.specs.Listening.{ListenerState}
 use Rattle.serve_live.specs.Live.{IsLive, Moment}

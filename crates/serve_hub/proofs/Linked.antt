@@ -23,7 +23,7 @@ use Rattle.ogg_command.specs.Command.{IsCommand}
 use Rattle.ogg_command.specs.declared.command.Command.{Command}
 use Rattle.ogg_command.specs.declared.refusal.Refusal.{Refusal}
 use Rattle.ogg_command.specs.declared.refusal.Refusal.TheVariants.{Failed, Memory, Disk}
-use Rattle.ogg_recorder.specs.Recorder.{RecorderState, IsRecorder, committed, staged}
+use Rattle.file_recorder.specs.Recorder.{RecorderState, IsRecorder, committed, staged}
 use Rattle.feed_replies.specs.declared.outcome.Outcome.{Outcome}
 use Rattle.feed_replies.specs.declared.outcome.Outcome.TheVariants.{Held as WasHeld, Kept as WasKept}
 use Rattle.serve_machine.specs.Hub.{HubState, IsAccepted, command_step, committing, doubting, flush_step, holding, is_failed, reopen_step, without_file}

@@ -9,8 +9,8 @@ use Rattle.gate_file.specs.CommitLaws.{one_commit, whole_of}
 use Rattle.gate_file.specs.Gate.{EachImage, EndsAt}
 use Rattle.gate_file.specs.GateFile.{GateState}
 use Rattle.history.specs.Showing.{IsAsBefore}
-use Rattle.ogg_recorder.specs.Recorder.{RecorderState, IsRecorder, recorder_state, committed}
-use Rattle.ogg_recorder.specs.Recovery.{Commits as CommitsImage}
+use Rattle.file_recorder.specs.Recorder.{RecorderState, IsRecorder, recorder_state, committed}
+use Rattle.file_recorder.specs.Recovery.{Commits as CommitsImage}
 use Rattle.serve_machine.specs.Hub.{HubState, MayBeFound, without_file, reopen_step}
 use Rattle.serve_hub.specs.Parts.{lost_file}
 use Rattle.serve_hub.specs.Showing.{Commits, ShowsFile, ShowsLost, IsOver, KeepsSessions}

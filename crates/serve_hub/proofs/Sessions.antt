@@ -5,7 +5,7 @@ use Rattle.std.proofs.lemmas.Bool.{cases_Bool, or_left, or_cases, le-leb, leb-tr
 use Rattle.disk_model.specs.declared.disk.Disk.{Ghosts as DiskModel}
 use Rattle.disk_model.specs.Image.{DiskState, IsImage}
 use Rattle.link_index.specs.Adding.{IndexState, IsIndexOf}
-use Rattle.ogg_recorder.specs.Recorder.{RecorderState, IsRecorder, committed, staged}
+use Rattle.file_recorder.specs.Recorder.{RecorderState, IsRecorder, committed, staged}
 use Rattle.serve_machine.specs.Hub.{HubState, IsNewFor, Event, Phase, Reading, Session, close_step, connect_step, hub_step, is_full, with_session, without_in, without_session, phase_in}
 use Rattle.serve_machine.specs.declared.fault.HubFault.TheVariants.{NoSession}
 use Rattle.serve_sessions.specs.Indexing.{IsOfFront}

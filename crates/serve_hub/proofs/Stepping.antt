@@ -18,9 +18,9 @@ use Rattle.ogg_command.specs.declared.command.Command.{Command}
 use Rattle.ogg_command.specs.declared.refusal.Refusal.{Refusal}
 use Rattle.ogg_command.specs.declared.refusal.Refusal.TheVariants.{Failed, Memory, Disk, LinkOpen, NoLink, Empty, TooMany, SerialTaken, NoHeader, HeadTooLong, PacketTooLong, BadType, BadRate, UnknownSerial, StreamEnded, PositionRange, PositionBack, BatchTooLong, SequenceEnd, LinksFull, FileFull}
 use Rattle.feed_replies.specs.declared.reply.Kept.{Kept}
-use Rattle.ogg_recorder.specs.Answer.{Tells, kept_by as kept_by_recorder}
-use Rattle.ogg_recorder.specs.Recorder.{RecorderState, IsRecorder, recorder_state, committed, staged}
-use Rattle.ogg_recorder.specs.Taking.{HoldsChain}
+use Rattle.file_recorder.specs.Answer.{Tells, kept_by as kept_by_recorder}
+use Rattle.file_recorder.specs.Recorder.{RecorderState, IsRecorder, recorder_state, committed, staged}
+use Rattle.file_recorder.specs.Taking.{HoldsChain}
 use Rattle.feed_replies.specs.declared.outcome.Outcome.{Outcome}
 use Rattle.feed_replies.specs.declared.outcome.Outcome.TheVariants.{Held as WasHeld, Kept as WasKept}
 use Rattle.serve_machine.specs.Hub.{HubState, IsAccepted, IsRefused, is_failed, holding, committing, doubting, command_step, flush_step}

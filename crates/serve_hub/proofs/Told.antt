@@ -6,7 +6,7 @@ use Rattle.disk_model.specs.Image.{DiskState}
 use Rattle.ogg_page.specs.Page.{Page}
 use Rattle.link_chain.specs.ChainState.{chain_state_of}
 use Rattle.link_chain.specs.Links.{AreLinks}
-use Rattle.ogg_recorder.specs.Recorder.{RecorderState, IsRecorder, committed, staged}
+use Rattle.file_recorder.specs.Recorder.{RecorderState, IsRecorder, committed, staged}
 use Rattle.serve_machine.specs.Hub.{HubState}
 use Rattle.serve_hub.specs.declared.opening.Lost.{Lost}
 use Rattle.serve_hub.specs.Showing.{HasLinks, ShowsFile, ShowsPlace}

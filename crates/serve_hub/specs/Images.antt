@@ -19,9 +19,9 @@ use Rattle.history.specs.History.{StandsIn}
 use Rattle.ogg_command.specs.declared.command.Command.{Command}
 use Rattle.ogg_command.specs.declared.refusal.Refusal.{Refusal}
 use Rattle.ogg_command.specs.declared.refusal.Refusal.TheVariants.{Disk}
-use Rattle.ogg_recorder.specs.Answer.{call_of, command_step, flush_step}
-use Rattle.ogg_recorder.specs.Recorder.{RecorderState, IsIn, over_disk, committed, staged, IsRecorderStep}
-use Rattle.ogg_recorder.specs.Recovery.{Commits, Shows}
+use Rattle.file_recorder.specs.Answer.{call_of, command_step, flush_step}
+use Rattle.file_recorder.specs.Recorder.{RecorderState, IsIn, over_disk, committed, staged, IsRecorderStep}
+use Rattle.file_recorder.specs.Recovery.{Commits, Shows}
 use Rattle.feed_replies.specs.declared.outcome.Outcome.{Outcome}
 use Rattle.feed_replies.specs.declared.outcome.Outcome.TheVariants.{Held as WasHeld}
 use Rattle.serve_sending.specs.Sending.{HasFailed}

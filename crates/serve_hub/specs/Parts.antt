@@ -2,7 +2,7 @@
 use Rattle.std.specs.Prelude.{◌≡◌, ◌⊎◌, ℕ, ◌^◌, ◌≤◌, Bool, true, Option, None, Some, IsSome, List, [], length}
 use Rattle.link_chain.specs.declared.stream_state.StreamState.{StreamState}
 use Rattle.link_index.specs.Adding.{IndexState}
-use Rattle.ogg_recorder.specs.Recorder.{RecorderState}
+use Rattle.file_recorder.specs.Recorder.{RecorderState}
 use Rattle.serve_machine.specs.Hub.{Phase}
 use Rattle.serve_machine.specs.declared.fault.HubFault.{HubFault}
 use Rattle.serve_machine.specs.declared.fault.HubFault.TheVariants.{NoSession, NoFile}

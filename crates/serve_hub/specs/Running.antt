@@ -9,7 +9,7 @@ use Rattle.feed_replies.specs.declared.reply.Reply.{Reply}
 use Rattle.ogg_command.specs.declared.command.Command.{Command}
 use Rattle.ogg_command.specs.declared.refusal.Refusal.{Refusal}
 use Rattle.ogg_command.specs.declared.refusal.Refusal.TheVariants.{Disk}
-use Rattle.ogg_recorder.specs.Running.{reply_of, reply_of_flush}
+use Rattle.file_recorder.specs.Running.{reply_of, reply_of_flush}
 use Rattle.feed_replies.specs.declared.outcome.Outcome.{Outcome}
 use Rattle.serve_machine.specs.Hub.{HubState, command_step, flush_step}
 use Rattle.serve_hub.specs.Images.{IfFile, Records, Flushes}

@@ -6,7 +6,7 @@ use Rattle.ogg_page.specs.Page.{Page}
 use Rattle.gate_file.specs.Commit.{CommitsTo}
 use Rattle.gate_file.specs.Gate.{EachImage}
 use Rattle.link_chain.specs.Links.{AreLinks}
-use Rattle.ogg_recorder.specs.Recorder.{RecorderState, committed, staged}
+use Rattle.file_recorder.specs.Recorder.{RecorderState, committed, staged}
 use Rattle.serve_machine.specs.Hub.{HubState, MayBeFound}
 use Rattle.serve_sessions.specs.Indexing.{IsOfFront}
 use Rattle.serve_sessions.specs.Sessions.{AreSessions}

@@ -1,7 +1,7 @@
 //! Commands go to the recorder of a hub, if there is a file.
 ghost use Rattle.std.specs.Prelude.{◌≡◌, ◌≢◌, ◌≤◌, ℕ, None, Some, Err, Option, length, IsSome, IfErr};
 ghost use Rattle.serve_machine.specs.Hub.{HubState, command_step, flush_step, group_step};
-ghost use Rattle.ogg_recorder.specs.Recorder.{RecorderState, recorder_state};
+ghost use Rattle.file_recorder.specs.Recorder.{RecorderState, recorder_state};
 ghost use Rattle.serve_hub.specs.declared.opening.Lost.{Lost};
 ghost use Rattle.serve_hub.specs.Images.{IfFile, Records, Flushes};
 ghost use Rattle.serve_hub.specs.Showing.{FindsLinks, ShowsFile, ShowsPlace, KeepsSessions};
@@ -9,8 +9,8 @@ ghost use Rattle.serve_hub.specs.Showing.{FindsLinks, ShowsFile, ShowsPlace, Kee
 use chain_rules::{Command, Refusal, command_adds_its_packets, refusals_are_of_the_table};
 use disk_model::Disk;
 use feed_replies::Kept;
+use file_recorder::{Outcome, Recorder};
 use ogg_command::command_is_in_range;
-use ogg_recorder::{Outcome, Recorder};
 
 /// Records a command.
 fn record_command<D: Disk>(

@@ -1,6 +1,6 @@
 //! A recorder, and the sessions of the clients that fetch its file.
 ghost use Rattle.std.specs.Prelude.{◌≡◌, ◌≢◌, ◌↔◌, ◌⊎◌, ◌≤◌, ◌<◌, ◌+◌, ◌^◌, [], ℕ, false, List, vec_capacity, None, Some, Err, IsSome, length, IfOk, IfErr};
-ghost use Rattle.ogg_recorder.specs.Recorder.{RecorderState, committed};
+ghost use Rattle.file_recorder.specs.Recorder.{RecorderState, committed};
 ghost use Rattle.serve_machine.specs.Hub.{HubState, IsNew, IsNewFor, Connect, Receive, Pull, Close, Record, Flush, Group, Reopen, most_sessions};
 ghost use Rattle.serve_machine.specs.Calls.{Steps, found_by, given_in};
 ghost use Rattle.serve_sessions.specs.Serving.{LacksRoomIn};
@@ -14,10 +14,10 @@ use crate::reading::{pull_from, receive_from};
 use chain_rules::{Command, Refusal};
 use disk_model::Disk;
 use feed_replies::Kept;
+use file_recorder::{Outcome, Recorder};
 use gate_file::OpenFault;
 use link_index::Index;
 use ogg_page::PageBuffer;
-use ogg_recorder::{Outcome, Recorder};
 use serve_machine::{HubFault, Progress, Pulled, SeenAsHub};
 use serve_sessions::{Session, add_session, drop_session, place_of, sessions_stay};
 use std::alloc::{AllocError as Memory, Global};

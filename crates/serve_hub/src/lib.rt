@@ -24,11 +24,11 @@ mod reading;
 mod running;
 mod telling;
 
+pub use file_recorder::Outcome;
 pub use gate_file::OpenFault;
 pub use hub::Hub;
 pub use laws::{
     images_show_what_was_heard, listeners_go_on_hearing, what_a_hub_lets_hear_is_a_chain,
 };
-pub use ogg_recorder::Outcome;
 pub use serve_live::{JoinPlace, Listener};
 pub use serve_machine::{HubFault, Progress, Pulled};

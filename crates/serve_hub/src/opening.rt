@@ -6,8 +6,8 @@ ghost use Rattle.serve_hub.specs.Images.{Reopens, disk_in};
 ghost use Rattle.serve_hub.specs.Showing.{IsOver, ShowsFile, ShowsLost, ShowsPlace, KeepsSessions};
 
 use disk_model::Disk;
+use file_recorder::Recorder;
 use gate_file::OpenFault;
-use ogg_recorder::Recorder;
 use std::alloc::Global;
 
 /// A disk that was given back.

@@ -3,7 +3,7 @@
 ghost use Rattle.std.specs.Prelude.{◌≡◌, ◌≢◌, ◌↔◌, ◌⊎◌, ◌≤◌, ℕ, List, None, Option, Some, Err, IsSome, IfOk, IfSome, length, vec_capacity};
 ghost use Rattle.ogg_page.specs.Page.{Page};
 ghost use Rattle.link_chain.specs.Links.{AreLinks};
-ghost use Rattle.ogg_recorder.specs.Recorder.{committed};
+ghost use Rattle.file_recorder.specs.Recorder.{committed};
 ghost use Rattle.serve_machine.specs.Calls.{given_in};
 ghost use Rattle.serve_machine.specs.Hub.{HubState, Session as SessionOf, phase_of, pull_step, receive_step};
 ghost use Rattle.serve_sessions.specs.Indexing.{IsOfFront};
@@ -15,9 +15,9 @@ ghost use Rattle.serve_hub.specs.Parts.{fault_of_place, fault_without_file};
 ghost use Rattle.serve_hub.specs.Showing.{ShowsPlace};
 
 use disk_model::Disk;
+use file_recorder::Recorder;
 use link_index::Index;
 use ogg_page::{PageBuffer, Window};
-use ogg_recorder::Recorder;
 use serve_machine::{HubFault, Progress, Pulled};
 use serve_sessions::{Session, place_of, pull_in, receive_in};
 use std::alloc::Global;

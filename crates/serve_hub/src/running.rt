@@ -4,9 +4,9 @@ use crate::hub::Hub;
 use chain_rules::Command;
 use disk_model::Disk;
 use feed_replies::Reply;
-use feed_run::Runner;
+use feed_runner::Runner;
+use file_recorder::{reply_to, reply_to_flush};
 use ogg_page::WriteFault;
-use ogg_recorder::{reply_to, reply_to_flush};
 use std::io::Write;
 
 /// Pages go only to the disk, and each reply says what became of the command or the flush.

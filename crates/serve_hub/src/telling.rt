@@ -11,8 +11,8 @@ use crate::hub::Hub;
 use crate::opening::Lost;
 use chain_rules::StreamState;
 use disk_model::Disk;
+use file_recorder::Recorder;
 use link_chain::bytes_are_one_chain;
-use ogg_recorder::Recorder;
 
 /// How many bytes are committed and wait. Without a file it is the last end that is known.
 pub(crate) fn length_of<D: Disk>(file: &Option<Recorder<D>>, lost: &Option<Lost<D>>) -> u64

@@ -5,7 +5,7 @@ use Rattle.disk_model.specs.declared.disk.Disk.{Ghosts as DiskModel}
 use Rattle.feed_records.specs.declared.item.Record.{Record}
 use Rattle.feed_records.specs.declared.item.Record.TheVariants.{Command as CommandOf, Flush as FlushOf}
 use Rattle.feed_replies.specs.declared.reply.Reply.{Reply}
-use Rattle.feed_run.specs.Answering.{AnswersAll}
+use Rattle.feed_runner.specs.Answering.{AnswersAll}
 use Rattle.import_mend.specs.declared.mend.Mend.{Mend}
 use Rattle.import_record.specs.Pushing.{InputState, IsStepped}
 use Rattle.import_record.specs.Running.{HasRun, StopsAt, records_of}

@@ -25,7 +25,7 @@ ghost use Rattle.serve_machine.specs.Hub.{HubState};
 use crate::station::Station;
 use disk_model::Disk;
 use feed_replies::Reply;
-use feed_run::Runner;
+use feed_runner::Runner;
 use gate_file::OpenFault;
 use import_mend::Mend;
 use import_record::{RecordFault, Step, Taken, run_all};

@@ -21,7 +21,7 @@ use Rattle.serve_live.specs.Boundaries.{no_link, place_to_join}
 use Rattle.serve_live.specs.Live.{Moment}
 use Rattle.serve_live.specs.Places.{IsPlaceIn}
 use Rattle.serve_live.specs.declared.listener.JoinPlace.{JoinPlace}
-use Rattle.ogg_recorder.specs.Running.{reply_of}
+use Rattle.file_recorder.specs.Running.{reply_of}
 use Rattle.feed_replies.specs.declared.outcome.Outcome.{Outcome}
 use Rattle.feed_replies.specs.declared.outcome.Outcome.TheVariants.{Held as WasHeld, Kept as WasKept}
 use Rattle.serve_machine.specs.Hub.{HubState, IsAccepted, MayBeFound, command_step, committing, doubting, flush_step, holding, is_failed, reopen_step}

@@ -7,7 +7,7 @@ ghost use Rattle.ogg_command.specs.Command.{IsCommand};
 ghost use Rattle.ogg_command.specs.declared.command.Command.{Command as CommandOf};
 ghost use Rattle.ogg_command.specs.declared.refusal.Refusal.{Refusal as RefusalOf};
 ghost use Rattle.feed_replies.specs.declared.reply.Kept.{Kept as KeptOf};
-ghost use Rattle.ogg_recorder.specs.Running.{reply_of};
+ghost use Rattle.file_recorder.specs.Running.{reply_of};
 ghost use Rattle.feed_replies.specs.declared.outcome.Outcome.{Outcome as OutcomeOf};
 ghost use Rattle.serve_live.specs.Boundaries.{no_link, place_to_join};
 ghost use Rattle.serve_hub.specs.Parts.{HubParts};

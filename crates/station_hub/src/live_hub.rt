@@ -22,7 +22,7 @@ use crate::laws::listeners_join_committed_links;
 use crate::places::{Answered, Places};
 use disk_model::Disk;
 use feed_replies::Reply;
-use feed_run::Runner;
+use feed_runner::Runner;
 use gate_file::OpenFault;
 use link_chain::{StreamState, is_open};
 use ogg_command::{Command, command_is_in_range};

@@ -20,7 +20,7 @@ ghost use Rattle.station.specs.Stepping.{TakesFromSource};
 
 use disk_model::Disk;
 use feed_replies::Reply;
-use feed_run::Runner;
+use feed_runner::Runner;
 use import_record::{pages_that_come_are_the_good_pages, recordings_are_runs_of_mended_commands};
 use ogg_command::Command;
 use ogg_page::WriteFault;

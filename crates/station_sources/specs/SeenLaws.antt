@@ -4,7 +4,7 @@ use Rattle.std.proofs.Common.{ℕ, Option, Some, List, [], ◌∷◌, ap}
 use Rattle.feed_records.specs.declared.item.Record.{Record}
 use Rattle.feed_records.specs.declared.item.Record.TheVariants.{Flush}
 use Rattle.feed_replies.specs.declared.reply.Reply.{Reply}
-use Rattle.feed_run.specs.Answering.{AnswersAll}
+use Rattle.feed_runner.specs.Answering.{AnswersAll}
 use Rattle.import_mend.specs.declared.mend.Mend.{Mend}
 use Rattle.import_record.specs.Pushing.{InputState, IsStepped}
 use Rattle.import_record.specs.Reading.{Steps}

@@ -11,7 +11,7 @@ ghost use Rattle.ogg_page.specs.Reading.{page_at};
 ghost use Rattle.ogg_page.specs.declared.fault.PageFault.TheVariants.{Short};
 
 use crate::Memory;
-use feed_run::Runner;
+use feed_runner::Runner;
 use import_mend::Mend;
 use import_record::{ImportRun, RecordFault, Step, Taken};
 use serve_sources::{Body, Piece};

@@ -7,7 +7,7 @@ ghost use Rattle.station_sources.specs.Taking.{input_of};
 ghost use Rattle.station_sources.specs.declared.air.OnAir.{OnAir as OnAirOf};
 ghost use Rattle.station_sources.specs.Importing.{Finishes, Move, Moves, fed_in, rest_of};
 
-use feed_run::Runner;
+use feed_runner::Runner;
 
 /// Whatever is done with a source, in whichever order, what is recorded of it is an import of the bytes that came to its
 /// stream, however they came. Without a framing these are all that have come, in their order.

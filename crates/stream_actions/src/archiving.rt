@@ -1,12 +1,11 @@
 //! A stream that is recorded as it comes.
 
-use crate::recorders::{open_own_recorder, reopen, seal_if};
-use crate::telling::Told;
 use disk_model::{FileDisk, FileMode};
 use fault_lines::Fault;
+use file_recorder::{Recorder, end_open_streams};
 use import_feed::{ChangeOptions, Skeletons};
 use import_record::{ImportRun, RecordFault, Step, Taken, run_all};
-use ogg_recorder::{Recorder, end_open_streams};
+use record_actions::{Told, open_own_recorder, reopen, seal_if};
 use std::os::unix::fs::MetadataExt;
 use std::{fs, io};
 

@@ -1,17 +1,18 @@
 //! The commands that read a feed from standard input.
 ghost use Rattle.std.specs.Prelude.{◌≡◌, IfOk};
 
-use crate::mends::MendLines;
-use crate::recorders::{open_own_recorder, open_recorder, seal_if};
 use disk_model::{FileDisk, FileMode};
 use fault_lines::Fault;
 use feed_mux::{check_feed_for, mux_for};
 use feed_replies::{FeedFault, RunFault, Tally};
-use feed_run::{Batched, Buffered, FirstRefusal, Together, run_feed_for};
+use feed_run::{Buffered, run_feed_for};
+use feed_runner::{Batched, FirstRefusal, Together};
+use file_recorder::{Recorder, end_open_streams};
 use import_feed::{ChangeOptions, make_feed, make_mended_feed};
 use import_renumber::Renumbered;
 use ogg_page::write_whole;
-use ogg_recorder::{Recorder, end_open_streams, record_feed_for};
+use ogg_recorder::record_feed_for;
+use record_actions::{MendLines, open_own_recorder, open_recorder, seal_if};
 use std::io::{self, BufReader, BufWriter, IsTerminal, Stdin, Write};
 use text_line::Line;
 

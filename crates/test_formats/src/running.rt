@@ -4,6 +4,7 @@ use crate::feeds::{BEGIN, END, FLUSH, PUT};
 use crate::files::joined;
 use feed_codec::{FeedFault, Kept, Reply, RunFault};
 use feed_run::*;
+use feed_runner::*;
 use ogg_command::{Command, Refusal};
 use ogg_page::WriteFault;
 use std::alloc::Global;

@@ -11,7 +11,7 @@ use Rattle.feed_records.specs.declared.version.Version.{Version}
 use Rattle.feed_codec.specs.Feed.{GivesRecord}
 use Rattle.feed_records.specs.Record.{HasRecord, opening, record_of}
 use Rattle.feed_replies.specs.Reply.{reply_line}
-use Rattle.feed_run.specs.Laws.InTurn.{one_more}
+use Rattle.feed_runner.specs.Laws.InTurn.{one_more}
 use Rattle.feed_run.specs.Run.{HasRead, HasRun, Streams}
 
 and_one : {X : Type 0} (f : X → List ℕ) (xs : List X) (x : X) → flat_map f xs ++ f x ≡ flat_map f (xs ++ x ∷ [])

@@ -1,9 +1,9 @@
 use Rattle.std.proofs.Common.{[], arith, sym, subst, inl, inr}
 use Rattle.ogg_command.specs.Command.{IsCommand}
 use Rattle.chain_rules.specs.Recording.{Holds, after}
-use Rattle.feed_run.specs.Counting.{kept_of}
+use Rattle.feed_runner.specs.Counting.{kept_of}
 use Rattle.feed_mux.specs.Progress.{at_start}
-use Rattle.feed_run.specs.CountingLaws.{each_kept}
+use Rattle.feed_runner.specs.CountingLaws.{each_kept}
 use Rattle.feed_mux.proofs.KeptCommands.{came_to}
 use Rattle.feed_mux.proofs.laws.run_writes_what_was_kept.Goals as goal
 

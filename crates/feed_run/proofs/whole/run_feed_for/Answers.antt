@@ -1,5 +1,5 @@
 use Rattle.std.proofs.Common.{inl, inr, ap, ◌∙◌, arith}
-use Rattle.feed_run.specs.declared.counting.Counts.{Counts}
+use Rattle.feed_runner.specs.declared.counting.Counts.{Counts}
 use Rattle.feed_run.specs.Run.{RunState, steps_of}
 use Rattle.feed_run.proofs.Ending.{begins, fault_now, fault_then, gives_end, gives_fault, gives_no_reply, steps_on, whole_now, whole_then}
 use Rattle.feed_run.proofs.whole.run_feed_for.Goals as goal

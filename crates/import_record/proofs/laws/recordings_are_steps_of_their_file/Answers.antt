@@ -1,5 +1,5 @@
 use Rattle.import_record.proofs.Turns.{answered_in_turn}
-use Rattle.ogg_recorder.specs.Running.{Answers}
+use Rattle.file_recorder.specs.Running.{Answers}
 use Rattle.import_record.proofs.laws.recordings_are_steps_of_their_file.Goals as goal
 
 pub returns-clause-steps : goal.returns-clause-steps

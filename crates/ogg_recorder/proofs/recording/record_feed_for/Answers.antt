@@ -1,7 +1,7 @@
 use Rattle.std.proofs.Common.{[], refl, Ok}
 use Rattle.std.proofs.lemmas.Result.{IfOk-weaker, MatchResult-weaker}
 use Rattle.history.specs.World.{start}
-use Rattle.ogg_recorder.specs.Running.{Answers, progress, waiting_in}
+use Rattle.file_recorder.specs.Running.{Answers, progress, waiting_in}
 use Rattle.ogg_recorder.specs.Recorded.{answered_by}
 use Rattle.ogg_recorder.proofs.Ended.{run_to, ended, over_run}
 use Rattle.ogg_recorder.proofs.World.{has_recorded}

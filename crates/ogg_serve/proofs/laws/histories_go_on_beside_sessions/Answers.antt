@@ -3,7 +3,7 @@ use Rattle.chain_rules.specs.Recording.{add}
 use Rattle.ogg_command.specs.declared.command.Command.{Command}
 use Rattle.history.specs.World.{World, Step, disk_after, run, start}
 use Rattle.history.specs.History.{AreSteps, disk_after-append, run-append, steps-append}
-use Rattle.ogg_recorder.specs.Recovery.{Shows, Accepts}
+use Rattle.file_recorder.specs.Recovery.{Shows, Accepts}
 use Rattle.ogg_serve.proofs.laws.histories_go_on_beside_sessions.Goals as goal
 
 pub returns : goal.returns

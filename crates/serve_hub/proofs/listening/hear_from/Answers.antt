@@ -1,5 +1,5 @@
 use Rattle.std.proofs.Common.{length, refl}
-use Rattle.ogg_recorder.specs.Recorder.{committed}
+use Rattle.file_recorder.specs.Recorder.{committed}
 use Rattle.serve_hub.specs.Images.{Fails}
 use Rattle.serve_hub.proofs.FileRead.{if_both}
 use Rattle.serve_hub.proofs.Heard.{cause_of, hears_of, place_file, read_shows}

@@ -1,5 +1,5 @@
 use Rattle.std.proofs.Common.{[], length, refl, sym, ◌∙◌, append-nil}
-use Rattle.ogg_recorder.specs.Recorder.{committed}
+use Rattle.file_recorder.specs.Recorder.{committed}
 use Rattle.serve_hub.proofs.FileRead.{was_read}
 use Rattle.serve_hub.proofs.listening.hear_in.Goals as goal
 

@@ -2,7 +2,7 @@ use Rattle.std.proofs.Common.{◌<◌, ◌+◌, [], ap, sym, refl, ◌∙◌, ar
 use Rattle.feed_codec.specs.Feed.{FeedState}
 use Rattle.feed_codec.specs.Feed.{GivesRecord}
 use Rattle.feed_records.specs.declared.item.Record.TheVariants.{Flush}
-use Rattle.feed_run.specs.Counting.{counts_with}
+use Rattle.feed_runner.specs.Counting.{counts_with}
 use Rattle.feed_run.specs.Run.{Leaves, RunState, most_records}
 use Rattle.feed_run.proofs.States.{has_record, state}
 use Rattle.feed_run.proofs.Staying.{leaves_still, stays_appends, stays_none, stays_told, stays_trans, stops_after}

@@ -3,7 +3,7 @@ use Rattle.feed_replies.specs.declared.reply.Kept.{Kept}
 use Rattle.feed_replies.specs.declared.reply.Reply.{Reply}
 use Rattle.feed_replies.specs.declared.reply.Reply.TheVariants.{Kept as KeptReply}
 use Rattle.ogg_command.specs.declared.refusal.Refusal.{Refusal}
-use Rattle.ogg_recorder.specs.Running.{reply_of_flush}
+use Rattle.file_recorder.specs.Running.{reply_of_flush}
 use Rattle.serve_hub.specs.Parts.{HubParts}
 use Rattle.serve_hub.specs.Running.{IsIn}
 use Rattle.serve_machine.specs.Hub.{flush_step}

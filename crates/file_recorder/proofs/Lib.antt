@@ -1,0 +1,14 @@
+pub mod Answered
+pub mod Growing
+pub mod Lasting
+pub mod Lengths
+pub mod Opened
+pub mod Passed
+pub mod Refused
+mod Reopened
+mod Small
+pub mod Stepping
+pub mod Walked
+pub mod Bytes
+pub mod EndsInTurn
+pub mod Steps

@@ -1,0 +1,19 @@
+//! What is shared by all that record into a file, from standard input or as a server: the file is opened and sealed, and
+//! what the recording comes to is told.
+//!
+//! A file is opened and sealed by the functions of `recorders.rt`. `Told` tells of a recording as it goes, and at its end;
+//! `MendLines` writes a line for each mend. Faults are returned, and their lines are left to the caller.
+//!
+//! Start at `src/recorders.rt`.
+#![tactic(auto)]
+
+mod mends;
+mod recorders;
+mod searching;
+mod telling;
+
+pub use mends::MendLines;
+pub use recorders::{
+    lock_file, open_own_recorder, open_recorder, own_recorder_on, reopen, seal_file, seal_if,
+};
+pub use telling::Told;

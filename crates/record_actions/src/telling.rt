@@ -1,0 +1,230 @@
+//! What is told of a recording: mends and refusals as they come, how far it has come at a terminal, and what it came
+//! to.
+
+use crate::mends::MendLines;
+use crate::searching::Search;
+use fault_lines::{Fault, write_fault};
+use import_feed::Mends;
+use import_mend::Mend;
+use import_record::{RecordFault, Step, Taken, Totals, archived_line, progress_line, refused_line};
+use ogg_command::Refusal;
+use ogg_page::write_whole;
+use std::io::{IsTerminal, Stderr};
+use std::time::{Duration, Instant};
+
+/// After how many seconds the line at a terminal is renewed.
+const RENEWED: u64 = 1;
+
+/// Goes to the line before, and erases it (ECMA-48, CUU and EL).
+const ERASE: &[u8] = b"\x1b[A\x1b[2K";
+
+/// What a recording came to so far. Nobody is told of a standard error that takes no more.
+#[derive(Drop)]
+pub struct Told<'a> {
+    rt: &'a HostRuntime,
+    strict: bool,
+    lines: MendLines<Stderr>,
+    totals: Totals,
+    // links and packets that wait for their commit
+    links: u64,
+    packets: u64,
+    is_refused: bool,
+    // the length of the file when it was opened again
+    reopened: Option<u64>,
+    search: Search,
+    // the caller has a line of its own for the terminal
+    shows_other: bool,
+    shown: Option<Instant>,
+}
+
+impl<'a> Told<'a> {
+    /// Nothing has come, and the file's pages have `end` bytes. In a strict run the first mend or refusal is enough.
+    pub fn new(rt: &'a HostRuntime, strict: bool, end: u64) -> Told<'a> {
+        Told {
+            rt,
+            strict,
+            lines: MendLines::new(rt.alloc(), rt.stderr()),
+            totals: Totals {
+                links: 0,
+                packets: 0,
+                bytes: end,
+                mends: 0,
+            },
+            links: 0,
+            packets: 0,
+            is_refused: false,
+            reopened: None,
+            search: Search::at(0),
+            shows_other: false,
+            shown: None,
+        }
+    }
+
+    /// Something was mended.
+    pub fn mended(&mut self, mend: Option<Mend>) {
+        if let Some(mend) = mend {
+            self.totals.mends = self.totals.mends.saturating_add(1);
+            self.erase();
+            self.lines.mended(&mend);
+        }
+    }
+
+    /// A step of the stream was taken.
+    pub fn stepped(&mut self, step: &Step) {
+        match step {
+            // Whether it was kept is seen by the file.
+            Step::Flushed(_) | Step::PassedOver => {}
+            Step::Page {
+                offset,
+                junk,
+                taken,
+            } => {
+                self.mended(*junk);
+                self.taken(*offset, taken);
+            }
+            Step::Ended { junk } => self.mended(*junk),
+        }
+    }
+
+    /// After a step the stream was read up to this offset. A mend is told only with the page after it, so if many bytes
+    /// without a page come, as of a stream that is no Ogg at all, that is told while they come.
+    pub fn searched(&mut self, step: &Step, offset: u64) {
+        match step {
+            Step::Page { .. } => self.search = Search::at(offset),
+            Step::PassedOver => self.passed_over(offset),
+            Step::Flushed(_) => {}
+            Step::Ended { .. } => {}
+        }
+    }
+
+    /// Bytes up to this offset are of no page.
+    fn passed_over(&mut self, offset: u64) {
+        if let Some(bytes) = self.search.passed(offset) {
+            let line = self.search.line(bytes);
+            self.tell(line.as_slice());
+        }
+    }
+
+    /// A source was given up: what it sent later is lost.
+    pub fn given_up(&mut self, fault: RecordFault) {
+        self.is_refused = true;
+        self.erase();
+        let _ = write_fault(&Fault::Archive(fault), &mut self.rt.stderr());
+    }
+
+    /// A page that begins at this offset was taken.
+    pub fn taken(&mut self, offset: u64, taken: &Taken) {
+        self.mended(taken.mend);
+        if taken.answered.links > 0 {
+            self.lines.link_begun();
+        }
+        self.links = self.links.saturating_add(taken.answered.links);
+        self.packets = self.packets.saturating_add(taken.answered.packets);
+        match taken.answered.refused {
+            // A fault of the disk is told when the file is opened again.
+            None | Some(Refusal::Disk | Refusal::Failed) => {}
+            Some(refusal) => self.refused(refusal, offset),
+        }
+    }
+
+    /// Packets of the page at this offset are refused.
+    fn refused(&mut self, refusal: Refusal, offset: u64) {
+        self.is_refused = true;
+        self.erase();
+        let mut errors = self.rt.stderr();
+        let _ = write_whole(&mut errors, refused_line(refusal, offset).as_slice());
+    }
+
+    /// Unless commands wait, all that was taken is on the disk.
+    pub fn settle(&mut self, held: u64, failed: bool, end: u64) {
+        if held == 0 && !failed {
+            self.totals.links = self.totals.links.saturating_add(self.links);
+            self.totals.packets = self.totals.packets.saturating_add(self.packets);
+            self.totals.bytes = end;
+            self.links = 0;
+            self.packets = 0;
+            self.show();
+        }
+    }
+
+    /// The disk has failed once the input was read up to this offset, and what waited is lost. Whether the file, whose
+    /// pages have `end` bytes, is to be opened again: not if nothing was kept since that was done before.
+    pub fn lost(&mut self, offset: u64, end: u64) -> bool {
+        self.refused(Refusal::Disk, offset);
+        self.links = 0;
+        self.packets = 0;
+        let again = self.reopened != Some(end);
+        self.reopened = Some(end);
+        again
+    }
+
+    /// Whether a strict run ends here.
+    pub fn has_enough(&self) -> bool {
+        self.strict && (self.is_refused || self.totals.mends > 0)
+    }
+
+    /// The fault with which the run ends, if it has one.
+    pub fn fault(&self) -> Option<Fault> {
+        if self.is_refused {
+            Some(Fault::Refused)
+        } else if self.has_enough() {
+            Some(Fault::Mended)
+        } else {
+            None
+        }
+    }
+
+    /// Tells what the recording came to.
+    pub fn close(&mut self) {
+        self.erase();
+        let mut errors = self.rt.stderr();
+        let _ = write_whole(&mut errors, archived_line(self.totals).as_slice());
+    }
+
+    /// Tells these lines.
+    pub fn tell(&mut self, lines: &[u8]) {
+        self.erase();
+        let _ = write_whole(&mut self.rt.stderr(), lines);
+    }
+
+    /// Shows this line at a terminal from now on, in place of how far the recording has come.
+    pub fn show_other(&mut self, line: &[u8]) {
+        self.shows_other = true;
+        let mut errors = self.rt.stderr();
+        if !errors.is_terminal() {
+            return;
+        }
+        self.erase();
+        if let Ok(now) = Instant::now(self.rt) {
+            self.shown = Some(now);
+            let _ = write_whole(&mut errors, line);
+        }
+    }
+
+    /// Takes the line off the terminal that tells how far the recording has come, if it stands there.
+    fn erase(&mut self) {
+        if self.shown.is_some() {
+            self.shown = None;
+            let _ = write_whole(&mut self.rt.stderr(), ERASE);
+        }
+    }
+
+    /// Tells whoever sits at the terminal how far the recording has come, about once a second.
+    fn show(&mut self) {
+        let mut errors = self.rt.stderr();
+        if self.shows_other || !errors.is_terminal() {
+            return;
+        }
+        let Ok(now) = Instant::now(self.rt) else {
+            return;
+        };
+        if let Some(shown) = self.shown {
+            if now.duration_since(shown) < Duration::from_secs(RENEWED) {
+                return;
+            }
+        }
+        self.erase();
+        self.shown = Some(now);
+        let _ = write_whole(&mut errors, progress_line(self.totals).as_slice());
+    }
+}
