@@ -109,6 +109,7 @@ impl Shape {
 
     /// Decides a command as `check` does, and plans what the chain is after it, for `accept_plan`. After a refusal the
     /// plan may be anything.
+    #[inline(always)]
     pub fn plan(&self, command: &Command, plan: &mut Plan) -> Result<u64, Refusal>
         ensures decides { result ≡ decision self.now.chain command.now }
         ensures fits { IfOk result (λ size. self.now.chain.length_of + size < longest_file) }
@@ -167,6 +168,7 @@ impl Shape {
     }
 
     /// Appends the pages of a command that `check` takes. After `Memory` the vector is unchanged.
+    #[inline(always)]
     pub fn lay(&self, command: &Command, out: &mut Vec<u8>) -> Result<(), Memory>
         requires { IsOk (decision self.now.chain command.now) }
         ensures ok { OnOk result (out.new.items ≡ out.old.items ++ command_bytes self.now.chain command.now) }
@@ -189,6 +191,7 @@ impl Shape {
 
     /// Makes the room that `accept` needs for a command. The chain stays as it is. After `Memory` a
     /// part of the room may be made.
+    #[inline]
     pub fn prepare(&mut self, command: &Command) -> Result<(), Memory>
         ensures chain { self.new.chain ≡ self.old.chain }
         ensures room { OnOk result (HasRoom self.new command.now) }
@@ -217,6 +220,7 @@ impl Shape {
 
     /// Adds a command to the chain by its plan, and decides nothing again. It takes no memory: `prepare` has made the
     /// room.
+    #[inline(always)]
     pub fn accept_plan(&mut self, command: &Command, plan: &Plan)
         requires planned { IsPlanOf self.old.chain command.now plan.now }
         requires room { HasRoom self.old command.now }

@@ -69,6 +69,7 @@ fn begin_of(alloc: Global, version: Version, payload: &[u8]) -> Result<Begin, Me
 }
 
 /// The put that the payload spells, made of spare memory, as far as there is some.
+#[inline(always)]
 pub fn put_of(
     alloc: Global,
     spare: &mut Spare,

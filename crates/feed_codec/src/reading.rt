@@ -115,6 +115,7 @@ impl Feed {
 
     /// The same of a reader that reads ahead. A put that lies whole in the reader's buffer is made of it where it lies:
     /// its payload isn't copied first.
+    #[inline(always)]
     pub fn next_at_hand<R: Read>(
         &mut self,
         reader: &mut BufReader<R>,
@@ -165,6 +166,7 @@ impl Feed {
     /// Takes back a put that isn't needed any more. The next ones are made of its memory, as far as it goes: of up to
     /// 4,096 packets it is kept, of each up to 4,096 bytes. The call never fails: if the list of what is kept has no
     /// room, the memory goes back to the system.
+    #[inline(always)]
     pub fn give_back(&mut self, put: Put)
         ensures { self.new.feed ≡ self.old.feed }
     {

@@ -59,6 +59,7 @@ impl Spare {
     }
 
     /// Keeps a put's memory, as far as there is room for it in the list.
+    #[inline(always)]
     pub fn keep(&mut self, put: Put) {
         let mut entries = put.entries.into_vec();
         keep_packets(&mut self.packets, &mut entries);

@@ -34,6 +34,7 @@ const LINE: usize = 48;
 
 /// Writes the reply's line in one call of `write_whole`. No memory is taken. After a fault not all of
 /// the line was written, but a part from its front.
+#[inline(always)]
 pub fn write_reply<W: Write>(reply: &Reply, writer: &mut W) -> Result<(), WriteFault>
     ensures ok { OnOk result (Appends (W.contents writer.old) (W.contents writer.new) (reply_line reply.now)) }
     ensures err { OnErr result (WritesPart (W.contents writer.old) (W.contents writer.new) (reply_line reply.now)) }
@@ -44,6 +45,7 @@ pub fn write_reply<W: Write>(reply: &Reply, writer: &mut W) -> Result<(), WriteF
 }
 
 /// Writes the reply's line so that it ends where the buffer ends, and returns where it starts.
+#[inline(always)]
 fn put_line(reply: &Reply, line: &mut [u8; LINE]) -> usize
     ensures bound { result ≤ 48 }
     ensures line { drop result line.new ≡ reply_line reply.now }

@@ -124,6 +124,7 @@ impl<W: Write + Drop> Replies for Batched<W> {
 
     ghost is_out = { λ b. (b.failed ≡ true) ⊎ (b.waiting.items ≡ []) };
 
+    #[inline(always)]
     fn reply<P: Write>(&mut self, reply: &Reply, pages: &mut P) -> Result<(), WriteFault>
         ensures ok { OnOk result (Appends (append_known (W.contents self.old.out) self.old.waiting.items)
             (append_known (W.contents self.new.out) self.new.waiting.items) (reply_line reply.now)) }

@@ -63,6 +63,7 @@ impl<S: Replies> Replies for FirstRefusal<S> {
 
     ghost is_out = { λ f. S.is_out f.replies };
 
+    #[inline(always)]
     fn reply<P: Write>(&mut self, reply: &Reply, pages: &mut P) -> Result<(), WriteFault>
         ensures ok { OnOk result (Appends (S.lines self.old.replies) (S.lines self.new.replies) (reply_line reply.now)) }
         ensures err { OnErr result (TellsPart S.waits (S.lines self.old.replies) (S.lines self.new.replies) (reply_line reply.now)) }

@@ -46,6 +46,7 @@ impl<D: Disk> Recorder<D> {
     /// up to `Memory` makes no call of the disk and changes nothing: what waits still waits. After `Disk` the
     /// recorder has failed, what waited is lost, and opening finds what was kept, without this group or with all of
     /// it.
+    #[inline(always)]
     pub fn command(&mut self, command: &Command) -> Result<Outcome, Refusal>
         ensures by_failed { self.old.file.failed ≡ true → result ≡ Err Refusal.Failed }
         ensures by_rules { self.old.file.failed ≡ false → (refusal : RefusalOf)

@@ -48,6 +48,7 @@ impl<D: Disk> Runner for Recorder<D> {
 
     ghost counted = { λ recorder. 0 };
 
+    #[inline(always)]
     fn run_command<P: Write>(
         &mut self,
         command: &Command,

@@ -57,6 +57,7 @@ pub(crate) fn stage_last_pages<D: Disk>(
 
 /// Writes after what is staged, over the closed byte if one follows it. The first of all staged bytes is left out: in
 /// its place stands the closed byte after the committed ones.
+#[inline(always)]
 fn write_next<D: Disk>(disk: &mut D, end: u64, staged: u64, bytes: &[u8]) -> Result<(), DiskFault>
     requires some { 0 < length bytes.now }
     requires short { end + staged < 2 ^ 63 }

@@ -34,6 +34,7 @@ pub fn write_page(
 
 /// Appends what a page has before its body, with zero as the checksum. There must be room for it.
 /// The body belongs after it, and then `close_page` makes them the page.
+#[inline]
 pub fn open_page(head: &PageHead, lacing: &[u8], out: &mut Vec<u8>)
     requires values { length lacing.now ≤ most_values }
     requires room { vec_len out.old + (fixed_size + length lacing.now) ≤ vec_capacity out.old }

@@ -11,6 +11,7 @@ use crate::size::{pages_of, size_of, values_and_bytes};
 
 /// Appends the pages of a run, and returns their number. `flags` are added to those of the first page. After `Memory`
 /// the vector is unchanged.
+#[inline(always)]
 pub fn lay_run<T: TimedPacket>(
     serial: u32,
     first_sequence: u32,
