@@ -92,13 +92,13 @@ def newest_source() -> float:
     return max(it.stat().st_mtime for it in files)
 
 
-def lanes() -> int:
-    """How many checks run side by side: one a processor, as many as the free memory holds."""
+def memory_for() -> int:
+    """How many checks the free memory holds."""
     memory = os.sysconf("SC_AVPHYS_PAGES") * os.sysconf("SC_PAGE_SIZE")
     with contextlib.suppress(OSError, StopIteration, ValueError):
         with open("/proc/meminfo", encoding="ascii") as it:
             memory = 1024 * next(int(line.split()[1]) for line in it if line.startswith("MemAvailable:"))
-    return max(min(len(os.sched_getaffinity(0)), memory // MEMORY), 1)
+    return max(memory // MEMORY, 1)
 
 
 @contextlib.contextmanager
@@ -123,7 +123,13 @@ class Build:
 
     def __init__(self) -> None:
         self.uses = crates()
-        self.lanes = lanes()
+        # How many checks run side by side: one a processor, as many as the free memory holds.
+        memory = memory_for()
+        self.lanes = min(len(os.sched_getaffinity(0)), memory)
+        # Whether one check may have a job beside these, and the crate that has it. On two processors the longest chain
+        # of crates takes less than half the time of all.
+        self.has_spare = self.lanes > 2 and memory > self.lanes
+        self.beside: str | None = None
         self.seconds = seconds_of(self.uses)
         # All processors prove the program, which keeps two of them busy.
         self.seconds[PROGRAM] /= min(self.lanes, 2)
@@ -132,7 +138,7 @@ class Build:
         self.began = self.told = time.monotonic()
         self.finished: set[str] = set()
         self.started: Seconds = {}
-        # How many processors each check that runs may use.
+        # How many processors each check that runs takes.
         self.jobs: dict[str, int] = {}
         self.processes: dict[str, subprocess.Popen] = {}
         self.is_ended = False
@@ -147,6 +153,11 @@ class Build:
     def idle(self) -> int:
         """How many processors no check uses."""
         return max(self.lanes - sum(self.jobs.values()), 0)
+
+    def is_awaited(self, name: str) -> bool:
+        """Whether the program waits for a crate, and for those above it, longer than for any that is being proved."""
+        now = time.monotonic()
+        return all(self.chains[it] - (now - self.started[it]) <= self.chains[name] for it in self.started)
 
     def pace(self) -> float:
         """How many seconds here are one of those that are written down."""
@@ -220,6 +231,8 @@ class Build:
         """Notes that a crate is finished, and how long it took unless it was there already."""
         took = (time.monotonic() - self.started.pop(name)) * self.jobs.pop(name)
         self.finished.add(name)
+        if self.beside == name:
+            self.beside = None
         if b"logic=proved" in (ROOMS / f"{name}.log").read_bytes():
             self.said += self.seconds[name]
             self.took += took
@@ -242,11 +255,14 @@ class Build:
                 while sorter.is_active():
                     ready = sorted([*ready, *sorter.get_ready()], key=self.chains.__getitem__)
                     while ready and self.idle():
-                        # Processors that no other crate waits for are shared.
-                        jobs = max(self.idle() // len(ready), 1)
+                        # Processors that no other crate waits for are shared. The crate that the program waits for
+                        # longest has a second job in any case: the others lose less than it gains.
+                        taken = max(self.idle() // len(ready), 1)
                         name = ready.pop()
-                        self.started[name], self.jobs[name] = time.monotonic(), jobs
-                        running[pool.submit(self.prove, name, jobs)] = name
+                        if taken == 1 and self.has_spare and not self.beside and self.is_awaited(name):
+                            self.beside = name
+                        self.started[name], self.jobs[name] = time.monotonic(), taken
+                        running[pool.submit(self.prove, name, taken + (self.beside == name))] = name
                     for it in wait(running, timeout=1, return_when=FIRST_COMPLETED).done:
                         name = running.pop(it)
                         it.result()

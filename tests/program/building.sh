@@ -32,6 +32,7 @@ case $1 in
 lib)
     [ ! -f out/rlib/stamp ] || exit 0
     echo "begins $name" >>"$LOG"
+    echo "$name $3" >>"$LOG.jobs"
     sleep "${PAUSE:-0.5}"
     ! grep -q wrong src/lib.rt || { echo "$name is wrong"; exit 1; }
     mkdir -p out/rlib && touch out/rlib/stamp
@@ -87,5 +88,22 @@ launch links
 check "a crate that isn't proved: status $?" [ $? -eq 3 ]
 check "a crate that isn't proved: its log is shown" grep -qx 'left is wrong' "$work/err"
 check "a crate that isn't proved: nothing runs" is_text "$work/out" ''
+
+# Six crates that use none, on three processors, where the memory holds four checks.
+if [ "$(nproc)" -ge 3 ] && [ "$(awk '/^MemAvailable/ { print $2 }' /proc/meminfo)" -gt 14000000 ]; then
+    {
+        for name in a b c d e f; do
+            mkdir -p "$tree/crates/$name/src"
+            echo "text of $name" >"$tree/crates/$name/src/lib.rt"
+            echo "$name:"
+        done
+        echo "ogg_main: a b c d e f"
+    } >"$tree/crates.txt"
+    printf '%s\n' 'a 1' 'b 1' 'c 1' 'd 9' 'e 1' 'f 1' 'ogg_main 1' >"$tree/tools/seconds.txt"
+    rm -r "$tree"/crates/*/out "$LOG.jobs"
+    taskset -c 0-2 timeout 60 "$tree/kudzuturret" links >"$work/out" 2>"$work/err" </dev/null
+    check "the crate that is waited for longest has a job more" grep -qx 'd 2' "$LOG.jobs"
+    check "each other one has a job while crates wait" [ "$(grep -c '^[abcef] 1$' "$LOG.jobs")" -ge 3 ]
+fi
 
 finish
