@@ -191,7 +191,12 @@ class Build:
         """Runs rt in a folder, in a session of its own so that it can be ended whole."""
         with open(ROOMS / f"{name}.log", "wb") as log:
             process = subprocess.Popen(
-                ["rt", *words], cwd=folder, stdin=subprocess.DEVNULL, stdout=log, stderr=log, start_new_session=True
+                [sys.executable, str(TOP / "tools" / "rt_once.py"), *words],
+                cwd=folder,
+                stdin=subprocess.DEVNULL,
+                stdout=log,
+                stderr=log,
+                start_new_session=True,
             )
             self.processes[name] = process
             if self.is_ended:

@@ -6,7 +6,7 @@
 tree=$work/tree
 mkdir -p "$tree/tools" "$work/bin"
 cp "$top/kudzuturret" "$tree"
-cp "$top/tools/build.py" "$tree/tools"
+cp "$top"/tools/{build,rt_once}.py "$tree/tools"
 cat >"$tree/crates.txt" <<'END'
 # Two chains that share the lowest crate, and one crate that the program doesn't use.
 low: byteorder
