@@ -7,7 +7,8 @@
 // The Nth call, or with FAILING_ON each from the Nth on, fails with EIO, ENOSPC or EINTR and does nothing; or moves
 // half of the bytes; or writes half of them and fails; or isn't made, since the program ends before it. FILE is made
 // once a call has been met. With FAILING_OUTPUT=N the Nth write to standard output fails with EIO and does nothing.
-// With FAILING_LOG=FILE each device call that is made is a line of FILE: "write COUNT AT", "sync", or "cut SIZE".
+// With FAILING_LOG=FILE each device call that is made is a line of FILE: "write COUNT AT", "sync" (fdatasync), "sync whole"
+// (fsync, also of a folder), or "cut SIZE".
 #include <dlfcn.h>
 #include <errno.h>
 #include <fcntl.h>
@@ -61,16 +62,27 @@ ssize_t pwrite(int file, const void *bytes, size_t count, off_t at) {
     return -1;
 }
 
-int fsync(int file) {
-    static int (*next)(int);
-    if (!next) next = (int (*)(int))dlsym(RTLD_NEXT, "fsync");
+// A sync by the system's call, which is this line of the log.
+static int synced(int (*call)(int), int file, const char *line) {
     const char *how = met();
     if (!how || !strcmp(how, "short")) {
-        tell("sync\n");
-        return next(file);
+        tell("%s\n", line);
+        return call(file);
     }
     errno = number_of(how);
     return -1;
+}
+
+int fsync(int file) {
+    static int (*next)(int);
+    if (!next) next = (int (*)(int))dlsym(RTLD_NEXT, "fsync");
+    return synced(next, file, "sync whole");
+}
+
+int fdatasync(int file) {
+    static int (*next)(int);
+    if (!next) next = (int (*)(int))dlsym(RTLD_NEXT, "fdatasync");
+    return synced(next, file, "sync");
 }
 
 int ftruncate(int file, off_t size) {

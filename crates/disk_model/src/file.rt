@@ -27,7 +27,7 @@ pub enum FileFault {
     /// Another program has it open in a mode that writes, and so has this one, if it has it open already.
     #[error("another program writes the file")]
     Locked,
-    /// It can't be opened or locked, or its folder can't be synced.
+    /// It can't be opened or locked, or it or its folder can't be synced.
     #[error("the file can't be opened")]
     Refused,
     /// Memory was refused.
@@ -83,8 +83,8 @@ impl FileDisk {
     }
 
     /// Opens the file, which is made only if the mode says so. In a mode that writes it is locked until the disk is
-    /// dropped, so that of the programs that take the lock one writes it. In the mode that makes it, its folder is
-    /// synced, so that its name outlives a stop. After `Locked` nothing was changed; after `Refused` and `Memory` the
+    /// dropped, so that of the programs that take the lock one writes it. In the mode that makes it, all that the system
+    /// keeps of it is synced, and its folder, so that its name outlives a stop. After `Locked` nothing was changed; after `Refused` and `Memory` the
     /// file may have been made, and is empty.
     pub fn lock<R: Files<File = File> + Alloc>(
         rt: &R,
@@ -102,6 +102,7 @@ impl FileDisk {
             lock_file(&file)?;
         }
         if mode == FileMode::Create {
+            sync_whole(&file)?;
             sync_folder(rt, path)?;
         }
         Ok(FileDisk::over(file))
@@ -125,6 +126,16 @@ fn fault_of(error: &io::Error) -> FileFault
         FileFault::Memory
     } else {
         FileFault::Refused
+    }
+}
+
+/// Syncs a file that may be new, with its owner and its rights. The syncs of a disk leave these out.
+fn sync_whole(file: &File) -> Result<(), FileFault>
+    ensures { result ≢ Err FileFault.Locked }
+{
+    match file.sync_all() {
+        Ok(()) => Ok(()),
+        Err(error) => Err(fault_of(&error)),
     }
 }
 
@@ -185,8 +196,8 @@ impl RawFile for File {
         }
     }
 
-    fn sync_all(&mut self) -> Result<(), DiskFault> {
-        match File::sync_all(self) {
+    fn sync_data(&mut self) -> Result<(), DiskFault> {
+        match File::sync_data(self) {
             Ok(()) => Ok(()),
             Err(_) => Err(DiskFault),
         }

@@ -58,7 +58,8 @@ pub trait RawFile {
             (after_cut to (state self.old)) }
         ensures honest { is_honest self.old ↔ is_honest self.new };
 
-    fn sync_all(&mut self) -> Result<(), DiskFault>
+    /// Puts what was written, and the length, on the device.
+    fn sync_data(&mut self) -> Result<(), DiskFault>
         ensures same { OnOk result (is_honest self.old
             → (state self.new).contents ≡ (state self.old).contents) }
         ensures settled { OnOk result (is_honest self.old
@@ -194,7 +195,7 @@ impl<F: RawFile> Disk for FileDisk<F> {
     }
 
     fn sync(&mut self) -> Result<(), DiskFault> {
-        match self.file.sync_all() {
+        match self.file.sync_data() {
             Ok(()) => Ok(()),
             Err(_) => Err(fail(&mut self.failures)),
         }

@@ -88,7 +88,7 @@ impl RawFile for ShortFile {
         self.disk.cut(to)
     }
 
-    fn sync_all(&mut self) -> Result<(), DiskFault> {
+    fn sync_data(&mut self) -> Result<(), DiskFault> {
         self.call()?;
         self.disk.sync()
     }
