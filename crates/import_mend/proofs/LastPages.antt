@@ -1,6 +1,6 @@
 -- What a stream's last page gives: each packet that ends in it, though it may leave another one unfinished.
-use Rattle.std.proofs.Common.{◌≡◌, ◌≢◌, ℕ, zero, suc, ◌+◌, ◌-◌, ◌*◌, ◌≤◌, ◌<◌, Bool, true, false, cond, List, [], ◌∷◌, ◌++◌, length, map, take, drop, replicate, sum, Option, Some, None, refl, sym, ◌∙◌, ap, subst, arith, inl, inr, append_assoc, take-append-drop, length-append, length-drop}
-use Rattle.std.specs.Prelude.{nat_eq, nat_lt, not, ◌&&◌, ◌||◌}
+use Rattle.std.proofs.Common.{◌≡◌, ℕ, suc, ◌+◌, ◌-◌, ◌*◌, ◌<◌, Bool, true, false, cond, List, [], ◌∷◌, ◌++◌, length, map, take, drop, replicate, sum, Option, Some, refl, sym, ◌∙◌, ap, subst, arith, inl, inr, append_assoc, take-append-drop, length-append, length-drop}
+use Rattle.std.specs.Prelude.{nat_eq, nat_lt, not, ◌&&◌}
 use Rattle.std.specs.List.{AllByRecursion, concat, flat_map}
 use Rattle.std.proofs.lemmas.Bool.{cases_Bool, cond-true, cond-false, eq-eqb, false≢true, lt-ltb, ltb-false, ltb-true, or_parts}
 use Rattle.std.proofs.lemmas.List.{length-take-le, replicate-append-replicate}
@@ -20,21 +20,18 @@ use Rattle.import_gather.specs.Gathered.{Gathered, HasGathered}
 use Rattle.import_gather.specs.Kept.{is_too_long, rest_of}
 use Rattle.import_mend.specs.Gives.{Mending}
 use Rattle.import_mend.specs.Mended.{behind_rest, ends_some, front_values, is_cut, is_joined, left_whole, whole_values, with_values, without_values}
-use Rattle.import_mend.specs.Runs.{BeginsLast, GoesOnLast, HoldWhole, tells_end, tells_loss}
+use Rattle.import_mend.specs.Runs.{HoldWhole, tells_end, tells_loss}
 use Rattle.import_mend.specs.Steps.{broken_off}
-use Rattle.import_mend.specs.Telling.{mend_of}
-use Rattle.import_mend.specs.Ways.{is_repeated, number_due}
-use Rattle.import_mend.specs.Whole.{HasMended, lost_of, unfinished_size}
+use Rattle.import_mend.specs.Ways.{number_due}
+use Rattle.import_mend.specs.Whole.{HasMended, lost_of}
 use Rattle.import_mend.specs.declared.mend.Mend.{Mend}
 use Rattle.import_mend.specs.declared.mend.Mend.TheVariants.{Gap as GapOf, Unfinished as UnfinishedOf, TooLong as TooLongOf}
-use Rattle.import_mend.proofs.ComesOut.{Later, OwnOut, fresh_rest, gap_apart, own_out, told_by}
-use Rattle.import_mend.proofs.Cuts.{lacing_bytes}
-use Rattle.import_mend.proofs.Dropped.{pages_of_last}
+use Rattle.import_mend.proofs.ComesOut.{Later, fresh_rest, gap_apart, own_out, told_by}
 use Rattle.import_mend.proofs.Fits.{closed_end, no_rest}
 use Rattle.import_mend.proofs.Held.{rest_size}
 use Rattle.import_mend.proofs.Kept.{behind_last, flagged, front_fits, joined_behind, without_is_page}
 use Rattle.import_mend.proofs.Lacings.{full_sum, none_whole, whole_within}
-use Rattle.import_mend.proofs.Origins.{Known, finished_rest, is_known}
+use Rattle.import_mend.proofs.Origins.{finished_rest, is_known}
 use Rattle.import_mend.proofs.Waiting.{StepOut}
 use Rattle.import_mend.proofs.WholeRuns.{first_whole}
 

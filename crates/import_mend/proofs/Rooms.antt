@@ -1,6 +1,6 @@
 -- The open streams can be ended.
-use Rattle.std.proofs.Common.{◌≡◌, ℕ, ◌+◌, ◌^◌, ◌≤◌, ◌<◌, Bool, true, false, cond, List, [], ◌∷◌, length, map, Some, refl, sym, ◌∙◌, ap, subst, arith, inl, inr}
-use Rattle.std.specs.Prelude.{nat_eq, not, ◌||◌}
+use Rattle.std.proofs.Common.{◌≡◌, ℕ, ◌+◌, ◌^◌, ◌≤◌, ◌<◌, Bool, true, false, cond, List, [], ◌∷◌, length, map, Some, Result, Ok, Err, refl, sym, ◌∙◌, ap, subst, arith, inl, inr}
+use Rattle.std.specs.Prelude.{OnErr, nat_eq, not, ◌||◌}
 use Rattle.std.specs.List.{AllByRecursion, filter, find, list_any}
 use Rattle.std.proofs.lemmas.Bool.{cases_Bool, cond-true, cond-false, false≢true}
 use Rattle.link_chain.specs.declared.stream_state.StreamState.{StreamState}
@@ -10,7 +10,7 @@ use Rattle.link_chain.specs.Progress.{change_at, left_whole as whole_stream}
 use Rattle.import_gather.specs.Gathered.{Gathered}
 use Rattle.import_mend.specs.Gives.{is_unended, open_streams}
 use Rattle.import_mend.specs.Mended.{end_page}
-use Rattle.import_mend.specs.Room.{HasNumber, HasRoom, StillHasRoom}
+use Rattle.import_mend.specs.Room.{HasNumber, HasRoom, LacksMemory, StillHasRoom}
 use Rattle.import_mend.specs.Steps.{after_end}
 use Rattle.import_mend.proofs.Open.{none_unended}
 
@@ -115,3 +115,13 @@ one_ended count turns stream old new r after less = record {
           | inl open' ↦ open'
           | inr closed ↦ absurd (omega (arith, ap length e, ap length (none_unended old.chain.streams closed)))
         ]
+
+-- ---- want of memory
+pub on_err : {T E P : Type 0} (result : Result T E) → P → OnErr result P
+on_err (Ok value) holds = tt
+on_err (Err fault) holds = holds
+
+-- what was wanted in this room was wanted in one that is no larger
+pub less_room : (gathered : Gathered) (room now : ℕ) → room ≤ now → LacksMemory gathered now → LacksMemory gathered room
+less_room gathered room now le (inl refused) = inl refused
+less_room gathered room now le (inr small) = inr (omega (arith, le, small))

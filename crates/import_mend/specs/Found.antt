@@ -1,6 +1,6 @@
 -- The next page of any bytes: those that are of none are passed over. What a page is stands in RFC 3533, section 6;
 -- which of them are found is ours.
-use Rattle.std.specs.Prelude.{◌≡◌, ◌⊎◌, ℕ, ◌+◌, ◌-◌, ◌^◌, ◌<◌, ◌≤◌, min, nat_eq, if◌then◌else◌, Option, Some, None, Result, Ok, Err, List, [], ◌∷◌, ◌++◌, drop, sum}
+use Rattle.std.specs.Prelude.{◌≡◌, ◌⊎◌, ℕ, ◌+◌, ◌-◌, ◌^◌, ◌<◌, ◌≤◌, min, nat_eq, if◌then◌else◌, Bool, true, false, Option, Some, None, Result, Ok, Err, List, [], ◌∷◌, ◌++◌, drop, sum}
 use Rattle.ogg_page.specs.Page.{Page, IsPage, page_bytes, page_size}
 use Rattle.ogg_page.specs.Window.{LentAt}
 use Rattle.ogg_page.specs.declared.fault.PageFault.{PageFault}
@@ -22,6 +22,12 @@ abbrev pub PassesAll : List ℕ → ReaderState → Option (List ℕ) → Reader
 PassesAll [] old from new left = (new ≡ old) × (left ≡ from)
 PassesAll (count ∷ counts) old from new left =
     (next : ReaderState) × (middle : Option (List ℕ)) × PassesOne old from count next middle × PassesAll counts next middle new left
+
+-- One look for the next page: a page or the end is found; or no page begins here, and the bytes that are passed over
+-- are counted.
+abbrev pub Searches : Bool → ReaderState → Option (List ℕ) → ℕ → ReaderState → Option (List ℕ) → ℕ → Type 0
+Searches true old from before new left now = HasAdvanced old from (Ok tt) new left × (now ≡ before)
+Searches false old from before new left now = (count : ℕ) × PassesOne old from count new left × (now ≡ min (before + count) (2 ^ 64 - 1))
 
 -- These bytes are passed over, and then this is found: a page, the end, or that the reader fails. If the input is as
 -- long as a file can't be, the search may stop before; then 2^64 - 1 bytes or more were passed over.

@@ -1,5 +1,5 @@
 //! Streams that are ended though their last page hasn't come.
-ghost use Rattle.std.specs.Prelude.{◌≡◌, ◌<◌, ◌+◌, ◌-◌, ◌++◌, ◌^◌, true, false, not, None, Some, Ok, OnOk, IfSome, List, nat_eq};
+ghost use Rattle.std.specs.Prelude.{◌≡◌, ◌<◌, ◌≤◌, ◌+◌, ◌-◌, ◌++◌, ◌^◌, true, false, not, None, Some, Ok, OnErr, OnOk, IfSome, List, nat_eq, vec_capacity};
 ghost use Rattle.std.specs.List.{find};
 ghost use Rattle.ogg_page.specs.Sizes.{fixed_size};
 ghost use Rattle.link_chain.specs.ChainState.{is_open};
@@ -7,7 +7,7 @@ ghost use Rattle.link_chain.specs.Places.{HaveOwnSerials};
 ghost use Rattle.link_chain.specs.Progress.{stream_in};
 ghost use Rattle.link_chain.specs.declared.stream_state.StreamState.{StreamState as State};
 ghost use Rattle.import_mend.specs.Gives.{EndsStream, EndsStreams, is_unended};
-ghost use Rattle.import_mend.specs.Room.{HasRoom};
+ghost use Rattle.import_mend.specs.Room.{HasRoom, LacksMemory};
 ghost use Rattle.import_mend.specs.Steps.{after_end};
 ghost use Rattle.ogg_command.specs.declared.command.Command.{Command as CommandOf};
 
@@ -60,6 +60,9 @@ fn end_stream(
     ensures after { OnOk result (gatherer.new.chain ≡ after_end stream gatherer.old) }
     ensures gives { OnOk result ((more : List CommandOf) × (commands.new.items ≡ commands.old.items ++ more)
         × EndsStream stream gatherer.old gatherer.new more) }
+    ensures cause { OnErr result (LacksMemory gatherer.new (vec_capacity room.old)) }
+    ensures noted { OnOk result (gatherer.new.refused ≡ gatherer.old.refused) }
+    ensures capacity { vec_capacity room.old ≤ vec_capacity room.new }
 {
     gatherer.drop_packet(stream.serial);
     room.clear();
@@ -78,6 +81,10 @@ pub fn end_streams(
     ensures closed { result ≡ Ok true → is_open gatherer.new.chain ≡ false }
     ensures gives { OnOk result ((more : List CommandOf) × (commands.new.items ≡ commands.old.items ++ more)
         × EndsStreams gatherer.old gatherer.new more) }
+    ensures cause { OnErr result (LacksMemory gatherer.new (vec_capacity room.old)) }
+    ensures noted { OnOk result (gatherer.new.refused ≡ gatherer.old.refused) }
+    ensures capacity { vec_capacity room.old ≤ vec_capacity room.new }
+    ensures open { result ≡ Ok false → is_open gatherer.new.chain ≡ true }
     ensures all { HasRoom gatherer.old.chain → OnOk result (is_open gatherer.new.chain ≡ false) }
 {
     let count = gatherer.chain().streams().len();

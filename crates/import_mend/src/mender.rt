@@ -1,5 +1,5 @@
 //! Pages of any input, mended one after the other.
-ghost use Rattle.std.specs.Prelude.{◌≡◌, ◌<◌, ◌++◌, ℕ, List, IfOk, true, false, None, length};
+ghost use Rattle.std.specs.Prelude.{◌≡◌, ◌<◌, ◌++◌, ℕ, List, IfOk, OnErr, OnOk, true, false, None, Some, length, vec_capacity};
 ghost use Rattle.ogg_page.specs.LogicalStream.{is_first};
 ghost use Rattle.link_chain.specs.ChainState.{is_open};
 ghost use Rattle.link_chain.specs.Followed.{after_page};
@@ -8,10 +8,11 @@ ghost use Rattle.link_chain.specs.Taking.{fault_of_page};
 ghost use Rattle.import_gather.specs.Kept.{waits};
 ghost use Rattle.import_mend.specs.Gives.{Gives, GivesEnd, GathersFirst, GathersLater, GathersRestart, mend_at_end, mending};
 ghost use Rattle.import_mend.specs.Losses.{lost_in};
-ghost use Rattle.import_mend.specs.Room.{HasRoom};
+ghost use Rattle.import_mend.specs.Room.{HasRoom, LacksMemory, LacksPlace, LacksRoomFor};
 ghost use Rattle.import_mend.specs.Steps.{Mends, MendsLater, Restarts};
 ghost use Rattle.import_mend.specs.Ways.{most_bytes, way_of};
 ghost use Rattle.import_mend.specs.Whole.{LostNone};
+ghost use Rattle.import_mend.specs.declared.mend.Mend.{Mend as MendOf};
 ghost use Rattle.import_mend.specs.declared.ways.Way.{Way as WayOf};
 ghost use Rattle.ogg_command.specs.declared.command.Command.{Command as CommandOf};
 
@@ -64,6 +65,12 @@ impl Mender {
             (more : List CommandOf) × (commands.new.items ≡ commands.old.items ++ more)
             × Gives (way_of gatherer.old.chain lost page.now) offset lost page.now (mending self.old.losses gatherer.old)
             (mending self.new.losses gatherer.new) mend more) }
+        // A link that can't begin again is full.
+        ensures full { IfOk result (λ mend. (lost : ℕ) → lost ≡ lost_in self.old.losses gatherer.old.chain.streams page.now.serial
+            → way_of gatherer.old.chain lost page.now ≡ WayOf.Restart → mend ≡ Some (MendOf.Full offset page.now.serial)
+            → LacksRoomFor page.now gatherer.new.chain) }
+        ensures cause { OnErr result (LacksMemory gatherer.new (vec_capacity self.old.room)) }
+        ensures noted { OnOk result (gatherer.new.refused ≡ gatherer.old.refused) }
     {
         let serial = page.serial();
         let lost = lost_in(&self.losses, gatherer.chain().streams(), serial);
@@ -91,6 +98,8 @@ impl Mender {
             × GivesEnd gatherer.old gatherer.new more) }
         ensures told { IfOk result (λ mend. mend ≡ mend_at_end offset gatherer.old.chain) }
         ensures ended { HasRoom gatherer.old.chain → IfOk result (λ mend. is_open gatherer.new.chain ≡ false) }
+        ensures cause { OnErr result (LacksMemory gatherer.new (vec_capacity self.old.room)) }
+        ensures noted { OnOk result (gatherer.new.refused ≡ gatherer.old.refused) }
     {
         let unfinished = gatherer.unfinished();
         end_streams(&mut self.room, gatherer, commands)?;
@@ -113,6 +122,8 @@ impl Mender {
         ensures after { IfOk result (λ mend. (gatherer.new.chain ≡ after_page gatherer.old.chain page.now) × (mend ≡ None)) }
         ensures gives { IfOk result (λ mend. (more : List CommandOf) × (commands.new.items ≡ commands.old.items ++ more)
             × GathersFirst page.now (mending self.old.losses gatherer.old) (mending self.new.losses gatherer.new) more) }
+        ensures cause { OnErr result (LacksMemory gatherer.new (vec_capacity self.old.room)) }
+        ensures noted { OnOk result (gatherer.new.refused ≡ gatherer.old.refused) }
     {
         // For the proof alone.
         let _bytes = page.whole();
@@ -133,8 +144,11 @@ impl Mender {
     ) -> Result<Option<Mend>, Memory>
         requires { is_first page.now ≡ true }
         ensures restarts { IfOk result (λ mend. Restarts offset page.now gatherer.new mend) }
+        ensures full { IfOk result (λ mend. mend ≡ Some (MendOf.Full offset page.now.serial) → LacksRoomFor page.now gatherer.new.chain) }
         ensures gives { IfOk result (λ mend. (more : List CommandOf) × (commands.new.items ≡ commands.old.items ++ more)
             × GathersRestart offset page.now (mending self.old.losses gatherer.old) (mending self.new.losses gatherer.new) mend more) }
+        ensures cause { OnErr result (LacksMemory gatherer.new (vec_capacity self.old.room)) }
+        ensures noted { OnOk result (gatherer.new.refused ≡ gatherer.old.refused) }
     {
         let closed = end_streams(&mut self.room, gatherer, commands)?;
         if !closed || !fits(gatherer.chain(), page) {
@@ -159,6 +173,8 @@ impl Mender {
         ensures mends { IfOk result (λ mend. MendsLater offset lost page.now gatherer.old gatherer.new mend) }
         ensures gives { IfOk result (λ mend. (more : List CommandOf) × (commands.new.items ≡ commands.old.items ++ more)
             × GathersLater lost page.now (mending self.old.losses gatherer.old) (mending self.new.losses gatherer.new) more) }
+        ensures cause { OnErr result (LacksMemory gatherer.new (vec_capacity self.old.room)) }
+        ensures noted { OnOk result (gatherer.new.refused ≡ gatherer.old.refused) }
     {
         let streams = gatherer.chain().streams();
         let Some(stream) = stream_in(streams, page.serial()) else {
@@ -175,7 +191,8 @@ impl Mender {
 
 /// Whether a first page may follow, and there is room for it.
 fn fits(chain: &Chain, page: &Page<'_>) -> bool
-    ensures { result ≡ true → (fault_of_page chain.now.chain page.now ≡ None) × (chain.now.chain.length_of < most_bytes) }
+    ensures fits { result ≡ true → (fault_of_page chain.now.chain page.now ≡ None) × (chain.now.chain.length_of < most_bytes) }
+    ensures full { result ≡ false → LacksPlace page.now chain.now.chain }
 {
     chain.fault_of(page).is_none() && chain.len() < MOST_BYTES
 }

@@ -1,5 +1,5 @@
 //! Pages that are taken, as they are left.
-ghost use Rattle.std.specs.Prelude.{◌≡◌, ◌<◌, ◌+◌, ◌++◌, ◌^◌, true, false, None, Some, List, OnOk};
+ghost use Rattle.std.specs.Prelude.{◌≡◌, ◌<◌, ◌≤◌, ◌+◌, ◌++◌, ◌^◌, true, false, None, Some, List, OnErr, OnOk, vec_capacity};
 ghost use Rattle.ogg_page.specs.Page.{page_size};
 ghost use Rattle.ogg_page.specs.LogicalStream.{is_first};
 ghost use Rattle.link_chain.specs.Followed.{after_page};
@@ -10,6 +10,7 @@ ghost use Rattle.import_gather.specs.Kept.{is_too_long};
 ghost use Rattle.import_mend.specs.Gives.{GathersLeft};
 ghost use Rattle.import_mend.specs.Mended.{is_joined, left_whole, mended};
 ghost use Rattle.import_mend.specs.Steps.{after_later, broken_off};
+ghost use Rattle.import_mend.specs.Room.{LacksMemory};
 ghost use Rattle.import_mend.specs.Ways.{way_of};
 ghost use Rattle.ogg_command.specs.declared.command.Command.{Command as CommandOf};
 
@@ -36,6 +37,8 @@ pub fn take(
     ensures after { OnOk result (gatherer.new.chain ≡ after_page gatherer.old.chain page.now) }
     ensures gives { OnOk result ((more : List CommandOf) × (commands.new.items ≡ commands.old.items ++ more)
         × GathersPage page.now gatherer.old gatherer.new more) }
+    ensures cause { OnErr result (gatherer.new.refused ≡ true) }
+    ensures noted { OnOk result (gatherer.new.refused ≡ gatherer.old.refused) }
 {
     match gatherer.take_page(page, commands) {
         Ok(()) => Ok(()),
@@ -59,6 +62,9 @@ fn take_mended(
     ensures after { OnOk result (gatherer.new.chain ≡ after_page gatherer.old.chain (mended joined number page.now)) }
     ensures gives { OnOk result ((more : List CommandOf) × (commands.new.items ≡ commands.old.items ++ more)
         × GathersPage (mended joined number page.now) gatherer.old gatherer.new more) }
+    ensures cause { OnErr result (LacksMemory gatherer.new (vec_capacity room.old)) }
+    ensures noted { OnOk result (gatherer.new.refused ≡ gatherer.old.refused) }
+    ensures capacity { vec_capacity room.old ≤ vec_capacity room.new }
 {
     room.clear();
     write_mended(page, joined, number, room)?;
@@ -100,6 +106,9 @@ pub fn follow(
     ensures gives { OnOk result ((more : List CommandOf) × (commands.new.items ≡ commands.old.items ++ more)
         × GathersLeft (is_joined lost stream (is_too_long gatherer.old.link page.now) page.now) stream.next_sequence page.now
         gatherer.old gatherer.new more) }
+    ensures cause { OnErr result (LacksMemory gatherer.new (vec_capacity room.old)) }
+    ensures noted { OnOk result (gatherer.new.refused ≡ gatherer.old.refused) }
+    ensures capacity { vec_capacity room.old ≤ vec_capacity room.new }
 {
     // For the proof alone.
     let _bytes = page.whole();

@@ -1,7 +1,7 @@
 //! Pages that are made: a mended one, and the last page of a stream that has none.
-ghost use Rattle.std.specs.Prelude.{◌≡◌, ◌≤◌, ◌++◌, OnOk, length, sum, take, drop};
+ghost use Rattle.std.specs.Prelude.{◌≡◌, ◌≤◌, ◌<◌, ◌+◌, ◌++◌, OnErr, OnOk, length, sum, take, drop, vec_capacity, vec_len};
 ghost use Rattle.ogg_page.specs.Page.{Page as PageValue, IsPage, page_bytes};
-ghost use Rattle.ogg_page.specs.Sizes.{most_values};
+ghost use Rattle.ogg_page.specs.Sizes.{longest_page, most_values};
 ghost use Rattle.import_mend.specs.Mended.{behind_rest, last_page, mended};
 
 use crate::cutting::{front_values, whole_values};
@@ -101,6 +101,8 @@ pub fn write_mended(
     out: &mut Vec<u8>,
 ) -> Result<(), Memory>
     ensures ok { OnOk result (out.new.items ≡ out.old.items ++ page_bytes (mended joined number page.now)) }
+    ensures full { OnErr result (vec_capacity out.old < vec_len out.old + longest_page) }
+    ensures capacity { vec_capacity out.old ≤ vec_capacity out.new }
     ensures is_page { IsPage (mended joined number page.now) }
 {
     // For the proof alone.
@@ -119,6 +121,8 @@ pub fn write_mended(
 /// vector is unchanged.
 pub fn write_last(serial: u32, position: u64, number: u32, out: &mut Vec<u8>) -> Result<(), Memory>
     ensures ok { OnOk result (out.new.items ≡ out.old.items ++ page_bytes (last_page serial position number)) }
+    ensures full { OnErr result (vec_capacity out.old < vec_len out.old + longest_page) }
+    ensures capacity { vec_capacity out.old ≤ vec_capacity out.new }
     ensures is_page { IsPage (last_page serial position number) }
 {
     let head = PageHead {

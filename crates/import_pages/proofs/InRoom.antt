@@ -152,11 +152,11 @@ still room again held offset n same holds here =
     )
 
 -- a page is lent
-pub moved : (before : List ℕ) (offset behind : ℕ) (was : Option LentAt) (outcome : Option (Result (Unit {0}) PageReaderFault)) (from left : Option (List ℕ)) (room again : List ℕ) (held : Held) (n : ℕ) →
-    outcome ≡ None → again ≡ room → IsHeld room held → Finds before from (Ok (Some n)) (held_of room held) left → behind ≡ min (offset + n) (2 ^ 64 - 1) →
-    HasAdvanced (record { unread = before; offset = offset; lent = was; outcome = outcome }) from (Ok tt)
-    (record { unread = held_of again (record { start = held.start + n; end = held.end }); offset = behind; lent = Some (offset, fields_at (take (held.start + n - held.start) (drop held.start again))); outcome = outcome }) left
-moved before offset behind was outcome from left room again held n none same holds found size =
+pub moved : (before : List ℕ) (offset behind failures now : ℕ) (was : Option LentAt) (outcome : Option (Result (Unit {0}) PageReaderFault)) (from left : Option (List ℕ)) (room again : List ℕ) (held : Held) (n : ℕ) →
+    outcome ≡ None → now ≡ failures → again ≡ room → IsHeld room held → Finds before from (Ok (Some n)) (held_of room held) left → behind ≡ min (offset + n) (2 ^ 64 - 1) →
+    HasAdvanced (record { unread = before; offset = offset; lent = was; failures = failures; outcome = outcome }) from (Ok tt)
+    (record { unread = held_of again (record { start = held.start + n; end = held.end }); offset = behind; lent = Some (offset, fields_at (take (held.start + n - held.start) (drop held.start again))); failures = now; outcome = outcome }) left
+moved before offset behind failures now was outcome from left room again held n none counted same holds found size =
     let here : Stands room held n = stands room held n holds found.shows in
     let exact : held.start + n - held.start ≡ n = omega arith in
     let page : fields_at (take (held.start + n - held.start) (drop held.start again)) ≡ here.page =
@@ -175,6 +175,7 @@ moved before offset behind was outcome from left room again held n none same hol
         behind = size ∙ ap (λ k. min (offset + k) (2 ^ 64 - 1)) here.size ∙ ap (λ p. min (offset + page_size p) (2 ^ 64 - 1)) (sym page);
         goes_on = none;
       };
+      cause = counted;
     }
 
 -- what is found, if that is a page

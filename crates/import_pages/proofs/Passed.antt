@@ -17,14 +17,15 @@ later_held room held count is fits =
     ∙ sym (drop-take count (held.end - (held.start + count)) (drop held.start room))
     ∙ ap (λ n. drop count (take n (drop held.start room))) size
 
-pub passed_over : (room : List ℕ) (held : Held) (offset later count : ℕ) (lent : Option LentAt) (outcome : Option (Result (Unit {0}) PageReaderFault)) → IsHeld room held
+pub passed_over : (room : List ℕ) (held : Held) (offset later failures count : ℕ) (lent : Option LentAt) (outcome : Option (Result (Unit {0}) PageReaderFault)) → IsHeld room held
     → IsPassed (held_of room held) count → later ≡ min (offset + count) (2 ^ 64 - 1) →
-    PassesOver (record { unread = held_of room held; offset = offset; lent = lent; outcome = outcome }) count
-    (record { unread = held_of room (record held { start = held.start + count }); offset = later; lent = None; outcome = None })
-passed_over room held offset later count lent outcome is passed moved = record {
+    PassesOver (record { unread = held_of room held; offset = offset; lent = lent; failures = failures; outcome = outcome }) count
+    (record { unread = held_of room (record held { start = held.start + count }); offset = later; lent = None; failures = failures; outcome = None })
+passed_over room held offset later failures count lent outcome is passed moved = record {
   passed = passed;
   unread_is = later_held room held count is (omega (arith, passed.inside, held_size room held is));
   offset_is = moved;
   lent_is = refl;
+  failures_same = refl;
   goes_on = refl;
 }

@@ -1,5 +1,5 @@
 -- What a page reader lends of bytes that can be read once only. Ours.
-use Rattle.std.specs.Prelude.{◌≡◌, ◌≢◌, ℕ, ◌+◌, ◌-◌, ◌^◌, ◌<◌, ◌≤◌, min, length, drop, slice_index, Option, Some, None, Result, Ok, Err, List, [], ◌∷◌, ◌++◌, map, ⊤}
+use Rattle.std.specs.Prelude.{◌≡◌, ◌≢◌, ◌⊎◌, ℕ, ◌+◌, ◌-◌, ◌^◌, ◌<◌, ◌≤◌, min, length, drop, slice_index, Option, Some, None, Result, Ok, Err, List, [], ◌∷◌, ◌++◌, map, ⊤}
 use Rattle.std.specs.Io.KnownBytes.{Consumes, IsAtEnd}
 use Rattle.ogg_page.specs.Page.{IsPage, page_bytes, page_size}
 use Rattle.ogg_page.specs.Reading.{page_at}
@@ -7,19 +7,21 @@ use Rattle.ogg_page.specs.Pages.{FoundPage}
 use Rattle.ogg_page.specs.Window.{LentAt, found}
 use Rattle.ogg_page.specs.declared.fault.PageFault.{PageFault}
 use Rattle.ogg_page.specs.declared.fault.PageFault.TheVariants.{Short}
+use Rattle.import_pages.specs.Failures.{failures_after, once_more}
 use Rattle.import_pages.specs.declared.fault.PageReaderFault.{PageReaderFault}
 use Rattle.import_pages.specs.declared.fault.PageReaderFault.TheVariants.{Page, Read}
 
 -- the bytes that were read and are of no page lent so far, the offset of the first of them in the input, the page
--- that is lent, and how the input has ended, if it has
+-- that is lent, how often a read has failed, and how the input has ended, if it has
 pub record ReaderState : Type 0 where
   pub unread : List ℕ
   pub offset : ℕ
   pub lent : Option LentAt
+  pub failures : ℕ
   pub outcome : Option (Result (Unit {0}) PageReaderFault)
 
 abbrev pub started : ReaderState
-started = record { unread = []; offset = 0; lent = None; outcome = None }
+started = record { unread = []; offset = 0; lent = None; failures = 0; outcome = None }
 
 -- These bytes are no page's beginning, and this is the first thing that is wrong with them. The fault is want of
 -- further bytes only if none come; any other fault stays, whatever follows.
@@ -29,10 +31,10 @@ pub record IsFaultOf (bytes : List ℕ) (left : Option (List ℕ)) (fault : Page
   pub short : fault ≡ Short → IsAtEnd left
   pub definite : fault ≢ Short → (more : List ℕ) → page_at (bytes ++ more) ≡ Err fault
 
--- if the reader fails, nothing is known of the bytes
+-- A read that fails is needed: the bytes are only the beginning of a page.
 abbrev pub HasFault : List ℕ → Option (List ℕ) → PageReaderFault → Type 0
 HasFault bytes left (Page fault) = IsFaultOf bytes left fault
-HasFault bytes left Read = ⊤
+HasFault bytes left Read = page_at bytes ≡ Err Short
 
 -- the page stands in front of these bytes, and is passed
 pub record GivesPage (bytes : List ℕ) (offset : ℕ) (lent : LentAt) (new : ReaderState) : Type 0 where
@@ -71,11 +73,29 @@ pub record HasAdvanced (old : ReaderState) (from : Option (List ℕ)) (result : 
   pub taken : List ℕ
   pub consumed : Consumes from left taken
   pub gives : Gives (old.unread ++ taken) left old.offset result new.lent new
+  -- `Read` is answered only if a read has failed
+  pub cause : new.failures ≡ failures_after result old.failures
+
+-- ---- why the reader has failed
+-- A read has failed in this call, or in the one that ended the reader.
+abbrev pub HasReadCause : ReaderState → ReaderState → Type 0
+HasReadCause old new = (new.failures ≡ once_more old.failures) ⊎ (old.outcome ≡ Some (Err Read))
+
+-- neither has the input ended nor has a read failed
+abbrev pub GoesOn : Option (Result (Unit {0}) PageReaderFault) → Type 0
+GoesOn None = ⊤
+GoesOn (Some (Ok done)) = ⊥
+GoesOn (Some (Err (Page fault))) = ⊤
+GoesOn (Some (Err Read)) = ⊥
 
 -- ---- one read
 -- no page is lent
 abbrev pub unlent : ReaderState → ReaderState
 unlent state = record state { lent = None }
+
+-- a read has failed
+abbrev pub failed : ReaderState → ReaderState
+failed state = record (unlent state) { failures = once_more state.failures }
 
 -- One read adds this number of bytes to those that are unread. The number is 0 only at the end of the input.
 pub record ReadsOnce (old : ReaderState) (from : Option (List ℕ)) (count : ℕ) (new : ReaderState) (left : Option (List ℕ)) : Type 0 where
@@ -99,6 +119,7 @@ pub record PassesOver (old : ReaderState) (count : ℕ) (new : ReaderState) : Ty
   pub unread_is : new.unread ≡ drop count old.unread
   pub offset_is : new.offset ≡ min (old.offset + count) (2 ^ 64 - 1)
   pub lent_is : new.lent ≡ None
+  pub failures_same : new.failures ≡ old.failures
   pub goes_on : new.outcome ≡ None
 
 -- The reader, which has these bytes left, lends these pages, one call after the other. Then it ends with this

@@ -2,9 +2,11 @@
 ghost use Rattle.std.specs.Prelude.{◌≡◌, ◌<◌, Err, IfOk, OnErr, length};
 ghost use Rattle.std.specs.Io.KnownBytes.{Keeps};
 ghost use Rattle.ogg_page.specs.Reading.{page_at};
+ghost use Rattle.import_pages.specs.Failures.{failures_after};
 ghost use Rattle.import_pages.specs.Room.{IsHeld, ReadsMore, held_of};
 ghost use Rattle.ogg_page.specs.Sizes.{longest_page};
 
+use crate::failures::Failures;
 use crate::fault::PageReaderFault;
 use crate::held::Held;
 use ogg_page::PageFault;
@@ -39,8 +41,9 @@ fn make_room(room: &mut [u8], held: &mut Held)
     }
 }
 
-/// Reads once, as many bytes as come, after what is held. An error of any kind is `Read` and isn't tried again.
+/// Reads once, as many bytes as come, after what is held.
 fn read_behind<R: Read>(
+    failures: &mut Failures,
     reader: &mut R,
     room: &mut [u8],
     held: &mut Held,
@@ -53,19 +56,21 @@ fn read_behind<R: Read>(
         (held_of room.new held.new) (R.remaining reader.new)) }
     ensures err { OnErr result ((result ≡ Err PageReaderFault.Read) × (held_of room.new held.new ≡ held_of room.old held.old)
         × Keeps (R.remaining reader.old) (R.remaining reader.new)) }
+    ensures counted { failures.new ≡ failures_after result failures.old }
 {
     let (_, free) = room.split_at_mut(held.end);
-    match reader.read(free) {
+    match failures.read(reader, free) {
         Ok(count) => {
             held.end += count;
             Ok(count)
         }
-        Err(_) => Err(PageReaderFault::Read),
+        Err(fault) => Err(fault),
     }
 }
 
 /// Reads once, as many bytes as come, after what is held: a page that isn't whole, so there is room.
 pub(crate) fn read_more<R: Read>(
+    failures: &mut Failures,
     reader: &mut R,
     room: &mut [u8],
     held: &mut Held,
@@ -78,7 +83,8 @@ pub(crate) fn read_more<R: Read>(
         (held_of room.new held.new) (R.remaining reader.new)) }
     ensures err { OnErr result ((result ≡ Err PageReaderFault.Read) × (held_of room.new held.new ≡ held_of room.old held.old)
         × Keeps (R.remaining reader.old) (R.remaining reader.new)) }
+    ensures counted { failures.new ≡ failures_after result failures.old }
 {
     make_room(room, held);
-    read_behind(reader, room, held)
+    read_behind(failures, reader, room, held)
 }

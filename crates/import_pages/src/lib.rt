@@ -6,6 +6,7 @@
 //! Start at `specs/Reader.antt`, which says what a call leaves.
 #![tactic(auto)]
 
+mod failures;
 mod fault;
 mod filling;
 mod finding;

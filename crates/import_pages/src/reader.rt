@@ -2,10 +2,11 @@
 ghost use Rattle.std.specs.Prelude.{◌≡◌, ◌≢◌, [], None, Some, Err, IfOk, IfSome, OnErr, true, false};
 ghost use Rattle.std.specs.Io.KnownBytes.{Keeps};
 ghost use Rattle.ogg_page.specs.Reading.{page_at};
-ghost use Rattle.import_pages.specs.Reader.{HasAdvanced, PassesOver, ReadsOnce, started, unlent};
+ghost use Rattle.import_pages.specs.Reader.{HasAdvanced, HasReadCause, PassesOver, ReadsOnce, failed, started};
 ghost use Rattle.ogg_page.specs.declared.fault.PageFault.{PageFault as Fault};
 
 use crate::Memory;
+use crate::failures::Failures;
 use crate::fault::PageReaderFault;
 use crate::filling::read_more;
 use crate::finding::{find, next_place};
@@ -17,14 +18,15 @@ use std::io::Read;
 use std::marker::Model;
 
 /// Pages of a stream of bytes, one after the other, in the memory of one page. What a contract sees of it is the
-/// bytes that were read and are of no page lent so far, their offset in the input, the page that is lent, and how the
-/// input has ended, if it has.
+/// bytes that were read and are of no page lent so far, their offset in the input, the page that is lent, how often a
+/// read has failed, and how the input has ended, if it has.
 #[derive(Drop)]
 pub struct PageReader {
     room: Vec<u8>,
     held: Held,
     offset: u64,
     lent: Option<Lent>,
+    failures: Failures,
     outcome: Option<Result<(), PageReaderFault>>,
 }
 
@@ -38,6 +40,7 @@ impl Model for PageReader {
       unread = held_of r.room.items r.held;
       offset = r.offset;
       lent = lent_of r.room.items r.lent;
+      failures = r.failures;
       outcome = r.outcome;
     } };
 
@@ -65,6 +68,7 @@ impl PageReader {
             held: Held { start: 0, end: 0 },
             offset: 0,
             lent: None,
+            failures: Failures::none(),
             outcome: None,
         })
     }
@@ -76,13 +80,15 @@ impl PageReader {
             → HasAdvanced self.old (R.remaining reader.old) result self.new (R.remaining reader.new) }
         // A page that was read already, or a fault, needs no call of the reader.
         ensures prompt { page_at self.old.unread ≢ Err PageFault.Short → reader.new ≡ reader.old }
+        // `Read` comes only if a read has failed.
+        ensures cause { result ≡ Err PageReaderFault.Read → HasReadCause self.old self.new }
         ensures stays { IfSome self.old.outcome (λ outcome. (result ≡ outcome) × (self.new ≡ self.old) × (reader.new ≡ reader.old)) }
     {
         if let Some(outcome) = self.outcome {
             return outcome;
         }
         self.lent = None;
-        match find(reader, &mut self.room, &mut self.held) {
+        match find(&mut self.failures, reader, &mut self.room, &mut self.held) {
             Ok(Some(size)) => {
                 let start = self.held.start;
                 self.lent = Some(Lent {
@@ -120,11 +126,11 @@ impl PageReader {
     pub fn read_once<R: Read>(&mut self, reader: &mut R) -> Result<usize, PageReaderFault>
         requires waits { page_at self.old.unread ≡ Err PageFault.Short }
         ensures reads { IfOk result (λ count. ReadsOnce self.old (R.remaining reader.old) count self.new (R.remaining reader.new)) }
-        ensures err { OnErr result ((result ≡ Err PageReaderFault.Read) × (self.new ≡ unlent self.old)
+        ensures err { OnErr result ((result ≡ Err PageReaderFault.Read) × (self.new ≡ failed self.old)
             × Keeps (R.remaining reader.old) (R.remaining reader.new)) }
     {
         self.lent = None;
-        read_more(reader, &mut self.room, &mut self.held)
+        read_more(&mut self.failures, reader, &mut self.room, &mut self.held)
     }
 
     /// After a fault that says that no page begins here: passes over the bytes up to the next place where one may
@@ -133,6 +139,7 @@ impl PageReader {
         ensures passes { (fault : Fault) → self.old.outcome ≡ Some (Err (PageReaderFault.Page fault)) → self.old.unread ≢ []
             → PassesOver self.old result self.new }
         ensures stays { result ≡ 0 → self.new ≡ self.old }
+        ensures none { self.old.unread ≡ [] → result ≡ 0 }
     {
         match self.outcome {
             Some(Err(PageReaderFault::Page(_))) if self.held.start < self.held.end => {}

@@ -1,6 +1,7 @@
 pub mod RunOn
-pub mod Stepped
 pub mod Turns
 pub mod Pushed
 pub mod Pushes
 pub mod Kept
+pub mod Stepped
+mod Lacks

@@ -39,6 +39,7 @@ any_page old xs zs lent new h is = record {
   gives = subst (λ g. Gives (old.unread ++ []) (Some zs) old.offset (Ok tt) g new) (sym is)
       (subst (λ l. GivesPage l old.offset lent new) (whole_unread old.unread xs h.taken h.consumed ∙ sym (append-nil old.unread))
       (page_given (old.unread ++ h.taken) (Some xs) old.offset lent new.lent new is h.gives));
+  cause = h.cause;
 }
 
 pub any_pass : (old : ReaderState) (xs zs : List ℕ) (count : ℕ) (new : ReaderState) → page_at old.unread ≢ Err Short
@@ -66,6 +67,7 @@ any_pass old xs zs count new known p =
         taken = [];
         consumed = refl;
         gives = subst (λ l. GivesFault l (Some zs) old.offset (PageOf p.fault) p.at) (whole ∙ sym (append-nil old.unread)) again;
+        cause = p.found.cause;
       };
       passes = p.passes;
     }
@@ -87,6 +89,7 @@ unpushed old bytes zs result new (Some ys) h = record {
   taken = bytes ++ h.taken;
   consumed = ap (λ l. bytes ++ l) h.consumed ∙ sym (append_assoc bytes h.taken ys);
   gives = subst (λ l. Gives l (Some ys) old.offset result new.lent new) (append_assoc old.unread bytes h.taken) h.gives;
+  cause = h.cause;
 }
 
 -- ---- pages that are found, one after the other

@@ -7,14 +7,15 @@ use Rattle.feed_records.specs.declared.item.Record.{Record}
 use Rattle.feed_replies.specs.declared.reply.Reply.{Reply}
 use Rattle.import_changes.specs.Changed.{ChangeState, HasChangedBeside, IsPlain}
 use Rattle.import_changes.specs.declared.options.ChangeOptions.{ChangeOptions}
-use Rattle.import_mend.specs.Gives.{GivesEnd, Mending, mend_at_end, mending}
+use Rattle.import_mend.specs.Gives.{GivesEnd, Mending, mend_at_end}
+use Rattle.import_mend.specs.Importing.{mending_of}
 use Rattle.import_mend.specs.Whole.{TakesPage}
 use Rattle.import_record.specs.Begun.{BegunState, begun_after, begun_of}
 use Rattle.import_record.specs.Running.{HasRun, StopsAt}
 use Rattle.import_record.specs.declared.fault.RecordFault.{RecordFault}
 use Rattle.import_record.specs.declared.fault.RecordFault.TheVariants.{Read, Memory, Write}
-use Rattle.import_record.specs.declared.intake.Intake.{Intake}
 use Rattle.import_record.specs.declared.intake.Taken.{Taken}
+use Rattle.import_record.specs.declared.reading.ImportRun.{ImportRun}
 
 -- what the commands of the next pages depend on: how pages are mended, and under which serials streams are begun; and
 -- what is kept of the link that is open
@@ -24,8 +25,8 @@ pub record IntakeState : Type 0 where
   pub changes : ChangeState
   pub begun : BegunState
 
-abbrev pub state_of : Intake → IntakeState
-state_of intake = record { mending = mending intake.mender.losses intake.gatherer; options = intake.options; changes = intake.changes; begun = begun_of intake.begun }
+abbrev pub state_of : ImportRun → IntakeState
+state_of run = record { mending = mending_of run.input; options = run.options; changes = run.changes; begun = begun_of run.begun }
 
 -- these commands become those in `given`, whatever became of the commands before them
 abbrev pub Become : ChangeState → ChangeState → List Command → List Command → Type 0

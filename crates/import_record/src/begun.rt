@@ -1,6 +1,7 @@
 //! The input's last link, as long as streams of it are open: what it takes to begin it again.
-ghost use Rattle.std.specs.Prelude.{◌≡◌, [], map, IfOk, OnOk};
-ghost use Rattle.import_record.specs.Begun.{bare, open_after, open_with, serial_of, streams_after, streams_with};
+ghost use Rattle.std.specs.Prelude.{◌≡◌, [], map, IfOk, OnErr, OnOk, true};
+ghost use Rattle.std.specs.List.{list_any};
+ghost use Rattle.import_record.specs.Begun.{bare, begins, open_after, open_with, serial_of, streams_after, streams_with};
 
 use crate::Memory;
 use ogg_command::{Command, Listed, NewStream};
@@ -84,7 +85,8 @@ fn keep_streams(
     streams: &mut Vec<NewStream>,
     command: &Command,
 ) -> Result<(), Memory>
-    ensures { OnOk result (streams.new.items ≡ streams_with streams.old.items command.now) }
+    ensures streams { OnOk result (streams.new.items ≡ streams_with streams.old.items command.now) }
+    ensures full { OnErr result (begins command.now ≡ true) }
 {
     match command {
         Command::Begin(begin) => *streams = all_bare(alloc, begin.streams.as_slice())?,
@@ -96,7 +98,8 @@ fn keep_streams(
 
 /// This command is run.
 fn keep_open(alloc: Global, serials: &mut Vec<u32>, command: &Command) -> Result<(), Memory>
-    ensures { OnOk result (serials.new.items ≡ open_with serials.old.items command.now) }
+    ensures serials { OnOk result (serials.new.items ≡ open_with serials.old.items command.now) }
+    ensures full { OnErr result (begins command.now ≡ true) }
 {
     match command {
         Command::Begin(begin) => *serials = serials_of(alloc, begin.streams.as_slice())?,
@@ -112,7 +115,8 @@ pub(crate) fn keep_all_streams(
     streams: &mut Vec<NewStream>,
     commands: &[Command],
 ) -> Result<(), Memory>
-    ensures { OnOk result (streams.new.items ≡ streams_after streams.old.items commands.now) }
+    ensures streams { OnOk result (streams.new.items ≡ streams_after streams.old.items commands.now) }
+    ensures full { OnErr result (list_any begins commands.now ≡ true) }
 {
     for command in commands {
         keep_streams(alloc, streams, command)?;
@@ -126,7 +130,8 @@ pub(crate) fn keep_all_open(
     serials: &mut Vec<u32>,
     commands: &[Command],
 ) -> Result<(), Memory>
-    ensures { OnOk result (serials.new.items ≡ open_after serials.old.items commands.now) }
+    ensures serials { OnOk result (serials.new.items ≡ open_after serials.old.items commands.now) }
+    ensures full { OnErr result (list_any begins commands.now ≡ true) }
 {
     for command in commands {
         keep_open(alloc, serials, command)?;

@@ -1,22 +1,19 @@
-//! The pages of one input, recorded one after the other.
-ghost use Rattle.std.specs.Prelude.{◌≡◌, [], IfOk, IfErr, List};
+//! Commands that the input's pages complete: they are changed as asked, and run.
+ghost use Rattle.std.specs.Prelude.{◌≡◌, ◌≢◌, ◌⊎◌, Err, IfOk, IfErr, List, false, true};
+ghost use Rattle.std.specs.List.{list_any};
 ghost use Rattle.ogg_command.specs.declared.command.Command.{Command as CommandOf};
-ghost use Rattle.import_changes.specs.Changed.{HasChangedBeside};
-ghost use Rattle.import_mend.specs.Whole.{IsStart};
-ghost use Rattle.import_record.specs.Begun.{begun_after, begun_of, none_begun};
+ghost use Rattle.import_changes.specs.Options.{is_none};
+ghost use Rattle.import_record.specs.Begun.{begins, begun_after, begun_of};
 ghost use Rattle.import_record.specs.Running.{HasRun};
-ghost use Rattle.import_record.specs.Steps.{Become, Ends, StopsBy, Takes, state_of};
+ghost use Rattle.import_record.specs.Steps.{Become, StopsBy};
 
-use crate::Memory;
 use crate::answering::{Answered, run_all};
 use crate::begun::{Begun, keep_all_open, keep_all_streams};
 use crate::fault::RecordFault;
 use feed_runner::Runner;
-use import_changes::{ChangeOptions, Changes};
-use import_gather::Gatherer;
-use import_mend::{Mend, Mender};
+use import_changes::Changes;
+use import_mend::Mend;
 use ogg_command::Command;
-use ogg_page::Page;
 use std::alloc::Global;
 use std::io::Write;
 
@@ -29,110 +26,8 @@ pub struct Taken {
     pub answered: Answered,
 }
 
-/// The pages of one input, as they become commands: what the commands of the next pages depend on.
-#[derive(Drop)]
-pub struct Intake {
-    pub(crate) alloc: Global,
-    mender: Mender,
-    gatherer: Gatherer,
-    pub(crate) options: ChangeOptions,
-    pub(crate) changes: Changes,
-    pub(crate) begun: Begun,
-}
-
-impl Intake {
-    /// No page has come. The streams are begun as the options ask, and if they are renumbered, none gets one of these
-    /// serials.
-    pub fn new(alloc: Global, options: ChangeOptions, serials: &[u32]) -> Result<Intake, Memory>
-        ensures start { IfOk result (λ intake. IsStart (state_of intake).mending) }
-        ensures changes { IfOk result (λ intake. HasChangedBeside serials.now intake.changes [] []) }
-        ensures options { IfOk result (λ intake. (intake.options ≡ options) × (intake.changes.options ≡ options)) }
-        ensures begun { IfOk result (λ intake. (state_of intake).begun ≡ none_begun) }
-    {
-        let mut changes = Changes::new(alloc, options);
-        changes.avoid(serials)?;
-        Ok(Intake {
-            alloc,
-            mender: Mender::new(alloc),
-            gatherer: Gatherer::new(alloc),
-            options,
-            changes,
-            begun: Begun::new(alloc),
-        })
-    }
-
-    /// Takes a page that begins at `offset` in the input, mended if it has to be, and has the commands run that it
-    /// completes, with their pages written to `pages`. A refusal ends nothing. After `Memory` nothing of the page was
-    /// run; after `Write` a prefix of its commands was. Take no further page then.
-    pub fn take_page<T: Runner, P: Write>(
-        &mut self,
-        runner: &mut T,
-        pages: &mut P,
-        offset: u64,
-        page: &Page<'_>,
-    ) -> Result<Taken, RecordFault>
-        requires uncounted { (one : T) → T.counted one ≡ 0 }
-        ensures takes { (before : T.State) → T.is_in before runner.old → IfOk result (λ taken. (after : T.State) × T.is_in after runner.new
-            × Takes T.answers offset page.now (state_of self.old) (state_of self.new) taken before after (P.contents pages.old) (P.contents pages.new)) }
-        ensures stops { (before : T.State) → T.is_in before runner.old → IfErr result (λ fault. (after : T.State) × T.is_in after runner.new
-            × StopsBy T.answers fault before after (P.contents pages.old) (P.contents pages.new)) }
-    {
-        let mut commands = Vec::new(self.alloc);
-        let mend = match self
-            .mender
-            .take_page(&mut self.gatherer, offset, page, &mut commands)
-        {
-            Ok(mend) => mend,
-            Err(_) => return Err(RecordFault::Memory),
-        };
-        match run(
-            self.alloc,
-            &mut self.changes,
-            &mut self.begun,
-            runner,
-            pages,
-            commands,
-        ) {
-            Ok(answered) => Ok(Taken { mend, answered }),
-            Err(fault) => Err(fault),
-        }
-    }
-
-    /// Ends the streams that are open, and has the commands run that still wait: at the end of the input, which is at
-    /// `offset`. Take no further page. The faults are those of `take_page`.
-    pub fn end<T: Runner, P: Write>(
-        &mut self,
-        runner: &mut T,
-        pages: &mut P,
-        offset: u64,
-    ) -> Result<Taken, RecordFault>
-        requires uncounted { (one : T) → T.counted one ≡ 0 }
-        ensures ends { (before : T.State) → T.is_in before runner.old → IfOk result (λ taken. (after : T.State) × T.is_in after runner.new
-            × Ends T.answers offset (state_of self.old) (state_of self.new) taken before after (P.contents pages.old) (P.contents pages.new)) }
-        ensures stops { (before : T.State) → T.is_in before runner.old → IfErr result (λ fault. (after : T.State) × T.is_in after runner.new
-            × StopsBy T.answers fault before after (P.contents pages.old) (P.contents pages.new)) }
-    {
-        let mut commands = Vec::new(self.alloc);
-        let mend = match self.mender.end(&mut self.gatherer, offset, &mut commands) {
-            Ok(mend) => mend,
-            Err(_) => return Err(RecordFault::Memory),
-        };
-        match run(
-            self.alloc,
-            &mut self.changes,
-            &mut self.begun,
-            runner,
-            pages,
-            commands,
-        ) {
-            Ok(answered) => Ok(Taken { mend, answered }),
-            Err(fault) => Err(fault),
-        }
-    }
-}
-
-/// Has commands run, changed as asked.
-fn run<T: Runner, P: Write>(
+/// Has commands run, changed as asked. After `Memory` none of them was; after `Write` a prefix of them was.
+pub(crate) fn run<T: Runner, P: Write>(
     alloc: Global,
     changes: &mut Changes,
     begun: &mut Begun,
@@ -147,6 +42,10 @@ fn run<T: Runner, P: Write>(
         × HasRun T.answers given answered before after (P.contents pages.old) (P.contents pages.new)) }
     ensures stops { (before : T.State) → T.is_in before runner.old → IfErr result (λ fault. (after : T.State) × T.is_in after runner.new
         × StopsBy T.answers fault before after (P.contents pages.old) (P.contents pages.new)) }
+    ensures unread { result ≢ Err RecordFault.Read }
+    // What a link begins with is copied, and memory of its own is made for what is changed. Nothing else takes any.
+    ensures memory { result ≡ Err RecordFault.Memory
+        → (list_any begins commands.items ≡ true) ⊎ (is_none changes.old.options ≡ false) }
 {
     match keep_all_streams(alloc, &mut begun.streams, commands.as_slice()) {
         Ok(()) => {}

@@ -1,30 +1,26 @@
 //! An input that is read and recorded, one step after the other.
-ghost use Rattle.std.specs.Prelude.{◌≡◌, ◌≢◌, ◌⊎◌, ◌<◌, [], ℕ, None, Some, Err, IfOk, IfErr, OnErr, true, false};
+ghost use Rattle.std.specs.Prelude.{◌≡◌, ◌≢◌, ◌⊎◌, [], None, Err, IfOk, IfErr, OnErr, true, false, vec_capacity};
 ghost use Rattle.std.specs.Io.KnownBytes.{Keeps};
 ghost use Rattle.ogg_page.specs.Reading.{page_at};
 ghost use Rattle.import_changes.specs.Changed.{HasChangedBeside};
 ghost use Rattle.import_mend.specs.Whole.{IsStart};
-ghost use Rattle.import_mend.specs.declared.mend.Mend.{Mend as MendOf};
 ghost use Rattle.import_record.specs.Begun.{none_begun};
 ghost use Rattle.import_record.specs.Resuming.{Resumes};
 ghost use Rattle.import_record.specs.Steps.{Ends, StopsBy, state_of};
-ghost use Rattle.import_record.specs.Reading.{HasTaken, Steps};
-ghost use Rattle.import_pages.specs.Reader.{ReadsOnce, started, unlent};
+ghost use Rattle.import_record.specs.Reading.{HasTaken, IsDue, LacksMemoryFor, Steps, TakesJunk, TellsJunk};
+ghost use Rattle.import_pages.specs.Reader.{HasReadCause, ReadsOnce, failed, started};
 
 use crate::Memory;
+use crate::begun::Begun;
 use crate::fault::RecordFault;
-use crate::intake::{Intake, Taken};
+use crate::intake::{Taken, run};
 use feed_replies::Reply;
 use feed_runner::Runner;
-use import_changes::ChangeOptions;
-use import_mend::Mend;
-use import_pages::{PageReader, PageReaderFault};
-use link_chain::StreamState;
-use ogg_command::Command;
+use import_changes::{ChangeOptions, Changes};
+use import_mend::{Import, Mend};
 use ogg_page::PageFault;
 use std::alloc::Global;
 use std::io::{Read, Write};
-use std::mem;
 
 /// What one step has done.
 #[derive(Clone, Copy, Debug, PartialEq, Eq)]
@@ -45,14 +41,15 @@ pub enum Step {
     },
 }
 
-/// An input that is recorded as it is read: the memory of what is read at once, and what the commands of the next
-/// pages depend on.
+/// An input that is recorded as it is read: its pages as they become commands, and what the commands of the next pages
+/// depend on.
 #[derive(Drop)]
 pub struct ImportRun {
-    pages: PageReader,
-    intake: Intake,
-    // how many bytes before the next page are of no page
-    junk: u64,
+    pub(crate) input: Import,
+    pub(crate) alloc: Global,
+    pub(crate) options: ChangeOptions,
+    pub(crate) changes: Changes,
+    pub(crate) begun: Begun,
 }
 
 impl ImportRun {
@@ -64,35 +61,39 @@ impl ImportRun {
         options: ChangeOptions,
         serials: &[u32],
     ) -> Result<ImportRun, Memory>
-        ensures pages { IfOk result (λ run. run.pages ≡ started) }
-        ensures start { IfOk result (λ run. IsStart (state_of run.intake).mending) }
-        ensures changes { IfOk result (λ run. HasChangedBeside serials.now run.intake.changes [] []) }
-        ensures options { IfOk result (λ run. (run.intake.options ≡ options) × (run.intake.changes.options ≡ options)) }
-        ensures begun { IfOk result (λ run. (state_of run.intake).begun ≡ none_begun) }
+        ensures pages { IfOk result (λ run. run.input.pages ≡ started) }
+        ensures junk { IfOk result (λ run. run.input.junk ≡ 0) }
+        ensures start { IfOk result (λ run. IsStart (state_of run).mending) }
+        ensures changes { IfOk result (λ run. HasChangedBeside serials.now run.changes [] []) }
+        ensures options { IfOk result (λ run. (run.options ≡ options) × (run.changes.options ≡ options)) }
+        ensures begun { IfOk result (λ run. (state_of run).begun ≡ none_begun) }
     {
-        let pages = PageReader::with_room(alloc, room)?;
-        let intake = Intake::new(alloc, options, serials)?;
+        let input = Import::with_room(alloc, room)?;
+        let mut changes = Changes::new(alloc, options);
+        changes.avoid(serials)?;
         Ok(ImportRun {
-            pages,
-            intake,
-            junk: 0,
+            input,
+            alloc,
+            options,
+            changes,
+            begun: Begun::new(alloc),
         })
     }
 
     /// The offset in the input of the first byte that is of no page taken so far.
     pub fn offset(&self) -> u64
-        ensures { result ≡ self.now.pages.offset }
+        ensures { result ≡ self.now.input.pages.offset }
     {
-        self.pages.offset()
+        self.input.offset()
     }
 
     /// Whether more of the input has to come before it is known what the next step takes: a page, bytes that are of no
     /// page, or the end. Otherwise the next step doesn't call its reader.
     pub fn waits(&self) -> bool
-        ensures yes { result ≡ true → page_at self.now.pages.unread ≡ Err PageFault.Short }
-        ensures no { result ≡ false → page_at self.now.pages.unread ≢ Err PageFault.Short }
+        ensures yes { result ≡ true → page_at self.now.input.pages.unread ≡ Err PageFault.Short }
+        ensures no { result ≡ false → page_at self.now.input.pages.unread ≢ Err PageFault.Short }
     {
-        self.pages.waits()
+        self.input.waits()
     }
 
     /// Reads once, as many bytes of the input as come at once and fit: as bytes that are pushed, if the reader is a
@@ -100,13 +101,13 @@ impl ImportRun {
     /// waits again; at the end of the input go on with them until `Ended`. After `Read` no byte was taken, and the call
     /// may be made again.
     pub fn read_once<R: Read>(&mut self, reader: &mut R) -> Result<usize, RecordFault>
-        requires waits { page_at self.old.pages.unread ≡ Err PageFault.Short }
-        ensures reads { IfOk result (λ count. ReadsOnce self.old.pages (R.remaining reader.old) count self.new.pages (R.remaining reader.new)) }
-        ensures same { (state_of self.new.intake ≡ state_of self.old.intake) × (self.new.junk ≡ self.old.junk) }
-        ensures err { OnErr result ((result ≡ Err RecordFault.Read) × (self.new.pages ≡ unlent self.old.pages)
+        requires waits { page_at self.old.input.pages.unread ≡ Err PageFault.Short }
+        ensures reads { IfOk result (λ count. ReadsOnce self.old.input.pages (R.remaining reader.old) count self.new.input.pages (R.remaining reader.new)) }
+        ensures same { (state_of self.new ≡ state_of self.old) × (self.new.input.junk ≡ self.old.input.junk) }
+        ensures err { OnErr result ((result ≡ Err RecordFault.Read) × (self.new.input.pages ≡ failed self.old.input.pages)
             × Keeps (R.remaining reader.old) (R.remaining reader.new)) }
     {
-        match self.pages.read_once(reader) {
+        match self.input.read_once(reader) {
             Ok(count) => Ok(count),
             Err(_) => Err(RecordFault::Read),
         }
@@ -122,24 +123,29 @@ impl ImportRun {
     ) -> Result<Step, RecordFault>
         requires uncounted { (one : T) → T.counted one ≡ 0 }
         // The input is waited for only while more of it is needed, and nothing waits for its group.
-        ensures needed { page_at self.old.pages.unread ≢ Err PageFault.Short → reader.new ≡ reader.old }
+        ensures needed { page_at self.old.input.pages.unread ≢ Err PageFault.Short → reader.new ≡ reader.old }
         ensures prompt { (before : T.State) → T.is_in before runner.old → (reader.new ≡ reader.old) ⊎ (T.held_in before ≡ 0) }
+        ensures due { (before : T.State) → T.is_in before runner.old → IfOk result (λ step.
+            IsDue step (T.held_in before) self.old.input.pages self.new.input.pages) }
         ensures steps { (before : T.State) → T.is_in before runner.old → IfOk result (λ step. (after : T.State) × T.is_in after runner.new
-            × Steps T.answers step self.old.pages (state_of self.old.intake) (R.remaining reader.old) (P.contents pages.old) before
-            self.new.pages (state_of self.new.intake) (R.remaining reader.new) (P.contents pages.new) after) }
+            × Steps T.answers step self.old.input.pages (state_of self.old) (R.remaining reader.old) (P.contents pages.old) before
+            self.new.input.pages (state_of self.new) (R.remaining reader.new) (P.contents pages.new) after) }
+        ensures junk { IfOk result (λ step. TellsJunk step self.old.input.pages (R.remaining reader.old) self.old.input.junk
+            self.new.input.pages (R.remaining reader.new) self.new.input.junk) }
         ensures stops { (before : T.State) → T.is_in before runner.old → IfErr result (λ fault. (after : T.State) × T.is_in after runner.new
             × StopsBy T.answers fault before after (P.contents pages.old) (P.contents pages.new)) }
+        // `Read` comes only if a read has failed, and `Memory` only if it was wanted.
+        ensures read { result ≡ Err RecordFault.Read → HasReadCause self.old.input.pages self.new.input.pages
+            × (state_of self.new ≡ state_of self.old) × (self.new.input.junk ≡ self.old.input.junk) }
+        ensures memory { result ≡ Err RecordFault.Memory → LacksMemoryFor self.old self.new (vec_capacity self.old.input.mender.room) }
     {
-        if self.pages.waits() && runner.waiting() > 0 {
+        if self.input.waits() && runner.waiting() > 0 {
             return Ok(Step::Flushed(runner.run_flush()));
         }
-        match self.pages.advance(reader) {
-            Ok(()) => self.take(runner, pages),
-            Err(PageReaderFault::Read) => Err(RecordFault::Read),
-            Err(PageReaderFault::Page(_)) => {
-                self.junk = self.junk.saturating_add(self.pages.pass_over() as u64);
-                Ok(Step::PassedOver)
-            }
+        match self.input.search(reader) {
+            Ok(true) => self.take(runner, pages),
+            Ok(false) => Ok(Step::PassedOver),
+            Err(_) => Err(RecordFault::Read),
         }
     }
 
@@ -151,43 +157,45 @@ impl ImportRun {
     ) -> Result<Step, RecordFault>
         requires uncounted { (one : T) → T.counted one ≡ 0 }
         ensures takes { (before : T.State) → T.is_in before runner.old → IfOk result (λ step. (after : T.State) × T.is_in after runner.new
-            × HasTaken T.answers step self.old.pages.lent (state_of self.old.intake) (P.contents pages.old) before (state_of self.new.intake) (P.contents pages.new) after) }
-        ensures same { self.new.pages ≡ self.old.pages }
+            × HasTaken T.answers step self.old.input.pages.lent (state_of self.old) (P.contents pages.old) before (state_of self.new) (P.contents pages.new) after) }
+        ensures same { self.new.input.pages ≡ self.old.input.pages }
+        ensures junk { IfOk result (λ step. TakesJunk step self.old.input.pages.offset self.old.input.junk self.new.input.junk) }
         ensures stops { (before : T.State) → T.is_in before runner.old → IfErr result (λ fault. (after : T.State) × T.is_in after runner.new
             × StopsBy T.answers fault before after (P.contents pages.old) (P.contents pages.new)) }
+        ensures unread { result ≢ Err RecordFault.Read }
+        ensures memory { result ≡ Err RecordFault.Memory → LacksMemoryFor self.old self.new (vec_capacity self.old.input.mender.room) }
     {
-        let junk = take_junk(&self.pages, &mut self.junk);
-        match self.pages.lent() {
-            Some((offset, page)) => {
-                let taken = self.intake.take_page(runner, pages, offset, &page)?;
-                Ok(Step::Page {
-                    offset,
-                    junk,
-                    taken,
-                })
-            }
-            None => Ok(Step::Ended { junk }),
+        let mut commands = Vec::new(self.alloc);
+        let found = match self.input.take(&mut commands) {
+            Ok(found) => found,
+            Err(_) => return Err(RecordFault::Memory),
+        };
+        let junk = found.junk;
+        if !found.is_page {
+            return Ok(Step::Ended { junk });
+        }
+        match run(
+            self.alloc,
+            &mut self.changes,
+            &mut self.begun,
+            runner,
+            pages,
+            commands,
+        ) {
+            Ok(answered) => Ok(Step::Page {
+                offset: found.offset,
+                junk,
+                taken: Taken {
+                    mend: found.mend,
+                    answered,
+                },
+            }),
+            Err(fault) => Err(fault),
         }
     }
 
-    /// The commands that are to be run before the next step, after the file was opened again, in which a fault of the
-    /// disk may have lost what waited. `streams` are those of the file's last link, and `serials` all that it has. If
-    /// the input's link isn't open there it begins again, without the streams that have ended, under serials that are
-    /// free; otherwise it goes on. Whatever else is open is ended. After `Memory` all is as before.
-    pub fn resume(
-        &mut self,
-        streams: &[StreamState],
-        serials: &[u32],
-    ) -> Result<Vec<Command>, Memory>
-        ensures resumes { IfOk result (λ commands.
-            Resumes streams.now serials.now (state_of self.old.intake) (state_of self.new.intake) commands.items) }
-        ensures same { (self.new.pages ≡ self.old.pages) × (self.new.junk ≡ self.old.junk) }
-        ensures err { OnErr result (state_of self.new.intake ≡ state_of self.old.intake) }
-    {
-        self.intake.resume(streams, serials)
-    }
-
-    /// Ends the streams that are open, and has the commands run that still wait for a header. Take no further step.
+    /// Ends the streams that are open, and has the commands run that still wait for a header: at the end of the input,
+    /// or after `Read`. Take no further step. After `Memory` nothing of them was run; after `Write` a prefix was.
     pub fn finish<T: Runner, P: Write>(
         &mut self,
         runner: &mut T,
@@ -195,31 +203,26 @@ impl ImportRun {
     ) -> Result<Taken, RecordFault>
         requires uncounted { (one : T) → T.counted one ≡ 0 }
         ensures ends { (before : T.State) → T.is_in before runner.old → IfOk result (λ taken. (after : T.State) × T.is_in after runner.new
-            × Ends T.answers self.old.pages.offset (state_of self.old.intake) (state_of self.new.intake) taken before after (P.contents pages.old) (P.contents pages.new)) }
+            × Ends T.answers self.old.input.pages.offset (state_of self.old) (state_of self.new) taken before after (P.contents pages.old) (P.contents pages.new)) }
         ensures stops { (before : T.State) → T.is_in before runner.old → IfErr result (λ fault. (after : T.State) × T.is_in after runner.new
             × StopsBy T.answers fault before after (P.contents pages.old) (P.contents pages.new)) }
+        ensures unread { result ≢ Err RecordFault.Read }
     {
-        let offset = self.pages.offset();
-        self.intake.end(runner, pages, offset)
+        let mut commands = Vec::new(self.alloc);
+        let mend = match self.input.finish(&mut commands) {
+            Ok(mend) => mend,
+            Err(_) => return Err(RecordFault::Memory),
+        };
+        match run(
+            self.alloc,
+            &mut self.changes,
+            &mut self.begun,
+            runner,
+            pages,
+            commands,
+        ) {
+            Ok(answered) => Ok(Taken { mend, answered }),
+            Err(fault) => Err(fault),
+        }
     }
-}
-
-/// What is told of the bytes before the page that was found. They count as told.
-fn take_junk(pages: &PageReader, junk: &mut u64) -> Option<Mend>
-    ensures none { junk.old ≡ 0 → result ≡ None }
-    ensures some { 0 < junk.old → (offset : ℕ) × (result ≡ Some (MendOf.Junk offset junk.old)) }
-    ensures told { junk.new ≡ 0 }
-{
-    let bytes = mem::take(junk);
-    if bytes == 0 {
-        return None;
-    }
-    let end = match pages.lent() {
-        Some((offset, _)) => offset,
-        None => pages.offset(),
-    };
-    Some(Mend::Junk {
-        offset: end.saturating_sub(bytes),
-        bytes,
-    })
 }

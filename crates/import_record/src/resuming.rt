@@ -9,7 +9,7 @@ ghost use Rattle.ogg_command.specs.declared.command.Command.{Command as CommandO
 
 use crate::Memory;
 use crate::begun::{all_bare, keep_all_open};
-use crate::intake::Intake;
+use crate::reading::ImportRun;
 use import_changes::{ChangeOptions, Changes};
 use link_chain::StreamState;
 use ogg_command::{Begin, Command, Listed, NewStream};
@@ -23,17 +23,19 @@ struct Again {
     ours: Vec<u32>,
 }
 
-impl Intake {
-    /// The commands that are to be run before the next page, after the file was opened again. `streams` are those of
-    /// its last link, and `serials` all that it has. If it has each stream open that the input has, only the others
-    /// are ended. Otherwise all that is open is ended, and if the input's link is open it begins again: with the
-    /// streams that are open, under serials that are free. After `Memory` all is as before.
+impl ImportRun {
+    /// The commands that are to be run before the next step, after the file was opened again, in which a fault of the
+    /// disk may have lost what waited. `streams` are those of its last link, and `serials` all that it has. If it has
+    /// each stream open that the input has, only the others are ended. Otherwise all that is open is ended, and if the
+    /// input's link is open it begins again: with the streams that are open, under serials that are free. After `Memory`
+    /// all is as before.
     pub fn resume(
         &mut self,
         streams: &[StreamState],
         serials: &[u32],
     ) -> Result<Vec<Command>, Memory>
         ensures resumes { IfOk result (λ commands. Resumes streams.now serials.now (state_of self.old) (state_of self.new) commands.items) }
+        ensures same { self.new.input ≡ self.old.input }
         ensures err { OnErr result (state_of self.new ≡ state_of self.old) }
     {
         let mut commands = Vec::new(self.alloc);

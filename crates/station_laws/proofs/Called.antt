@@ -52,7 +52,7 @@ module _ {D : Type 0} (model : DiskModel D) where
 
   -- a flush that is due is a step of the stream that takes nothing of it
   flushed : (reply : Reply) (air : OnAir) (before after : Progress D) → Answers model before Flush reply [] after
-      → IsStepped (AnswersOn model) [] (Flushed reply) air.import.pages.lent (input_of air.import) (input_of air.import) (file_in before) (file_in after)
+      → IsStepped (AnswersOn model) [] (Flushed reply) air.import.input.pages.lent (input_of air.import) (input_of air.import) (file_in before) (file_in after)
   flushed reply air before after answered = record {
     output = None;
     new_output = None;
@@ -110,7 +110,7 @@ module _ {D : Type 0} (model : DiskModel D) where
           file_in mid,
           stepped.keeps,
           needs,
-          stepped_on [] step source.import.pages.lent (input_of old.import) (input_of source.import) before mid stepped.takes.stepped,
+          stepped_on [] step source.import.input.pages.lent (input_of old.import) (input_of source.import) before mid stepped.takes.stepped,
           moved,
         ),
         fed,
@@ -178,7 +178,7 @@ module _ {D : Type 0} (model : DiskModel D) where
     (is.source, last, subst (λ (one : Option OnAir). TakesFromSource model Bytes old one live last) is.on_air is, (refl, refl)),
   )
 
-  pub stepped_once : (step : Step) (old : OnAir) (now : Option OnAir) (live last : LiveHub D) (machine : HubState) → NeedsNone step old.import.pages
+  pub stepped_once : (step : Step) (old : OnAir) (now : Option OnAir) (live last : LiveHub D) (machine : HubState) → NeedsNone step old.import.input.pages
       → Shows model live.hub machine → TakesFromSource model (Stepped step) old now live last
       → (new : OnAir) × (now ≡ Some new) × AreCalled model (Took step ∷ []) old new live last
   stepped_once step old now live last machine needs shows takes =
@@ -202,7 +202,7 @@ module _ {D : Type 0} (model : DiskModel D) where
     pub reached : HubState
     pub after : HubState
     pub finishes : Finishes (AnswersOn model) steps old (input_of between) start reached
-    pub ends : Ends (AnswersOn model) offset (state_of between.intake) (state_of run.intake) taken reached after None None
+    pub ends : Ends (AnswersOn model) offset (state_of between) (state_of run) taken reached after None None
 
   abbrev pub AtEnd : (offset : ℕ) (junk : Option Mend) (taken : Taken) → OnAir → LiveHub D → Type 0
   AtEnd offset junk taken air live = (before : Progress D) → IsIn model before live.hub → HasEnded model offset junk taken air before
@@ -217,7 +217,7 @@ module _ {D : Type 0} (model : DiskModel D) where
         reached = file_in by.reached;
         after = file_in is.after;
         finishes = (stepped_on [] (EndedStep junk) by.between.pages.lent (input_of air.import) (input_of by.between) before by.reached by.finds, refl);
-        ends = ends_on offset (state_of by.between.intake) (state_of is.run.intake) taken by.reached is.after None None by.ends;
+        ends = ends_on offset (state_of by.between) (state_of is.run) taken by.reached is.after None None by.ends;
       }
 
   started_at : (offset : ℕ) (junk : Option Mend) (taken : Taken) (air : OnAir) (other start : HubState) → other ≡ start
@@ -233,25 +233,25 @@ module _ {D : Type 0} (model : DiskModel D) where
   untaken (Flushed reply ∷ later) old next new start end same (one, mid, stepped, rest) = (
     one,
     mid,
-    subst (λ (run : ImportRun). IsStepped (AnswersOn model) [] (Flushed reply) one.import.pages.lent (input_of run) (input_of one.import) start mid) same stepped,
+    subst (λ (run : ImportRun). IsStepped (AnswersOn model) [] (Flushed reply) one.import.input.pages.lent (input_of run) (input_of one.import) start mid) same stepped,
     rest,
   )
   untaken (PassedOver ∷ later) old next new start end same (one, mid, stepped, rest) = (
     one,
     mid,
-    subst (λ (run : ImportRun). IsStepped (AnswersOn model) [] PassedOver one.import.pages.lent (input_of run) (input_of one.import) start mid) same stepped,
+    subst (λ (run : ImportRun). IsStepped (AnswersOn model) [] PassedOver one.import.input.pages.lent (input_of run) (input_of one.import) start mid) same stepped,
     rest,
   )
   untaken (Page offset junk taken ∷ later) old next new start end same (one, mid, stepped, rest) = (
     one,
     mid,
-    subst (λ (run : ImportRun). IsStepped (AnswersOn model) [] (Page offset junk taken) one.import.pages.lent (input_of run) (input_of one.import) start mid) same stepped,
+    subst (λ (run : ImportRun). IsStepped (AnswersOn model) [] (Page offset junk taken) one.import.input.pages.lent (input_of run) (input_of one.import) start mid) same stepped,
     rest,
   )
 
   -- one more step
   one_more : (step : Step) (later : List Step) (old next : OnAir) (new : InputState) (start mid end : HubState) → FindsNoEnd step
-      → IsStepped (AnswersOn model) [] step next.import.pages.lent (input_of old.import) (input_of next.import) start mid
+      → IsStepped (AnswersOn model) [] step next.import.input.pages.lent (input_of old.import) (input_of next.import) start mid
       → Finishes (AnswersOn model) later next new mid end → Finishes (AnswersOn model) (step ∷ later) old new start end
   one_more (EndedStep junk) later old next new start mid end none stepped rest = absurd none
   one_more (Flushed reply) later old next new start mid end some stepped rest = (next, mid, stepped, rest)
@@ -259,7 +259,7 @@ module _ {D : Type 0} (model : DiskModel D) where
   one_more (Page offset junk taken) later old next new start mid end some stepped rest = (next, mid, stepped, rest)
 
   stepped_then : (offset : ℕ) (junk : Option Mend) (taken : Taken) (step : Step) (old next : OnAir) (start mid : HubState) → FindsNoEnd step
-      → IsStepped (AnswersOn model) [] step next.import.pages.lent (input_of old.import) (input_of next.import) start mid
+      → IsStepped (AnswersOn model) [] step next.import.input.pages.lent (input_of old.import) (input_of next.import) start mid
       → HasFinished offset junk taken next mid → HasFinished offset junk taken old start
   stepped_then offset junk taken step old next start mid some stepped is = record {
     steps = step ∷ is.steps;
@@ -298,7 +298,7 @@ module _ {D : Type 0} (model : DiskModel D) where
       let source = stepped.source in
       let same : next ≡ source = same_air next source stepped.on_air in
       stepped_then offset junk taken step old source (file_of machine) (file_in stepped.after) some
-      (stepped_on [] step source.import.pages.lent (input_of old.import) (input_of source.import) before stepped.after stepped.takes.stepped)
+      (stepped_on [] step source.import.input.pages.lent (input_of old.import) (input_of source.import) before stepped.after stepped.takes.stepped)
       (finished later offset junk taken source mid between last stepped.after.machine
       (subst (λ (one : OnAir). AreLast model later one mid between last) same rest) ended stepped.reached.1)
   finished (Committed reply ∷ later) offset junk taken old mid live last machine (between, flushes, rest) ended shows =

@@ -71,7 +71,7 @@ module _ {D : Type 0} (model : DiskModel D) where
   AreCalled (WentOn ∷ later) old new live last =
       (next : OnAir) × (between : LiveHub D) × TakesFromSource model Bytes old (Some next) live between × AreCalled later next new between last
   AreCalled (Took step ∷ later) old new live last =
-      (next : OnAir) × (between : LiveHub D) × NeedsNone step old.import.pages × TakesFromSource model (Stepped step) old (Some next) live between
+      (next : OnAir) × (between : LiveHub D) × NeedsNone step old.import.input.pages × TakesFromSource model (Stepped step) old (Some next) live between
       × AreCalled later next new between last
   AreCalled (Committed reply ∷ later) old new live last =
       (between : LiveHub D) × HasFlushed model (Flushed reply) live between × AreCalled later old new between last
@@ -103,13 +103,13 @@ module _ {D : Type 0} (model : DiskModel D) where
     pub reached : HubState
     pub after : HubState
     pub imports : Imports AnswersOn bytes events (input_of old.import) found (file_of machine) reached
-    pub ends : Ends AnswersOn offset found.intake (state_of run.intake) taken reached after None None
+    pub ends : Ends AnswersOn offset found.intake (state_of run) taken reached after None None
     -- without a framing these are all bytes that came
     pub bytes_are : old.body ≡ None → rest_of old ++ came_in calls ≡ bytes ++ rest_of mid
     -- the pages that were taken are the good pages of these bytes
-    pub pages : old.import.pages.outcome ≡ None → old.import.pages.offset + length (old.import.pages.unread ++ bytes) < 2 ^ 64 - 1
-        → (rest : List ℕ) × AreGoodPages old.import.pages.offset (old.import.pages.unread ++ bytes) (pages_in events) rest × HoldsNone rest
+    pub pages : old.import.input.pages.outcome ≡ None → old.import.input.pages.offset + length (old.import.input.pages.unread ++ bytes) < 2 ^ 64 - 1
+        → (rest : List ℕ) × AreGoodPages old.import.input.pages.offset (old.import.input.pages.unread ++ bytes) (pages_in events) rest × HoldsNone rest
     -- Of a source that had just begun: its commands are those of the mended pages, under serials that are free.
     pub recorded : (options : ChangeOptions) (serials : List ℕ) → IsNew options serials old.import
-        → (done : Recording) × Records AnswersOn events (state_of old.import.intake) found.intake done (file_of machine) reached
+        → (done : Recording) × Records AnswersOn events (state_of old.import) found.intake done (file_of machine) reached
         × IsRecorded AnswersOn serials found.intake done (file_of machine) reached

@@ -78,8 +78,8 @@ pub fn stations_import_their_sources<D: Disk + Drop>()
         → (after : HubState) × Shows D.Disk last.hub after × (taken : List Call)
         × Feeds (AnswersOn D.Disk) taken (input_of old.import) (input_of new.import) (file_of machine) (file_of after)
         × (old.body ≡ None → (rest_of old ++ came_in calls ≡ bytes_in taken ++ rest_of new) × (new.body ≡ None))
-        × (old.import.pages.outcome ≡ None → old.import.pages.offset + length (old.import.pages.unread ++ bytes_in taken) < 2 ^ 64 - 1
-        → (rest : List ℕ) × AreGoodPages old.import.pages.offset (old.import.pages.unread ++ bytes_in taken) (pages_in (events_in taken)) rest) }
+        × (old.import.input.pages.outcome ≡ None → old.import.input.pages.offset + length (old.import.input.pages.unread ++ bytes_in taken) < 2 ^ 64 - 1
+        → (rest : List ℕ) × AreGoodPages old.import.input.pages.offset (old.import.input.pages.unread ++ bytes_in taken) (pages_in (events_in taken)) rest) }
     // So it is of a source that has come to its end.
     ensures ended { (calls last : List SourceCall) (old mid new : OnAirOf) (live between ending gone : LiveHubOf D) (next : Option OnAirOf)
         (machine : HubState) (offset : ℕ) (junk : Option MendOf) (taken : TakenOf)
@@ -99,7 +99,7 @@ pub fn stations_import_their_sources<D: Disk + Drop>()
     ensures passed { (old : OnAirOf) (now : Option OnAirOf) (live last : LiveHubOf D) → TakesFromSource D.Disk Done.Bytes old now live last
         → (new : OnAirOf) × (now ≡ Some new) × AreCalled D.Disk (SourceCall.WentOn ∷ []) old new live last }
     ensures stepped { (step : StepOf) (old : OnAirOf) (now : Option OnAirOf) (live last : LiveHubOf D) (machine : HubState)
-        → NeedsNone step old.import.pages → Shows D.Disk live.hub machine → TakesFromSource D.Disk (Done.Stepped step) old now live last
+        → NeedsNone step old.import.input.pages → Shows D.Disk live.hub machine → TakesFromSource D.Disk (Done.Stepped step) old now live last
         → (new : OnAirOf) × (now ≡ Some new) × AreCalled D.Disk (SourceCall.Took step ∷ []) old new live last }
 {
     sources_are_imported::<FileHub<D>>();

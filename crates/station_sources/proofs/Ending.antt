@@ -13,7 +13,7 @@ use Rattle.station_sources.specs.declared.air.Took.{Took}
 use Rattle.station_sources.specs.declared.air.Took.TheVariants.{Ended}
 
 -- a step needs no more bytes if it is known what comes next
-pub needs_none : (step : Step) (run : ImportRun) → page_at run.pages.unread ≢ Err Short → NeedsNone step run.pages
+pub needs_none : (step : Step) (run : ImportRun) → page_at run.input.pages.unread ≢ Err Short → NeedsNone step run.input.pages
 needs_none (Flushed reply) run known = tt
 needs_none PassedOver run known = known
 needs_none (Page offset junk taken) run known = known

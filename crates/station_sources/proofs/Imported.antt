@@ -108,7 +108,7 @@ module _ {S : Type 0} (answers : S → Record → Reply → List ℕ → S → T
       went_on (fed_in later) old next new before after goes (so_far later next new before after moves)
   so_far (Took step ∷ later) old new before after (next, mid, keeps, needs, stepped, moves) =
       let (calls, feeds, bytes_are) = so_far later next new mid after moves in (
-        Stepped step next.import.pages.lent ∷ calls,
+        Stepped step next.import.input.pages.lent ∷ calls,
         (input_of next.import, mid, [], needs, stepped, feeds),
         λ none.
             let rest = bytes_are (ap (λ (one : Look). one.body) keeps.seen ∙ none) in
@@ -123,13 +123,13 @@ module _ {S : Type 0} (answers : S → Record → Reply → List ℕ → S → T
   drains_of (Ended junk ∷ later) old new before after (stepped, none) = (Stepped (Ended junk) new.pages.lent ∷ [], (stepped, refl))
   drains_of (Flushed reply ∷ later) old new before after (next, mid, stepped, finishes) =
       let (calls, drains) = drains_of later next new mid after finishes in
-      (Stepped (Flushed reply) next.import.pages.lent ∷ calls, (input_of next.import, mid, stepped, drains))
+      (Stepped (Flushed reply) next.import.input.pages.lent ∷ calls, (input_of next.import, mid, stepped, drains))
   drains_of (PassedOver ∷ later) old new before after (next, mid, stepped, finishes) =
       let (calls, drains) = drains_of later next new mid after finishes in
-      (Stepped PassedOver next.import.pages.lent ∷ calls, (input_of next.import, mid, stepped, drains))
+      (Stepped PassedOver next.import.input.pages.lent ∷ calls, (input_of next.import, mid, stepped, drains))
   drains_of (Page offset junk taken ∷ later) old new before after (next, mid, stepped, finishes) =
       let (calls, drains) = drains_of later next new mid after finishes in
-      (Stepped (Page offset junk taken) next.import.pages.lent ∷ calls, (input_of next.import, mid, stepped, drains))
+      (Stepped (Page offset junk taken) next.import.input.pages.lent ∷ calls, (input_of next.import, mid, stepped, drains))
 
   pub all : (moves : List Move) (last : List Step) (old mid : OnAir) (new : InputState) (before between after : S)
       → Moves answers moves old mid before between → Finishes answers last mid new between after

@@ -17,7 +17,7 @@ pub record IsStarved (air : OnAir) : Type 0 where
   pub goes_on : air.ended ≡ false
   pub starved : air.starved ≡ true
   pub none : air.decoded ≡ 0
-  pub waits : page_at air.import.pages.unread ≡ Err Short
+  pub waits : page_at air.import.input.pages.unread ≡ Err Short
 
 -- who sends the stream that is recorded, if a source is on the air
 abbrev pub feeder_in : Option OnAir → Option Feeder

@@ -29,8 +29,8 @@ pub record IsFresh (options : ChangeOptions) (serials : List ℕ) (intake : Inta
 
 -- a stream of which no byte was read
 pub record IsNew (options : ChangeOptions) (serials : List ℕ) (run : ImportRun) : Type 0 where
-  pub unread : (run.pages.unread ≡ []) × (run.pages.offset ≡ 0) × (run.pages.outcome ≡ None)
-  pub fresh : IsFresh options serials (state_of run.intake)
+  pub unread : (run.input.pages.unread ≡ []) × (run.input.pages.offset ≡ 0) × (run.input.pages.outcome ≡ None)
+  pub fresh : IsFresh options serials (state_of run)
 
 -- No byte of the source has come. This one sends it, and its bytes have this framing, if they have one.
 pub record HasBegun (sender : Feeder) (framing : Option Body) (options : ChangeOptions) (serials : List ℕ) (air : OnAir) : Type 0 where
@@ -43,8 +43,8 @@ pub record HasBegun (sender : Feeder) (framing : Option Body) (options : ChangeO
 -- Its stream goes on in a file whose last link has these streams, and all of whose streams have these serials, once these
 -- commands are run there. Nothing of what came is taken meanwhile.
 pub record GoesOnIn (streams : List StreamState) (serials : List ℕ) (commands : List Command) (old new : OnAir) : Type 0 where
-  pub resumes : Resumes streams serials (state_of old.import.intake) (state_of new.import.intake) commands
-  pub pages : new.import.pages ≡ old.import.pages
+  pub resumes : Resumes streams serials (state_of old.import) (state_of new.import) commands
+  pub pages : new.import.input.pages ≡ old.import.input.pages
   pub same : new ≡ record old { import = new.import }
 
 module _ {S : Type 0} (answers : S → Record → Reply → List ℕ → S → Type 0) where

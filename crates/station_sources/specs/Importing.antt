@@ -44,8 +44,8 @@ module _ {S : Type 0} (answers : S → Record → Reply → List ℕ → S → T
   Moves (Noted ∷ later) old new before after = (next : OnAir) × IsUntaken old next × Moves later next new before after
   Moves (WentOn ∷ later) old new before after = (next : OnAir) × GoesOn old next × Moves later next new before after
   Moves (Took step ∷ later) old new before after =
-      (next : OnAir) × (mid : S) × KeepsBytes step old next × NeedsNone step old.import.pages
-      × IsStepped answers [] step next.import.pages.lent (input_of old.import) (input_of next.import) before mid × Moves later next new mid after
+      (next : OnAir) × (mid : S) × KeepsBytes step old next × NeedsNone step old.import.input.pages
+      × IsStepped answers [] step next.import.input.pages.lent (input_of old.import) (input_of next.import) before mid × Moves later next new mid after
 
   -- No more bytes come: steps were taken up to the one that found the end.
   abbrev pub Finishes : List Step → OnAir → InputState → S → S → Type 0
@@ -53,12 +53,12 @@ module _ {S : Type 0} (answers : S → Record → Reply → List ℕ → S → T
   Finishes (Ended junk ∷ later) old new before after =
       IsStepped answers [] (Ended junk) new.pages.lent (input_of old.import) new before after × (later ≡ [])
   Finishes (Flushed reply ∷ later) old new before after =
-      (next : OnAir) × (mid : S) × IsStepped answers [] (Flushed reply) next.import.pages.lent (input_of old.import) (input_of next.import) before mid
+      (next : OnAir) × (mid : S) × IsStepped answers [] (Flushed reply) next.import.input.pages.lent (input_of old.import) (input_of next.import) before mid
       × Finishes later next new mid after
   Finishes (PassedOver ∷ later) old new before after =
-      (next : OnAir) × (mid : S) × IsStepped answers [] PassedOver next.import.pages.lent (input_of old.import) (input_of next.import) before mid
+      (next : OnAir) × (mid : S) × IsStepped answers [] PassedOver next.import.input.pages.lent (input_of old.import) (input_of next.import) before mid
       × Finishes later next new mid after
   Finishes (Page offset junk taken ∷ later) old new before after =
       (next : OnAir) × (mid : S)
-      × IsStepped answers [] (Page offset junk taken) next.import.pages.lent (input_of old.import) (input_of next.import) before mid
+      × IsStepped answers [] (Page offset junk taken) next.import.input.pages.lent (input_of old.import) (input_of next.import) before mid
       × Finishes later next new mid after

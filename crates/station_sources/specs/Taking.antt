@@ -12,7 +12,7 @@ use Rattle.import_record.specs.declared.reading.Step.TheVariants.{Ended, Page}
 
 -- the stream as import_record sees it
 abbrev pub input_of : ImportRun → InputState
-input_of run = record { pages = run.pages; intake = state_of run.intake }
+input_of run = record { pages = run.input.pages; intake = state_of run }
 
 -- The first so many of these bytes, at least one, came to the stream.
 pub record PassesOn (bytes : List ℕ) (count : ℕ) (old new : ImportRun) : Type 0 where
@@ -43,7 +43,7 @@ module _ {S : Type 0} (answers : S → Record → Reply → List ℕ → S → T
     pub reached : S
     pub finds : IsStepped answers [] (Ended junk) between.pages.lent (input_of old) (input_of between) before reached
     pub offset_is : offset ≡ between.pages.offset
-    pub ends : Ends answers offset (state_of between.intake) (state_of new.intake) taken reached after None None
+    pub ends : Ends answers offset (state_of between) (state_of new) taken reached after None None
 
   -- That is so, and it needed no more bytes, or no more come.
   pub record TakesEnd (Over : Type 0) (offset : ℕ) (junk : Option Mend) (taken : Taken) (old new : ImportRun) (before after : S) : Type 0 where

@@ -236,7 +236,7 @@ impl OnAir {
 
     /// Passes decoded bytes on to the pages.
     fn pass_on(&mut self) -> Result<Took, RecordFault>
-        requires waits { page_at self.old.import.pages.unread ≡ Err Short }
+        requires waits { page_at self.old.import.input.pages.unread ≡ Err Short }
         requires some { 0 < self.old.decoded }
         ensures passes { IfOk result (λ took. (took ≡ Took.Bytes) × ((count : ℕ)
             × PassesOn (slice_range self.old.pending.items self.old.at (self.old.at + self.old.decoded)) count self.old.import self.new.import
@@ -263,7 +263,7 @@ impl OnAir {
         requires uncounted { (one : T) → T.counted one ≡ 0 }
         ensures steps { (before : T.State) (step : StepOf) → T.is_in before runner.old → result ≡ Ok (Took.Stepped step)
             → (after : T.State) × T.is_in after runner.new
-            × IsStepped T.answers [] step self.new.import.pages.lent (input_of self.old.import) (input_of self.new.import) before after }
+            × IsStepped T.answers [] step self.new.import.input.pages.lent (input_of self.old.import) (input_of self.new.import) before after }
         ensures ends { (before : T.State) (offset : ℕ) (junk : Option MendOf) (taken : TakenOf) → T.is_in before runner.old
             → result ≡ Ok (Took.Ended offset junk taken) → (after : T.State) × T.is_in after runner.new
             × HasEndedBy T.answers offset junk taken self.old.import self.new.import before after }

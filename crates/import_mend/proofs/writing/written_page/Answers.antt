@@ -1,4 +1,4 @@
-use Rattle.std.proofs.Common.{◌≡◌, ◌++◌, [], refl, sym, ◌∙◌, ap, subst, append-nil}
+use Rattle.std.proofs.Common.{[], refl, sym, ◌∙◌, ap, subst, append-nil}
 use Rattle.std.specs.Result.{IsOk}
 use Rattle.ogg_page.specs.Page.{page_bytes}
 use Rattle.ogg_page.specs.PageLaws.{one_page}

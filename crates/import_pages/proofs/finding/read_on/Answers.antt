@@ -5,7 +5,7 @@ use Rattle.import_pages.proofs.finding.read_on.Goals as goal
 
 pub returns-in-Err-2-clause-found : goal.returns-in-Err-2-clause-found
 returns-in-Err-2-clause-found g c =
-    let (was, short, size) = c.loop.invariant in
+    let (was, short, counted, size) = c.loop.invariant in
     let all = one_more _ _ _ _ _ _ _ _ _ was c.in-Ok.ensures.ok in
     record {
       taken = all.taken;
@@ -17,9 +17,10 @@ returns-in-Err-2-clause-found g c =
 
 pub loop-preserved : goal.loop-preserved
 loop-preserved g c =
-    let (was, short, size) = c.loop.invariant in
+    let (was, short, counted, size) = c.loop.invariant in
     let now = c.in-Err-size_in_front.ensures.found ∙ ap Err (c.if-is_short.ensures.short refl) in (
       reads_on _ _ _ _ _ _ _ _ _ _ was c.in-Ok.ensures.ok c.in-Ok.field-0-test.1 c.in-Ok.ensures.held c.in-Err-size_in_front.ensures.bytes now,
       now,
+      c.in-Ok.ensures.counted ∙ counted,
       c.in-Ok.ensures.size ∙ size,
     )

@@ -11,6 +11,6 @@ loop-command-preserved c =
     let i : ℕ = c.loop-command.command-index in
     let more : take (i + 1) commands ≡ take i commands ++ c.command-item.result ∷ [] =
     take_more commands i c.command-item.result c.loop-command-test.true ∙ ap (λ (x : Command). take i commands ++ x ∷ []) (sym c.command-item.is) in
-    c.in_ok-keep_streams.ensures
+    c.in_ok-keep_streams.ensures.streams
     ∙ ap (λ l. streams_with l c.command-item.result) c.loop-command.invariant
     ∙ sym (streams_more c.args.streams.now.items commands i c.command-item.result more)

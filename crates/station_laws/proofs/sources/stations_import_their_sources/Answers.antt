@@ -54,7 +54,7 @@ returns-clause-ended g c calls last old mid new live between ending gone next ma
           let (done, records) = good.records bytes events (input_of old.import) found (file_of machine) is.reached imports in (
             done,
             records,
-            c.recordings_are_runs_of_mended_commands.ensures.recorded events serials (state_of old.import.intake) found.intake done (file_of machine) is.reached
+            c.recordings_are_runs_of_mended_commands.ensures.recorded events serials (state_of old.import) found.intake done (file_of machine) is.reached
                 fresh.fresh.mending fresh.fresh.changes (all_go_on events imports.calls imports.last imports.events_are) records,
           );
     }

@@ -20,6 +20,7 @@ returns-in-Ok-Some-clause-gives g c = rw (← c.self.view_is) (λ none.
     let again : List ℕ = take c.self.inside.room.len (room ++ drop (length room) c.self.inside.room.items) in
     let same : again ≡ room = take_at room (drop (length room) c.self.inside.room.items) c.self.inside.room.len (c.find.auto.room ∙ c.deref_mut.ensures.len) in
     let found_here = finds_page _ _ _ _ _ _ c.in-Ok-Some.field-0-is found.found in
-    moved (held_of c.self.inside.room.items c.self.inside.held) c.self.inside.offset c.saturating_add-self-inside.result
-    (lent_of c.self.inside.room.items c.self.inside.lent) c.self.inside.outcome _ _ room again c.find.new.held c.in-Ok-Some.size none same found.held
+    moved (held_of c.self.inside.room.items c.self.inside.held) c.self.inside.offset c.saturating_add-self-inside.result c.self.inside.failures
+    c.find.new.failures
+    (lent_of c.self.inside.room.items c.self.inside.lent) c.self.inside.outcome _ _ room again c.find.new.held c.in-Ok-Some.size none found.counted same found.held
     (finds_from _ _ _ _ _ _ (ap (λ r. held_of r c.self.inside.held) c.deref_mut.ensures.value) found_here) c.saturating_add-self-inside.ensures)

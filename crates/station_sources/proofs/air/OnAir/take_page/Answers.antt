@@ -27,11 +27,11 @@ returns-in_ok-taken-in-Ok-Ended-clause-ends g c before offset junk taken is_in i
         finds = record {
           output = None;
           new_output = None;
-          steps = subst (λ (step : Step). Steps g.T.Runner.answers step old.pages (state_of old.intake) (Some []) None before between.pages (state_of between.intake) (Some []) None reached) c.in-Ok-Ended.field-0-is steps;
+          steps = subst (λ (step : Step). Steps g.T.Runner.answers step old.input.pages (state_of old) (Some []) None before between.input.pages (state_of between) (Some []) None reached) c.in-Ok-Ended.field-0-is steps;
           lent_is = refl;
         };
         offset_is = c.offset-offset.ensures;
-        ends = subst (λ (o : ℕ). Ends g.T.Runner.answers o (state_of between.intake) (state_of c.note.new.self.import.intake) c.in_ok-taken-in-Ok-Ended.taken reached after None None) (sym c.offset-offset.ensures)
-            (subst (λ (run : ImportRun). Ends g.T.Runner.answers between.pages.offset (state_of between.intake) (state_of run.intake) c.in_ok-taken-in-Ok-Ended.taken reached after None None) (sym (ap (λ (air : OnAir). air.import) c.note.ensures)) ends);
+        ends = subst (λ (o : ℕ). Ends g.T.Runner.answers o (state_of between) (state_of c.note.new.self.import) c.in_ok-taken-in-Ok-Ended.taken reached after None None) (sym c.offset-offset.ensures)
+            (subst (λ (run : ImportRun). Ends g.T.Runner.answers between.input.pages.offset (state_of between) (state_of run) c.in_ok-taken-in-Ok-Ended.taken reached after None None) (sym (ap (λ (air : OnAir). air.import) c.note.ensures)) ends);
       },
     )
