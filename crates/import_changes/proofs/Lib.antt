@@ -7,3 +7,4 @@ pub mod Begins
 pub mod Steps
 pub mod Own
 pub mod Low
+pub mod Moved

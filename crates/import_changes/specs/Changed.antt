@@ -24,6 +24,12 @@ IsChangedBeside taken options recording now = IsChangedIf (is_none options) take
 abbrev pub IsChanged : ChangeOptions → Recording → Recording → Type 0
 IsChanged options recording now = IsChangedBeside [] options recording now
 
+-- the command begins a link
+abbrev pub begins : Command → Bool
+begins (BeginOf begin) = true
+begins (PutOf put) = false
+begins (EndOf serial) = false
+
 -- A link is begun without a Skeleton: its packets would name serials.
 abbrev pub IsPlain : Command → Type 0
 IsPlain (BeginOf begin) = begin.skeleton ≡ None

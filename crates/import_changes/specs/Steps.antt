@@ -1,5 +1,5 @@
 -- What each command becomes. Ours.
-use Rattle.std.specs.Prelude.{◌≡◌, ℕ, Option, Some, None, List, [], ◌∷◌, ◌++◌, map, nat_eq}
+use Rattle.std.specs.Prelude.{slice_set, ◌≡◌, ℕ, Option, Some, None, List, [], ◌∷◌, ◌++◌, map, nat_eq}
 use Rattle.std.specs.List.{AllZip, IsDistinct}
 use Rattle.std.specs.Map.{keys_of, values_of}
 use Rattle.ogg_command.specs.declared.command.Command.{Command}
@@ -17,6 +17,11 @@ use Rattle.import_changes.specs.Skeletons.{made_for, said_in, staying}
 abbrev pub option_list : Option Command → List Command
 option_list None = []
 option_list (Some command) = command ∷ []
+
+-- the command, if there is one, stands at this place
+abbrev pub put_at : List Command → ℕ → Option Command → List Command
+put_at commands place None = commands
+put_at commands place (Some command) = slice_set commands place command
 
 -- a `Put` of these packets, if there are any
 abbrev pub put_of : List Entry → Option Command

@@ -1,10 +1,11 @@
 //! Commands changed one after the other.
-ghost use Rattle.std.specs.Prelude.{◌≡◌, ◌++◌, ◌∷◌, [], ℕ, List, true, false, map, Ok, Some, None, OnOk, OnErr, IfOk};
-ghost use Rattle.std.specs.List.{AllByRecursion};
+ghost use Rattle.std.specs.Prelude.{◌≡◌, ◌<◌, ◌+◌, ◌++◌, ◌∷◌, [], ℕ, List, true, false, map, Ok, Some, None, OnOk, OnErr, IfOk, length};
+ghost use Rattle.std.specs.List.{AllByRecursion, list_any};
 ghost use Rattle.ogg_command.specs.declared.command.Command.{Command as CommandOf};
-ghost use Rattle.import_changes.specs.Changed.{HasChanged, HasChangedBeside, IsPlain};
+ghost use Rattle.import_changes.specs.Changed.{HasChanged, HasChangedBeside, IsPlain, begins};
 ghost use Rattle.import_changes.specs.Naming.{entries_named, name_of};
 ghost use Rattle.import_changes.specs.Options.{is_none};
+ghost use Rattle.import_changes.specs.Steps.{option_list, put_at};
 
 use crate::describing::{all_described, head_said};
 use crate::naming::{free_serial, name_all, name_of};
@@ -13,8 +14,9 @@ use crate::renaming::{entries_named, give_all, give_with, streams_named, take_al
 use crate::skeletons::{made_for, staying};
 use link_chain::Serials;
 use ogg_command::{Begin, Command, Listed, Memory, NewStream, Put, SkeletonHead};
-use std::alloc::{AllocError, Global};
+use std::alloc::Global;
 use std::marker::Model;
+use std::mem;
 
 /// What is changed, and what must be known for that of the streams so far.
 #[derive(Debug, Drop)]
@@ -44,7 +46,7 @@ impl Model for Changes {
 impl Changes {
     ghost use Rattle.std.specs.Map.{values_of};
     ghost use Rattle.import_changes.specs.Naming.{IsLow};
-    ghost use Rattle.import_changes.specs.Steps.{AreNamedFor, Begins, BeginsDescribed, BeginsPlain, Names, end_of, option_list, put_of};
+    ghost use Rattle.import_changes.specs.Steps.{AreNamedFor, Begins, BeginsDescribed, BeginsPlain, Names, end_of, put_of};
 
     /// No commands yet. No memory is taken.
     pub fn new(alloc: Global, options: ChangeOptions) -> Changes
@@ -164,16 +166,16 @@ impl Changes {
     }
 
     /// The put with the packets that are of the last link's streams, if there are any.
-    fn put(&self, put: Put) -> Result<Option<Command>, Memory>
-        ensures { IfOk result (λ now. now ≡ put_of (entries_named self.now.names put.entries)) }
+    fn put(&self, put: Put) -> Option<Command>
+        ensures { result ≡ put_of (entries_named self.now.names put.entries) }
     {
-        let now = entries_named(self.alloc, self.names.as_slice(), put.entries.into_vec())?;
+        let now = entries_named(self.alloc, self.names.as_slice(), put.entries.into_vec());
         if now.is_empty() {
-            return Ok(None);
+            return None;
         }
-        Ok(Some(Command::Put(Put {
+        Some(Command::Put(Put {
             entries: Listed::of(now),
-        })))
+        }))
     }
 
     /// The end of the stream that had this serial, if the last link has it.
@@ -186,48 +188,64 @@ impl Changes {
         }
     }
 
-    /// The command that this one becomes, if it isn't left out. After `Memory` change no further command.
+    /// The command that this one becomes, if it isn't left out. Only a link's begin takes memory, and only if something
+    /// is changed. After `Memory` change no further command.
     pub fn change(&mut self, command: Command) -> Result<Option<Command>, Memory>
         ensures changed { IfOk result (λ now. (taken : List ℕ) (commands given : List CommandOf)
             → HasChangedBeside taken self.old commands given → IsPlain command
             → HasChangedBeside taken self.new (commands ++ command ∷ []) (given ++ option_list now)) }
         ensures options { self.new.options ≡ self.old.options }
         ensures same { is_none self.old.options ≡ true → result ≡ Ok (Some command) }
+        ensures full { OnErr result ((is_none self.old.options ≡ false) × (begins command ≡ true)) }
     {
         if self.options.is_none() {
             return Ok(Some(command));
         }
         match command {
             Command::Begin(begin) => self.begin(begin).map(Some),
-            Command::Put(put) => self.put(put),
+            Command::Put(put) => Ok(self.put(put)),
             Command::End(serial) => Ok(self.end(serial)),
         }
     }
 
-    /// The commands that these become. After `Memory`, which comes only if something is changed, change no further
-    /// command.
-    pub fn apply(&mut self, commands: Vec<Command>) -> Result<Vec<Command>, Memory>
+    /// The commands that these become, in the same memory. After `Memory`, which comes only if something is changed and
+    /// a link begins among them, change no further command.
+    pub fn apply(&mut self, mut commands: Vec<Command>) -> Result<Vec<Command>, Memory>
         ensures changed { IfOk result (λ now. (taken : List ℕ) (before given : List CommandOf)
             → HasChangedBeside taken self.old before given → AllByRecursion IsPlain commands.items
             → HasChangedBeside taken self.new (before ++ commands.items) (given ++ now.items)) }
         ensures options { self.new.options ≡ self.old.options }
         ensures same { is_none self.old.options ≡ true → IfOk result (λ now. now.items ≡ commands.items) }
-        ensures full { OnErr result (is_none self.old.options ≡ false) }
+        ensures full { OnErr result ((is_none self.old.options ≡ false) × (list_any begins commands.items ≡ true)) }
     {
         if self.options.is_none() {
             return Ok(commands);
         }
-        let mut now = Vec::new(self.alloc);
-        for command in commands {
+        let mut kept = 0;
+        for place in 0..commands.len() {
+            // What takes its place is never seen: no command becomes more than one.
+            let command = mem::replace(&mut commands[place], Command::End(0));
             match self.change(command) {
-                Ok(Some(changed)) => match now.push(changed) {
-                    Ok(()) => {}
-                    Err(_) => return Err(AllocError),
-                },
-                Ok(None) => {}
+                Ok(changed) => kept = put_back(&mut commands, kept, changed),
                 Err(refused) => return Err(refused),
             }
         }
-        Ok(now)
+        commands.truncate(kept);
+        Ok(commands)
+    }
+}
+
+/// Puts a command, if there is one, at this place. Returns the place of the next.
+fn put_back(commands: &mut Vec<Command>, place: usize, command: Option<Command>) -> usize
+    requires { place < length commands.old.items }
+    ensures items { commands.new.items ≡ put_at commands.old.items place command }
+    ensures next { result ≡ place + length (option_list command) }
+{
+    match command {
+        Some(command) => {
+            commands[place] = command;
+            place + 1
+        }
+        None => place,
     }
 }

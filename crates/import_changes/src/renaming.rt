@@ -5,8 +5,9 @@ ghost use Rattle.import_changes.specs.Naming.{entries_named, named, serials_of, 
 
 use crate::naming::name_of;
 use link_chain::Serials;
-use ogg_command::{Entry, Memory, NewStream};
+use ogg_command::{Entry, Listed, Memory, NewStream};
 use std::alloc::Global;
+use std::mem;
 
 /// The stream under the serial that it has now.
 pub fn stream_named(names: &[(u32, u32)], stream: NewStream) -> NewStream
@@ -40,26 +41,34 @@ pub fn streams_named(
     Ok(now)
 }
 
-/// The packets under the serials that their streams have now, without the packets that are of none of the streams.
-pub fn entries_named(
-    alloc: Global,
-    names: &[(u32, u32)],
-    entries: Vec<Entry>,
-) -> Result<Vec<Entry>, Memory>
-    ensures { IfOk result (λ now. now.items ≡ entries_named names.now entries.items) }
+/// The packets under the serials that their streams have now, without the packets that are of none of the streams, in
+/// the same memory.
+pub fn entries_named(alloc: Global, names: &[(u32, u32)], mut entries: Vec<Entry>) -> Vec<Entry>
+    ensures { result.items ≡ entries_named names.now entries.items }
 {
-    let mut now = Vec::new(alloc);
-    for entry in entries {
-        match name_of(names, entry.serial) {
-            Some(serial) => now.push(Entry {
+    let mut kept = 0;
+    for place in 0..entries.len() {
+        let entry = mem::replace(&mut entries[place], nothing(alloc));
+        if let Some(serial) = name_of(names, entry.serial) {
+            entries[kept] = Entry {
                 serial,
                 position: entry.position,
                 packet: entry.packet,
-            })?,
-            None => {}
+            };
+            kept += 1;
         }
     }
-    Ok(now)
+    entries.truncate(kept);
+    entries
+}
+
+/// What stands for an entry that was moved. It takes no memory.
+fn nothing(alloc: Global) -> Entry {
+    Entry {
+        serial: 0,
+        position: 0,
+        packet: Listed::of(Vec::new(alloc)),
+    }
 }
 
 /// Adds the serials of these streams to those that are taken, for which there is room.

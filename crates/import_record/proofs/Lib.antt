@@ -4,4 +4,3 @@ pub mod Pushed
 pub mod Pushes
 pub mod Kept
 pub mod Stepped
-mod Lacks

@@ -1,5 +1,5 @@
 -- The input's last link, as long as streams of it are open: what is kept of it, so that it can be begun again. Ours.
-use Rattle.std.specs.Prelude.{ℕ, Bool, true, false, not, nat_eq, pos, List, [], ◌∷◌, map}
+use Rattle.std.specs.Prelude.{ℕ, Bool, not, nat_eq, pos, List, [], ◌∷◌, map}
 use Rattle.std.specs.List.{filter}
 use Rattle.ogg_command.specs.declared.command.Command.{Command}
 use Rattle.ogg_command.specs.declared.command.Command.TheVariants.{Begin as BeginOf, Put as PutOf, End as EndOf}
@@ -31,12 +31,6 @@ bare stream =
       preroll = 0;
       shift = 0;
     }
-
--- the command begins a link
-abbrev pub begins : Command → Bool
-begins (BeginOf begin) = true
-begins (PutOf put) = false
-begins (EndOf serial) = false
 
 -- ---- after commands of the input
 abbrev pub is_not_of : ℕ → NewStream → Bool

@@ -1,6 +1,5 @@
 -- What a step over an input that is read does. Ours.
-use Rattle.std.specs.Prelude.{◌≡◌, ◌⊎◌, ℕ, ◌<◌, true, false, Option, Some, None, Ok, Err, List, [], ⊤}
-use Rattle.std.specs.List.{list_any}
+use Rattle.std.specs.Prelude.{◌≡◌, ◌⊎◌, ℕ, ◌<◌, Option, Some, None, Ok, Err, List, [], ⊤}
 use Rattle.ogg_page.specs.Window.{LentAt}
 use Rattle.feed_records.specs.declared.item.Record.{Record}
 use Rattle.feed_records.specs.declared.item.Record.TheVariants.{Flush}
@@ -13,10 +12,8 @@ use Rattle.import_mend.specs.Room.{LacksMemory}
 use Rattle.import_mend.specs.Whole.{TakesPage}
 use Rattle.import_mend.specs.declared.mend.Mend.{Mend}
 use Rattle.ogg_command.specs.declared.command.Command.{Command}
-use Rattle.import_changes.specs.Options.{is_none}
-use Rattle.import_record.specs.Begun.{begins}
 use Rattle.import_record.specs.Running.{plus}
-use Rattle.import_record.specs.Steps.{IntakeState, Takes, state_of}
+use Rattle.import_record.specs.Steps.{BeginsLink, IntakeState, Takes, state_of}
 use Rattle.import_record.specs.declared.reading.ImportRun.{ImportRun}
 use Rattle.import_record.specs.declared.reading.Step.{Step}
 use Rattle.import_record.specs.declared.reading.Step.TheVariants.{Flushed, PassedOver, Page, Ended}
@@ -70,11 +67,10 @@ TellsJunk (Page offset junk taken) old from before new left now = TakesJunk (Pag
 TellsJunk (Ended junk) old from before new left now = TakesJunk (Ended junk) new.offset before now
 
 -- ---- why memory is wanted
--- A growth of what is gathered was refused, or there was no room to make a page in. Or the page's commands, which are
--- changed, or begin a link, wanted memory of their own.
+-- A growth of what is gathered was refused, or there was no room to make a page in. Or the page's commands begin a link,
+-- which wants memory of its own.
 abbrev pub LacksMemoryFor : ImportRun → ImportRun → ℕ → Type 0
 LacksMemoryFor old new room =
     LacksMemory new.input.gatherer room
-    ⊎ (is_none old.changes.options ≡ false)
     ⊎ ((at : LentAt) × (mend : Option Mend) × (more : List Command)
-    × TakesPage at.0 at.1 (state_of old).mending (state_of new).mending mend more × (list_any begins more ≡ true))
+    × TakesPage at.0 at.1 (state_of old).mending (state_of new).mending mend more × BeginsLink old.changes new.changes more)

@@ -1,7 +1,8 @@
 //! The input's last link, as long as streams of it are open: what it takes to begin it again.
 ghost use Rattle.std.specs.Prelude.{◌≡◌, [], map, IfOk, OnErr, OnOk, true};
 ghost use Rattle.std.specs.List.{list_any};
-ghost use Rattle.import_record.specs.Begun.{bare, begins, open_after, open_with, serial_of, streams_after, streams_with};
+ghost use Rattle.import_changes.specs.Changed.{begins};
+ghost use Rattle.import_record.specs.Begun.{bare, open_after, open_with, serial_of, streams_after, streams_with};
 
 use crate::Memory;
 use ogg_command::{Command, Listed, NewStream};

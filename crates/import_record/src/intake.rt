@@ -1,11 +1,9 @@
 //! Commands that the input's pages complete: they are changed as asked, and run.
-ghost use Rattle.std.specs.Prelude.{◌≡◌, ◌≢◌, ◌⊎◌, Err, IfOk, IfErr, List, false, true};
-ghost use Rattle.std.specs.List.{list_any};
+ghost use Rattle.std.specs.Prelude.{◌≡◌, ◌≢◌, Err, IfOk, IfErr, List};
 ghost use Rattle.ogg_command.specs.declared.command.Command.{Command as CommandOf};
-ghost use Rattle.import_changes.specs.Options.{is_none};
-ghost use Rattle.import_record.specs.Begun.{begins, begun_after, begun_of};
+ghost use Rattle.import_record.specs.Begun.{begun_after, begun_of};
 ghost use Rattle.import_record.specs.Running.{HasRun};
-ghost use Rattle.import_record.specs.Steps.{Become, StopsBy};
+ghost use Rattle.import_record.specs.Steps.{Become, BeginsLink, StopsBy};
 
 use crate::answering::{Answered, run_all};
 use crate::begun::{Begun, keep_all_open, keep_all_streams};
@@ -43,9 +41,8 @@ pub(crate) fn run<T: Runner, P: Write>(
     ensures stops { (before : T.State) → T.is_in before runner.old → IfErr result (λ fault. (after : T.State) × T.is_in after runner.new
         × StopsBy T.answers fault before after (P.contents pages.old) (P.contents pages.new)) }
     ensures unread { result ≢ Err RecordFault.Read }
-    // What a link begins with is copied, and memory of its own is made for what is changed. Nothing else takes any.
-    ensures memory { result ≡ Err RecordFault.Memory
-        → (list_any begins commands.items ≡ true) ⊎ (is_none changes.old.options ≡ false) }
+    // Memory is taken for what a link begins with, and for nothing else.
+    ensures memory { result ≡ Err RecordFault.Memory → BeginsLink changes.old changes.new commands.items }
 {
     match keep_all_streams(alloc, &mut begun.streams, commands.as_slice()) {
         Ok(()) => {}

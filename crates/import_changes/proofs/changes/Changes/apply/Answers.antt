@@ -1,40 +1,52 @@
-use Rattle.std.proofs.Common.{sym, ◌∙◌, ap, ◌++◌, List, append-nil}
+use Rattle.std.proofs.Common.{◌≡◌, ◌+◌, ◌<◌, ◌++◌, ◌∷◌, [], ℕ, List, arith, refl, sym, ◌∙◌, ap, subst, take, length}
+use Rattle.std.specs.List.{AllByRecursion}
 use Rattle.ogg_command.specs.declared.command.Command.{Command}
-use Rattle.import_changes.specs.Changed.{ChangeState, IsPlain}
+use Rattle.import_changes.specs.Changed.{ChangeState, HasChangedBeside, IsPlain, begins}
 use Rattle.import_changes.specs.Options.{is_none}
 use Rattle.import_changes.specs.Steps.{option_list}
+use Rattle.import_changes.proofs.Moved.{Moved, as_moved, has_begin, itself, met, one_changed, stands}
 use Rattle.import_changes.proofs.Steps.{all_front, all_last, apply_step, same_commands}
 use Rattle.import_changes.proofs.changes.Changes.apply.Goals as goal
-
-pub loop-command-preserved-in-Ok : goal.loop-command-preserved-in-Ok
-loop-command-preserved-in-Ok c =
-    let yielded : List Command = c.loop-command.yielded in
-    let now : List Command = c.loop-command.now.items in
-    record {
-      changed = λ taken before given h plain.
-          apply_step taken c.change.new.self before yielded given now c.push.new.self.items c.in-Some.command c.in-Ok-Some.field-0
-          (c.in-Ok-Some.ensures.changed taken (before ++ yielded) (given ++ now)
-          (c.loop-command.invariant.changed taken before given h (all_front IsPlain yielded c.in-Some.command plain))
-          (all_last IsPlain yielded c.in-Some.command plain))
-          (c.in-Ok.ensures.items ∙ ap (λ o. now ++ option_list o) (sym c.in-Ok-Some.field-0-is));
-      options = c.change.ensures.options ∙ c.loop-command.invariant.options;
-    }
-
-pub loop-command-preserved : goal.loop-command-preserved
-loop-command-preserved c =
-    let yielded : List Command = c.loop-command.yielded in
-    let now : List Command = c.loop-command.now.items in
-    record {
-      changed = λ taken before given h plain.
-          apply_step taken c.change.new.self before yielded given now now c.in-Some.command c.in-Ok-None.field-0
-          (c.in-Ok-None.ensures.changed taken (before ++ yielded) (given ++ now)
-          (c.loop-command.invariant.changed taken before given h (all_front IsPlain yielded c.in-Some.command plain))
-          (all_last IsPlain yielded c.in-Some.command plain))
-          (sym (append-nil now) ∙ ap (λ o. now ++ option_list o) (sym c.in-Ok-None.field-0-is));
-      options = c.change.ensures.options ∙ c.loop-command.invariant.options;
-    }
 
 pub returns-then-is_none-clause-changed : goal.returns-then-is_none-clause-changed
 returns-then-is_none-clause-changed c = λ taken before given h plain.
     same_commands taken c.args.self.now before given c.args.commands.items
     (ap (λ (s : ChangeState). is_none s.options) (sym c.self.view_is) ∙ sym c.is_none.ensures ∙ c.if-is_none.true) h plain
+
+pub returns-in-Err-clause-full : goal.returns-in-Err-clause-full
+returns-in-Err-clause-full c =
+    let was : List Command = c.args.commands.items in
+    let place : ℕ = c.loop-place.place in
+    let inside : place < length was = omega (arith, c.loop-place-test.true, c.len-place-end.ensures, c.args.commands.ok.0) in (
+      ap is_none (sym c.loop-place.invariant.options) ∙ c.in-Err.ensures.full.0,
+      has_begin was place c.index_mut.result.now inside
+          (stands was _ _ place _ c.index_mut.result.now c.loop-place.invariant.moved ∙ sym c.index_mut.ensures.value)
+          (ap begins (sym c.replace-command.ensures.value) ∙ c.in-Err.ensures.full.1),
+    )
+
+pub loop-place-preserved : goal.loop-place-preserved
+loop-place-preserved c =
+    let was : List Command = c.args.commands.items in
+    let now : List Command = c.loop-place.commands.items in
+    let place : ℕ = c.loop-place.place in
+    let kept : ℕ = c.loop-place.kept in
+    let command : Command = c.replace-command.result in
+    let inv = c.loop-place.invariant in
+    let inside : place < length was = omega (arith, c.loop-place-test.true, c.len-place-end.ensures, c.args.commands.ok.0) in
+    let more : take (place + 1) was ≡ take place was ++ command ∷ [] =
+    met was now _ place kept _ inv.moved inside ∙ ap (λ x. take place was ++ x ∷ []) (sym (c.replace-command.ensures.value ∙ c.index_mut.ensures.value)) in
+    let after : Moved was c.put_back-kept.new.commands.items (take kept now ++ option_list c.in-Ok.changed) (place + 1) c.put_back-kept.result =
+    as_moved was _ _ _ _ _ _ _ c.put_back-kept.ensures.items refl c.put_back-kept.ensures.next
+    (one_changed was now (take kept now) place kept _ c.in-Ok.changed inv.moved inside) in
+    record {
+      changed = λ taken before given h plain.
+          let all : AllByRecursion IsPlain (take place was ++ command ∷ []) = subst (AllByRecursion IsPlain) more plain in
+          subst (λ l. HasChangedBeside taken c.change.new.self (before ++ l) (given ++ take c.put_back-kept.result c.put_back-kept.new.commands.items)) (sym more)
+          (apply_step taken c.change.new.self before (take place was) given (take kept now) (take c.put_back-kept.result c.put_back-kept.new.commands.items) command
+          c.in-Ok.changed
+          (c.in-Ok.ensures.changed taken (before ++ take place was) (given ++ take kept now)
+          (inv.changed taken before given h (all_front IsPlain (take place was) command all)) (all_last IsPlain (take place was) command all))
+          after.front);
+      moved = itself was _ _ (place + 1) _ after;
+      options = c.change.ensures.options ∙ inv.options;
+    }

@@ -1,9 +1,6 @@
-use Rattle.std.proofs.Common.{◌≡◌, [], ◌∷◌, ◌++◌, sym, ◌∙◌, ap, subst, Result, Ok, Err, Option, Some, IfOk, IsOkAnd, MatchResult}
-use Rattle.std.proofs.lemmas.Result.{IfOk-weaker}
-use Rattle.ogg_command.specs.declared.command.Command.TheVariants.{Put as PutOf}
-use Rattle.import_changes.specs.Changed.{HasChangedBeside, IsPlain, ChangeState}
+use Rattle.std.proofs.Common.{◌≡◌, sym, ◌∙◌, ap, subst, Result, Ok, Err, Option, Some, IfOk, IsOkAnd, MatchResult}
+use Rattle.import_changes.specs.Changed.{IsPlain, ChangeState}
 use Rattle.import_changes.specs.Options.{is_none}
-use Rattle.import_changes.specs.Steps.{option_list}
 use Rattle.import_changes.proofs.Steps.{begin_changed, put_changed, end_changed, same_command}
 use Rattle.import_changes.proofs.changes.Changes.change.Goals as goal
 
@@ -24,13 +21,10 @@ returns-in-Begin-clause-changed c =
     c.begin.ensures.begins
 
 pub returns-in-Put-clause-changed : goal.returns-in-Put-clause-changed
-returns-in-Put-clause-changed c =
-    IfOk-weaker c.put.result _ _
-    (λ now is taken commands given h plain. rw c.in-Put.is
-    (subst (λ o. HasChangedBeside taken c.args.self.now (commands ++ PutOf c.in-Put.put ∷ []) (given ++ option_list o)) (sym is)
+returns-in-Put-clause-changed c = λ taken commands given h plain.
+    rw (c.in-Put.is, c.put.ensures)
     (put_changed taken c.args.self.now c.in-Put.put commands given
-    (ap (λ (s : ChangeState). is_none s.options) (sym c.self.view_is) ∙ sym c.is_none.ensures ∙ c.if-is_none.false) h)))
-    c.put.ensures
+    (ap (λ (s : ChangeState). is_none s.options) (sym c.self.view_is) ∙ sym c.is_none.ensures ∙ c.if-is_none.false) h)
 
 pub returns-in-End-clause-changed : goal.returns-in-End-clause-changed
 returns-in-End-clause-changed c = λ taken commands given h plain.

@@ -1,18 +1,15 @@
-use Rattle.std.proofs.Common.{◌≡◌, ◌⊎◌, ◌++◌, ℕ, List, Result, Some, Err, refl, sym, ◌∙◌, ap, subst}
-use Rattle.std.specs.Prelude.{Bool, false, not, true, vec_capacity}
-use Rattle.std.specs.List.{list_any}
+use Rattle.std.proofs.Common.{◌≡◌, ◌++◌, ℕ, List, Result, Some, Err, refl, sym, ◌∙◌, ap, subst, inr}
+use Rattle.std.specs.Prelude.{Bool, false, not, true}
 use Rattle.ogg_command.specs.declared.command.Command.{Command}
-use Rattle.import_changes.specs.Options.{is_none}
 use Rattle.import_pages.specs.Reader.{ReaderState}
 use Rattle.import_mend.specs.Found.{offset_found}
 use Rattle.import_mend.specs.Importing.{mending_of}
 use Rattle.import_mend.specs.Whole.{TakesPage}
-use Rattle.import_record.specs.Begun.{begins, begun_after, begun_of}
-use Rattle.import_record.specs.Steps.{Become}
+use Rattle.import_record.specs.Begun.{begun_after, begun_of}
+use Rattle.import_record.specs.Steps.{Become, BeginsLink}
 use Rattle.import_record.specs.declared.fault.RecordFault.{RecordFault}
 use Rattle.import_record.specs.declared.fault.RecordFault.TheVariants.{Memory}
 use Rattle.import_record.specs.declared.reading.Step.{Step}
-use Rattle.import_record.proofs.Lacks.{lacks_for}
 use Rattle.import_record.proofs.reading.ImportRun.take.Goals as goal
 
 is_a_page : (is_page : Bool) → not is_page ≡ false → is_page ≡ true
@@ -53,6 +50,10 @@ returns-in-Err-run-clause-memory g c = λ is.
     let (more, appended, step) = c.in-Ok.ensures.steps in
     let (offset, page, is_page, lent, takes) = step.0 (is_a_page c.in-Ok.found.is_page c.if-not-found.false) in
     let all : c.take.new.commands.items ≡ more = appended ∙ ap (λ (l : List Command). l ++ more) c.new-commands.ensures.items in
-    lacks_for c.args.self.now (record c.args.self.now { input = c.take.new.self; changes = c.run.new.changes; begun = c.run.new.begun })
-    (vec_capacity c.args.self.now.input.mender.room) (offset, page) c.in-Ok.found.mend more takes
-    (subst (λ (l : List Command). (list_any begins l ≡ true) ⊎ (is_none c.args.self.now.changes.options ≡ false)) all (c.in-Err-run.ensures.memory (ap Err (err_is c.in-Err-run.fault is))))
+    inr (
+      (offset, page),
+      c.in-Ok.found.mend,
+      more,
+      takes,
+      subst (BeginsLink c.args.self.now.changes c.run.new.changes) all (c.in-Err-run.ensures.memory (ap Err (err_is c.in-Err-run.fault is))),
+    )
