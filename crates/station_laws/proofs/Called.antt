@@ -216,7 +216,7 @@ module _ {D : Type 0} (model : DiskModel D) where
         run = is.run;
         reached = file_in by.reached;
         after = file_in is.after;
-        finishes = (stepped_on [] (EndedStep junk) by.between.pages.lent (input_of air.import) (input_of by.between) before by.reached by.finds, refl);
+        finishes = (stepped_on [] (EndedStep junk) by.between.input.pages.lent (input_of air.import) (input_of by.between) before by.reached by.finds, refl);
         ends = ends_on offset (state_of by.between) (state_of is.run) taken by.reached is.after None None by.ends;
       }
 

@@ -19,7 +19,7 @@ pub record PassesOn (bytes : List ℕ) (count : ℕ) (old new : ImportRun) : Typ
   pub some : 0 < count
   pub within : count ≤ length bytes
   pub comes : Comes (take count bytes) (input_of old) (input_of new)
-  pub junk : new.junk ≡ old.junk
+  pub junk : new.input.junk ≡ old.input.junk
 
 -- All that came of a source is taken, and no more comes: whether it has ended, whether what is left of it says nothing
 -- before more bytes come, and how many bytes are known to be of the stream.
@@ -34,18 +34,18 @@ loses step = false
 module _ {S : Type 0} (answers : S → Record → Reply → List ℕ → S → Type 0) where
   -- A step was taken of what had come to the stream. It needed no more bytes, or no more come.
   pub record TakesStep (Over : Type 0) (step : Step) (old new : ImportRun) (before after : S) : Type 0 where
-    pub needs : NeedsNone step old.pages ⊎ Over
-    pub stepped : IsStepped answers [] step new.pages.lent (input_of old) (input_of new) before after
+    pub needs : NeedsNone step old.input.pages ⊎ Over
+    pub stepped : IsStepped answers [] step new.input.pages.lent (input_of old) (input_of new) before after
 
   -- A step found the end of the stream, at this offset, and what was open of it was ended.
   pub record HasEndedBy (offset : ℕ) (junk : Option Mend) (taken : Taken) (old new : ImportRun) (before after : S) : Type 0 where
     pub between : ImportRun
     pub reached : S
-    pub finds : IsStepped answers [] (Ended junk) between.pages.lent (input_of old) (input_of between) before reached
-    pub offset_is : offset ≡ between.pages.offset
+    pub finds : IsStepped answers [] (Ended junk) between.input.pages.lent (input_of old) (input_of between) before reached
+    pub offset_is : offset ≡ between.input.pages.offset
     pub ends : Ends answers offset (state_of between) (state_of new) taken reached after None None
 
   -- That is so, and it needed no more bytes, or no more come.
   pub record TakesEnd (Over : Type 0) (offset : ℕ) (junk : Option Mend) (taken : Taken) (old new : ImportRun) (before after : S) : Type 0 where
-    pub needs : NeedsNone (Ended junk) old.pages ⊎ Over
+    pub needs : NeedsNone (Ended junk) old.input.pages ⊎ Over
     pub ended : HasEndedBy offset junk taken old new before after
