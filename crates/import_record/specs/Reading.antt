@@ -8,6 +8,7 @@ use Rattle.ogg_page.specs.Reading.{page_at}
 use Rattle.ogg_page.specs.declared.fault.PageFault.TheVariants.{Short}
 use Rattle.import_pages.specs.Reader.{GoesOn, HasAdvanced, ReaderState}
 use Rattle.import_mend.specs.Found.{PassesOne, junk_before}
+use Rattle.import_mend.specs.Gives.{GivesEnd}
 use Rattle.import_mend.specs.Room.{LacksMemory}
 use Rattle.import_mend.specs.Whole.{TakesPage}
 use Rattle.import_mend.specs.declared.mend.Mend.{Mend}
@@ -74,3 +75,9 @@ LacksMemoryFor old new room =
     LacksMemory new.input.gatherer room
     ⊎ ((at : LentAt) × (mend : Option Mend) × (more : List Command)
     × TakesPage at.0 at.1 (state_of old).mending (state_of new).mending mend more × BeginsLink old.changes new.changes more)
+
+-- the same of the commands that end what is open, and of those that waited
+abbrev pub LacksMemoryAtEnd : ImportRun → ImportRun → ℕ → Type 0
+LacksMemoryAtEnd old new room =
+    LacksMemory new.input.gatherer room
+    ⊎ ((more : List Command) × GivesEnd old.input.gatherer new.input.gatherer more × BeginsLink old.changes new.changes more)

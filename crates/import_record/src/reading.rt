@@ -7,7 +7,7 @@ ghost use Rattle.import_mend.specs.Whole.{IsStart};
 ghost use Rattle.import_record.specs.Begun.{none_begun};
 ghost use Rattle.import_record.specs.Resuming.{Resumes};
 ghost use Rattle.import_record.specs.Steps.{Ends, StopsBy, state_of};
-ghost use Rattle.import_record.specs.Reading.{HasTaken, IsDue, LacksMemoryFor, Steps, TakesJunk, TellsJunk};
+ghost use Rattle.import_record.specs.Reading.{HasTaken, IsDue, LacksMemoryAtEnd, LacksMemoryFor, Steps, TakesJunk, TellsJunk};
 ghost use Rattle.import_pages.specs.Reader.{HasReadCause, ReadsOnce, failed, started};
 
 use crate::Memory;
@@ -207,6 +207,7 @@ impl ImportRun {
         ensures stops { (before : T.State) → T.is_in before runner.old → IfErr result (λ fault. (after : T.State) × T.is_in after runner.new
             × StopsBy T.answers fault before after (P.contents pages.old) (P.contents pages.new)) }
         ensures unread { result ≢ Err RecordFault.Read }
+        ensures memory { result ≡ Err RecordFault.Memory → LacksMemoryAtEnd self.old self.new (vec_capacity self.old.input.mender.room) }
     {
         let mut commands = Vec::new(self.alloc);
         let mend = match self.input.finish(&mut commands) {
