@@ -1,5 +1,5 @@
 -- Lines of times: what is known of when the bytes of a file were committed. Ours.
-use Rattle.std.specs.Prelude.{◌≡◌, ◌≢◌, ℕ, ◌^◌, ◌<◌, ◌≤◌, Bool, not, ◌==◌, List, [], ◌∷◌, ◌++◌, ⊤, codes, Option, Some, None}
+use Rattle.std.specs.Prelude.{◌≡◌, ◌≢◌, ℕ, ◌^◌, ◌<◌, ◌≤◌, Bool, not, ◌==◌, List, [], ◌∷◌, ◌++◌, ⊤, codes, Option, Some, None, if◌then◌else◌}
 use Rattle.std.specs.Fmt.{decimal}
 use Rattle.std.specs.List.{list_all}
 use Rattle.archive_times.specs.declared.line.Join.{Join}
@@ -20,6 +20,11 @@ times_text (line ∷ lines) = line_text line ++ times_text lines
 
 abbrev pub has_no_line_feed : List ℕ → Bool
 has_no_line_feed text = list_all (λ byte. not (byte == 10)) text
+
+-- what follows the first line feed
+abbrev pub behind_feed : List ℕ → List ℕ
+behind_feed [] = []
+behind_feed (byte ∷ text) = if byte == 10 then text else behind_feed text
 
 -- a link that is open begins no later than its Begin ends, and that is committed
 abbrev pub IsJoin : ℕ → Option Join → Type 0

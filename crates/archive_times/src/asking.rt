@@ -7,7 +7,7 @@ ghost use Rattle.archive_times.specs.declared.line.Line.{Line as LineOf};
 use crate::line::Line;
 use crate::reading::next_line;
 
-/// Whether a line is to be written, by what the clock said when the last one was and what it says now, in milliseconds.
+/// Whether a line is to be written, by what the clock said at the last one and what it says now, in milliseconds.
 pub fn is_due(written: Option<u64>, now: u64) -> bool
     ensures { IsTrue result ↔ IsDue written now }
 {

@@ -1,14 +1,15 @@
 //! Lines of times: so many bytes of a file were committed at this time, and there the link that was open is joined.
 //!
 //! A file of an archive has its lines beside it, in `.times`. Offsets rise, and times never fall. They are advice:
-//! whatever the bytes are, reading takes the lines at their front, and ends where one isn't a line, doesn't follow the
-//! one before, or speaks of bytes that aren't committed. `line_at` finds the last line that isn't later than a time; what
-//! was committed between two lines has the time of the second.
+//! whatever the bytes are, reading takes the lines at their front, and ends where one isn't a line, doesn't follow
+//! the one before, or speaks of bytes that aren't committed. `line_at` finds the last line that isn't later than a
+//! time; what was committed between two lines has the time of the second.
 //!
-//! A long text is read piece by piece: `next_line` and `last_line` go on after any line. Nothing here takes memory or
-//! asks a clock.
+//! A long text is read piece by piece: `next_line` and `last_line` go on after any line, and `after_line_feed` finds
+//! where a line begins in the end of a text. Nothing here takes memory or asks a clock.
 //!
-//! Start at `specs/Times.antt`, which says what lines are, and at `specs/Asked.antt`, which says what is asked of them.
+//! Start at `specs/Times.antt`, which says what lines are, and at `specs/Asked.antt`, which says what is asked of
+//! them.
 #![tactic(auto)]
 
 mod asking;
@@ -19,4 +20,4 @@ mod reading;
 pub use asking::{is_due, line_at};
 pub use laws::{lines_are_known_by_their_text, the_place_of_a_time};
 pub use line::{Join, LONGEST_LINE, Line};
-pub use reading::{last_line, next_line, number_at_front};
+pub use reading::{after_line_feed, last_line, next_line, number_at_front};

@@ -2,7 +2,7 @@
 ghost use Rattle.std.specs.Prelude.{◌≡◌, ◌<◌, ◌≤◌, ◌↔◌, ◌++◌, ℕ, List, IfSome, IsTrue, length};
 ghost use Rattle.std.specs.Option.{IsSomeAnd};
 ghost use Rattle.archive_times.specs.Reading.{line_read, join_read, number_on};
-ghost use Rattle.archive_times.specs.Times.{AreLinesOf, Follows, IsJoin, IsNext, last_of, line_text};
+ghost use Rattle.archive_times.specs.Times.{AreLinesOf, Follows, IsNext, behind_feed, last_of, line_text};
 ghost use Rattle.archive_times.specs.declared.line.Line.{Line as LineOf};
 
 use crate::line::{Join, Line, is_join};
@@ -87,4 +87,16 @@ pub fn last_line(text: &[u8], last: Option<Line>, committed: u64) -> (Option<Lin
         rest = after;
     }
     (last, rest)
+}
+
+/// What follows the first line feed.
+pub fn after_line_feed(text: &[u8]) -> &[u8]
+    ensures { result.now ≡ behind_feed text.now }
+{
+    for (at, byte) in text.iter().enumerate() {
+        if *byte == b'\n' {
+            return &text[at + 1..];
+        }
+    }
+    &[]
 }
