@@ -1,8 +1,8 @@
 //! A time that a person asks for.
-ghost use Rattle.std.specs.Prelude.{◌≡◌, ◌≢◌, ◌∷◌, ◌+◌, ◌*◌, ℕ, List, ℤ, Err, IfSome, None, Ok, Some, slice_index};
+ghost use Rattle.std.specs.Prelude.{◌≡◌, ◌≢◌, ◌∷◌, ◌+◌, ◌*◌, ℕ, List, ℤ, Err, IfSome, MatchOption, None, Ok, Some, slice_index};
 ghost use Rattle.jiff.specs.Words.{datetime_parts, parse_timestamp, plain_zone};
 ghost use Rattle.jiff_core.specs.declared.error.Error.{Error as ErrorOf};
-ghost use Rattle.archive_clock.specs.Asked.{IsShown, lacks_offset, millisecond_of};
+ghost use Rattle.archive_clock.specs.Asked.{IsNotShown, IsShown, lacks_offset, millisecond_of};
 ghost use Rattle.archive_clock.specs.Span.{IsSpan};
 
 use crate::span::read_back;
@@ -23,29 +23,30 @@ fn millisecond_of(instant: Timestamp) -> Option<u64>
 
 /// The time of a text without an offset, as a clock of this zone shows it.
 fn read_local(text: &str, zone: &TimeZone) -> Option<u64>
-    ensures { IfSome result (IsShown (plain_zone zone.now) text.now) }
+    ensures { MatchOption result (IsNotShown (plain_zone zone.now) text.now) (IsShown (plain_zone zone.now) text.now) }
 {
     // The name of another zone isn't looked up.
     if text.as_bytes().contains(&b'[') {
         return None;
     }
-    let Ok(datetime) = text.parse::<DateTime>() else {
-        return None;
-    };
-    match zone.to_timestamp(datetime) {
-        Ok(instant) => millisecond_of(instant),
+    match text.parse::<DateTime>() {
+        Ok(datetime) => match zone.to_timestamp(datetime) {
+            Ok(instant) => millisecond_of(instant),
+            Err(_) => None,
+        },
         Err(_) => None,
     }
 }
 
-/// A time in milliseconds since 1970: an RFC 3339 text, the same without an offset in this zone, or a span back from now.
+/// A time in milliseconds since 1970: an RFC 3339 text, the same without an offset in this zone, or a span back from
+/// now.
 pub fn read_time(text: &str, now: u64, zone: &TimeZone) -> Option<u64>
     ensures instant { (nanosecond : ℤ) → slice_index text.now 0 ≢ 45 → parse_timestamp text.now ≡ Ok nanosecond
         → result ≡ millisecond_of nanosecond }
     ensures refused { (error : ErrorOf) → slice_index text.now 0 ≢ 45 → parse_timestamp text.now ≡ Err error
         → error ≢ lacks_offset → result ≡ None }
     ensures local { slice_index text.now 0 ≢ 45 → parse_timestamp text.now ≡ Err lacks_offset
-        → IfSome result (IsShown (plain_zone zone.now) text.now) }
+        → MatchOption result (IsNotShown (plain_zone zone.now) text.now) (IsShown (plain_zone zone.now) text.now) }
     ensures back { (span : List ℕ) (seconds time : ℕ) → text.now ≡ 45 ∷ span → IsSpan span seconds
         → time + seconds * 1000 ≡ now → result ≡ Some time }
     ensures only { (span : List ℕ) → text.now ≡ 45 ∷ span

@@ -43,8 +43,8 @@ fn text_of(time: u64) -> [u8; 24]
     )
 }
 
-/// Puts a time in front of a line, as RFC 3339 in UTC with milliseconds. What lies past the year 9999 is told as its last
-/// millisecond.
+/// Puts a time in front of a line, as RFC 3339 in UTC with milliseconds. What lies past the year 9999 is told as its
+/// last millisecond.
 pub fn put_time(line: &mut Line, time: u64)
     requires { 24 ≤ line.old.room }
     ensures text { (told : List ℕ) × IsTimeText time told × (line.new.text ≡ told ++ line.old.text) }
