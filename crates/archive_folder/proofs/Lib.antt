@@ -1,0 +1,4 @@
+mod Lists
+mod Slots
+mod Moments
+pub mod Sorted

@@ -1,0 +1,9 @@
+pub mod Names
+pub mod Clock
+pub mod NamesLaws
+pub mod Calls
+pub mod Slots
+pub mod MemFolder
+pub mod FileFolder
+pub mod Fuse
+pub mod FuseFolder
