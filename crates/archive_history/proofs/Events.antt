@@ -1,0 +1,322 @@
+-- What the folder's calls say of its names, as events.
+use Rattle.std.specs.Prelude.{◌≡◌, ◌⊎◌, ℕ, ◌<◌, ◌==◌, Bool, true, false, if◌then◌else◌, List, [], ◌∷◌, ◌++◌, Option, None, Some, refl}
+use Rattle.std.proofs.Common.{⊎_elim, sym, ◌∙◌, ap, subst, arith}
+use Rattle.std.proofs.lemmas.List.{append-nil}
+use Rattle.std.proofs.lemmas.Bool.Decides.{nat_tests}
+use Rattle.archive_folder.specs.declared.names.Name.{Name}
+use Rattle.archive_folder.specs.declared.names.Fate.{Fate}
+use Rattle.archive_folder.specs.declared.names.Fate.TheVariants.{Stays, Comes, Goes}
+use Rattle.archive_folder.specs.Names.{name, MayLack, IsLeft, listed, listed_one, made, with_fate, removed, synced, synced_one, restarted, AreAbove, AreRising}
+use Rattle.archive_folder.specs.Clock.{MayHaveMade, MayHaveRemoved}
+use Rattle.disk_model.specs.Image.{DiskState, IsImage, IsSettled}
+use Rattle.disk_model.specs.Torn.{settled_image}
+use Rattle.history.specs.World.{World, start}
+use Rattle.archive_history.specs.History.{IsOnly}
+use Rattle.archive_history.specs.Archive.{File, There, Left, Gone, Content, commands_in, Newest, Archive, archive, names_of, recorded_names, newest_names, names, Making, Throwing, begun_by, thrown_one, thrown, MayBecome, FilesResolve, NewestResolves, Resolves, shut}
+
+may_stay : (fate : Fate) → MayBecome fate Stays
+may_stay Stays = tt
+may_stay Comes = tt
+may_stay Goes = tt
+
+-- a making
+pub making : {C : Type 0} (a : Archive C) (n : ℕ) → a.newest ≡ None → names (begun_by a (Making n)) ≡ made n (names a)
+making {C} a n none =
+    ap (λ (ns : List Name). ns ++ name n Comes ∷ []) (sym (append-nil (names_of a.ended)) ∙ ap (λ (newest : Option (Newest C)). names_of a.ended ++ newest_names newest) (sym none))
+
+-- what a stop makes of the account
+record After {C : Type 0} (files : List (File C)) (newest : Option (Newest C)) (names : List Name) : Type 0 where
+  others : List (File C)
+  other : Option (Newest C)
+  are : FilesResolve files others
+  is : NewestResolves newest other
+  same : names_of others ++ newest_names other ≡ names
+
+gone : {C : Type 0} (is_thrown : Bool) (n : Name) (bytes : List ℕ) (commands : List C) (files : List (File C)) (newest : Option (Newest C)) (ns : List Name) → MayLack n.fate → After files newest ns → After (There is_thrown n bytes commands ∷ files) newest ns
+gone is_thrown n bytes commands files newest ns may after =
+    record { others = Gone commands ∷ after.others; other = after.other; are = (may, refl, after.are); is = after.is; same = after.same }
+
+still_there : {C : Type 0} (is_thrown : Bool) (n : Name) (bytes : List ℕ) (commands : List C) (files : List (File C)) (newest : Option (Newest C)) (m : ℕ) (ns : List Name) → m ≡ n.number → After files newest ns
+    → After (There is_thrown n bytes commands ∷ files) newest (name m Stays ∷ ns)
+still_there is_thrown n bytes commands files newest m ns same after = record {
+  others = There is_thrown (name m Stays) bytes commands ∷ after.others;
+  other = after.other;
+  are = (refl, same, may_stay n.fate, refl, refl, after.are);
+  is = after.is;
+  same = ap (λ (l : List Name). name m Stays ∷ l) after.same;
+}
+
+gone_left : {C : Type 0} (n : Name) (content : Content C) (files : List (File C)) (newest : Option (Newest C)) (ns : List Name) → MayLack n.fate → After files newest ns → After (Left n content ∷ files) newest ns
+gone_left n content files newest ns may after =
+    record { others = Gone (commands_in content) ∷ after.others; other = after.other; are = (may, refl, after.are); is = after.is; same = after.same }
+
+left_there : {C : Type 0} (n : Name) (content : Content C) (files : List (File C)) (newest : Option (Newest C)) (m : ℕ) (ns : List Name) → m ≡ n.number → After files newest ns
+    → After (Left n content ∷ files) newest (name m Stays ∷ ns)
+left_there n content files newest m ns same after = record {
+  others = Left (name m Stays) content ∷ after.others;
+  other = after.other;
+  are = (same, may_stay n.fate, refl, after.are);
+  is = after.is;
+  same = ap (λ (l : List Name). name m Stays ∷ l) after.same;
+}
+
+newest_after : {C : Type 0} (newest : Option (Newest C)) (left : List ℕ) → IsLeft (newest_names newest) left → After [] newest (restarted left)
+newest_after None [] is = record { others = []; other = None; are = tt; is = tt; same = refl }
+newest_after None (n ∷ left) is = absurd is
+newest_after (Some file) [] is = record { others = []; other = None; are = tt; is = is.0; same = refl }
+newest_after (Some file) (n ∷ []) is = ⊎_elim
+    (λ here. record { others = []; other = Some (record { name = name n Stays; world = file.world }); are = tt; is = (here.0, may_stay file.name.fate, refl); same = refl })
+    (λ later. absurd later.1) is
+newest_after (Some file) (n ∷ m ∷ left) is = ⊎_elim (λ here. absurd here.1) (λ later. absurd later.1) is
+
+files_after : {C : Type 0} (files : List (File C)) (newest : Option (Newest C)) (left : List ℕ) → IsLeft (names_of files ++ newest_names newest) left → After files newest (restarted left)
+files_after [] newest left is = newest_after newest left is
+files_after (Gone commands ∷ files) newest left is =
+    let after : After files newest (restarted left) = files_after files newest left is in
+    record { others = Gone commands ∷ after.others; other = after.other; are = (refl, after.are); is = after.is; same = after.same }
+files_after (Left n content ∷ files) newest [] is = gone_left n content files newest [] is.0 (files_after files newest [] is.1)
+files_after (Left n content ∷ files) newest (m ∷ left) is = ⊎_elim
+    (λ here. left_there n content files newest m (restarted left) here.0 (files_after files newest left here.1))
+    (λ later. gone_left n content files newest (restarted (m ∷ left)) later.0 (files_after files newest (m ∷ left) later.1))
+    is
+files_after (There is_thrown n bytes commands ∷ files) newest [] is = gone is_thrown n bytes commands files newest [] is.0 (files_after files newest [] is.1)
+files_after (There is_thrown n bytes commands ∷ files) newest (m ∷ left) is = ⊎_elim
+    (λ here. still_there is_thrown n bytes commands files newest m (restarted left) here.0 (files_after files newest left here.1))
+    (λ later. gone is_thrown n bytes commands files newest (restarted (m ∷ left)) later.0 (files_after files newest (m ∷ left) later.1))
+    is
+
+-- a stop
+stopped : {C : Type 0} (a : Archive C) (left : List ℕ) → IsLeft (names a) left → (b : Archive C) × Resolves a b × (names b ≡ restarted left)
+stopped a left is =
+    let after : After a.ended a.newest (restarted left) = files_after a.ended a.newest left is in
+    (archive after.others after.other, (after.are, after.is), after.same)
+
+-- a sync
+synced_newest : {C : Type 0} (newest : Option (Newest C)) → After [] newest (synced (newest_names newest))
+synced_newest None = record { others = []; other = None; are = tt; is = tt; same = refl }
+synced_newest {C} (Some file) = one file.name.number file.name.fate file.world
+  where
+    one : (n : ℕ) (fate : Fate) (world : World C) → After [] (Some (record { name = name n fate; world = world })) (synced_one n fate ++ [])
+    one n Stays world = record { others = []; other = Some (record { name = name n Stays; world = world }); are = tt; is = (refl, tt, refl); same = refl }
+    one n Comes world = record { others = []; other = Some (record { name = name n Stays; world = world }); are = tt; is = (refl, tt, refl); same = refl }
+    one n Goes world = record { others = []; other = None; are = tt; is = tt; same = refl }
+
+synced_files : {C : Type 0} (files : List (File C)) (newest : Option (Newest C)) → After files newest (synced (names_of files ++ newest_names newest))
+synced_files [] newest = synced_newest newest
+synced_files (Gone commands ∷ files) newest =
+    let after : After files newest (synced (names_of files ++ newest_names newest)) = synced_files files newest in
+    record { others = Gone commands ∷ after.others; other = after.other; are = (refl, after.are); is = after.is; same = after.same }
+synced_files (Left n content ∷ files) newest = one n.number n.fate (synced_files files newest)
+  where
+    one : (m : ℕ) (fate : Fate) → After files newest (synced (names_of files ++ newest_names newest)) → After (Left (name m fate) content ∷ files) newest (synced_one m fate ++ synced (names_of files ++ newest_names newest))
+    one m Stays after = left_there (name m Stays) content files newest m (synced (names_of files ++ newest_names newest)) refl after
+    one m Comes after = left_there (name m Comes) content files newest m (synced (names_of files ++ newest_names newest)) refl after
+    one m Goes after = gone_left (name m Goes) content files newest (synced (names_of files ++ newest_names newest)) tt after
+synced_files {C} (There is_thrown n bytes commands ∷ files) newest = one n.number n.fate (synced_files files newest)
+  where
+    one : (m : ℕ) (fate : Fate) → After files newest (synced (names_of files ++ newest_names newest)) → After (There is_thrown (name m fate) bytes commands ∷ files) newest (synced_one m fate ++ synced (names_of files ++ newest_names newest))
+    one m Stays after = still_there is_thrown (name m Stays) bytes commands files newest m (synced (names_of files ++ newest_names newest)) refl after
+    one m Comes after = still_there is_thrown (name m Comes) bytes commands files newest m (synced (names_of files ++ newest_names newest)) refl after
+    one m Goes after = gone is_thrown (name m Goes) bytes commands files newest (synced (names_of files ++ newest_names newest)) tt after
+
+pub syncing : {C : Type 0} (a : Archive C) → (b : Archive C) × Resolves a b × (names b ≡ synced (names a))
+syncing a =
+    let after : After a.ended a.newest (synced (names a)) = synced_files a.ended a.newest in
+    (archive after.others after.other, (after.are, after.is), after.same)
+
+-- a stop shuts the newest file
+shut_names : {C : Type 0} (ended : List (File C)) (newest : Option (Newest C)) → names (archive ended newest) ≡ names (shut (archive ended newest))
+shut_names ended None = refl
+shut_names ended (Some file) = refl
+
+pub stopping : {C : Type 0} (a : Archive C) (left : List ℕ) → IsLeft (names a) left → (b : Archive C) × Resolves (shut a) b × (names b ≡ restarted left)
+stopping a left is = stopped (shut a) left (subst (λ (ns : List Name). IsLeft ns left) (shut_names a.ended a.newest) is)
+
+-- the removal of the oldest file
+above_listed : (m n : ℕ) (ns : List Name) (rest : List ℕ) → AreAbove m ns → listed ns ≡ n ∷ rest → m < n
+above_listed m n [] rest above is = absurd (never n rest is)
+  where
+    never : (n : ℕ) (rest : List ℕ) → [] ≡ n ∷ rest → ⊥
+    never n rest is = cc
+above_listed m n (first ∷ ns) rest above is = one first.number first.fate above.0 (above_listed first.number n ns rest above.1) is
+  where
+    one : (k : ℕ) (fate : Fate) → m < k → (listed ns ≡ n ∷ rest → k < n) → listed_one k fate ++ listed ns ≡ n ∷ rest → m < n
+    one k Stays less later is = let same : k ≡ n = cc in omega (arith, less, same)
+    one k Comes less later is = let same : k ≡ n = cc in omega (arith, less, same)
+    one k Goes less later is = omega (arith, less, later is)
+
+rising_tail : (first : Name) (ns : List Name) → AreRising (first ∷ ns) → AreRising ns
+rising_tail first [] rising = tt
+rising_tail first (second ∷ ns) rising = rising.1
+
+above_front : (m : ℕ) (ns more : List Name) → AreAbove m (ns ++ more) → AreAbove m ns
+above_front m [] more above = tt
+above_front m (first ∷ ns) more above = (above.0, above_front first.number ns more above.1)
+
+same_test : (m n : ℕ) → m ≡ n → (m == n) ≡ true
+same_test m n same = grind (arith, nat_tests)
+
+below_test : (m n : ℕ) → m < n → (m == n) ≡ false
+below_test m n less = grind (arith, nat_tests)
+
+removed_here : (m n : ℕ) (fate : Fate) (ns : List Name) → m ≡ n → name m Goes ∷ ns ≡ removed n (name m fate ∷ ns)
+removed_here m n fate ns same = ap (λ (b : Bool). if b then name m Goes ∷ ns else name m fate ∷ with_fate n Goes ns) (sym (same_test m n same))
+
+removed_later : (m n : ℕ) (fate : Fate) (ns after : List Name) → m < n → after ≡ removed n ns → name m fate ∷ after ≡ removed n (name m fate ∷ ns)
+removed_later m n fate ns after less is =
+    ap (λ (l : List Name). name m fate ∷ l) is ∙ ap (λ (b : Bool). if b then name m Goes ∷ ns else name m fate ∷ with_fate n Goes ns) (sym (below_test m n less))
+
+above_lower : (m k : ℕ) (ns : List Name) → m < k → AreAbove k ns → AreAbove m ns
+above_lower m k [] less above = tt
+above_lower m k (next ∷ ns) less above = (omega (arith, less, above.0), above.1)
+
+above_recorded : {C : Type 0} (m : ℕ) (files : List (File C)) → AreAbove m (names_of files) → AreAbove m (recorded_names files)
+above_recorded m [] above = tt
+above_recorded m (Gone commands ∷ files) above = above_recorded m files above
+above_recorded m (Left first content ∷ files) above = above_lower m first.number (recorded_names files) above.0 (above_recorded first.number files above.1)
+above_recorded m (There is_thrown first bytes commands ∷ files) above = (above.0, above_recorded first.number files above.1)
+
+throw_files : {C : Type 0} (files : List (File C)) (more : List Name) (n : ℕ) (rest : List ℕ) → AreRising (names_of files ++ more) → listed (recorded_names files) ≡ n ∷ rest
+    → names_of (thrown files) ++ more ≡ removed n (names_of files ++ more)
+throw_files [] more n rest rising is = absurd (never n rest is)
+  where
+    never : (n : ℕ) (rest : List ℕ) → [] ≡ n ∷ rest → ⊥
+    never n rest is = cc
+throw_files (Gone commands ∷ files) more n rest rising is = throw_files files more n rest rising is
+throw_files (Left first content ∷ files) more n rest rising is =
+    removed_later first.number n first.fate (names_of files ++ more) (names_of (thrown files) ++ more)
+    (above_listed first.number n (recorded_names files) rest (above_recorded first.number files (above_front first.number (names_of files) more rising)) is)
+    (throw_files files more n rest (rising_tail first (names_of files ++ more) rising) is)
+throw_files {C} (There is_thrown first bytes commands ∷ files) more n rest rising is =
+    one first.number first.fate rising (throw_files files more n rest (rising_tail first (names_of files ++ more) rising)) is
+  where
+    one : (m : ℕ) (fate : Fate) → AreAbove m (names_of files ++ more) → (listed (recorded_names files) ≡ n ∷ rest → names_of (thrown files) ++ more ≡ removed n (names_of files ++ more))
+        → listed_one m fate ++ listed (recorded_names files) ≡ n ∷ rest
+        → names_of (thrown_one m fate bytes commands files (thrown files)) ++ more ≡ removed n (name m fate ∷ (names_of files ++ more))
+    one m Stays above later is = let same : m ≡ n = cc in removed_here m n Stays (names_of files ++ more) same
+    one m Comes above later is = let same : m ≡ n = cc in removed_here m n Comes (names_of files ++ more) same
+    one m Goes above later is =
+        removed_later m n Goes (names_of files ++ more) (names_of (thrown files) ++ more) (above_listed m n (recorded_names files) rest (above_recorded m files (above_front m (names_of files) more above)) is) (later is)
+
+pub throwing : {C : Type 0} (a : Archive C) (n : ℕ) (rest : List ℕ) → AreRising (names a) → listed (recorded_names a.ended) ≡ n ∷ rest → names (begun_by a Throwing) ≡ removed n (names a)
+throwing a n rest rising is = throw_files a.ended (newest_names a.newest) n rest rising is
+
+may_same : (fate : Fate) → MayBecome fate fate
+may_same Stays = tt
+may_same Comes = tt
+may_same Goes = tt
+
+pub same_files : {C : Type 0} (files : List (File C)) → FilesResolve files files
+same_files [] = tt
+same_files (Gone commands ∷ files) = (refl, same_files files)
+same_files (Left ns content ∷ files) = (refl, may_same ns.fate, refl, same_files files)
+same_files (There is_thrown ns bytes commands ∷ files) = (refl, refl, may_same ns.fate, refl, refl, same_files files)
+
+-- a making that failed: nothing was made, or the name is there, or it may come back
+pub failed_making : {C : Type 0} (a : Archive C) (n : ℕ) (new : List Name) → a.newest ≡ None → (new ≡ names a) ⊎ MayHaveMade n (names a) new
+    → (b : Archive C) × Resolves (begun_by a (Making n)) b × (new ≡ names b)
+failed_making {C} a n new none is =
+    let before : names a ≡ names_of a.ended ++ [] = ap (λ (newest : Option (Newest C)). names_of a.ended ++ newest_names newest) none in
+    ⊎_elim
+    (λ same. (archive a.ended None, (same_files a.ended, tt), same ∙ before))
+    (λ may. ⊎_elim
+    (λ there. (begun_by a (Making n), (same_files a.ended, (refl, tt, refl)), there ∙ sym (making a n none)))
+    (λ goes. (
+      archive a.ended (Some (record { name = name n Goes; world = start })),
+      (same_files a.ended, (refl, tt, refl)),
+      goes ∙ ap (λ (ns : List Name). ns ++ name n Goes ∷ []) (before ∙ append-nil (names_of a.ended)),
+    ))
+    may)
+    is
+
+-- a removal that failed: the name is there as before, or is in doubt
+record Thrown {C : Type 0} (files : List (File C)) (more names : List Name) : Type 0 where
+  others : List (File C)
+  are : FilesResolve (thrown files) others
+  same : names_of others ++ more ≡ names
+
+thrown_again : {C : Type 0} (files : List (File C)) (more : List Name) → Thrown files more (names_of files ++ more)
+thrown_again [] more = record { others = []; are = tt; same = refl }
+thrown_again (Gone commands ∷ files) more =
+    let rest : Thrown files more (names_of files ++ more) = thrown_again files more in
+    record { others = Gone commands ∷ rest.others; are = (refl, rest.are); same = rest.same }
+thrown_again (Left n content ∷ files) more =
+    let rest : Thrown files more (names_of files ++ more) = thrown_again files more in
+    record { others = Left n content ∷ rest.others; are = (refl, may_same n.fate, refl, rest.are); same = ap (λ (l : List Name). n ∷ l) rest.same }
+thrown_again {C} (There is_thrown n bytes commands ∷ files) more = one n.number n.fate (thrown_again files more)
+  where
+    one : (m : ℕ) (fate : Fate) → Thrown files more (names_of files ++ more) → Thrown (There is_thrown (name m fate) bytes commands ∷ files) more (name m fate ∷ (names_of files ++ more))
+    one m Stays rest = record { others = There true (name m Stays) bytes commands ∷ files; are = (refl, refl, tt, refl, refl, same_files files); same = refl }
+    one m Comes rest = record { others = There true (name m Comes) bytes commands ∷ files; are = (refl, refl, tt, refl, refl, same_files files); same = refl }
+    one m Goes rest = record { others = There true (name m Goes) bytes commands ∷ rest.others; are = (refl, refl, tt, refl, refl, rest.are); same = ap (λ (l : List Name). name m Goes ∷ l) rest.same }
+
+fated_here : (m n : ℕ) (fate other : Fate) (ns : List Name) → m ≡ n → name m fate ∷ ns ≡ with_fate n fate (name m other ∷ ns)
+fated_here m n fate other ns same = ap (λ (b : Bool). if b then name m fate ∷ ns else name m other ∷ with_fate n fate ns) (sym (same_test m n same))
+
+fated_later : (m n : ℕ) (fate other : Fate) (ns after : List Name) → m < n → after ≡ with_fate n fate ns → name m other ∷ after ≡ with_fate n fate (name m other ∷ ns)
+fated_later m n fate other ns after less is =
+    ap (λ (l : List Name). name m other ∷ l) is ∙ ap (λ (b : Bool). if b then name m fate ∷ ns else name m other ∷ with_fate n fate ns) (sym (below_test m n less))
+
+thrown_as : {C : Type 0} (files : List (File C)) (more : List Name) (n : ℕ) (fate : Fate) (rest : List ℕ) → AreRising (names_of files ++ more) → listed (recorded_names files) ≡ n ∷ rest
+    → Thrown files more (with_fate n fate (names_of files ++ more))
+thrown_as [] more n fate rest rising is = absurd (never n rest is)
+  where
+    never : (n : ℕ) (rest : List ℕ) → [] ≡ n ∷ rest → ⊥
+    never n rest is = cc
+thrown_as (Gone commands ∷ files) more n fate rest rising is =
+    let later : Thrown files more (with_fate n fate (names_of files ++ more)) = thrown_as files more n fate rest rising is in
+    record { others = Gone commands ∷ later.others; are = (refl, later.are); same = later.same }
+thrown_as (Left first content ∷ files) more n fate rest rising is =
+    let later : Thrown files more (with_fate n fate (names_of files ++ more)) = thrown_as files more n fate rest (rising_tail first (names_of files ++ more) rising) is in
+    let less : first.number < n = above_listed first.number n (recorded_names files) rest (above_recorded first.number files (above_front first.number (names_of files) more rising)) is in
+    record {
+      others = Left first content ∷ later.others;
+      are = (refl, may_same first.fate, refl, later.are);
+      same = fated_later first.number n fate first.fate (names_of files ++ more) (names_of later.others ++ more) less later.same;
+    }
+thrown_as {C} (There is_thrown first bytes commands ∷ files) more n fate rest rising is =
+    one first.number first.fate rising (thrown_as files more n fate rest (rising_tail first (names_of files ++ more) rising)) is
+  where
+    one : (m : ℕ) (old : Fate) → AreAbove m (names_of files ++ more) → (listed (recorded_names files) ≡ n ∷ rest → Thrown files more (with_fate n fate (names_of files ++ more)))
+        → listed_one m old ++ listed (recorded_names files) ≡ n ∷ rest
+        → Thrown (There is_thrown (name m old) bytes commands ∷ files) more (with_fate n fate (name m old ∷ (names_of files ++ more)))
+    one m Stays above later is =
+        let same : m ≡ n = cc in
+        record { others = There true (name m fate) bytes commands ∷ files; are = (refl, refl, tt, refl, refl, same_files files); same = fated_here m n fate Stays (names_of files ++ more) same }
+    one m Comes above later is =
+        let same : m ≡ n = cc in
+        record { others = There true (name m fate) bytes commands ∷ files; are = (refl, refl, tt, refl, refl, same_files files); same = fated_here m n fate Comes (names_of files ++ more) same }
+    one m Goes above later is =
+        let on : Thrown files more (with_fate n fate (names_of files ++ more)) = later is in
+        let less : m < n = above_listed m n (recorded_names files) rest (above_recorded m files (above_front m (names_of files) more above)) is in
+        record {
+          others = There true (name m Goes) bytes commands ∷ on.others;
+          are = (refl, refl, tt, refl, refl, on.are);
+          same = fated_later m n fate Goes (names_of files ++ more) (names_of on.others ++ more) less on.same;
+        }
+
+same_newest : {C : Type 0} (newest : Option (Newest C)) → NewestResolves newest newest
+same_newest None = tt
+same_newest (Some file) = (refl, may_same file.name.fate, refl)
+
+pub same_account : {C : Type 0} (a : Archive C) → Resolves a a
+same_account a = (same_files a.ended, same_newest a.newest)
+
+thrown_event : {C : Type 0} (a : Archive C) (new : List Name) → Thrown a.ended (newest_names a.newest) new → (b : Archive C) × Resolves (begun_by a Throwing) b × (new ≡ names b)
+thrown_event a new by = (archive by.others a.newest, (by.are, same_newest a.newest), sym by.same)
+
+pub failed_throwing : {C : Type 0} (a : Archive C) (n : ℕ) (rest : List ℕ) (new : List Name) → AreRising (names a) → listed (recorded_names a.ended) ≡ n ∷ rest → MayHaveRemoved n (names a) new
+    → (b : Archive C) × Resolves (begun_by a Throwing) b × (new ≡ names b)
+failed_throwing {C} a n rest new rising is may =
+    let more = newest_names a.newest in
+    ⊎_elim
+    (λ same. thrown_event a new (subst (Thrown a.ended more) (sym same) (thrown_again a.ended more)))
+    (λ other. ⊎_elim
+    (λ comes. thrown_event a new (subst (Thrown a.ended more) (sym comes) (thrown_as a.ended more n Comes rest rising is)))
+    (λ goes. thrown_event a new (subst (Thrown a.ended more) (sym goes) (thrown_as a.ended more n Goes rest rising is)))
+    other)
+    may
+
+-- a file that is sealed has its contents as its only image
+pub ending : (disk : DiskState) → IsSettled disk → IsImage disk disk.contents → IsOnly disk.contents disk
+ending disk settled is = record { is_image = is; only = λ image now. settled_image disk disk.contents image settled now }

@@ -1,0 +1,11 @@
+mod Standing
+mod Resolving
+mod Steps
+mod Counting
+mod Events
+mod Accounts
+mod NewFiles
+mod Keeping
+mod Removals
+mod Examples
+mod Starting

@@ -1,0 +1,143 @@
+//! What every history of an archive keeps.
+ghost use Rattle.std.specs.Prelude.{◌≡◌, ◌⊎◌, [], ◌∷◌, ◌++◌, None, ℕ, List};
+ghost use Rattle.disk_model.specs.Image.{DiskState, IsImage, IsSettled};
+ghost use Rattle.archive_folder.specs.declared.names.Name.{Name};
+ghost use Rattle.archive_folder.specs.Clock.{MayHaveMade, MayHaveRemoved};
+ghost use Rattle.archive_folder.specs.Names.{IsLeft, AreRising, listed, made, removed, synced, restarted};
+ghost use Rattle.history.specs.Commands.{IsPartOf};
+ghost use Rattle.archive_history.specs.Archive.{Archive, Move, Making, Throwing, nothing, recorded_names, names, begun_by, ended_with, set_aside, shut, Resolves, acknowledged, all_acknowledged};
+ghost use Rattle.archive_history.specs.Showing.{numbers, ShowsArchive, ShowsCommands};
+ghost use Rattle.archive_history.specs.Standing.{StandsAs};
+ghost use Rattle.archive_history.specs.History.{Point, Event, IsOnly, IsImageOf, MayMove, LeavesAll, WasImage, IsEvent, IsArchiveHistory, Resumes, ThrowsNothing, answered};
+ghost use Rattle.archive_history.specs.Starting.{AllStay, EndsEmpty, LastFile};
+
+use archive_folder::Folder;
+use disk_model::Disk;
+use history::{Recordings, disks_stand_in_their_world};
+
+/// After any beginnings of files, commands, endings, settings aside, removals and stops, at any moment, every image of
+/// the folder shows, file after file, what was acknowledged and not thrown away, and perhaps the group in doubt of the
+/// newest file and of one that was set aside. The premise is that an empty file shows `first`.
+pub fn archives_keep_what_was_acknowledged<D: Disk, F: Folder<File = D>, B: Recordings>()
+    // Between two calls.
+    ensures at_end { (first : B.State) (start now : Point F D) (a : Archive B.Command)
+        (events : List (Event B.Command × Archive B.Command × Point F D))
+        → B.shows [] first
+        → IsArchiveHistory F.names F.moment F.left_since D.Disk B.shows B.accepts B.next
+        first start events a now
+        → (image : List (ℕ × List ℕ))
+        → IsImageOf F.names F.moment F.left_since D.Disk B.shows B.accepts B.next
+        first now image
+        → ShowsArchive B.shows B.next first a image
+        × ShowsCommands B.shows B.next first a image }
+
+    // What the answers acknowledged stands in the account, in its order and once.
+    ensures account { (first : B.State) (start now : Point F D) (a : Archive B.Command)
+        (events : List (Event B.Command × Archive B.Command × Point F D))
+        → B.shows [] first
+        → IsArchiveHistory F.names F.moment F.left_since D.Disk B.shows B.accepts B.next
+        first start events a now
+        → IsPartOf (answered nothing events) (all_acknowledged a) }
+
+    // It is missing in an image only if its file was thrown away: if none is, all of it is there.
+    ensures nothing_thrown { (first : B.State) (start now : Point F D) (a : Archive B.Command)
+        (events : List (Event B.Command × Archive B.Command × Point F D))
+        → B.shows [] first
+        → IsArchiveHistory F.names F.moment F.left_since D.Disk B.shows B.accepts B.next
+        first start events a now
+        → ThrowsNothing events
+        → acknowledged a ≡ all_acknowledged a }
+
+    // At each moment of one more call.
+    ensures any_moment { (first : B.State) (start now : Point F D) (a : Archive B.Command)
+        (events : List (Event B.Command × Archive B.Command × Point F D))
+        → B.shows [] first
+        → IsArchiveHistory F.names F.moment F.left_since D.Disk B.shows B.accepts B.next
+        first start events a now
+        → (move : Move B.Command) (new : Point F D)
+        → MayMove F.names F.moment F.left_since D.Disk B.shows B.accepts B.next
+        first a move
+        → LeavesAll F.names F.moment F.left_since D.Disk B.shows B.accepts B.next
+        first a move now new
+        → (image : List (ℕ × List ℕ))
+        → WasImage F.names F.moment F.left_since D.Disk B.shows B.accepts B.next
+        first a move now new image
+        → ShowsArchive B.shows B.next first (begun_by a move) image
+        × ShowsCommands B.shows B.next first (begun_by a move) image }
+{
+    disks_stand_in_their_world::<D, B>();
+}
+
+/// A folder that stands as its account says shows what the account says, now and at each moment of a call, and stands
+/// so after every event: so a history may begin with any such folder.
+pub fn folders_stand_as_their_account<D: Disk, F: Folder<File = D>, B: Recordings>()
+    ensures now { (first : B.State) (a : Archive B.Command) (point : Point F D)
+        → StandsAs F.names D.Disk B.shows B.next first a point
+        → (image : List (ℕ × List ℕ))
+        → IsImageOf F.names F.moment F.left_since D.Disk B.shows B.accepts B.next
+        first point image
+        → ShowsArchive B.shows B.next first a image
+        × ShowsCommands B.shows B.next first a image }
+    // The files of every image come in the order of their numbers, if the folder is honest.
+    ensures in_order { (first : B.State) (point : Point F D) → F.is_honest point.folder
+        → (image : List (ℕ × List ℕ))
+        → IsImageOf F.names F.moment F.left_since D.Disk B.shows B.accepts B.next
+        first point image
+        → AreRising (restarted (numbers image)) }
+    ensures any_moment { (first : B.State) (a : Archive B.Command) (move : Move B.Command) (old new : Point F D)
+        → B.shows [] first
+        → StandsAs F.names D.Disk B.shows B.next first a old
+        → MayMove F.names F.moment F.left_since D.Disk B.shows B.accepts B.next
+        first a move
+        → LeavesAll F.names F.moment F.left_since D.Disk B.shows B.accepts B.next
+        first a move old new
+        → (image : List (ℕ × List ℕ))
+        → WasImage F.names F.moment F.left_since D.Disk B.shows B.accepts B.next
+        first a move old new image
+        → ShowsArchive B.shows B.next first (begun_by a move) image
+        × ShowsCommands B.shows B.next first (begun_by a move) image }
+    ensures event { (first : B.State) (a b : Archive B.Command) (event : Event B.Command) (old new : Point F D)
+        → B.shows [] first
+        → StandsAs F.names D.Disk B.shows B.next first a old
+        → IsEvent F.names F.moment F.left_since D.Disk B.shows B.accepts B.next
+        first a event b old new
+        → F.names new.folder ≡ names b
+        → StandsAs F.names D.Disk B.shows B.next first b new }
+{
+    disks_stand_in_their_world::<D, B>();
+}
+
+/// What the folder's clauses say of its names is what the account says: of a making, a removal of the oldest file and
+/// a sync, and of every stop.
+pub fn calls_are_events<B: Recordings>()
+    ensures making { (a : Archive B.Command) (n : ℕ) → a.newest ≡ None
+        → names (begun_by a (Making n)) ≡ made n (names a) }
+    ensures throwing { (a : Archive B.Command) (n : ℕ) (rest : List ℕ) → AreRising (names a)
+        → listed (recorded_names a.ended) ≡ n ∷ rest
+        → names (begun_by a Throwing) ≡ removed n (names a) }
+    // A making and a removal that failed are events too, whatever they left.
+    ensures failed_making { (a : Archive B.Command) (n : ℕ) (new : List Name) → a.newest ≡ None
+        → (new ≡ names a) ⊎ MayHaveMade n (names a) new
+        → (b : Archive B.Command) × Resolves (begun_by a (Making n)) b × (new ≡ names b) }
+    ensures failed_throwing { (a : Archive B.Command) (n : ℕ) (rest : List ℕ) (new : List Name)
+        → AreRising (names a) → listed (recorded_names a.ended) ≡ n ∷ rest
+        → MayHaveRemoved n (names a) new
+        → (b : Archive B.Command) × Resolves (begun_by a Throwing) b × (new ≡ names b) }
+    ensures syncing { (a : Archive B.Command)
+        → (b : Archive B.Command) × Resolves a b × (names b ≡ synced (names a)) }
+    ensures stopping { (a : Archive B.Command) (left : List ℕ) → IsLeft (names a) left
+        → (b : Archive B.Command) × Resolves (shut a) b × (names b ≡ restarted left) }
+    // An ending, a setting aside and a resuming change no name.
+    ensures ended { (a : Archive B.Command) (bytes : List ℕ) → names (ended_with a bytes) ≡ names a }
+    ensures set_aside { (a : Archive B.Command) → names (set_aside a) ≡ names a }
+    ensures resumed { (a b : Archive B.Command) → Resumes a b → names b ≡ names a }
+
+    // Who starts on a folder, syncs it and lists it, finds the newest at the list's end, or a file that may be it.
+    ensures starting { (a : Archive B.Command) (n : ℕ) (front : List ℕ)
+        → AreRising (names a) → AllStay (names a) → EndsEmpty a.ended
+        → listed (names a) ≡ front ++ n ∷ [] → LastFile a n }
+
+    // A file that is sealed may be ended.
+    ensures ending { (disk : DiskState) → IsSettled disk → IsImage disk disk.contents
+        → IsOnly disk.contents disk }
+{}

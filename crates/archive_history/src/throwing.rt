@@ -1,0 +1,46 @@
+//! How the oldest file is thrown away.
+ghost use Rattle.std.specs.Prelude.{◌≡◌, [], ◌∷◌, ℕ, List, OnOk, OnErr};
+ghost use Rattle.std.specs.List.{Contains};
+ghost use Rattle.archive_folder.specs.Names.{IsKept, listed, removed};
+ghost use Rattle.archive_history.specs.Archive.{Archive, Throwing, recorded_names, begun_by, Resolves};
+ghost use Rattle.archive_history.specs.Standing.{StandsAs};
+ghost use Rattle.archive_history.specs.History.{point, LeavesNames};
+
+use crate::folders_stand_as_their_account;
+use archive_folder::{FileName, Folder};
+use disk_model::{Disk, DiskFault};
+use history::Recordings;
+
+/// Removes the oldest file that was recorded. Until the folder is synced a stop may bring it back, whole.
+pub fn throw_oldest<D: Disk, F: Folder<File = D>, B: Recordings>(
+    folder: &mut F,
+    name: FileName,
+) -> Result<(), DiskFault>
+    requires honest { F.is_honest folder.old }
+    requires there { Contains (listed (F.names folder.old)) name.number }
+    requires kept { IsKept (F.file folder.old name.number) }
+
+    // The folder stands as an account says in which this file was thrown away.
+    ensures thrown { OnOk result ((first : B.State) (a : Archive B.Command) (disks : ℕ → D) (rest : List ℕ)
+        → B.shows [] first
+        → StandsAs F.names D.Disk B.shows B.next first a (point folder.old disks)
+        → listed (recorded_names a.ended) ≡ name.number ∷ rest
+        → StandsAs F.names D.Disk B.shows B.next first (begun_by a Throwing) (point folder.new disks)) }
+
+    // After a fault it is there, or gone, or in doubt.
+    ensures failed { OnErr result ((first : B.State) (a : Archive B.Command) (disks : ℕ → D) (rest : List ℕ)
+        → B.shows [] first
+        → StandsAs F.names D.Disk B.shows B.next first a (point folder.old disks)
+        → listed (recorded_names a.ended) ≡ name.number ∷ rest
+        → (b : Archive B.Command) × Resolves (begun_by a Throwing) b
+        × StandsAs F.names D.Disk B.shows B.next first b (point folder.new disks)) }
+
+    // A stop at any moment leaves what was there, with this file or without it.
+    ensures any_moment { LeavesNames F.moment F.left_since (removed name.number (F.names folder.old)) folder.old folder.new }
+{
+    folders_stand_as_their_account::<D, F, B>();
+    match folder.remove(name) {
+        Ok(()) => Ok(()),
+        Err(fault) => Err(fault),
+    }
+}
