@@ -7,7 +7,7 @@ use Rattle.archive_folder.specs.declared.names.Fate.TheVariants.{Stays, Comes, G
 use Rattle.archive_folder.specs.Names.{MayLack}
 use Rattle.history.specs.World.{World, Step, Opened, Held, Kept, Flushed, Refused, Looked, Sealed, GivenBack, Faulted, Stopped, StoppedIn, closed, happens, acknowledged_by}
 use Rattle.history.specs.Commands.{IsPartOf}
-use Rattle.archive_history.specs.Archive.{File, There, Left, Gone, Content, Foreign, Known, Newest, Archive, archive, commands_in, set_aside, Move, Making, Throwing, Syncing, Asking, Recording, thrown_one, thrown, with_world, begun_by, recorded, ended_with, shut, FilesResolve, NewestResolves, Resolves, commands_of, newest_commands, all_acknowledged}
+use Rattle.archive_history.specs.Archive.{File, There, Gone, Content, Whole, Known, Foreign, Newest, Archive, archive, commands_in, set_aside, Move, Making, Throwing, Syncing, Asking, Recording, thrown_one, thrown, with_world, begun_by, recorded, ended_with, shut, FilesResolve, NewestResolves, Resolves, commands_of, newest_commands, all_acknowledged}
 use Rattle.archive_history.specs.History.{MayResume, Resumes}
 use Rattle.archive_history.specs.Standing.{NewestSafe}
 
@@ -57,28 +57,17 @@ step_grows w (StoppedIn call) = same_grows w.acknowledged w.acknowledged refl
 
 files_same_commands : {C : Type 0} (files others : List (File C)) → FilesResolve files others → commands_of others ≡ commands_of files
 files_same_commands [] [] are = refl
-files_same_commands [] (There is_thrown name bytes commands ∷ others) are = absurd are
-files_same_commands [] (Left name content ∷ others) are = absurd are
+files_same_commands [] (There is_thrown name content ∷ others) are = absurd are
 files_same_commands [] (Gone commands ∷ others) are = absurd are
-files_same_commands (Left name content ∷ files) [] are = absurd are
-files_same_commands (Left name content ∷ files) (There was_thrown other bytes' commands' ∷ others) are = absurd are
-files_same_commands {C} (Left name content ∷ files) (Left other content' ∷ others) are =
-    let rest : commands_of others ≡ commands_of files = files_same_commands files others are.3 in
-    ap (λ (c : Content C). commands_in c ++ commands_of others) are.2 ∙ ap (λ (l : List C). commands_in content ++ l) rest
-files_same_commands (Left name content ∷ files) (Gone commands' ∷ others) are =
-    let rest : commands_of others ≡ commands_of files = files_same_commands files others are.2 in
-    λ i. are.1 i ++ rest i
-files_same_commands (There is_thrown name bytes commands ∷ files) (Left other content' ∷ others) are = absurd are
-files_same_commands (Gone commands ∷ files) (Left other content' ∷ others) are = absurd are
-files_same_commands (There is_thrown name bytes commands ∷ files) [] are = absurd are
-files_same_commands (There is_thrown name bytes commands ∷ files) (There was_thrown other bytes' commands' ∷ others) are =
-    let rest : commands_of others ≡ commands_of files = files_same_commands files others are.5 in
-    λ i. are.4 i ++ rest i
-files_same_commands (There is_thrown name bytes commands ∷ files) (Gone commands' ∷ others) are =
+files_same_commands (There is_thrown name content ∷ files) [] are = absurd are
+files_same_commands {C} (There is_thrown name content ∷ files) (There was_thrown other content' ∷ others) are =
+    let rest : commands_of others ≡ commands_of files = files_same_commands files others are.4 in
+    ap (λ (c : Content C). commands_in c ++ commands_of others) are.3 ∙ ap (λ (l : List C). commands_in content ++ l) rest
+files_same_commands (There is_thrown name content ∷ files) (Gone commands' ∷ others) are =
     let rest : commands_of others ≡ commands_of files = files_same_commands files others are.2 in
     λ i. are.1 i ++ rest i
 files_same_commands (Gone commands ∷ files) [] are = absurd are
-files_same_commands (Gone commands ∷ files) (There was_thrown name bytes' commands' ∷ others) are = absurd are
+files_same_commands (Gone commands ∷ files) (There was_thrown name content' ∷ others) are = absurd are
 files_same_commands (Gone commands ∷ files) (Gone commands' ∷ others) are =
     let rest : commands_of others ≡ commands_of files = files_same_commands files others are.1 in
     λ i. are.0 i ++ rest i
@@ -102,13 +91,12 @@ resolved_same a b safe are =
 thrown_same : {C : Type 0} (files : List (File C)) → commands_of (thrown files) ≡ commands_of files
 thrown_same [] = refl
 thrown_same {C} (Gone commands ∷ files) = ap (λ (l : List C). commands ++ l) (thrown_same files)
-thrown_same {C} (Left name content ∷ files) = ap (λ (l : List C). commands_in content ++ l) (thrown_same files)
-thrown_same {C} (There is_thrown name bytes commands ∷ files) = one name.number name.fate (thrown_same files)
+thrown_same {C} (There is_thrown name content ∷ files) = one name.number name.fate (thrown_same files)
   where
-    one : (n : ℕ) (fate : Fate) → commands_of (thrown files) ≡ commands_of files → commands_of (thrown_one n fate bytes commands files (thrown files)) ≡ commands ++ commands_of files
+    one : (n : ℕ) (fate : Fate) → commands_of (thrown files) ≡ commands_of files → commands_of (thrown_one n fate content files (thrown files)) ≡ commands_in content ++ commands_of files
     one n Stays same = refl
     one n Comes same = refl
-    one n Goes same = ap (λ (l : List C). commands ++ l) same
+    one n Goes same = ap (λ (l : List C). commands_in content ++ l) same
 
 world_same : {C : Type 0} (change : World C → World C) → ((w : World C) → (change w).acknowledged ≡ w.acknowledged) → (newest : Option (Newest C)) → newest_commands (with_world change newest) ≡ newest_commands newest
 world_same change same None = refl
@@ -126,29 +114,28 @@ begun_same {C} a (Recording call) none = ap (λ (l : List C). commands_of a.ende
 
 commands-append : {C : Type 0} (files more : List (File C)) → commands_of (files ++ more) ≡ commands_of files ++ commands_of more
 commands-append [] more = refl
-commands-append {C} (Left name content ∷ files) more = ap (λ (l : List C). commands_in content ++ l) (commands-append files more) ∙ sym (append_assoc (commands_in content) (commands_of files) (commands_of more))
-commands-append {C} (There is_thrown name bytes commands ∷ files) more = ap (λ (l : List C). commands ++ l) (commands-append files more) ∙ sym (append_assoc commands (commands_of files) (commands_of more))
+commands-append {C} (There is_thrown name content ∷ files) more = ap (λ (l : List C). commands_in content ++ l) (commands-append files more) ∙ sym (append_assoc (commands_in content) (commands_of files) (commands_of more))
 commands-append {C} (Gone commands ∷ files) more = ap (λ (l : List C). commands ++ l) (commands-append files more) ∙ sym (append_assoc commands (commands_of files) (commands_of more))
 
 pub ended_same : {C : Type 0} (ended : List (File C)) (newest : Option (Newest C)) (bytes : List ℕ) → all_acknowledged (ended_with (archive ended newest) bytes) ≡ all_acknowledged (archive ended newest)
 ended_same ended None bytes = append-nil (commands_of (ended ++ [])) ∙ commands-append ended []
 ended_same {C} ended (Some file) bytes =
-    append-nil (commands_of (ended ++ There false file.name bytes file.world.acknowledged ∷ []))
-    ∙ commands-append ended (There false file.name bytes file.world.acknowledged ∷ [])
+    append-nil (commands_of (ended ++ There false file.name (Whole bytes file.world.acknowledged) ∷ []))
+    ∙ commands-append ended (There false file.name (Whole bytes file.world.acknowledged) ∷ [])
     ∙ ap (λ (l : List C). commands_of ended ++ l) (append-nil file.world.acknowledged)
 
 pub aside_same : {C : Type 0} (ended : List (File C)) (newest : Option (Newest C)) → all_acknowledged (set_aside (archive ended newest)) ≡ all_acknowledged (archive ended newest)
 aside_same ended None = append-nil (commands_of (ended ++ [])) ∙ commands-append ended []
 aside_same {C} ended (Some file) =
-    append-nil (commands_of (ended ++ Left file.name (Known (closed file.world file.world.in_doubt)) ∷ []))
-    ∙ commands-append ended (Left file.name (Known (closed file.world file.world.in_doubt)) ∷ [])
+    append-nil (commands_of (ended ++ There false file.name (Known (closed file.world file.world.in_doubt)) ∷ []))
+    ∙ commands-append ended (There false file.name (Known (closed file.world file.world.in_doubt)) ∷ [])
     ∙ ap (λ (l : List C). commands_of ended ++ l) (append-nil file.world.acknowledged)
 
 -- the last file is the newest again
 resumed_commands : {C : Type 0} (file : File C) (gone : List (File C)) (newest : Newest C) → MayResume file newest → commands_of (file ∷ gone) ≡ newest.world.acknowledged ++ commands_of gone
-resumed_commands {C} (There is_thrown name bytes commands) gone newest may = ap (λ (w : World C). w.acknowledged ++ commands_of gone) (sym may.1)
-resumed_commands (Left name (Foreign bytes)) gone newest may = absurd may
-resumed_commands {C} (Left name (Known world)) gone newest may = ap (λ (w : World C). w.acknowledged ++ commands_of gone) (sym may.1)
+resumed_commands {C} (There is_thrown name (Whole bytes commands)) gone newest may = ap (λ (w : World C). w.acknowledged ++ commands_of gone) (sym may.1)
+resumed_commands {C} (There is_thrown name (Known world)) gone newest may = ap (λ (w : World C). w.acknowledged ++ commands_of gone) (sym may.1)
+resumed_commands (There is_thrown name (Foreign bytes)) gone newest may = absurd may
 resumed_commands (Gone commands) gone newest may = absurd may
 
 pub resumed_same : {C : Type 0} (a b : Archive C) → Resumes a b → all_acknowledged b ≡ all_acknowledged a

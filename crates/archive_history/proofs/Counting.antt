@@ -1,7 +1,7 @@
 -- From file after file to the commands.
 use Rattle.std.specs.Prelude.{◌≡◌, ◌⊎◌, ℕ, true, false, List, [], ◌∷◌, ◌++◌, Option, None, Some, refl}
 use Rattle.std.specs.List.{fold, flat_map}
-use Rattle.std.proofs.Common.{inl, inr, ⊎_elim, sym, ap, subst, append_assoc}
+use Rattle.std.proofs.Common.{inl, inr, ⊎_elim, sym, subst, append_assoc}
 use Rattle.std.proofs.lemmas.List.{append-nil}
 use Rattle.std.proofs.lemmas.List.Sums.{fold-append}
 use Rattle.archive_folder.specs.declared.names.Name.{Name}
@@ -11,8 +11,8 @@ use Rattle.archive_folder.specs.Names.{MayLack}
 use Rattle.history.specs.World.{World}
 use Rattle.history.specs.History.{ShowsWorld}
 use Rattle.history.specs.Commands.{IsPartOf}
-use Rattle.archive_history.specs.Archive.{File, There, Left, Gone, Foreign, Known, Newest, Archive, kept_of, newest_commands, MayHold, MayHoldAll}
-use Rattle.archive_history.specs.Showing.{ShowsNewest, ShowsFiles, ShowsArchive, AreShown, AreAmong, ShowsCommands}
+use Rattle.archive_history.specs.Archive.{File, There, Gone, Content, Whole, Known, Foreign, commands_in, Newest, Archive, kept_of, newest_commands, MayHold, MayBeIn, MayHoldAll}
+use Rattle.archive_history.specs.Showing.{ShowsContent, ShowsNewest, ShowsFiles, ShowsArchive, AreShown, AreAmong, ShowsCommands}
 use Rattle.archive_history.specs.Standing.{AreSafe, NewestSafe}
 use Rattle.archive_history.proofs.Accounts.{part_append, part_self}
 
@@ -30,18 +30,20 @@ held_has {C} world commands held = ⊎_elim
     (λ is. subst (IsPartOf world.acknowledged) (sym is) (part_back world.acknowledged world.acknowledged world.in_doubt (part_self world.acknowledged)))
     held
 
+content_has : {C : Type 0} (content : Content C) (commands : List C) → MayBeIn content commands → IsPartOf (commands_in content) commands
+content_has (Whole bytes commands') commands is = subst (IsPartOf commands') (sym is) (part_self commands')
+content_has (Known world) commands held = held_has world commands held
+content_has (Foreign bytes) commands is = tt
+
 all_held : {C : Type 0} (files : List (File C)) (newest : Option (Newest C)) (all : List C) → MayHoldAll files newest all → IsPartOf (kept_of files ++ newest_commands newest) all
 all_held [] None all held = tt
 all_held [] (Some file) all held = held_has file.world all held
-all_held (There true name bytes commands ∷ files) newest all held = all_held files newest all held
-all_held {C} (There false name bytes commands ∷ files) newest all held =
-    let part : IsPartOf (commands ++ (kept_of files ++ newest_commands newest)) (commands ++ held.0) = part_append commands commands (kept_of files ++ newest_commands newest) held.0 (part_self commands) (all_held files newest held.0 held.1) in
-    subst (λ (l : List C). IsPartOf l all) (sym (append_assoc commands (kept_of files) (newest_commands newest))) (subst (IsPartOf (commands ++ (kept_of files ++ newest_commands newest))) (sym held.2) part)
-all_held (Left name (Foreign bytes) ∷ files) newest all held = all_held files newest all held
-all_held {C} (Left name (Known world) ∷ files) newest all held =
-    let mine = world.acknowledged in
-    let part : IsPartOf (mine ++ (kept_of files ++ newest_commands newest)) (held.0 ++ held.1) = part_append mine held.0 (kept_of files ++ newest_commands newest) held.1 (held_has world held.0 held.2) (all_held files newest held.1 held.3) in
-    subst (λ (l : List C). IsPartOf l all) (sym (append_assoc mine (kept_of files) (newest_commands newest))) (subst (IsPartOf (mine ++ (kept_of files ++ newest_commands newest))) (sym held.4) part)
+all_held (There true name content ∷ files) newest all held = all_held files newest all held
+all_held {C} (There false name content ∷ files) newest all held =
+    let mine = commands_in content in
+    let rest : List C = kept_of files ++ newest_commands newest in
+    let part : IsPartOf (mine ++ rest) (held.0 ++ held.1) = part_append mine held.0 rest held.1 (content_has content held.0 held.2) (all_held files newest held.1 held.3) in
+    subst (λ (l : List C). IsPartOf l all) (sym (append_assoc mine (kept_of files) (newest_commands newest))) (subst (IsPartOf (mine ++ rest)) (sym held.4) part)
 all_held (Gone commands ∷ files) newest all held = all_held files newest all held
 
 module _ {S C : Type 0} (shows : List ℕ → S → Type 0) (next : S → C → S) (first : S) where
@@ -99,78 +101,63 @@ module _ {S C : Type 0} (shows : List ℕ → S → Type 0) (next : S → C → 
       never : false ≡ true → ⊥
       never is = cc
 
-  lacking : (ended : List (File C)) (is : Name) (bytes : List ℕ) (commands : List C) (newest : Option (Newest C)) (image : List (ℕ × List ℕ)) → commands ≡ [] → Parts ended newest image
-      → Parts (There false is bytes commands ∷ ended) newest image
-  lacking ended is bytes commands newest image none parts = record {
+  -- a file that held nothing
+  may_be_empty : (content : Content C) → commands_in content ≡ [] → MayBeIn content []
+  may_be_empty (Whole bytes commands) none = sym none
+  may_be_empty (Known world) none = inl (sym none)
+  may_be_empty (Foreign bytes) none = refl
+
+  lacking : (ended : List (File C)) (name : Name) (content : Content C) (newest : Option (Newest C)) (image : List (ℕ × List ℕ)) → commands_in content ≡ [] → Parts ended newest image
+      → Parts (There false name content ∷ ended) newest image
+  lacking ended name content newest image none parts = record {
     files = parts.files;
     among = parts.among;
     shown = parts.shown;
     each = parts.each;
-    held = (joined parts.shown, parts.held, ap (λ (front : List C). front ++ joined parts.shown) (sym none));
+    held = ([], joined parts.shown, may_be_empty content none, parts.held, refl);
   }
 
-  left_lacking : (ended : List (File C)) (is : Name) (world : World C) (newest : Option (Newest C)) (image : List (ℕ × List ℕ)) → world.acknowledged ≡ [] → Parts ended newest image
-      → Parts (Left is (Known world) ∷ ended) newest image
-  left_lacking ended is world newest image none parts = record {
-    files = parts.files;
-    among = parts.among;
-    shown = parts.shown;
-    each = parts.each;
-    held = ([], joined parts.shown, inl (sym none), parts.held, refl);
+  -- that is there
+  shown_as : (ended : List (File C)) (name : Name) (content : Content C) (newest : Option (Newest C)) (image : List (ℕ × List ℕ)) (file : ℕ × List ℕ) (commands : List C) → MayBeIn content commands
+      → shows file.1 (fold next first commands) → Parts ended newest image → Parts (There false name content ∷ ended) newest (file ∷ image)
+  shown_as ended name content newest image file commands may by parts = record {
+    files = file ∷ parts.files;
+    among = inl (refl, parts.among);
+    shown = commands ∷ parts.shown;
+    each = (by, parts.each);
+    held = (commands, joined parts.shown, may, parts.held, refl);
   }
+
+  present : (ended : List (File C)) (name : Name) (content : Content C) (newest : Option (Newest C)) (image : List (ℕ × List ℕ)) (file : ℕ × List ℕ) → ShowsContent shows next first content file.1
+      → Parts ended newest image → Parts (There false name content ∷ ended) newest (file ∷ image)
+  present ended name (Whole bytes commands) newest image file shown parts = shown_as ended name (Whole bytes commands) newest image file commands refl shown.1 parts
+  present ended name (Known world) newest image file shown parts =
+      let known : Shown world file.1 = world_shown world file.1 shown in
+      shown_as ended name (Known world) newest image file known.commands known.are known.by parts
+  present ended name (Foreign bytes) newest image file shown parts = lacking ended name (Foreign bytes) newest (file ∷ image) refl (skipped ended newest image file parts)
+
+  -- what was thrown away, or is gone
+  passed : (file : File C) (ended : List (File C)) (newest : Option (Newest C)) (image : List (ℕ × List ℕ))
+      → ((all : List C) → MayHoldAll ended newest all → MayHoldAll (file ∷ ended) newest all) → Parts ended newest image → Parts (file ∷ ended) newest image
+  passed file ended newest image same parts =
+      record { files = parts.files; among = parts.among; shown = parts.shown; each = parts.each; held = same (joined parts.shown) parts.held }
 
   parts_of : (files : List (File C)) (newest : Option (Newest C)) (image : List (ℕ × List ℕ)) → AreSafe files → NewestSafe newest → ShowsFiles shows next first files newest image → Parts files newest image
   parts_of [] newest image safe newest_safe shown = newest_parts newest image newest_safe shown
-  parts_of (Gone commands ∷ files) newest image safe newest_safe shown =
-      let parts : Parts files newest image = parts_of files newest image safe newest_safe shown in
-      record { files = parts.files; among = parts.among; shown = parts.shown; each = parts.each; held = parts.held }
-  parts_of (Left name (Foreign bytes) ∷ files) newest [] safe newest_safe shown =
-      let parts : Parts files newest [] = parts_of files newest [] safe.1 newest_safe shown.1 in
-      record { files = parts.files; among = parts.among; shown = parts.shown; each = parts.each; held = parts.held }
-  parts_of (Left name (Foreign bytes) ∷ files) newest (file ∷ image) safe newest_safe shown =
-      let parts : Parts files newest (file ∷ image) = ⊎_elim
+  parts_of (Gone commands ∷ files) newest image safe newest_safe shown = passed (Gone commands) files newest image (λ all held. held) (parts_of files newest image safe newest_safe shown)
+  parts_of (There true name content ∷ files) newest [] safe newest_safe shown =
+      passed (There true name content) files newest [] (λ all held. held) (parts_of files newest [] safe.1 newest_safe shown.1)
+  parts_of (There true name content ∷ files) newest (file ∷ image) safe newest_safe shown =
+      passed (There true name content) files newest (file ∷ image) (λ all held. held) (⊎_elim
       (λ here. skipped files newest image file (parts_of files newest image safe.1 newest_safe here.2))
       (λ later. parts_of files newest (file ∷ image) safe.1 newest_safe later.1)
-      shown in
-      record { files = parts.files; among = parts.among; shown = parts.shown; each = parts.each; held = parts.held }
-  parts_of (Left name (Known world) ∷ files) newest [] safe newest_safe shown =
-      left_lacking files name world newest [] (none_shown name.fate world.acknowledged shown.0 safe.0) (parts_of files newest [] safe.1 newest_safe shown.1)
-  parts_of (Left name (Known world) ∷ files) newest (file ∷ image) safe newest_safe shown = ⊎_elim
-      (λ here.
-      let known : Shown world file.1 = world_shown world file.1 here.1 in
-      let parts : Parts files newest image = parts_of files newest image safe.1 newest_safe here.2 in
-      record {
-        files = file ∷ parts.files;
-        among = inl (refl, parts.among);
-        shown = known.commands ∷ parts.shown;
-        each = (known.by, parts.each);
-        held = (known.commands, joined parts.shown, known.are, parts.held, refl);
-      })
-      (λ later. left_lacking files name world newest (file ∷ image) (none_shown name.fate world.acknowledged later.0 safe.0) (parts_of files newest (file ∷ image) safe.1 newest_safe later.1))
-      shown
-  parts_of (There true name bytes commands ∷ files) newest [] safe newest_safe shown =
-      let parts : Parts files newest [] = parts_of files newest [] safe.1 newest_safe shown.1 in
-      record { files = parts.files; among = parts.among; shown = parts.shown; each = parts.each; held = parts.held }
-  parts_of (There true name bytes commands ∷ files) newest (file ∷ image) safe newest_safe shown =
-      let parts : Parts files newest (file ∷ image) = ⊎_elim
-      (λ here. skipped files newest image file (parts_of files newest image safe.1 newest_safe here.1))
-      (λ later. parts_of files newest (file ∷ image) safe.1 newest_safe later.1)
-      shown in
-      record { files = parts.files; among = parts.among; shown = parts.shown; each = parts.each; held = parts.held }
-  parts_of (There false name bytes commands ∷ files) newest [] safe newest_safe shown =
-      lacking files name bytes commands newest [] (none_shown name.fate commands shown.0 (kept_safe name.fate commands safe.0)) (parts_of files newest [] safe.1 newest_safe shown.1)
-  parts_of (There false name bytes commands ∷ files) newest (file ∷ image) safe newest_safe shown = ⊎_elim
-      (λ here.
-      let parts : Parts files newest image = parts_of files newest image safe.1 newest_safe here.1 in
-      record {
-        files = file ∷ parts.files;
-        among = inl (refl, parts.among);
-        shown = commands ∷ parts.shown;
-        each = (subst (λ (bs : List ℕ). shows bs (fold next first commands)) (sym here.0.bytes_are) here.0.shown, parts.each);
-        held = (joined parts.shown, parts.held, refl);
-      })
+      shown)
+  parts_of (There false name content ∷ files) newest [] safe newest_safe shown =
+      lacking files name content newest [] (none_shown name.fate (commands_in content) shown.0 (kept_safe name.fate (commands_in content) safe.0)) (parts_of files newest [] safe.1 newest_safe shown.1)
+  parts_of (There false name content ∷ files) newest (file ∷ image) safe newest_safe shown = ⊎_elim
+      (λ here. present files name content newest image file here.1 (parts_of files newest image safe.1 newest_safe here.2))
       (λ later.
-      lacking files name bytes commands newest (file ∷ image) (none_shown name.fate commands later.0 (kept_safe name.fate commands safe.0)) (parts_of files newest (file ∷ image) safe.1 newest_safe later.1))
+      lacking files name content newest (file ∷ image) (none_shown name.fate (commands_in content) later.0 (kept_safe name.fate (commands_in content) safe.0)) (parts_of files newest (file ∷ image) safe.1 newest_safe later.1))
       shown
 
   pub shows_commands : (a : Archive C) (image : List (ℕ × List ℕ)) → AreSafe a.ended → NewestSafe a.newest → ShowsArchive shows next first a image → ShowsCommands shows next first a image

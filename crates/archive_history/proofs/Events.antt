@@ -12,7 +12,7 @@ use Rattle.disk_model.specs.Image.{DiskState, IsImage, IsSettled}
 use Rattle.disk_model.specs.Torn.{settled_image}
 use Rattle.history.specs.World.{World, start}
 use Rattle.archive_history.specs.History.{IsOnly}
-use Rattle.archive_history.specs.Archive.{File, There, Left, Gone, Content, commands_in, Newest, Archive, archive, names_of, recorded_names, newest_names, names, Making, Throwing, begun_by, thrown_one, thrown, MayBecome, FilesResolve, NewestResolves, Resolves, shut}
+use Rattle.archive_history.specs.Archive.{File, There, Gone, Content, commands_in, Newest, Archive, archive, names_of, newest_names, names, Making, Throwing, begun_by, thrown_one, thrown, MayBecome, FilesResolve, NewestResolves, Resolves, shut}
 
 may_stay : (fate : Fate) → MayBecome fate Stays
 may_stay Stays = tt
@@ -32,30 +32,16 @@ record After {C : Type 0} (files : List (File C)) (newest : Option (Newest C)) (
   is : NewestResolves newest other
   same : names_of others ++ newest_names other ≡ names
 
-gone : {C : Type 0} (is_thrown : Bool) (n : Name) (bytes : List ℕ) (commands : List C) (files : List (File C)) (newest : Option (Newest C)) (ns : List Name) → MayLack n.fate → After files newest ns → After (There is_thrown n bytes commands ∷ files) newest ns
-gone is_thrown n bytes commands files newest ns may after =
-    record { others = Gone commands ∷ after.others; other = after.other; are = (may, refl, after.are); is = after.is; same = after.same }
-
-still_there : {C : Type 0} (is_thrown : Bool) (n : Name) (bytes : List ℕ) (commands : List C) (files : List (File C)) (newest : Option (Newest C)) (m : ℕ) (ns : List Name) → m ≡ n.number → After files newest ns
-    → After (There is_thrown n bytes commands ∷ files) newest (name m Stays ∷ ns)
-still_there is_thrown n bytes commands files newest m ns same after = record {
-  others = There is_thrown (name m Stays) bytes commands ∷ after.others;
-  other = after.other;
-  are = (refl, same, may_stay n.fate, refl, refl, after.are);
-  is = after.is;
-  same = ap (λ (l : List Name). name m Stays ∷ l) after.same;
-}
-
-gone_left : {C : Type 0} (n : Name) (content : Content C) (files : List (File C)) (newest : Option (Newest C)) (ns : List Name) → MayLack n.fate → After files newest ns → After (Left n content ∷ files) newest ns
-gone_left n content files newest ns may after =
+gone : {C : Type 0} (is_thrown : Bool) (n : Name) (content : Content C) (files : List (File C)) (newest : Option (Newest C)) (ns : List Name) → MayLack n.fate → After files newest ns → After (There is_thrown n content ∷ files) newest ns
+gone is_thrown n content files newest ns may after =
     record { others = Gone (commands_in content) ∷ after.others; other = after.other; are = (may, refl, after.are); is = after.is; same = after.same }
 
-left_there : {C : Type 0} (n : Name) (content : Content C) (files : List (File C)) (newest : Option (Newest C)) (m : ℕ) (ns : List Name) → m ≡ n.number → After files newest ns
-    → After (Left n content ∷ files) newest (name m Stays ∷ ns)
-left_there n content files newest m ns same after = record {
-  others = Left (name m Stays) content ∷ after.others;
+still_there : {C : Type 0} (is_thrown : Bool) (n : Name) (content : Content C) (files : List (File C)) (newest : Option (Newest C)) (m : ℕ) (ns : List Name) → m ≡ n.number → After files newest ns
+    → After (There is_thrown n content ∷ files) newest (name m Stays ∷ ns)
+still_there is_thrown n content files newest m ns same after = record {
+  others = There is_thrown (name m Stays) content ∷ after.others;
   other = after.other;
-  are = (same, may_stay n.fate, refl, after.are);
+  are = (refl, same, may_stay n.fate, refl, after.are);
   is = after.is;
   same = ap (λ (l : List Name). name m Stays ∷ l) after.same;
 }
@@ -74,15 +60,10 @@ files_after [] newest left is = newest_after newest left is
 files_after (Gone commands ∷ files) newest left is =
     let after : After files newest (restarted left) = files_after files newest left is in
     record { others = Gone commands ∷ after.others; other = after.other; are = (refl, after.are); is = after.is; same = after.same }
-files_after (Left n content ∷ files) newest [] is = gone_left n content files newest [] is.0 (files_after files newest [] is.1)
-files_after (Left n content ∷ files) newest (m ∷ left) is = ⊎_elim
-    (λ here. left_there n content files newest m (restarted left) here.0 (files_after files newest left here.1))
-    (λ later. gone_left n content files newest (restarted (m ∷ left)) later.0 (files_after files newest (m ∷ left) later.1))
-    is
-files_after (There is_thrown n bytes commands ∷ files) newest [] is = gone is_thrown n bytes commands files newest [] is.0 (files_after files newest [] is.1)
-files_after (There is_thrown n bytes commands ∷ files) newest (m ∷ left) is = ⊎_elim
-    (λ here. still_there is_thrown n bytes commands files newest m (restarted left) here.0 (files_after files newest left here.1))
-    (λ later. gone is_thrown n bytes commands files newest (restarted (m ∷ left)) later.0 (files_after files newest (m ∷ left) later.1))
+files_after (There is_thrown n content ∷ files) newest [] is = gone is_thrown n content files newest [] is.0 (files_after files newest [] is.1)
+files_after (There is_thrown n content ∷ files) newest (m ∷ left) is = ⊎_elim
+    (λ here. still_there is_thrown n content files newest m (restarted left) here.0 (files_after files newest left here.1))
+    (λ later. gone is_thrown n content files newest (restarted (m ∷ left)) later.0 (files_after files newest (m ∷ left) later.1))
     is
 
 -- a stop
@@ -106,18 +87,12 @@ synced_files [] newest = synced_newest newest
 synced_files (Gone commands ∷ files) newest =
     let after : After files newest (synced (names_of files ++ newest_names newest)) = synced_files files newest in
     record { others = Gone commands ∷ after.others; other = after.other; are = (refl, after.are); is = after.is; same = after.same }
-synced_files (Left n content ∷ files) newest = one n.number n.fate (synced_files files newest)
+synced_files {C} (There is_thrown n content ∷ files) newest = one n.number n.fate (synced_files files newest)
   where
-    one : (m : ℕ) (fate : Fate) → After files newest (synced (names_of files ++ newest_names newest)) → After (Left (name m fate) content ∷ files) newest (synced_one m fate ++ synced (names_of files ++ newest_names newest))
-    one m Stays after = left_there (name m Stays) content files newest m (synced (names_of files ++ newest_names newest)) refl after
-    one m Comes after = left_there (name m Comes) content files newest m (synced (names_of files ++ newest_names newest)) refl after
-    one m Goes after = gone_left (name m Goes) content files newest (synced (names_of files ++ newest_names newest)) tt after
-synced_files {C} (There is_thrown n bytes commands ∷ files) newest = one n.number n.fate (synced_files files newest)
-  where
-    one : (m : ℕ) (fate : Fate) → After files newest (synced (names_of files ++ newest_names newest)) → After (There is_thrown (name m fate) bytes commands ∷ files) newest (synced_one m fate ++ synced (names_of files ++ newest_names newest))
-    one m Stays after = still_there is_thrown (name m Stays) bytes commands files newest m (synced (names_of files ++ newest_names newest)) refl after
-    one m Comes after = still_there is_thrown (name m Comes) bytes commands files newest m (synced (names_of files ++ newest_names newest)) refl after
-    one m Goes after = gone is_thrown (name m Goes) bytes commands files newest (synced (names_of files ++ newest_names newest)) tt after
+    one : (m : ℕ) (fate : Fate) → After files newest (synced (names_of files ++ newest_names newest)) → After (There is_thrown (name m fate) content ∷ files) newest (synced_one m fate ++ synced (names_of files ++ newest_names newest))
+    one m Stays after = still_there is_thrown (name m Stays) content files newest m (synced (names_of files ++ newest_names newest)) refl after
+    one m Comes after = still_there is_thrown (name m Comes) content files newest m (synced (names_of files ++ newest_names newest)) refl after
+    one m Goes after = gone is_thrown (name m Goes) content files newest (synced (names_of files ++ newest_names newest)) tt after
 
 pub syncing : {C : Type 0} (a : Archive C) → (b : Archive C) × Resolves a b × (names b ≡ synced (names a))
 syncing a =
@@ -170,35 +145,25 @@ above_lower : (m k : ℕ) (ns : List Name) → m < k → AreAbove k ns → AreAb
 above_lower m k [] less above = tt
 above_lower m k (next ∷ ns) less above = (omega (arith, less, above.0), above.1)
 
-above_recorded : {C : Type 0} (m : ℕ) (files : List (File C)) → AreAbove m (names_of files) → AreAbove m (recorded_names files)
-above_recorded m [] above = tt
-above_recorded m (Gone commands ∷ files) above = above_recorded m files above
-above_recorded m (Left first content ∷ files) above = above_lower m first.number (recorded_names files) above.0 (above_recorded first.number files above.1)
-above_recorded m (There is_thrown first bytes commands ∷ files) above = (above.0, above_recorded first.number files above.1)
-
-throw_files : {C : Type 0} (files : List (File C)) (more : List Name) (n : ℕ) (rest : List ℕ) → AreRising (names_of files ++ more) → listed (recorded_names files) ≡ n ∷ rest
+throw_files : {C : Type 0} (files : List (File C)) (more : List Name) (n : ℕ) (rest : List ℕ) → AreRising (names_of files ++ more) → listed (names_of files) ≡ n ∷ rest
     → names_of (thrown files) ++ more ≡ removed n (names_of files ++ more)
 throw_files [] more n rest rising is = absurd (never n rest is)
   where
     never : (n : ℕ) (rest : List ℕ) → [] ≡ n ∷ rest → ⊥
     never n rest is = cc
 throw_files (Gone commands ∷ files) more n rest rising is = throw_files files more n rest rising is
-throw_files (Left first content ∷ files) more n rest rising is =
-    removed_later first.number n first.fate (names_of files ++ more) (names_of (thrown files) ++ more)
-    (above_listed first.number n (recorded_names files) rest (above_recorded first.number files (above_front first.number (names_of files) more rising)) is)
-    (throw_files files more n rest (rising_tail first (names_of files ++ more) rising) is)
-throw_files {C} (There is_thrown first bytes commands ∷ files) more n rest rising is =
+throw_files {C} (There is_thrown first content ∷ files) more n rest rising is =
     one first.number first.fate rising (throw_files files more n rest (rising_tail first (names_of files ++ more) rising)) is
   where
-    one : (m : ℕ) (fate : Fate) → AreAbove m (names_of files ++ more) → (listed (recorded_names files) ≡ n ∷ rest → names_of (thrown files) ++ more ≡ removed n (names_of files ++ more))
-        → listed_one m fate ++ listed (recorded_names files) ≡ n ∷ rest
-        → names_of (thrown_one m fate bytes commands files (thrown files)) ++ more ≡ removed n (name m fate ∷ (names_of files ++ more))
+    one : (m : ℕ) (fate : Fate) → AreAbove m (names_of files ++ more) → (listed (names_of files) ≡ n ∷ rest → names_of (thrown files) ++ more ≡ removed n (names_of files ++ more))
+        → listed_one m fate ++ listed (names_of files) ≡ n ∷ rest
+        → names_of (thrown_one m fate content files (thrown files)) ++ more ≡ removed n (name m fate ∷ (names_of files ++ more))
     one m Stays above later is = let same : m ≡ n = cc in removed_here m n Stays (names_of files ++ more) same
     one m Comes above later is = let same : m ≡ n = cc in removed_here m n Comes (names_of files ++ more) same
     one m Goes above later is =
-        removed_later m n Goes (names_of files ++ more) (names_of (thrown files) ++ more) (above_listed m n (recorded_names files) rest (above_recorded m files (above_front m (names_of files) more above)) is) (later is)
+        removed_later m n Goes (names_of files ++ more) (names_of (thrown files) ++ more) (above_listed m n (names_of files) rest (above_front m (names_of files) more above) is) (later is)
 
-pub throwing : {C : Type 0} (a : Archive C) (n : ℕ) (rest : List ℕ) → AreRising (names a) → listed (recorded_names a.ended) ≡ n ∷ rest → names (begun_by a Throwing) ≡ removed n (names a)
+pub throwing : {C : Type 0} (a : Archive C) (n : ℕ) (rest : List ℕ) → AreRising (names a) → listed (names_of a.ended) ≡ n ∷ rest → names (begun_by a Throwing) ≡ removed n (names a)
 throwing a n rest rising is = throw_files a.ended (newest_names a.newest) n rest rising is
 
 may_same : (fate : Fate) → MayBecome fate fate
@@ -209,8 +174,7 @@ may_same Goes = tt
 pub same_files : {C : Type 0} (files : List (File C)) → FilesResolve files files
 same_files [] = tt
 same_files (Gone commands ∷ files) = (refl, same_files files)
-same_files (Left ns content ∷ files) = (refl, may_same ns.fate, refl, same_files files)
-same_files (There is_thrown ns bytes commands ∷ files) = (refl, refl, may_same ns.fate, refl, refl, same_files files)
+same_files (There is_thrown ns content ∷ files) = (refl, refl, may_same ns.fate, refl, same_files files)
 
 -- a making that failed: nothing was made, or the name is there, or it may come back
 pub failed_making : {C : Type 0} (a : Archive C) (n : ℕ) (new : List Name) → a.newest ≡ None → (new ≡ names a) ⊎ MayHaveMade n (names a) new
@@ -240,15 +204,12 @@ thrown_again [] more = record { others = []; are = tt; same = refl }
 thrown_again (Gone commands ∷ files) more =
     let rest : Thrown files more (names_of files ++ more) = thrown_again files more in
     record { others = Gone commands ∷ rest.others; are = (refl, rest.are); same = rest.same }
-thrown_again (Left n content ∷ files) more =
-    let rest : Thrown files more (names_of files ++ more) = thrown_again files more in
-    record { others = Left n content ∷ rest.others; are = (refl, may_same n.fate, refl, rest.are); same = ap (λ (l : List Name). n ∷ l) rest.same }
-thrown_again {C} (There is_thrown n bytes commands ∷ files) more = one n.number n.fate (thrown_again files more)
+thrown_again {C} (There is_thrown n content ∷ files) more = one n.number n.fate (thrown_again files more)
   where
-    one : (m : ℕ) (fate : Fate) → Thrown files more (names_of files ++ more) → Thrown (There is_thrown (name m fate) bytes commands ∷ files) more (name m fate ∷ (names_of files ++ more))
-    one m Stays rest = record { others = There true (name m Stays) bytes commands ∷ files; are = (refl, refl, tt, refl, refl, same_files files); same = refl }
-    one m Comes rest = record { others = There true (name m Comes) bytes commands ∷ files; are = (refl, refl, tt, refl, refl, same_files files); same = refl }
-    one m Goes rest = record { others = There true (name m Goes) bytes commands ∷ rest.others; are = (refl, refl, tt, refl, refl, rest.are); same = ap (λ (l : List Name). name m Goes ∷ l) rest.same }
+    one : (m : ℕ) (fate : Fate) → Thrown files more (names_of files ++ more) → Thrown (There is_thrown (name m fate) content ∷ files) more (name m fate ∷ (names_of files ++ more))
+    one m Stays rest = record { others = There true (name m Stays) content ∷ files; are = (refl, refl, tt, refl, same_files files); same = refl }
+    one m Comes rest = record { others = There true (name m Comes) content ∷ files; are = (refl, refl, tt, refl, same_files files); same = refl }
+    one m Goes rest = record { others = There true (name m Goes) content ∷ rest.others; are = (refl, refl, tt, refl, rest.are); same = ap (λ (l : List Name). name m Goes ∷ l) rest.same }
 
 fated_here : (m n : ℕ) (fate other : Fate) (ns : List Name) → m ≡ n → name m fate ∷ ns ≡ with_fate n fate (name m other ∷ ns)
 fated_here m n fate other ns same = ap (λ (b : Bool). if b then name m fate ∷ ns else name m other ∷ with_fate n fate ns) (sym (same_test m n same))
@@ -257,7 +218,7 @@ fated_later : (m n : ℕ) (fate other : Fate) (ns after : List Name) → m < n �
 fated_later m n fate other ns after less is =
     ap (λ (l : List Name). name m other ∷ l) is ∙ ap (λ (b : Bool). if b then name m fate ∷ ns else name m other ∷ with_fate n fate ns) (sym (below_test m n less))
 
-thrown_as : {C : Type 0} (files : List (File C)) (more : List Name) (n : ℕ) (fate : Fate) (rest : List ℕ) → AreRising (names_of files ++ more) → listed (recorded_names files) ≡ n ∷ rest
+thrown_as : {C : Type 0} (files : List (File C)) (more : List Name) (n : ℕ) (fate : Fate) (rest : List ℕ) → AreRising (names_of files ++ more) → listed (names_of files) ≡ n ∷ rest
     → Thrown files more (with_fate n fate (names_of files ++ more))
 thrown_as [] more n fate rest rising is = absurd (never n rest is)
   where
@@ -266,32 +227,24 @@ thrown_as [] more n fate rest rising is = absurd (never n rest is)
 thrown_as (Gone commands ∷ files) more n fate rest rising is =
     let later : Thrown files more (with_fate n fate (names_of files ++ more)) = thrown_as files more n fate rest rising is in
     record { others = Gone commands ∷ later.others; are = (refl, later.are); same = later.same }
-thrown_as (Left first content ∷ files) more n fate rest rising is =
-    let later : Thrown files more (with_fate n fate (names_of files ++ more)) = thrown_as files more n fate rest (rising_tail first (names_of files ++ more) rising) is in
-    let less : first.number < n = above_listed first.number n (recorded_names files) rest (above_recorded first.number files (above_front first.number (names_of files) more rising)) is in
-    record {
-      others = Left first content ∷ later.others;
-      are = (refl, may_same first.fate, refl, later.are);
-      same = fated_later first.number n fate first.fate (names_of files ++ more) (names_of later.others ++ more) less later.same;
-    }
-thrown_as {C} (There is_thrown first bytes commands ∷ files) more n fate rest rising is =
+thrown_as {C} (There is_thrown first content ∷ files) more n fate rest rising is =
     one first.number first.fate rising (thrown_as files more n fate rest (rising_tail first (names_of files ++ more) rising)) is
   where
-    one : (m : ℕ) (old : Fate) → AreAbove m (names_of files ++ more) → (listed (recorded_names files) ≡ n ∷ rest → Thrown files more (with_fate n fate (names_of files ++ more)))
-        → listed_one m old ++ listed (recorded_names files) ≡ n ∷ rest
-        → Thrown (There is_thrown (name m old) bytes commands ∷ files) more (with_fate n fate (name m old ∷ (names_of files ++ more)))
+    one : (m : ℕ) (old : Fate) → AreAbove m (names_of files ++ more) → (listed (names_of files) ≡ n ∷ rest → Thrown files more (with_fate n fate (names_of files ++ more)))
+        → listed_one m old ++ listed (names_of files) ≡ n ∷ rest
+        → Thrown (There is_thrown (name m old) content ∷ files) more (with_fate n fate (name m old ∷ (names_of files ++ more)))
     one m Stays above later is =
         let same : m ≡ n = cc in
-        record { others = There true (name m fate) bytes commands ∷ files; are = (refl, refl, tt, refl, refl, same_files files); same = fated_here m n fate Stays (names_of files ++ more) same }
+        record { others = There true (name m fate) content ∷ files; are = (refl, refl, tt, refl, same_files files); same = fated_here m n fate Stays (names_of files ++ more) same }
     one m Comes above later is =
         let same : m ≡ n = cc in
-        record { others = There true (name m fate) bytes commands ∷ files; are = (refl, refl, tt, refl, refl, same_files files); same = fated_here m n fate Comes (names_of files ++ more) same }
+        record { others = There true (name m fate) content ∷ files; are = (refl, refl, tt, refl, same_files files); same = fated_here m n fate Comes (names_of files ++ more) same }
     one m Goes above later is =
         let on : Thrown files more (with_fate n fate (names_of files ++ more)) = later is in
-        let less : m < n = above_listed m n (recorded_names files) rest (above_recorded m files (above_front m (names_of files) more above)) is in
+        let less : m < n = above_listed m n (names_of files) rest (above_front m (names_of files) more above) is in
         record {
-          others = There true (name m Goes) bytes commands ∷ on.others;
-          are = (refl, refl, tt, refl, refl, on.are);
+          others = There true (name m Goes) content ∷ on.others;
+          are = (refl, refl, tt, refl, on.are);
           same = fated_later m n fate Goes (names_of files ++ more) (names_of on.others ++ more) less on.same;
         }
 
@@ -305,7 +258,7 @@ same_account a = (same_files a.ended, same_newest a.newest)
 thrown_event : {C : Type 0} (a : Archive C) (new : List Name) → Thrown a.ended (newest_names a.newest) new → (b : Archive C) × Resolves (begun_by a Throwing) b × (new ≡ names b)
 thrown_event a new by = (archive by.others a.newest, (by.are, same_newest a.newest), sym by.same)
 
-pub failed_throwing : {C : Type 0} (a : Archive C) (n : ℕ) (rest : List ℕ) (new : List Name) → AreRising (names a) → listed (recorded_names a.ended) ≡ n ∷ rest → MayHaveRemoved n (names a) new
+pub failed_throwing : {C : Type 0} (a : Archive C) (n : ℕ) (rest : List ℕ) (new : List Name) → AreRising (names a) → listed (names_of a.ended) ≡ n ∷ rest → MayHaveRemoved n (names a) new
     → (b : Archive C) × Resolves (begun_by a Throwing) b × (new ≡ names b)
 failed_throwing {C} a n rest new rising is may =
     let more = newest_names a.newest in

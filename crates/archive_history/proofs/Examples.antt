@@ -4,7 +4,7 @@ use Rattle.std.proofs.Common.{inl, inr, ⊎_elim, arith}
 use Rattle.archive_folder.specs.declared.names.Fate.TheVariants.{Stays, Comes}
 use Rattle.archive_folder.specs.Names.{name, IsLeft, listed, made, removed, synced}
 use Rattle.history.specs.World.{World}
-use Rattle.archive_history.specs.Archive.{There, Archive, archive, names, Throwing, begun_by, with_new, ended_with, set_aside, all_acknowledged, MayHoldAll}
+use Rattle.archive_history.specs.Archive.{There, Whole, Archive, archive, names, Throwing, begun_by, with_new, ended_with, set_aside, all_acknowledged, MayHoldAll}
 
 -- File 2 was made after the last sync: a stop leaves 1, or both, and never 2 alone.
 without : IsLeft (made 2 (name 1 Stays ∷ [])) (1 ∷ [])
@@ -31,18 +31,18 @@ abbrev newest_world : World ℕ
 newest_world = record { acknowledged = 12 ∷ []; in_doubt = 13 ∷ []; held = []; is_open = false }
 
 abbrev two : Archive ℕ
-two = archive (There false (name 1 Stays) (7 ∷ 7 ∷ []) (10 ∷ 11 ∷ []) ∷ []) (Some (record { name = name 2 Stays; world = newest_world }))
+two = archive (There false (name 1 Stays) (Whole (7 ∷ 7 ∷ []) (10 ∷ 11 ∷ [])) ∷ []) (Some (record { name = name 2 Stays; world = newest_world }))
 
 -- an image shows 10, 11 and 12, and perhaps 13
 two_commands : MayHoldAll two.ended two.newest (10 ∷ 11 ∷ 12 ∷ [])
-two_commands = (12 ∷ [], inl refl, refl)
+two_commands = (10 ∷ 11 ∷ [], 12 ∷ [], refl, inl refl, refl)
 
 with_the_doubtful : MayHoldAll two.ended two.newest (10 ∷ 11 ∷ 12 ∷ 13 ∷ [])
-with_the_doubtful = (12 ∷ 13 ∷ [], inr refl, refl)
+with_the_doubtful = (10 ∷ 11 ∷ [], 12 ∷ 13 ∷ [], refl, inr refl, refl)
 
 -- the second file is set aside: 12 stays acknowledged, and 13 may be shown
 aside : MayHoldAll (set_aside two).ended (set_aside two).newest (10 ∷ 11 ∷ 12 ∷ 13 ∷ [])
-aside = (12 ∷ 13 ∷ [], (12 ∷ 13 ∷ [], [], inr refl, refl, refl), refl)
+aside = (10 ∷ 11 ∷ [], 12 ∷ 13 ∷ [], refl, (12 ∷ 13 ∷ [], [], inr refl, refl, refl), refl)
 
 aside_known : all_acknowledged (set_aside two) ≡ 10 ∷ 11 ∷ 12 ∷ []
 aside_known = refl

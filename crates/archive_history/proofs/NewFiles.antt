@@ -12,7 +12,7 @@ use Rattle.archive_folder.specs.declared.names.Fate.TheVariants.{Stays, Comes, G
 use Rattle.archive_folder.specs.Names.{name, IsLeft, AreBelow, made, synced, synced_one}
 use Rattle.archive_folder.specs.NamesLaws.{left_of_made}
 use Rattle.archive_folder.specs.Clock.{HasLeft, NamesPass, MayHaveMade}
-use Rattle.archive_history.specs.Archive.{archive, File, There, Left, Gone, Newest, Archive, names_of, newest_names, names, Making, Syncing, begun_by, FilesResolve, settled_file, settled_left, settled_files, with_new, Resolves}
+use Rattle.archive_history.specs.Archive.{archive, File, There, Gone, Newest, Archive, names_of, newest_names, names, Making, Syncing, begun_by, FilesResolve, settled_file, settled_files, with_new, Resolves}
 use Rattle.archive_history.specs.History.{Point, point, with_disk, Called, LeavesNames, IsEmptyAt, IsEvent}
 use Rattle.archive_history.specs.Standing.{Stands as StandsBy, Now, StandsAs}
 use Rattle.archive_history.proofs.Events.{making, failed_making, same_files}
@@ -33,15 +33,9 @@ at_other n m disk disks other = ap (λ (b : Bool). if b then disk else disks m) 
 settled_names : {C : Type 0} (files : List (File C)) → names_of (settled_files files) ≡ synced (names_of files)
 settled_names [] = refl
 settled_names (Gone commands ∷ files) = settled_names files
-settled_names {C} (Left first content ∷ files) = one first.number first.fate (settled_names files)
+settled_names {C} (There is_thrown first content ∷ files) = one first.number first.fate (settled_names files)
   where
-    one : (n : ℕ) (fate : Fate) → names_of (settled_files files) ≡ synced (names_of files) → names_of (settled_left {C = C} n fate content ∷ settled_files files) ≡ synced_one n fate ++ synced (names_of files)
-    one n Stays same = ap (λ (l : List Name). name n Stays ∷ l) same
-    one n Comes same = ap (λ (l : List Name). name n Stays ∷ l) same
-    one n Goes same = same
-settled_names {C} (There is_thrown first bytes commands ∷ files) = one first.number first.fate (settled_names files)
-  where
-    one : (n : ℕ) (fate : Fate) → names_of (settled_files files) ≡ synced (names_of files) → names_of (settled_file is_thrown n fate bytes commands ∷ settled_files files) ≡ synced_one n fate ++ synced (names_of files)
+    one : (n : ℕ) (fate : Fate) → names_of (settled_files files) ≡ synced (names_of files) → names_of (settled_file is_thrown n fate content ∷ settled_files files) ≡ synced_one n fate ++ synced (names_of files)
     one n Stays same = ap (λ (l : List Name). name n Stays ∷ l) same
     one n Comes same = ap (λ (l : List Name). name n Stays ∷ l) same
     one n Goes same = same
@@ -49,17 +43,11 @@ settled_names {C} (There is_thrown first bytes commands ∷ files) = one first.n
 settled_resolve : {C : Type 0} (files : List (File C)) → FilesResolve files (settled_files files)
 settled_resolve [] = tt
 settled_resolve (Gone commands ∷ files) = (refl, settled_resolve files)
-settled_resolve {C} (Left first content ∷ files) = one first.number first.fate (settled_resolve files)
+settled_resolve {C} (There is_thrown first content ∷ files) = one first.number first.fate (settled_resolve files)
   where
-    one : (n : ℕ) (fate : Fate) → FilesResolve files (settled_files files) → FilesResolve (Left (name n fate) content ∷ files) (settled_left n fate content ∷ settled_files files)
-    one n Stays rest = (refl, tt, refl, rest)
-    one n Comes rest = (refl, tt, refl, rest)
-    one n Goes rest = (tt, refl, rest)
-settled_resolve {C} (There is_thrown first bytes commands ∷ files) = one first.number first.fate (settled_resolve files)
-  where
-    one : (n : ℕ) (fate : Fate) → FilesResolve files (settled_files files) → FilesResolve (There is_thrown (name n fate) bytes commands ∷ files) (settled_file is_thrown n fate bytes commands ∷ settled_files files)
-    one n Stays rest = (refl, refl, tt, refl, refl, rest)
-    one n Comes rest = (refl, refl, tt, refl, refl, rest)
+    one : (n : ℕ) (fate : Fate) → FilesResolve files (settled_files files) → FilesResolve (There is_thrown (name n fate) content ∷ files) (settled_file is_thrown n fate content ∷ settled_files files)
+    one n Stays rest = (refl, refl, tt, refl, rest)
+    one n Comes rest = (refl, refl, tt, refl, rest)
     one n Goes rest = (tt, refl, rest)
 
 synced_made : (ns : List Name) (n : ℕ) → synced (made n ns) ≡ synced ns ++ name n Stays ∷ []

@@ -1,6 +1,6 @@
 -- What faults, syncs and stops make of an account that stands.
 use Rattle.std.specs.Prelude.{◌≡◌, ℕ, ◌<◌, List, [], ◌∷◌, ◌++◌, Option, None, Some, refl}
-use Rattle.std.specs.List.{fold, AllByRecursion}
+use Rattle.std.specs.List.{AllByRecursion}
 use Rattle.std.proofs.Common.{inl, inr, ⊎_elim, sym, ◌∙◌, ap, subst}
 use Rattle.disk_model.specs.declared.disk.Disk.{Ghosts as DiskModel}
 use Rattle.disk_model.specs.Image.{IsImage}
@@ -12,7 +12,7 @@ use Rattle.archive_folder.specs.Names.{name, AreBelow, restarted}
 use Rattle.history.specs.Showing.{StartsFrom}
 use Rattle.history.specs.World.{World}
 use Rattle.history.specs.History.{ShowsWorld}
-use Rattle.archive_history.specs.Archive.{File, There, Left, Gone, Content, commands_in, Newest, names_of, newest_names, thrown_one, thrown, MayBecome, FilesResolve, NewestResolves}
+use Rattle.archive_history.specs.Archive.{File, There, Gone, Content, commands_in, Newest, names_of, newest_names, thrown_one, thrown, MayBecome, FilesResolve, NewestResolves}
 use Rattle.archive_history.specs.Showing.{numbers, ShowsContent}
 use Rattle.archive_history.specs.Standing.{Bytes, AreSafe, NewestSafe, NewestAbove, FilesStand, NewestStands}
 
@@ -35,34 +35,26 @@ below_append n (first ∷ names) more below = (below.0, below_append n names mor
 
 pub below_resolved : {C : Type 0} (n : ℕ) (files others : List (File C)) → FilesResolve files others → AreBelow n (names_of files) → AreBelow n (names_of others)
 below_resolved n [] [] are below = tt
-below_resolved n [] (There is_thrown name bytes commands ∷ others) are below = absurd are
-below_resolved n [] (Left name content ∷ others) are below = absurd are
+below_resolved n [] (There is_thrown name content ∷ others) are below = absurd are
 below_resolved n [] (Gone commands ∷ others) are below = absurd are
-below_resolved n (Left name content ∷ files) [] are below = absurd are
-below_resolved n (Left name content ∷ files) (There was_thrown other bytes' commands' ∷ others) are below = absurd are
-below_resolved n (Left name content ∷ files) (Left other content' ∷ others) are below = (rw are.0 below.0, below_resolved n files others are.3 below.1)
-below_resolved n (Left name content ∷ files) (Gone commands' ∷ others) are below = below_resolved n files others are.2 below.1
-below_resolved n (There is_thrown name bytes commands ∷ files) (Left other content' ∷ others) are below = absurd are
-below_resolved n (Gone commands ∷ files) (Left other content' ∷ others) are below = absurd are
-below_resolved n (There is_thrown name bytes commands ∷ files) [] are below = absurd are
-below_resolved n (There is_thrown name bytes commands ∷ files) (There was_thrown other bytes' commands' ∷ others) are below =
-    (rw are.1 below.0, below_resolved n files others are.5 below.1)
-below_resolved n (There is_thrown name bytes commands ∷ files) (Gone commands' ∷ others) are below = below_resolved n files others are.2 below.1
+below_resolved n (There is_thrown name content ∷ files) [] are below = absurd are
+below_resolved n (There is_thrown name content ∷ files) (There was_thrown other content' ∷ others) are below =
+    (rw are.1 below.0, below_resolved n files others are.4 below.1)
+below_resolved n (There is_thrown name content ∷ files) (Gone commands' ∷ others) are below = below_resolved n files others are.2 below.1
 below_resolved n (Gone commands ∷ files) [] are below = absurd are
-below_resolved n (Gone commands ∷ files) (There was_thrown other bytes' commands' ∷ others) are below = absurd are
+below_resolved n (Gone commands ∷ files) (There was_thrown other content' ∷ others) are below = absurd are
 below_resolved n (Gone commands ∷ files) (Gone commands' ∷ others) are below = below_resolved n files others are.1 below
 
 pub below_thrown : {C : Type 0} (n : ℕ) (files : List (File C)) → AreBelow n (names_of files) → AreBelow n (names_of (thrown files))
 below_thrown n [] below = tt
 below_thrown n (Gone commands ∷ files) below = below_thrown n files below
-below_thrown n (Left name content ∷ files) below = (below.0, below_thrown n files below.1)
-below_thrown n (There is_thrown name bytes commands ∷ files) below = one n name.number name.fate bytes commands files (thrown files) below.0 below.1 (below_thrown n files below.1)
+below_thrown n (There is_thrown name content ∷ files) below = one n name.number name.fate content files (thrown files) below.0 below.1 (below_thrown n files below.1)
   where
-    one : {C : Type 0} (n m : ℕ) (fate : Fate) (bytes : List ℕ) (commands : List C) (files rest : List (File C)) → m < n → AreBelow n (names_of files) → AreBelow n (names_of rest)
-        → AreBelow n (names_of (thrown_one m fate bytes commands files rest))
-    one n m Stays bytes commands files rest less below after = (less, below)
-    one n m Comes bytes commands files rest less below after = (less, below)
-    one n m Goes bytes commands files rest less below after = (less, after)
+    one : {C : Type 0} (n m : ℕ) (fate : Fate) (content : Content C) (files rest : List (File C)) → m < n → AreBelow n (names_of files) → AreBelow n (names_of rest)
+        → AreBelow n (names_of (thrown_one m fate content files rest))
+    one n m Stays content files rest less below after = (less, below)
+    one n m Comes content files rest less below after = (less, below)
+    one n m Goes content files rest less below after = (less, after)
 
 -- a name that stays, stays
 still_stays : (fate other : Fate) → MayBecome fate other → fate ≡ Stays → other ≡ Stays
@@ -80,39 +72,28 @@ still_stays Goes other may is = absurd (never is)
 
 pub safe_resolved : {C : Type 0} (files others : List (File C)) → FilesResolve files others → AreSafe files → AreSafe others
 safe_resolved [] [] are safe = tt
-safe_resolved [] (There is_thrown name bytes commands ∷ others) are safe = absurd are
-safe_resolved [] (Left name content ∷ others) are safe = absurd are
+safe_resolved [] (There is_thrown name content ∷ others) are safe = absurd are
 safe_resolved [] (Gone commands ∷ others) are safe = absurd are
-safe_resolved (Left name content ∷ files) [] are safe = absurd are
-safe_resolved (Left name content ∷ files) (There was_thrown other bytes' commands' ∷ others) are safe = absurd are
-safe_resolved {C} (Left name content ∷ files) (Left other content' ∷ others) are safe = (
-  ⊎_elim (λ is. inl (still_stays name.fate other.fate are.1 is)) (λ none. inr (ap (λ (c : Content C). commands_in c) are.2 ∙ none)) safe.0,
-  safe_resolved files others are.3 safe.1,
+safe_resolved (There is_thrown name content ∷ files) [] are safe = absurd are
+safe_resolved {C} (There is_thrown name content ∷ files) (There was_thrown other content' ∷ others) are safe = (
+  ⊎_elim (λ is. inl (are.0 ∙ is)) (λ kept. inr (⊎_elim (λ is. inl (still_stays name.fate other.fate are.2 is)) (λ none. inr (ap (λ (c : Content C). commands_in c) are.3 ∙ none)) kept)) safe.0,
+  safe_resolved files others are.4 safe.1,
 )
-safe_resolved (Left name content ∷ files) (Gone commands' ∷ others) are safe = safe_resolved files others are.2 safe.1
-safe_resolved (There is_thrown name bytes commands ∷ files) (Left other content' ∷ others) are safe = absurd are
-safe_resolved (Gone commands ∷ files) (Left other content' ∷ others) are safe = absurd are
-safe_resolved (There is_thrown name bytes commands ∷ files) [] are safe = absurd are
-safe_resolved (There is_thrown name bytes commands ∷ files) (There was_thrown other bytes' commands' ∷ others) are safe = (
-  ⊎_elim (λ is. inl (are.0 ∙ is)) (λ kept. inr (⊎_elim (λ is. inl (still_stays name.fate other.fate are.2 is)) (λ none. inr (are.4 ∙ none)) kept)) safe.0,
-  safe_resolved files others are.5 safe.1,
-)
-safe_resolved (There is_thrown name bytes commands ∷ files) (Gone commands' ∷ others) are safe = safe_resolved files others are.2 safe.1
+safe_resolved (There is_thrown name content ∷ files) (Gone commands' ∷ others) are safe = safe_resolved files others are.2 safe.1
 safe_resolved (Gone commands ∷ files) [] are safe = absurd are
-safe_resolved (Gone commands ∷ files) (There was_thrown other bytes' commands' ∷ others) are safe = absurd are
+safe_resolved (Gone commands ∷ files) (There was_thrown other content' ∷ others) are safe = absurd are
 safe_resolved (Gone commands ∷ files) (Gone commands' ∷ others) are safe = safe_resolved files others are.1 safe
 
 pub safe_thrown : {C : Type 0} (files : List (File C)) → AreSafe files → AreSafe (thrown files)
 safe_thrown [] safe = tt
 safe_thrown (Gone commands ∷ files) safe = safe_thrown files safe
-safe_thrown (Left name content ∷ files) safe = (safe.0, safe_thrown files safe.1)
-safe_thrown (There is_thrown name bytes commands ∷ files) safe = one name.number name.fate bytes commands files (thrown files) safe.1 (safe_thrown files safe.1)
+safe_thrown (There is_thrown name content ∷ files) safe = one name.number name.fate content files (thrown files) safe.1 (safe_thrown files safe.1)
   where
-    one : {C : Type 0} (m : ℕ) (fate : Fate) (bytes : List ℕ) (commands : List C) (files rest : List (File C)) → AreSafe files → AreSafe rest
-        → AreSafe (thrown_one m fate bytes commands files rest)
-    one m Stays bytes commands files rest safe after = (inl refl, safe)
-    one m Comes bytes commands files rest safe after = (inl refl, safe)
-    one m Goes bytes commands files rest safe after = (inl refl, after)
+    one : {C : Type 0} (m : ℕ) (fate : Fate) (content : Content C) (files rest : List (File C)) → AreSafe files → AreSafe rest
+        → AreSafe (thrown_one m fate content files rest)
+    one m Stays content files rest safe after = (inl refl, safe)
+    one m Comes content files rest safe after = (inl refl, safe)
+    one m Goes content files rest safe after = (inl refl, after)
 
 pub newest_safe_resolved : {C : Type 0} (newest other : Option (Newest C)) → NewestResolves newest other → NewestSafe newest → NewestSafe other
 newest_safe_resolved None None are safe = tt
@@ -128,32 +109,16 @@ above_resolved files others (Some file) None are resolves above = tt
 above_resolved files others (Some file) (Some other) are resolves above = rw resolves.0 (below_resolved file.name.number files others are above)
 
 module _ {S C : Type 0} (shows : List ℕ → S → Type 0) (next : S → C → S) (first : S) where
-  -- a file under an equal number with equal bytes and commands
-  same_shown : (bytes bytes' : List ℕ) (commands commands' : List C) → bytes' ≡ bytes → commands' ≡ commands → shows bytes (fold next first commands) → shows bytes' (fold next first commands')
-  same_shown bytes bytes' commands commands' same_bytes same_commands shown =
-      subst (λ (bs : List ℕ). shows bs (fold next first commands')) (sym same_bytes) (subst (λ (cs : List C). shows bytes (fold next first cs)) (sym same_commands) shown)
-
   pub files_resolved : (of : Bytes) (files others : List (File C)) → FilesResolve files others → FilesStand shows next first of files → FilesStand shows next first of others
   files_resolved of [] [] are stand = tt
-  files_resolved of [] (There is_thrown name bytes commands ∷ others) are stand = absurd are
-  files_resolved of [] (Left name content ∷ others) are stand = absurd are
+  files_resolved of [] (There is_thrown name content ∷ others) are stand = absurd are
   files_resolved of [] (Gone commands ∷ others) are stand = absurd are
-  files_resolved of (Left name content ∷ files) [] are stand = absurd are
-  files_resolved of (Left name content ∷ files) (There was_thrown other bytes' commands' ∷ others) are stand = absurd are
-  files_resolved of (Left name content ∷ files) (Left other content' ∷ others) are stand =
-      ((λ b is. subst (λ (c : Content C). ShowsContent shows next first c b) (sym are.2) (stand.0 b (subst (λ (n : ℕ). of n b) are.0 is))), files_resolved of files others are.3 stand.1)
-  files_resolved of (Left name content ∷ files) (Gone commands' ∷ others) are stand = files_resolved of files others are.2 stand.1
-  files_resolved of (There is_thrown name bytes commands ∷ files) (Left other content' ∷ others) are stand = absurd are
-  files_resolved of (Gone commands ∷ files) (Left other content' ∷ others) are stand = absurd are
-  files_resolved of (There is_thrown name bytes commands ∷ files) [] are stand = absurd are
-  files_resolved of (There is_thrown name bytes commands ∷ files) (There was_thrown other bytes' commands' ∷ others) are stand = (
-    (λ b is. stand.0 b (subst (λ (n : ℕ). of n b) are.1 is) ∙ sym are.3),
-    same_shown bytes bytes' commands commands' are.3 are.4 stand.1,
-    files_resolved of files others are.5 stand.2,
-  )
-  files_resolved of (There is_thrown name bytes commands ∷ files) (Gone commands' ∷ others) are stand = files_resolved of files others are.2 stand.2
+  files_resolved of (There is_thrown name content ∷ files) [] are stand = absurd are
+  files_resolved of (There is_thrown name content ∷ files) (There was_thrown other content' ∷ others) are stand =
+      ((λ b is. subst (λ (c : Content C). ShowsContent shows next first c b) (sym are.3) (stand.0 b (subst (λ (n : ℕ). of n b) are.1 is))), files_resolved of files others are.4 stand.1)
+  files_resolved of (There is_thrown name content ∷ files) (Gone commands' ∷ others) are stand = files_resolved of files others are.2 stand.1
   files_resolved of (Gone commands ∷ files) [] are stand = absurd are
-  files_resolved of (Gone commands ∷ files) (There was_thrown other bytes' commands' ∷ others) are stand = absurd are
+  files_resolved of (Gone commands ∷ files) (There was_thrown other content' ∷ others) are stand = absurd are
   files_resolved of (Gone commands ∷ files) (Gone commands' ∷ others) are stand = files_resolved of files others are.1 stand
 
   pub newest_resolved : (of : Bytes) (newest other : Option (Newest C)) → NewestResolves newest other → NewestStands shows next first of newest → NewestStands shows next first of other
@@ -194,40 +159,20 @@ module _ {S C : Type 0} (shows : List ℕ → S → Type 0) (next : S → C → 
         → restarted (numbers image) ≡ names_of others ++ newest_names other
         → FilesStand shows next first Now others × NewestStands shows next first Now other
     all_restarted [] [] newest other image are resolves stand stands each starts same = (tt, newest_restarted newest other image resolves stands each starts same)
-    all_restarted [] (There is_thrown name bytes commands ∷ others) newest other image are resolves stand stands each starts same = absurd are
-    all_restarted [] (Left name content ∷ others) newest other image are resolves stand stands each starts same = absurd are
+    all_restarted [] (There is_thrown name content ∷ others) newest other image are resolves stand stands each starts same = absurd are
     all_restarted [] (Gone commands ∷ others) newest other image are resolves stand stands each starts same = absurd are
-    all_restarted (Left name content ∷ files) [] newest other image are resolves stand stands each starts same = absurd are
-    all_restarted (Left name content ∷ files) (There was_thrown name' bytes' commands' ∷ others) newest other image are resolves stand stands each starts same = absurd are
-    all_restarted (Left name content ∷ files) (Left name' content' ∷ others) newest other [] are resolves stand stands each starts same =
+    all_restarted (There is_thrown name content ∷ files) [] newest other image are resolves stand stands each starts same = absurd are
+    all_restarted (There is_thrown name content ∷ files) (There was_thrown name' content' ∷ others) newest other [] are resolves stand stands each starts same =
         no_names name' (names_of others ++ newest_names other) (sym same)
-    all_restarted (Left old_name content ∷ files) (Left name' content' ∷ others) newest other (file ∷ image) are resolves stand stands each starts same =
+    all_restarted (There is_thrown old_name content ∷ files) (There was_thrown name' content' ∷ others) newest other (file ∷ image) are resolves stand stands each starts same =
         let number : file.0 ≡ name'.number = ap (λ (n : Name). n.number) (same_head (name file.0 Stays) name' (restarted (numbers image)) (names_of others ++ newest_names other) same) in
-        let shown : ShowsContent shows next first content file.1 = stand.0 file.1 (subst (λ (n : ℕ). of n file.1) (number ∙ are.0) each.0) in
-        let same_content : ShowsContent shows next first content' file.1 = subst (λ (c : Content C). ShowsContent shows next first c file.1) (sym are.2) shown in
-        let rest = all_restarted files others newest other image are.3 resolves stand.1 stands each.1 starts.1 (same_tail (name file.0 Stays) name' (restarted (numbers image)) (names_of others ++ newest_names other) same) in
+        let shown : ShowsContent shows next first content file.1 = stand.0 file.1 (subst (λ (n : ℕ). of n file.1) (number ∙ are.1) each.0) in
+        let same_content : ShowsContent shows next first content' file.1 = subst (λ (c : Content C). ShowsContent shows next first c file.1) (sym are.3) shown in
+        let rest = all_restarted files others newest other image are.4 resolves stand.1 stands each.1 starts.1 (same_tail (name file.0 Stays) name' (restarted (numbers image)) (names_of others ++ newest_names other) same) in
         (((λ b is. subst (λ (bs : List ℕ). ShowsContent shows next first content' bs) (sym (only_one file.0 file.1 b starts.0 (subst (λ (n : ℕ). Now n b) (sym number) is))) same_content), rest.0), rest.1)
-    all_restarted (Left name content ∷ files) (Gone commands' ∷ others) newest other image are resolves stand stands each starts same =
+    all_restarted (There is_thrown name content ∷ files) (Gone commands' ∷ others) newest other image are resolves stand stands each starts same =
         all_restarted files others newest other image are.2 resolves stand.1 stands each starts same
-    all_restarted (There is_thrown name bytes commands ∷ files) (Left name' content' ∷ others) newest other image are resolves stand stands each starts same = absurd are
-    all_restarted (Gone commands ∷ files) (Left name' content' ∷ others) newest other image are resolves stand stands each starts same = absurd are
-    all_restarted (There is_thrown name bytes commands ∷ files) [] newest other image are resolves stand stands each starts same = absurd are
-    all_restarted (There is_thrown name bytes commands ∷ files) (There was_thrown name' bytes' commands' ∷ others) newest other [] are resolves stand stands each starts same =
-        no_names name' (names_of others ++ newest_names other) (sym same)
-    all_restarted (There is_thrown old_name bytes commands ∷ files) (There was_thrown name' bytes' commands' ∷ others) newest other (file ∷ image) are resolves stand stands each starts same =
-        let number : file.0 ≡ name'.number = ap (λ (n : Name). n.number) (same_head (name file.0 Stays) name' (restarted (numbers image)) (names_of others ++ newest_names other) same) in
-        let bytes_are : file.1 ≡ bytes = stand.0 file.1 (subst (λ (n : ℕ). of n file.1) (number ∙ are.1) each.0) in
-        let rest = all_restarted files others newest other image are.5 resolves stand.2 stands each.1 starts.1 (same_tail (name file.0 Stays) name' (restarted (numbers image)) (names_of others ++ newest_names other) same) in (
-          (
-            (λ b is. only_one file.0 file.1 b starts.0 (subst (λ (n : ℕ). Now n b) (sym number) is) ∙ bytes_are ∙ sym are.3),
-            same_shown bytes bytes' commands commands' are.3 are.4 stand.1,
-            rest.0,
-          ),
-          rest.1,
-        )
-    all_restarted (There is_thrown name bytes commands ∷ files) (Gone commands' ∷ others) newest other image are resolves stand stands each starts same =
-        all_restarted files others newest other image are.2 resolves stand.2 stands each starts same
     all_restarted (Gone commands ∷ files) [] newest other image are resolves stand stands each starts same = absurd are
-    all_restarted (Gone commands ∷ files) (There was_thrown name bytes' commands' ∷ others) newest other image are resolves stand stands each starts same = absurd are
+    all_restarted (Gone commands ∷ files) (There was_thrown name content' ∷ others) newest other image are resolves stand stands each starts same = absurd are
     all_restarted (Gone commands ∷ files) (Gone commands' ∷ others) newest other image are resolves stand stands each starts same =
         all_restarted files others newest other image are.1 resolves stand stands each starts same

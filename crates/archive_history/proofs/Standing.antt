@@ -1,12 +1,12 @@
 -- In every history the folder shows what the account says.
-use Rattle.std.specs.Prelude.{◌≡◌, ℕ, ◌<◌, List, [], ◌∷◌, ◌++◌, Option, None, Some}
-use Rattle.std.specs.List.{fold, AllByRecursion}
+use Rattle.std.specs.Prelude.{ℕ, ◌<◌, List, [], ◌∷◌, ◌++◌, Option, None, Some}
+use Rattle.std.specs.List.{AllByRecursion}
 use Rattle.std.proofs.Common.{inl, inr, ⊎_elim, subst}
 use Rattle.archive_folder.specs.declared.names.Fate.{Fate}
 use Rattle.archive_folder.specs.declared.names.Fate.TheVariants.{Stays, Comes, Goes}
 use Rattle.archive_folder.specs.Names.{name, IsLeft, AreBelow}
-use Rattle.archive_history.specs.Archive.{File, There, Left, Gone, Newest, names_of, newest_names, thrown_one, thrown}
-use Rattle.archive_history.specs.Showing.{numbers, ShowsNewest, ShowsFiles}
+use Rattle.archive_history.specs.Archive.{File, There, Gone, Content, Newest, names_of, newest_names, thrown_one, thrown}
+use Rattle.archive_history.specs.Showing.{numbers, ShowsContent, ShowsNewest, ShowsFiles}
 use Rattle.archive_history.specs.Standing.{Bytes, FilesStand, NewestStands}
 
 module _ {S C : Type 0} (shows : List ℕ → S → Type 0) (next : S → C → S) (first : S) where
@@ -23,19 +23,11 @@ module _ {S C : Type 0} (shows : List ℕ → S → Type 0) (next : S → C → 
       → IsLeft (names_of files ++ newest_names newest) (numbers image) → AllByRecursion (λ (file : ℕ × List ℕ). of file.0 file.1) image → ShowsFiles shows next first files newest image
   shows_files of [] newest image stand stands left each = shows_newest of newest image stands left each
   shows_files of (Gone commands ∷ files) newest image stand stands left each = shows_files of files newest image stand stands left each
-  shows_files of (Left name content ∷ files) newest [] stand stands left each = (left.0, shows_files of files newest [] stand.1 stands left.1 each)
-  shows_files of (Left name content ∷ files) newest (file ∷ image) stand stands left each = ⊎_elim
+  shows_files of (There is_thrown name content ∷ files) newest [] stand stands left each = (left.0, shows_files of files newest [] stand.1 stands left.1 each)
+  shows_files of (There is_thrown name content ∷ files) newest (file ∷ image) stand stands left each =
+      ⊎_elim
       (λ here. inl (here.0, stand.0 file.1 (subst (λ (n : ℕ). of n file.1) here.0 each.0), shows_files of files newest image stand.1 stands here.1 each.1))
       (λ later. inr (later.0, shows_files of files newest (file ∷ image) stand.1 stands later.1 each))
-      left
-  shows_files of (There is_thrown name bytes commands ∷ files) newest [] stand stands left each = (left.0, shows_files of files newest [] stand.2 stands left.1 each)
-  shows_files of (There is_thrown name bytes commands ∷ files) newest (file ∷ image) stand stands left each =
-      ⊎_elim
-      (λ here. inl (
-        record { number_is = here.0; bytes_are = stand.0 file.1 (subst (λ (n : ℕ). of n file.1) here.0 each.0); shown = stand.1 },
-        shows_files of files newest image stand.2 stands here.1 each.1,
-      ))
-      (λ later. inr (later.0, shows_files of files newest (file ∷ image) stand.2 stands later.1 each))
       left
 
   -- the files before a number stand if their bytes are those of before
@@ -43,25 +35,21 @@ module _ {S C : Type 0} (shows : List ℕ → S → Type 0) (next : S → C → 
       → ((m : ℕ) (b : List ℕ) → m < n → other m b → of m b) → FilesStand shows next first other files
   files_same of other n [] stand below same = tt
   files_same of other n (Gone commands ∷ files) stand below same = files_same of other n files stand below same
-  files_same of other n (Left name content ∷ files) stand below same =
+  files_same of other n (There is_thrown name content ∷ files) stand below same =
       ((λ b is. stand.0 b (same name.number b below.0 is)), files_same of other n files stand.1 below.1 same)
-  files_same of other n (There is_thrown name bytes commands ∷ files) stand below same =
-      ((λ b is. stand.0 b (same name.number b below.0 is)), stand.1, files_same of other n files stand.2 below.1 same)
 
   pub files_all : (of other : Bytes) (files : List (File C)) → FilesStand shows next first of files → ((m : ℕ) (b : List ℕ) → other m b → of m b) → FilesStand shows next first other files
   files_all of other [] stand same = tt
   files_all of other (Gone commands ∷ files) stand same = files_all of other files stand same
-  files_all of other (Left name content ∷ files) stand same = ((λ b is. stand.0 b (same name.number b is)), files_all of other files stand.1 same)
-  files_all of other (There is_thrown name bytes commands ∷ files) stand same = ((λ b is. stand.0 b (same name.number b is)), stand.1, files_all of other files stand.2 same)
+  files_all of other (There is_thrown name content ∷ files) stand same = ((λ b is. stand.0 b (same name.number b is)), files_all of other files stand.1 same)
 
   pub thrown_stand : (of : Bytes) (files : List (File C)) → FilesStand shows next first of files → FilesStand shows next first of (thrown files)
   thrown_stand of [] stand = tt
   thrown_stand of (Gone commands ∷ files) stand = thrown_stand of files stand
-  thrown_stand of (Left name content ∷ files) stand = (stand.0, thrown_stand of files stand.1)
-  thrown_stand of (There is_thrown name bytes commands ∷ files) stand = one name.number name.fate bytes commands files (thrown files) stand.0 stand.1 stand.2 (thrown_stand of files stand.2)
+  thrown_stand of (There is_thrown name content ∷ files) stand = one name.number name.fate content files (thrown files) stand.0 stand.1 (thrown_stand of files stand.1)
     where
-      one : (n : ℕ) (fate : Fate) (bytes : List ℕ) (commands : List C) (files rest : List (File C)) → ((b : List ℕ) → of n b → b ≡ bytes) → shows bytes (fold next first commands)
-          → FilesStand shows next first of files → FilesStand shows next first of rest → FilesStand shows next first of (thrown_one n fate bytes commands files rest)
-      one n Stays bytes commands files rest only shown stand after = (only, shown, stand)
-      one n Comes bytes commands files rest only shown stand after = (only, shown, stand)
-      one n Goes bytes commands files rest only shown stand after = (only, shown, after)
+      one : (n : ℕ) (fate : Fate) (content : Content C) (files rest : List (File C)) → ((b : List ℕ) → of n b → ShowsContent shows next first content b)
+          → FilesStand shows next first of files → FilesStand shows next first of rest → FilesStand shows next first of (thrown_one n fate content files rest)
+      one n Stays content files rest only stand after = (only, stand)
+      one n Comes content files rest only stand after = (only, stand)
+      one n Goes content files rest only stand after = (only, after)

@@ -7,7 +7,7 @@ use Rattle.archive_folder.specs.declared.names.Fate.{Fate}
 use Rattle.archive_folder.specs.declared.names.Fate.TheVariants.{Stays}
 use Rattle.archive_folder.specs.Names.{listed, listed_one, AreRising, AreAbove, AreBelow}
 use Rattle.history.specs.World.{World}
-use Rattle.archive_history.specs.Archive.{File, There, Left, Gone, Foreign, Known, Newest, Archive, archive, names_of, newest_names, names, commands_of, world_of, set_aside, left_file, ended_with, ended_file}
+use Rattle.archive_history.specs.Archive.{File, There, Gone, Content, Whole, Known, Foreign, Newest, Archive, archive, names_of, newest_names, names, commands_of, world_of, set_aside, aside_file, ended_with, ended_file}
 use Rattle.archive_history.specs.History.{MayResume, Resumes}
 use Rattle.archive_history.specs.Starting.{AllStay, EndsEmpty, LastFile, IsNewest, MayBeNewest, IsForeign}
 use Rattle.archive_history.proofs.Resolving.{same_head}
@@ -48,8 +48,7 @@ below_last (first ∷ front) last rising = above_last first.number front last ri
 
 names-append : {C : Type 0} (files more : List (File C)) → names_of (files ++ more) ≡ names_of files ++ names_of more
 names-append [] more = refl
-names-append (There is_thrown first bytes commands ∷ files) more = ap (λ (l : List Name). first ∷ l) (names-append files more)
-names-append (Left first content ∷ files) more = ap (λ (l : List Name). first ∷ l) (names-append files more)
+names-append (There is_thrown first content ∷ files) more = ap (λ (l : List Name). first ∷ l) (names-append files more)
 names-append (Gone commands ∷ files) more = names-append files more
 
 -- the last file that is there
@@ -76,13 +75,9 @@ one_more {C} first ended s = record {
 split : {C : Type 0} (ended : List (File C)) → (names_of ended ≡ []) ⊎ Split ended
 split [] = inl refl
 split (Gone commands ∷ files) = ⊎_elim (λ none. inl none) (λ s. inr (one_more (Gone commands) files s)) (split files)
-split (There is_thrown first bytes commands ∷ files) = inr (⊎_elim
-    (λ none. record { files = []; file = There is_thrown first bytes commands; gone = files; last = first; is = refl; no_names = none; named = λ rest. refl })
-    (λ s. one_more (There is_thrown first bytes commands) files s)
-    (split files))
-split (Left first content ∷ files) = inr (⊎_elim
-    (λ none. record { files = []; file = Left first content; gone = files; last = first; is = refl; no_names = none; named = λ rest. refl })
-    (λ s. one_more (Left first content) files s)
+split (There is_thrown first content ∷ files) = inr (⊎_elim
+    (λ none. record { files = []; file = There is_thrown first content; gone = files; last = first; is = refl; no_names = none; named = λ rest. refl })
+    (λ s. one_more (There is_thrown first content) files s)
     (split files))
 
 gone_empty : {C : Type 0} (files : List (File C)) (file : File C) (gone : List (File C)) → EndsEmpty (files ++ file ∷ gone) → names_of gone ≡ [] → commands_of gone ≡ []
@@ -114,26 +109,26 @@ module _ {C : Type 0} (ended : List (File C)) (n : ℕ) (s : Split ended) (numbe
       }) number
 
   of_file : (file : File C) → s.file ≡ file → LastFile (archive ended None) n
-  of_file (There is_thrown first bytes commands) same =
-      resume (world_of commands) (subst (λ (file : File C). MayResume file (record { name = s.last; world = world_of commands })) (sym same) (named, refl))
+  of_file (There is_thrown first content) same = of_content content same
     where
       named : s.last ≡ first
       named = sym (same_head first s.last [] [] (subst (λ (file : File C). names_of (file ∷ []) ≡ s.last ∷ []) same (s.named [])))
-  of_file (Left first (Foreign bytes)) same = IsForeign (record {
-    files = s.files;
-    name = first;
-    bytes = bytes;
-    gone = s.gone;
-    is = s.is ∙ ap (λ (file : File C). s.files ++ file ∷ s.gone) same;
-    none = refl;
-    no_names = s.no_names;
-    number_is = ap (λ (m : Name). m.number) (same_head first s.last [] [] (subst (λ (file : File C). names_of (file ∷ []) ≡ s.last ∷ []) same (s.named []))) ∙ number;
-  })
-  of_file (Left first (Known world)) same =
-      resume world (subst (λ (file : File C). MayResume file (record { name = s.last; world = world })) (sym same) (named, refl))
-    where
-      named : s.last ≡ first
-      named = sym (same_head first s.last [] [] (subst (λ (file : File C). names_of (file ∷ []) ≡ s.last ∷ []) same (s.named [])))
+
+      of_content : (content : Content C) → s.file ≡ There is_thrown first content → LastFile (archive ended None) n
+      of_content (Whole bytes commands) same =
+          resume (world_of commands) (subst (λ (file : File C). MayResume file (record { name = s.last; world = world_of commands })) (sym same) (named, refl))
+      of_content (Known world) same = resume world (subst (λ (file : File C). MayResume file (record { name = s.last; world = world })) (sym same) (named, refl))
+      of_content (Foreign bytes) same = IsForeign (record {
+        files = s.files;
+        name = first;
+        is_thrown = is_thrown;
+        bytes = bytes;
+        gone = s.gone;
+        is = s.is ∙ ap (λ (file : File C). s.files ++ file ∷ s.gone) same;
+        none = refl;
+        no_names = s.no_names;
+        number_is = ap (λ (m : Name). m.number) (sym named) ∙ number;
+      })
   of_file (Gone commands) same = absurd (never (subst (λ (file : File C). names_of (file ∷ []) ≡ s.last ∷ []) same (s.named [])))
     where
       never : [] ≡ s.last ∷ [] → ⊥
@@ -169,7 +164,7 @@ aside_names a = one a.ended a.newest
   where
     one : {C : Type 0} (ended : List (File C)) (newest : Option (Newest C)) → names (set_aside (archive ended newest)) ≡ names (archive ended newest)
     one ended None = ap (λ (l : List Name). l ++ []) (names-append ended [] ∙ append-nil (names_of ended))
-    one ended (Some file) = append-nil (names_of (ended ++ left_file (Some file))) ∙ names-append ended (left_file (Some file))
+    one ended (Some file) = append-nil (names_of (ended ++ aside_file (Some file))) ∙ names-append ended (aside_file (Some file))
 
 pub ended_names : {C : Type 0} (a : Archive C) (bytes : List ℕ) → names (ended_with a bytes) ≡ names a
 ended_names a bytes = one a.ended a.newest
@@ -186,7 +181,7 @@ resumed_names {C} a b is =
     ap names is.is ∙ sym split_names ∙ sym was
   where
     one : (file : File C) (newest : Newest C) → MayResume file newest → names_of (file ∷ is.gone) ≡ newest.name ∷ names_of is.gone
-    one (There is_thrown first bytes commands) newest may = ap (λ (m : Name). m ∷ names_of is.gone) (sym may.0)
-    one (Left first (Foreign bytes)) newest may = absurd may
-    one (Left first (Known world)) newest may = ap (λ (m : Name). m ∷ names_of is.gone) (sym may.0)
+    one (There is_thrown first (Whole bytes commands)) newest may = ap (λ (m : Name). m ∷ names_of is.gone) (sym may.0)
+    one (There is_thrown first (Known world)) newest may = ap (λ (m : Name). m ∷ names_of is.gone) (sym may.0)
+    one (There is_thrown first (Foreign bytes)) newest may = absurd may
     one (Gone commands) newest may = absurd may

@@ -10,7 +10,7 @@ use Rattle.history.specs.Commands.{IsPartOf}
 use Rattle.history.specs.World.{World, Call, Step, start, closed, happens, begun, now_in}
 use Rattle.history.specs.History.{ShowsWorld, StandsIn, Leaves, IsStep}
 use Rattle.archive_folder.specs.declared.names.Fate.TheVariants.{Comes}
-use Rattle.archive_history.specs.Archive.{File, There, Left, Gone, Foreign, Known, Newest, Archive, archive, set_aside, nothing, names_of, names, Move, Making, Throwing, Syncing, Asking, Recording, thrown, begun_by, recorded, ended_with, shut, Resolves, newest_commands, acknowledged, all_acknowledged, NewestResolves, newest_names}
+use Rattle.archive_history.specs.Archive.{File, There, Gone, Whole, Known, Foreign, Newest, Archive, archive, set_aside, nothing, names_of, names, Move, Making, Throwing, Syncing, Asking, Recording, thrown, begun_by, recorded, ended_with, shut, Resolves, newest_commands, acknowledged, all_acknowledged, NewestResolves, newest_names}
 use Rattle.archive_history.specs.Showing.{numbers, ShowsArchive, ShowsCommands}
 use Rattle.archive_history.specs.History.{Point, Event, Called, Recorded, Ended, SetAside, Resumed, MayResume, Resumes, Halted, HaltedIn, IsImageOf, MayMove, LeavesAll, WasBytes, WasImage, RestartsFrom, IsEvent, AreEvents, account_after, point_after, answered_one, answered, ThrowsNothing, IsArchiveHistory, MadeBytes, IsEmptyAt}
 use Rattle.archive_history.specs.Standing.{Bytes, AreSafe, NewestAbove, FilesStand, Stands as StandsBy, Now as NowBy, StandsAs, NewestStands}
@@ -190,14 +190,12 @@ module _ {F D S C : Type 0} (names_in : F → List Name) (moment : F → ℕ) (l
     stand_more : (of : Bytes) (files more : List (File C)) → FilesStand shows next first of files → FilesStand shows next first of more → FilesStand shows next first of (files ++ more)
     stand_more of [] more stand last = last
     stand_more of (Gone commands ∷ files) more stand last = stand_more of files more stand last
-    stand_more of (Left name content ∷ files) more stand last = (stand.0, stand_more of files more stand.1 last)
-    stand_more of (There is_thrown name bytes commands ∷ files) more stand last = (stand.0, stand.1, stand_more of files more stand.2 last)
+    stand_more of (There is_thrown name content ∷ files) more stand last = (stand.0, stand_more of files more stand.1 last)
 
     safe_more : (files more : List (File C)) → AreSafe files → AreSafe more → AreSafe (files ++ more)
     safe_more [] more safe last = last
     safe_more (Gone commands ∷ files) more safe last = safe_more files more safe last
-    safe_more (Left name content ∷ files) more safe last = (safe.0, safe_more files more safe.1 last)
-    safe_more (There is_thrown name bytes commands ∷ files) more safe last = (safe.0, safe_more files more safe.1 last)
+    safe_more (There is_thrown name content ∷ files) more safe last = (safe.0, safe_more files more safe.1 last)
 
     -- without a group in doubt the file shows what is acknowledged
     shown_settled : (w : World C) (bytes : List ℕ) → w.in_doubt ≡ [] → ShowsWorld shows next first w bytes → shows bytes (fold next first w.acknowledged)
@@ -209,9 +207,9 @@ module _ {F D S C : Type 0} (names_in : F → List Name) (moment : F → ℕ) (l
     ended_holds ended (Some file) bytes b old new stands is =
         let shown : shows bytes (fold next first file.world.acknowledged) = shown_settled file.world bytes is.0.1 (stands.newest bytes is.0.0.is_image) in
         record {
-          files = stand_more (Now old) ended (There false file.name bytes file.world.acknowledged ∷ []) stands.files (is.0.0.only, shown, tt);
+          files = stand_more (Now old) ended (There false file.name (Whole bytes file.world.acknowledged) ∷ []) stands.files ((λ b now. let here : b ≡ bytes = is.0.0.only b now in (here, subst (λ (bs : List ℕ). shows bs (fold next first file.world.acknowledged)) (sym here) shown)), tt);
           newest = tt;
-          safe = safe_more ended (There false file.name bytes file.world.acknowledged ∷ []) stands.safe (inr stands.newest_safe, tt);
+          safe = safe_more ended (There false file.name (Whole bytes file.world.acknowledged) ∷ []) stands.safe (inr stands.newest_safe, tt);
           newest_safe = tt;
           above = tt;
         }
@@ -221,9 +219,9 @@ module _ {F D S C : Type 0} (names_in : F → List Name) (moment : F → ℕ) (l
         → Is (archive ended newest) SetAside b old new → Stands (Now old) (set_aside (archive ended newest))
     aside_holds ended None b old new stands is = absurd is.0
     aside_holds ended (Some file) b old new stands is = record {
-      files = stand_more (Now old) ended (Left file.name (Known (closed file.world file.world.in_doubt)) ∷ []) stands.files (stands.newest, tt);
+      files = stand_more (Now old) ended (There false file.name (Known (closed file.world file.world.in_doubt)) ∷ []) stands.files (stands.newest, tt);
       newest = tt;
-      safe = safe_more ended (Left file.name (Known (closed file.world file.world.in_doubt)) ∷ []) stands.safe (stands.newest_safe, tt);
+      safe = safe_more ended (There false file.name (Known (closed file.world file.world.in_doubt)) ∷ []) stands.safe (inr stands.newest_safe, tt);
       newest_safe = tt;
       above = tt;
     }
@@ -232,29 +230,26 @@ module _ {F D S C : Type 0} (names_in : F → List Name) (moment : F → ℕ) (l
     stand_front : (of : Bytes) (files more : List (File C)) → FilesStand shows next first of (files ++ more) → FilesStand shows next first of files
     stand_front of [] more stand = tt
     stand_front of (Gone commands ∷ files) more stand = stand_front of files more stand
-    stand_front of (Left name content ∷ files) more stand = (stand.0, stand_front of files more stand.1)
-    stand_front of (There is_thrown name bytes commands ∷ files) more stand = (stand.0, stand.1, stand_front of files more stand.2)
+    stand_front of (There is_thrown name content ∷ files) more stand = (stand.0, stand_front of files more stand.1)
 
     stand_back : (of : Bytes) (files more : List (File C)) → FilesStand shows next first of (files ++ more) → FilesStand shows next first of more
     stand_back of [] more stand = stand
     stand_back of (Gone commands ∷ files) more stand = stand_back of files more stand
-    stand_back of (Left name content ∷ files) more stand = stand_back of files more stand.1
-    stand_back of (There is_thrown name bytes commands ∷ files) more stand = stand_back of files more stand.2
+    stand_back of (There is_thrown name content ∷ files) more stand = stand_back of files more stand.1
 
     safe_front : (files more : List (File C)) → AreSafe (files ++ more) → AreSafe files
     safe_front [] more safe = tt
     safe_front (Gone commands ∷ files) more safe = safe_front files more safe
-    safe_front (Left name content ∷ files) more safe = (safe.0, safe_front files more safe.1)
-    safe_front (There is_thrown name bytes commands ∷ files) more safe = (safe.0, safe_front files more safe.1)
+    safe_front (There is_thrown name content ∷ files) more safe = (safe.0, safe_front files more safe.1)
 
     resumed_shows : (of : Bytes) (file : File C) (gone : List (File C)) (newest : Newest C) → MayResume file newest → FilesStand shows next first of (file ∷ gone)
         → (bytes : List ℕ) → of newest.name.number bytes → ShowsWorld shows next first newest.world bytes
-    resumed_shows of (There is_thrown name bytes commands) gone newest may stand other now =
-        let here : other ≡ bytes = stand.0 other (subst (λ (n : Name). of n.number other) may.0 now) in
-        subst (λ (w : World C). ShowsWorld shows next first w other) (sym may.1) (inl (subst (λ (bs : List ℕ). shows bs (fold next first commands)) (sym here) stand.1))
-    resumed_shows of (Left name (Foreign bytes)) gone newest may stand other now = absurd may
-    resumed_shows of (Left name (Known world)) gone newest may stand other now =
+    resumed_shows of (There is_thrown name (Whole bytes commands)) gone newest may stand other now =
+        let here = stand.0 other (subst (λ (n : Name). of n.number other) may.0 now) in
+        subst (λ (w : World C). ShowsWorld shows next first w other) (sym may.1) (inl here.1)
+    resumed_shows of (There is_thrown name (Known world)) gone newest may stand other now =
         subst (λ (w : World C). ShowsWorld shows next first w other) (sym may.1) (stand.0 other (subst (λ (n : Name). of n.number other) may.0 now))
+    resumed_shows of (There is_thrown name (Foreign bytes)) gone newest may stand other now = absurd may
     resumed_shows of (Gone commands) gone newest may stand other now = absurd may
 
     resumed_holds : (a b : Archive C) (old : Point F D) → Stands (Now old) a → Resumes a b → Stands (Now old) b

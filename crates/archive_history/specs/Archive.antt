@@ -7,24 +7,24 @@ use Rattle.archive_folder.specs.declared.names.Fate.TheVariants.{Stays, Comes, G
 use Rattle.archive_folder.specs.Names.{name, MayLack}
 use Rattle.history.specs.World.{World, Call, Step, start, happens, begun, closed}
 
--- what is in a file that is left exactly as it is
+-- what is in a file that is written no more
 pub data Content (C : Type 0) : Type 0 where
+  -- it has ended: these bytes are its only image, and show these commands
+  Whole : (bytes : List ℕ) → (commands : List C) → Content C
+  -- It was set aside as it is: it shows what was acknowledged in it, and perhaps the group that was in doubt.
+  Known : (world : World C) → Content C
   -- It isn't ours, or was damaged before this account: it has these bytes, and shows no commands.
   Foreign : (bytes : List ℕ) → Content C
-  -- It was the newest: it shows what was acknowledged in it, and perhaps the group that was in doubt.
-  Known : (world : World C) → Content C
 
--- what is known to be in it
+-- what was acknowledged in it
 abbrev pub commands_in : {C : Type 0} → Content C → List C
-commands_in (Foreign bytes) = []
+commands_in (Whole bytes commands) = commands
 commands_in (Known world) = world.acknowledged
+commands_in (Foreign bytes) = []
 
 -- a file that is written no more
 pub data File (C : Type 0) : Type 0 where
-  -- these bytes are its only image, and show these commands; whether it was thrown away
-  There : (is_thrown : Bool) → (name : Name) → (bytes : List ℕ) → (commands : List C) → File C
-  -- it is left exactly as it is
-  Left : (name : Name) → (content : Content C) → File C
+  There : (is_thrown : Bool) → (name : Name) → (content : Content C) → File C
   -- it is there no more, and no stop brings it back
   Gone : (commands : List C) → File C
 
@@ -49,8 +49,7 @@ nothing = record { ended = []; newest = None }
 -- the names that the folder has
 abbrev pub names_of : {C : Type 0} → List (File C) → List Name
 names_of [] = []
-names_of (There is_thrown name bytes commands ∷ files) = name ∷ names_of files
-names_of (Left name content ∷ files) = name ∷ names_of files
+names_of (There is_thrown name content ∷ files) = name ∷ names_of files
 names_of (Gone commands ∷ files) = names_of files
 
 abbrev pub newest_names : {C : Type 0} → Option (Newest C) → List Name
@@ -72,23 +71,15 @@ pub data Move (C : Type 0) : Type 0 where
   Asking : Move C
   Recording : (call : Call C) → Move C
 
--- the names of the files that may be thrown away
-abbrev pub recorded_names : {C : Type 0} → List (File C) → List Name
-recorded_names [] = []
-recorded_names (There is_thrown name bytes commands ∷ files) = name ∷ recorded_names files
-recorded_names (Left name content ∷ files) = recorded_names files
-recorded_names (Gone commands ∷ files) = recorded_names files
-
--- The oldest file that is there is removed, so that an image may lack it. One that is left as it is stays. Of several
--- that were removed since the last sync a stop may bring back any: the numbers tell the gap.
-abbrev pub thrown_one : {C : Type 0} → ℕ → Fate → List ℕ → List C → List (File C) → List (File C) → List (File C)
-thrown_one n Goes bytes commands files rest = There true (name n Goes) bytes commands ∷ rest
-thrown_one n fate bytes commands files rest = There true (name n Goes) bytes commands ∷ files
+-- The oldest file that is there is removed, so that an image may lack it. Of several that were removed since the last
+-- sync a stop may bring back any: the numbers tell the gap.
+abbrev pub thrown_one : {C : Type 0} → ℕ → Fate → Content C → List (File C) → List (File C) → List (File C)
+thrown_one n Goes content files rest = There true (name n Goes) content ∷ rest
+thrown_one n fate content files rest = There true (name n Goes) content ∷ files
 
 abbrev pub thrown : {C : Type 0} → List (File C) → List (File C)
 thrown [] = []
-thrown (There is_thrown name bytes commands ∷ files) = thrown_one name.number name.fate bytes commands files (thrown files)
-thrown (Left name content ∷ files) = Left name content ∷ thrown files
+thrown (There is_thrown name content ∷ files) = thrown_one name.number name.fate content files (thrown files)
 thrown (Gone commands ∷ files) = Gone commands ∷ thrown files
 
 abbrev pub with_world : {C : Type 0} → (World C → World C) → Option (Newest C) → Option (Newest C)
@@ -96,12 +87,12 @@ with_world change None = None
 with_world change (Some file) = Some (record { name = file.name; world = change file.world })
 
 -- the newest file is left exactly as it is, and written no more: what waits is lost
-abbrev pub left_file : {C : Type 0} → Option (Newest C) → List (File C)
-left_file None = []
-left_file (Some file) = Left file.name (Known (closed file.world file.world.in_doubt)) ∷ []
+abbrev pub aside_file : {C : Type 0} → Option (Newest C) → List (File C)
+aside_file None = []
+aside_file (Some file) = There false file.name (Known (closed file.world file.world.in_doubt)) ∷ []
 
 abbrev pub set_aside : {C : Type 0} → Archive C → Archive C
-set_aside a = archive (a.ended ++ left_file a.newest) None
+set_aside a = archive (a.ended ++ aside_file a.newest) None
 
 -- A file that had ended is the newest again: nothing of it is in doubt.
 abbrev pub world_of : {C : Type 0} → List C → World C
@@ -122,7 +113,7 @@ recorded a step = archive a.ended (with_world (λ w. happens w step) a.newest)
 -- the newest file is written no more
 abbrev pub ended_file : {C : Type 0} → Option (Newest C) → List ℕ → List (File C)
 ended_file None bytes = []
-ended_file (Some file) bytes = There false file.name bytes file.world.acknowledged ∷ []
+ended_file (Some file) bytes = There false file.name (Whole bytes file.world.acknowledged) ∷ []
 
 abbrev pub ended_with : {C : Type 0} → Archive C → List ℕ → Archive C
 ended_with a bytes = archive (a.ended ++ ended_file a.newest bytes) None
@@ -140,11 +131,9 @@ MayBecome fate other = ⊤
 -- The same files, some fates of which are settled: a file that an image may lack is there, or gone.
 abbrev pub FilesResolve : {C : Type 0} → List (File C) → List (File C) → Type 0
 FilesResolve [] [] = ⊤
-FilesResolve (There is_thrown name bytes commands ∷ files) (There was_thrown other bytes' commands' ∷ others) =
-    (was_thrown ≡ is_thrown) × (other.number ≡ name.number) × MayBecome name.fate other.fate × (bytes' ≡ bytes) × (commands' ≡ commands) × FilesResolve files others
-FilesResolve (There is_thrown name bytes commands ∷ files) (Gone commands' ∷ others) = MayLack name.fate × (commands' ≡ commands) × FilesResolve files others
-FilesResolve (Left name content ∷ files) (Left other content' ∷ others) = (other.number ≡ name.number) × MayBecome name.fate other.fate × (content' ≡ content) × FilesResolve files others
-FilesResolve (Left name content ∷ files) (Gone commands' ∷ others) = MayLack name.fate × (commands' ≡ commands_in content) × FilesResolve files others
+FilesResolve (There is_thrown name content ∷ files) (There was_thrown other content' ∷ others) =
+    (was_thrown ≡ is_thrown) × (other.number ≡ name.number) × MayBecome name.fate other.fate × (content' ≡ content) × FilesResolve files others
+FilesResolve (There is_thrown name content ∷ files) (Gone commands' ∷ others) = MayLack name.fate × (commands' ≡ commands_in content) × FilesResolve files others
 FilesResolve (Gone commands ∷ files) (Gone commands' ∷ others) = (commands' ≡ commands) × FilesResolve files others
 FilesResolve files others = ⊥
 
@@ -158,18 +147,13 @@ abbrev pub Resolves : {C : Type 0} → Archive C → Archive C → Type 0
 Resolves a b = FilesResolve a.ended b.ended × NewestResolves a.newest b.newest
 
 -- after a sync of the folder that succeeds
-abbrev pub settled_file : {C : Type 0} → Bool → ℕ → Fate → List ℕ → List C → File C
-settled_file is_thrown n Goes bytes commands = Gone commands
-settled_file is_thrown n fate bytes commands = There is_thrown (name n Stays) bytes commands
-
-abbrev pub settled_left : {C : Type 0} → ℕ → Fate → Content C → File C
-settled_left n Goes content = Gone (commands_in content)
-settled_left n fate content = Left (name n Stays) content
+abbrev pub settled_file : {C : Type 0} → Bool → ℕ → Fate → Content C → File C
+settled_file is_thrown n Goes content = Gone (commands_in content)
+settled_file is_thrown n fate content = There is_thrown (name n Stays) content
 
 abbrev pub settled_files : {C : Type 0} → List (File C) → List (File C)
 settled_files [] = []
-settled_files (There is_thrown name bytes commands ∷ files) = settled_file is_thrown name.number name.fate bytes commands ∷ settled_files files
-settled_files (Left name content ∷ files) = settled_left name.number name.fate content ∷ settled_files files
+settled_files (There is_thrown name content ∷ files) = settled_file is_thrown name.number name.fate content ∷ settled_files files
 settled_files (Gone commands ∷ files) = Gone commands ∷ settled_files files
 
 -- a new file whose name no stop takes away, with nothing in it
@@ -179,8 +163,7 @@ with_new n a = archive (settled_files a.ended) (Some (record { name = name n Sta
 -- every command that was acknowledged, in order, wherever its file is now
 abbrev pub commands_of : {C : Type 0} → List (File C) → List C
 commands_of [] = []
-commands_of (There is_thrown name bytes commands ∷ files) = commands ++ commands_of files
-commands_of (Left name content ∷ files) = commands_in content ++ commands_of files
+commands_of (There is_thrown name content ∷ files) = commands_in content ++ commands_of files
 commands_of (Gone commands ∷ files) = commands ++ commands_of files
 
 abbrev pub newest_commands : {C : Type 0} → Option (Newest C) → List C
@@ -193,8 +176,7 @@ all_acknowledged a = commands_of a.ended ++ newest_commands a.newest
 -- those of the files that weren't thrown away
 abbrev pub kept_of : {C : Type 0} → List (File C) → List C
 kept_of [] = []
-kept_of (There is_thrown name bytes commands ∷ files) = (if is_thrown then [] else commands) ++ kept_of files
-kept_of (Left name content ∷ files) = commands_in content ++ kept_of files
+kept_of (There is_thrown name content ∷ files) = (if is_thrown then [] else commands_in content) ++ kept_of files
 kept_of (Gone commands ∷ files) = kept_of files
 
 abbrev pub acknowledged : {C : Type 0} → Archive C → List C
@@ -204,14 +186,17 @@ acknowledged a = kept_of a.ended ++ newest_commands a.newest
 abbrev pub MayHold : {C : Type 0} → World C → List C → Type 0
 MayHold world commands = (commands ≡ world.acknowledged) ⊎ (commands ≡ world.acknowledged ++ world.in_doubt)
 
+abbrev pub MayBeIn : {C : Type 0} → Content C → List C → Type 0
+MayBeIn (Whole bytes commands) shown = shown ≡ commands
+MayBeIn (Known world) shown = MayHold world shown
+MayBeIn (Foreign bytes) shown = shown ≡ []
+
 -- What the files that weren't thrown away may hold, one after the other. Only in a file that was set aside and in the
 -- newest may there be more than what was acknowledged.
 abbrev pub MayHoldAll : {C : Type 0} → List (File C) → Option (Newest C) → List C → Type 0
 MayHoldAll [] None all = all ≡ []
 MayHoldAll [] (Some file) all = MayHold file.world all
-MayHoldAll (There true name bytes commands ∷ files) newest all = MayHoldAll files newest all
-MayHoldAll {C} (There false name bytes commands ∷ files) newest all = (rest : List C) × MayHoldAll files newest rest × (all ≡ commands ++ rest)
-MayHoldAll (Left name (Foreign bytes) ∷ files) newest all = MayHoldAll files newest all
-MayHoldAll {C} (Left name (Known world) ∷ files) newest all =
-    (commands : List C) × (rest : List C) × MayHold world commands × MayHoldAll files newest rest × (all ≡ commands ++ rest)
+MayHoldAll (There true name content ∷ files) newest all = MayHoldAll files newest all
+MayHoldAll {C} (There false name content ∷ files) newest all =
+    (commands : List C) × (rest : List C) × MayBeIn content commands × MayHoldAll files newest rest × (all ≡ commands ++ rest)
 MayHoldAll (Gone commands ∷ files) newest all = MayHoldAll files newest all

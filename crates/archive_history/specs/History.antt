@@ -10,7 +10,7 @@ use Rattle.archive_folder.specs.Names.{IsLeft, AreBelow, restarted}
 use Rattle.history.specs.Showing.{StartsFrom}
 use Rattle.history.specs.World.{World, Step, Stopped, StoppedIn, happens, acknowledged_by}
 use Rattle.history.specs.History.{MayBegin, Leaves, IsStep}
-use Rattle.archive_history.specs.Archive.{File, There, Left, Gone, Foreign, Known, Newest, Archive, archive, nothing, names_of, names, commands_of, world_of, set_aside, Move, Making, Throwing, Syncing, Asking, Recording, begun_by, recorded, ended_with, shut, Resolves}
+use Rattle.archive_history.specs.Archive.{File, There, Gone, Whole, Known, Foreign, Newest, Archive, archive, nothing, names_of, names, commands_of, world_of, set_aside, Move, Making, Throwing, Syncing, Asking, Recording, begun_by, recorded, ended_with, shut, Resolves}
 use Rattle.archive_history.specs.Showing.{numbers}
 
 -- The folder, and the disk under each number, wherever it is: with the folder, or with a recorder.
@@ -57,9 +57,9 @@ IsSafe fate world = (fate ≡ Stays) ⊎ (world.acknowledged ≡ [])
 
 -- What the newest is, if a file that had ended or was set aside is written again.
 abbrev pub MayResume : {C : Type 0} → File C → Newest C → Type 0
-MayResume (There is_thrown name bytes commands) newest = (newest.name ≡ name) × (newest.world ≡ world_of commands)
-MayResume (Left name (Foreign bytes)) newest = ⊥
-MayResume (Left name (Known world)) newest = (newest.name ≡ name) × (newest.world ≡ world)
+MayResume (There is_thrown name (Whole bytes commands)) newest = (newest.name ≡ name) × (newest.world ≡ world_of commands)
+MayResume (There is_thrown name (Known world)) newest = (newest.name ≡ name) × (newest.world ≡ world)
+MayResume (There is_thrown name (Foreign bytes)) newest = ⊥
 MayResume (Gone commands) newest = ⊥
 
 -- The last file that is there is the newest from now on. What came after it is gone, and held nothing.

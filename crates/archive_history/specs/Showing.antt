@@ -4,7 +4,7 @@ use Rattle.std.specs.List.{fold, flat_map}
 use Rattle.archive_folder.specs.Names.{MayLack}
 use Rattle.history.specs.History.{ShowsWorld}
 use Rattle.history.specs.Commands.{IsPartOf}
-use Rattle.archive_history.specs.Archive.{File, There, Left, Gone, Content, Foreign, Known, Newest, Archive, acknowledged, MayHoldAll}
+use Rattle.archive_history.specs.Archive.{File, There, Gone, Content, Whole, Known, Foreign, Newest, Archive, acknowledged, MayHoldAll}
 
 -- the numbers of an image's files
 abbrev pub numbers : List (ℕ × List ℕ) → List ℕ
@@ -18,16 +18,12 @@ AreAmong (file ∷ files) (other ∷ image) = ((file ≡ other) × AreAmong file
 
 -- `first`: what an empty file shows
 module _ {S C : Type 0} (shows : List ℕ → S → Type 0) (next : S → C → S) (first : S) where
-  -- the file has this number and exactly these bytes, and shows these commands
-  pub record IsFile (number : ℕ) (bytes : List ℕ) (commands : List C) (file : ℕ × List ℕ) : Type 0 where
-    pub number_is : file.0 ≡ number
-    pub bytes_are : file.1 ≡ bytes
-    pub shown : shows bytes (fold next first commands)
-
-  -- a file that is left as it is has its bytes, or shows what its recorder knew of it
+  -- A file that has ended has exactly its bytes, and shows its commands. One that was set aside shows what its recorder
+  -- knew of it.
   abbrev pub ShowsContent : Content C → List ℕ → Type 0
-  ShowsContent (Foreign bytes) image = image ≡ bytes
+  ShowsContent (Whole bytes commands) image = (image ≡ bytes) × shows image (fold next first commands)
   ShowsContent (Known world) image = ShowsWorld shows next first world image
+  ShowsContent (Foreign bytes) image = image ≡ bytes
 
   -- the newest file shows what was acknowledged, without the group in doubt or with it
   abbrev pub ShowsNewest : Option (Newest C) → List (ℕ × List ℕ) → Type 0
@@ -42,12 +38,9 @@ module _ {S C : Type 0} (shows : List ℕ → S → Type 0) (next : S → C → 
   abbrev pub ShowsFiles : List (File C) → Option (Newest C) → List (ℕ × List ℕ) → Type 0
   ShowsFiles [] newest image = ShowsNewest newest image
   ShowsFiles (Gone commands ∷ files) newest image = ShowsFiles files newest image
-  ShowsFiles (Left name content ∷ files) newest [] = MayLack name.fate × ShowsFiles files newest []
-  ShowsFiles (Left name content ∷ files) newest (file ∷ image) =
+  ShowsFiles (There is_thrown name content ∷ files) newest [] = MayLack name.fate × ShowsFiles files newest []
+  ShowsFiles (There is_thrown name content ∷ files) newest (file ∷ image) =
       ((file.0 ≡ name.number) × ShowsContent content file.1 × ShowsFiles files newest image) ⊎ (MayLack name.fate × ShowsFiles files newest (file ∷ image))
-  ShowsFiles (There is_thrown name bytes commands ∷ files) newest [] = MayLack name.fate × ShowsFiles files newest []
-  ShowsFiles (There is_thrown name bytes commands ∷ files) newest (file ∷ image) =
-      (IsFile name.number bytes commands file × ShowsFiles files newest image) ⊎ (MayLack name.fate × ShowsFiles files newest (file ∷ image))
 
   abbrev pub ShowsArchive : Archive C → List (ℕ × List ℕ) → Type 0
   ShowsArchive a image = ShowsFiles a.ended a.newest image

@@ -1,13 +1,12 @@
 -- When a folder stands as its account says. Ours.
 use Rattle.std.specs.Prelude.{◌≡◌, ◌⊎◌, ℕ, true, List, [], ◌∷◌, Option, None, Some, ⊤}
-use Rattle.std.specs.List.{fold}
 use Rattle.disk_model.specs.declared.disk.Disk.{Ghosts as DiskModel}
 use Rattle.disk_model.specs.Image.{IsImage}
 use Rattle.archive_folder.specs.declared.names.Name.{Name}
 use Rattle.archive_folder.specs.declared.names.Fate.TheVariants.{Stays}
 use Rattle.archive_folder.specs.Names.{AreBelow}
 use Rattle.history.specs.History.{ShowsWorld}
-use Rattle.archive_history.specs.Archive.{File, There, Left, Gone, Newest, Archive, commands_in, names_of, names}
+use Rattle.archive_history.specs.Archive.{File, There, Gone, Newest, Archive, commands_in, names_of, names}
 use Rattle.archive_history.specs.Showing.{ShowsContent}
 use Rattle.archive_history.specs.History.{Point, IsSafe}
 
@@ -18,8 +17,7 @@ Bytes = ℕ → List ℕ → Type 0
 -- what can be lost with a file's name was thrown away, or is nothing
 abbrev pub AreSafe : {C : Type 0} → List (File C) → Type 0
 AreSafe [] = ⊤
-AreSafe (There is_thrown name bytes commands ∷ files) = ((is_thrown ≡ true) ⊎ ((name.fate ≡ Stays) ⊎ (commands ≡ []))) × AreSafe files
-AreSafe (Left name content ∷ files) = ((name.fate ≡ Stays) ⊎ (commands_in content ≡ [])) × AreSafe files
+AreSafe (There is_thrown name content ∷ files) = ((is_thrown ≡ true) ⊎ ((name.fate ≡ Stays) ⊎ (commands_in content ≡ []))) × AreSafe files
 AreSafe (Gone commands ∷ files) = AreSafe files
 
 abbrev pub NewestSafe : {C : Type 0} → Option (Newest C) → Type 0
@@ -35,9 +33,7 @@ module _ {S C : Type 0} (shows : List ℕ → S → Type 0) (next : S → C → 
   -- each file that has ended has its bytes as its only image, and they show its commands
   abbrev pub FilesStand : Bytes → List (File C) → Type 0
   FilesStand of [] = ⊤
-  FilesStand of (There is_thrown name bytes commands ∷ files) =
-      ((b : List ℕ) → of name.number b → b ≡ bytes) × shows bytes (fold next first commands) × FilesStand of files
-  FilesStand of (Left name content ∷ files) = ((b : List ℕ) → of name.number b → ShowsContent shows next first content b) × FilesStand of files
+  FilesStand of (There is_thrown name content ∷ files) = ((b : List ℕ) → of name.number b → ShowsContent shows next first content b) × FilesStand of files
   FilesStand of (Gone commands ∷ files) = FilesStand of files
 
   abbrev pub NewestStands : Bytes → Option (Newest C) → Type 0

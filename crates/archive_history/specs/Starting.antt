@@ -1,8 +1,8 @@
 -- What a program finds that starts on a folder: which file it takes for the newest. Ours.
-use Rattle.std.specs.Prelude.{◌≡◌, ℕ, List, [], ◌∷◌, ◌++◌, None, Some, ⊤}
+use Rattle.std.specs.Prelude.{◌≡◌, ℕ, Bool, List, [], ◌∷◌, ◌++◌, None, Some, ⊤}
 use Rattle.archive_folder.specs.declared.names.Name.{Name}
 use Rattle.archive_folder.specs.declared.names.Fate.TheVariants.{Stays}
-use Rattle.archive_history.specs.Archive.{File, Left, Foreign, Newest, Archive, names_of, commands_of}
+use Rattle.archive_history.specs.Archive.{File, There, Foreign, Newest, Archive, names_of, commands_of}
 use Rattle.archive_history.specs.History.{Resumes}
 
 -- no stop loses a name, and none brings one back: the folder was synced
@@ -19,9 +19,10 @@ EndsEmpty (file ∷ files) = (names_of files ≡ [] → commands_of files ≡ []
 pub record EndsForeign {C : Type 0} (a : Archive C) (n : ℕ) : Type 0 where
   pub files : List (File C)
   pub name : Name
+  pub is_thrown : Bool
   pub bytes : List ℕ
   pub gone : List (File C)
-  pub is : a.ended ≡ files ++ Left name (Foreign bytes) ∷ gone
+  pub is : a.ended ≡ files ++ There is_thrown name (Foreign bytes) ∷ gone
   pub none : a.newest ≡ None
   pub no_names : names_of gone ≡ []
   pub number_is : name.number ≡ n

@@ -5,7 +5,7 @@ ghost use Rattle.archive_folder.specs.declared.names.Name.{Name};
 ghost use Rattle.archive_folder.specs.Clock.{MayHaveMade, MayHaveRemoved};
 ghost use Rattle.archive_folder.specs.Names.{IsLeft, AreRising, listed, made, removed, synced, restarted};
 ghost use Rattle.history.specs.Commands.{IsPartOf};
-ghost use Rattle.archive_history.specs.Archive.{Archive, Move, Making, Throwing, nothing, recorded_names, names, begun_by, ended_with, set_aside, shut, Resolves, acknowledged, all_acknowledged};
+ghost use Rattle.archive_history.specs.Archive.{Archive, Move, Making, Throwing, nothing, names_of, names, begun_by, ended_with, set_aside, shut, Resolves, acknowledged, all_acknowledged};
 ghost use Rattle.archive_history.specs.Showing.{numbers, ShowsArchive, ShowsCommands};
 ghost use Rattle.archive_history.specs.Standing.{StandsAs};
 ghost use Rattle.archive_history.specs.History.{Point, Event, IsOnly, IsImageOf, MayMove, LeavesAll, WasImage, IsEvent, IsArchiveHistory, Resumes, ThrowsNothing, answered};
@@ -113,14 +113,14 @@ pub fn calls_are_events<B: Recordings>()
     ensures making { (a : Archive B.Command) (n : ℕ) → a.newest ≡ None
         → names (begun_by a (Making n)) ≡ made n (names a) }
     ensures throwing { (a : Archive B.Command) (n : ℕ) (rest : List ℕ) → AreRising (names a)
-        → listed (recorded_names a.ended) ≡ n ∷ rest
+        → listed (names_of a.ended) ≡ n ∷ rest
         → names (begun_by a Throwing) ≡ removed n (names a) }
     // A making and a removal that failed are events too, whatever they left.
     ensures failed_making { (a : Archive B.Command) (n : ℕ) (new : List Name) → a.newest ≡ None
         → (new ≡ names a) ⊎ MayHaveMade n (names a) new
         → (b : Archive B.Command) × Resolves (begun_by a (Making n)) b × (new ≡ names b) }
     ensures failed_throwing { (a : Archive B.Command) (n : ℕ) (rest : List ℕ) (new : List Name)
-        → AreRising (names a) → listed (recorded_names a.ended) ≡ n ∷ rest
+        → AreRising (names a) → listed (names_of a.ended) ≡ n ∷ rest
         → MayHaveRemoved n (names a) new
         → (b : Archive B.Command) × Resolves (begun_by a Throwing) b × (new ≡ names b) }
     ensures syncing { (a : Archive B.Command)

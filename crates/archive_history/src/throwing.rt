@@ -2,7 +2,7 @@
 ghost use Rattle.std.specs.Prelude.{◌≡◌, [], ◌∷◌, ℕ, List, OnOk, OnErr};
 ghost use Rattle.std.specs.List.{Contains};
 ghost use Rattle.archive_folder.specs.Names.{IsKept, listed, removed};
-ghost use Rattle.archive_history.specs.Archive.{Archive, Throwing, recorded_names, begun_by, Resolves};
+ghost use Rattle.archive_history.specs.Archive.{Archive, Throwing, names_of, begun_by, Resolves};
 ghost use Rattle.archive_history.specs.Standing.{StandsAs};
 ghost use Rattle.archive_history.specs.History.{point, LeavesNames};
 
@@ -11,7 +11,7 @@ use archive_folder::{FileName, Folder};
 use disk_model::{Disk, DiskFault};
 use history::Recordings;
 
-/// Removes the oldest file that was recorded. Until the folder is synced a stop may bring it back, whole.
+/// Removes the oldest file that is there. Until the folder is synced a stop may bring it back, whole.
 pub fn throw_oldest<D: Disk, F: Folder<File = D>, B: Recordings>(
     folder: &mut F,
     name: FileName,
@@ -24,14 +24,14 @@ pub fn throw_oldest<D: Disk, F: Folder<File = D>, B: Recordings>(
     ensures thrown { OnOk result ((first : B.State) (a : Archive B.Command) (disks : ℕ → D) (rest : List ℕ)
         → B.shows [] first
         → StandsAs F.names D.Disk B.shows B.next first a (point folder.old disks)
-        → listed (recorded_names a.ended) ≡ name.number ∷ rest
+        → listed (names_of a.ended) ≡ name.number ∷ rest
         → StandsAs F.names D.Disk B.shows B.next first (begun_by a Throwing) (point folder.new disks)) }
 
     // After a fault it is there, or gone, or in doubt.
     ensures failed { OnErr result ((first : B.State) (a : Archive B.Command) (disks : ℕ → D) (rest : List ℕ)
         → B.shows [] first
         → StandsAs F.names D.Disk B.shows B.next first a (point folder.old disks)
-        → listed (recorded_names a.ended) ≡ name.number ∷ rest
+        → listed (names_of a.ended) ≡ name.number ∷ rest
         → (b : Archive B.Command) × Resolves (begun_by a Throwing) b
         × StandsAs F.names D.Disk B.shows B.next first b (point folder.new disks)) }
 
