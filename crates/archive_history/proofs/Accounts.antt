@@ -1,13 +1,12 @@
 -- What is acknowledged stays in the account, in its order.
-use Rattle.std.specs.Prelude.{◌≡◌, ℕ, false, if◌then◌else◌, List, [], ◌∷◌, ◌++◌, Option, None, Some, refl}
+use Rattle.std.specs.Prelude.{◌≡◌, ℕ, ◌==◌, true, false, if◌then◌else◌, List, [], ◌∷◌, ◌++◌, Option, None, Some, refl}
 use Rattle.std.proofs.Common.{inl, inr, ⊎_elim, sym, ◌∙◌, ap, subst, append_assoc}
 use Rattle.std.proofs.lemmas.List.{append-nil}
-use Rattle.archive_folder.specs.declared.names.Fate.{Fate}
-use Rattle.archive_folder.specs.declared.names.Fate.TheVariants.{Stays, Comes, Goes}
-use Rattle.archive_folder.specs.Names.{MayLack}
+use Rattle.archive_folder.specs.declared.names.Fate.TheVariants.{Stays, Goes}
+use Rattle.archive_folder.specs.Names.{name, MayLack}
 use Rattle.history.specs.World.{World, Step, Opened, Held, Kept, Flushed, Refused, Looked, Sealed, GivenBack, Faulted, Stopped, StoppedIn, closed, happens, acknowledged_by}
 use Rattle.history.specs.Commands.{IsPartOf}
-use Rattle.archive_history.specs.Archive.{File, There, Gone, Content, Whole, Known, Foreign, Newest, Archive, archive, commands_in, set_aside, Move, Making, Throwing, Syncing, Asking, Recording, thrown_one, thrown, with_world, begun_by, recorded, ended_with, shut, FilesResolve, NewestResolves, Resolves, commands_of, newest_commands, all_acknowledged}
+use Rattle.archive_history.specs.Archive.{File, There, Gone, Content, Whole, Known, Foreign, Newest, Archive, archive, commands_in, set_aside, Move, Making, Throwing, Syncing, Asking, Recording, thrown, with_world, begun_by, recorded, ended_with, shut, FilesResolve, NewestResolves, Resolves, commands_of, newest_commands, all_acknowledged}
 use Rattle.archive_history.specs.History.{MayResume, Resumes}
 use Rattle.archive_history.specs.Standing.{NewestSafe}
 
@@ -88,15 +87,14 @@ resolved_same a b safe are =
     let newest : newest_commands b.newest ≡ newest_commands a.newest = newest_same_commands a.newest b.newest safe are.1 in
     λ i. files i ++ newest i
 
-thrown_same : {C : Type 0} (files : List (File C)) → commands_of (thrown files) ≡ commands_of files
-thrown_same [] = refl
-thrown_same {C} (Gone commands ∷ files) = ap (λ (l : List C). commands ++ l) (thrown_same files)
-thrown_same {C} (There is_thrown name content ∷ files) = one name.number name.fate (thrown_same files)
-  where
-    one : (n : ℕ) (fate : Fate) → commands_of (thrown files) ≡ commands_of files → commands_of (thrown_one n fate content files (thrown files)) ≡ commands_in content ++ commands_of files
-    one n Stays same = refl
-    one n Comes same = refl
-    one n Goes same = ap (λ (l : List C). commands_in content ++ l) same
+thrown_same : {C : Type 0} (n : ℕ) (files : List (File C)) → commands_of (thrown n files) ≡ commands_of files
+thrown_same n [] = refl
+thrown_same {C} n (Gone commands ∷ files) = ap (λ (l : List C). commands ++ l) (thrown_same n files)
+thrown_same {C} n (There is_thrown first content ∷ files) =
+    elim (first.number == n) as (λ b. commands_of (if b then There true (name first.number Goes) content ∷ files else There is_thrown first content ∷ thrown n files) ≡ commands_in content ++ commands_of files) [
+      | true ↦ refl
+      | false ↦ ap (λ (l : List C). commands_in content ++ l) (thrown_same n files)
+    ]
 
 world_same : {C : Type 0} (change : World C → World C) → ((w : World C) → (change w).acknowledged ≡ w.acknowledged) → (newest : Option (Newest C)) → newest_commands (with_world change newest) ≡ newest_commands newest
 world_same change same None = refl
@@ -107,7 +105,7 @@ shut_same {C} a = ap (λ (l : List C). commands_of a.ended ++ l) (world_same _ (
 
 pub begun_same : {C : Type 0} (a : Archive C) (move : Move C) → ((n : ℕ) → move ≡ Making n → a.newest ≡ None) → all_acknowledged (begun_by a move) ≡ all_acknowledged a
 begun_same {C} a (Making n) none = ap (λ (newest : Option (Newest C)). commands_of a.ended ++ newest_commands newest) (sym (none n refl))
-begun_same {C} a Throwing none = ap (λ (l : List C). l ++ newest_commands a.newest) (thrown_same a.ended)
+begun_same {C} a (Throwing n) none = ap (λ (l : List C). l ++ newest_commands a.newest) (thrown_same n a.ended)
 begun_same a Syncing none = refl
 begun_same a Asking none = refl
 begun_same {C} a (Recording call) none = ap (λ (l : List C). commands_of a.ended ++ l) (world_same _ (λ w. refl) a.newest)

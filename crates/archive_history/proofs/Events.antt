@@ -1,18 +1,18 @@
 -- What the folder's calls say of its names, as events.
-use Rattle.std.specs.Prelude.{◌≡◌, ◌⊎◌, ℕ, ◌<◌, ◌==◌, Bool, true, false, if◌then◌else◌, List, [], ◌∷◌, ◌++◌, Option, None, Some, refl}
+use Rattle.std.specs.Prelude.{◌≡◌, ◌≢◌, ◌⊎◌, ℕ, ◌==◌, Bool, true, false, if◌then◌else◌, List, [], ◌∷◌, ◌++◌, Option, None, Some, refl}
 use Rattle.std.proofs.Common.{⊎_elim, sym, ◌∙◌, ap, subst, arith}
 use Rattle.std.proofs.lemmas.List.{append-nil}
 use Rattle.std.proofs.lemmas.Bool.Decides.{nat_tests}
 use Rattle.archive_folder.specs.declared.names.Name.{Name}
 use Rattle.archive_folder.specs.declared.names.Fate.{Fate}
 use Rattle.archive_folder.specs.declared.names.Fate.TheVariants.{Stays, Comes, Goes}
-use Rattle.archive_folder.specs.Names.{name, MayLack, IsLeft, listed, listed_one, made, with_fate, removed, synced, synced_one, restarted, AreAbove, AreRising}
+use Rattle.archive_folder.specs.Names.{name, MayLack, IsLeft, made, with_fate, removed, synced, synced_one, restarted}
 use Rattle.archive_folder.specs.Clock.{MayHaveMade, MayHaveRemoved}
 use Rattle.disk_model.specs.Image.{DiskState, IsImage, IsSettled}
 use Rattle.disk_model.specs.Torn.{settled_image}
 use Rattle.history.specs.World.{World, start}
-use Rattle.archive_history.specs.History.{IsOnly}
-use Rattle.archive_history.specs.Archive.{File, There, Gone, Content, commands_in, Newest, Archive, archive, names_of, newest_names, names, Making, Throwing, begun_by, thrown_one, thrown, MayBecome, FilesResolve, NewestResolves, Resolves, shut}
+use Rattle.archive_history.specs.History.{IsOnly, IsNotNewest}
+use Rattle.archive_history.specs.Archive.{File, There, Gone, Content, commands_in, Newest, Archive, archive, names_of, newest_names, names, Making, Throwing, begun_by, thrown, MayBecome, FilesResolve, NewestResolves, Resolves, shut}
 
 may_stay : (fate : Fate) → MayBecome fate Stays
 may_stay Stays = tt
@@ -107,64 +107,26 @@ shut_names ended (Some file) = refl
 pub stopping : {C : Type 0} (a : Archive C) (left : List ℕ) → IsLeft (names a) left → (b : Archive C) × Resolves (shut a) b × (names b ≡ restarted left)
 stopping a left is = stopped (shut a) left (subst (λ (ns : List Name). IsLeft ns left) (shut_names a.ended a.newest) is)
 
--- the removal of the oldest file
-above_listed : (m n : ℕ) (ns : List Name) (rest : List ℕ) → AreAbove m ns → listed ns ≡ n ∷ rest → m < n
-above_listed m n [] rest above is = absurd (never n rest is)
+-- a removal
+not_newest : {C : Type 0} (n : ℕ) (fate : Fate) (newest : Option (Newest C)) → IsNotNewest n newest → with_fate n fate (newest_names newest) ≡ newest_names newest
+not_newest n fate None other = refl
+not_newest n fate (Some file) other = ap (λ (b : Bool). if b then name file.name.number fate ∷ [] else file.name ∷ []) (other_test file.name.number n other)
   where
-    never : (n : ℕ) (rest : List ℕ) → [] ≡ n ∷ rest → ⊥
-    never n rest is = cc
-above_listed m n (first ∷ ns) rest above is = one first.number first.fate above.0 (above_listed first.number n ns rest above.1) is
-  where
-    one : (k : ℕ) (fate : Fate) → m < k → (listed ns ≡ n ∷ rest → k < n) → listed_one k fate ++ listed ns ≡ n ∷ rest → m < n
-    one k Stays less later is = let same : k ≡ n = cc in omega (arith, less, same)
-    one k Comes less later is = let same : k ≡ n = cc in omega (arith, less, same)
-    one k Goes less later is = omega (arith, less, later is)
+    other_test : (m n : ℕ) → m ≢ n → (m == n) ≡ false
+    other_test m n other = grind (arith, nat_tests)
 
-rising_tail : (first : Name) (ns : List Name) → AreRising (first ∷ ns) → AreRising ns
-rising_tail first [] rising = tt
-rising_tail first (second ∷ ns) rising = rising.1
+throw_files : {C : Type 0} (n : ℕ) (files : List (File C)) (more : List Name) → with_fate n Goes more ≡ more → names_of (thrown n files) ++ more ≡ removed n (names_of files ++ more)
+throw_files n [] more same = sym same
+throw_files n (Gone commands ∷ files) more same = throw_files n files more same
+throw_files n (There is_thrown first content ∷ files) more same =
+    elim (first.number == n) as (λ b. names_of (if b then There true (name first.number Goes) content ∷ files else There is_thrown first content ∷ thrown n files) ++ more
+    ≡ (if b then name first.number Goes ∷ (names_of files ++ more) else first ∷ with_fate n Goes (names_of files ++ more))) [
+      | true ↦ refl
+      | false ↦ ap (λ (l : List Name). first ∷ l) (throw_files n files more same)
+    ]
 
-above_front : (m : ℕ) (ns more : List Name) → AreAbove m (ns ++ more) → AreAbove m ns
-above_front m [] more above = tt
-above_front m (first ∷ ns) more above = (above.0, above_front first.number ns more above.1)
-
-same_test : (m n : ℕ) → m ≡ n → (m == n) ≡ true
-same_test m n same = grind (arith, nat_tests)
-
-below_test : (m n : ℕ) → m < n → (m == n) ≡ false
-below_test m n less = grind (arith, nat_tests)
-
-removed_here : (m n : ℕ) (fate : Fate) (ns : List Name) → m ≡ n → name m Goes ∷ ns ≡ removed n (name m fate ∷ ns)
-removed_here m n fate ns same = ap (λ (b : Bool). if b then name m Goes ∷ ns else name m fate ∷ with_fate n Goes ns) (sym (same_test m n same))
-
-removed_later : (m n : ℕ) (fate : Fate) (ns after : List Name) → m < n → after ≡ removed n ns → name m fate ∷ after ≡ removed n (name m fate ∷ ns)
-removed_later m n fate ns after less is =
-    ap (λ (l : List Name). name m fate ∷ l) is ∙ ap (λ (b : Bool). if b then name m Goes ∷ ns else name m fate ∷ with_fate n Goes ns) (sym (below_test m n less))
-
-above_lower : (m k : ℕ) (ns : List Name) → m < k → AreAbove k ns → AreAbove m ns
-above_lower m k [] less above = tt
-above_lower m k (next ∷ ns) less above = (omega (arith, less, above.0), above.1)
-
-throw_files : {C : Type 0} (files : List (File C)) (more : List Name) (n : ℕ) (rest : List ℕ) → AreRising (names_of files ++ more) → listed (names_of files) ≡ n ∷ rest
-    → names_of (thrown files) ++ more ≡ removed n (names_of files ++ more)
-throw_files [] more n rest rising is = absurd (never n rest is)
-  where
-    never : (n : ℕ) (rest : List ℕ) → [] ≡ n ∷ rest → ⊥
-    never n rest is = cc
-throw_files (Gone commands ∷ files) more n rest rising is = throw_files files more n rest rising is
-throw_files {C} (There is_thrown first content ∷ files) more n rest rising is =
-    one first.number first.fate rising (throw_files files more n rest (rising_tail first (names_of files ++ more) rising)) is
-  where
-    one : (m : ℕ) (fate : Fate) → AreAbove m (names_of files ++ more) → (listed (names_of files) ≡ n ∷ rest → names_of (thrown files) ++ more ≡ removed n (names_of files ++ more))
-        → listed_one m fate ++ listed (names_of files) ≡ n ∷ rest
-        → names_of (thrown_one m fate content files (thrown files)) ++ more ≡ removed n (name m fate ∷ (names_of files ++ more))
-    one m Stays above later is = let same : m ≡ n = cc in removed_here m n Stays (names_of files ++ more) same
-    one m Comes above later is = let same : m ≡ n = cc in removed_here m n Comes (names_of files ++ more) same
-    one m Goes above later is =
-        removed_later m n Goes (names_of files ++ more) (names_of (thrown files) ++ more) (above_listed m n (names_of files) rest (above_front m (names_of files) more above) is) (later is)
-
-pub throwing : {C : Type 0} (a : Archive C) (n : ℕ) (rest : List ℕ) → AreRising (names a) → listed (names_of a.ended) ≡ n ∷ rest → names (begun_by a Throwing) ≡ removed n (names a)
-throwing a n rest rising is = throw_files a.ended (newest_names a.newest) n rest rising is
+pub throwing : {C : Type 0} (a : Archive C) (n : ℕ) → IsNotNewest n a.newest → names (begun_by a (Throwing n)) ≡ removed n (names a)
+throwing a n other = throw_files n a.ended (newest_names a.newest) (not_newest n Goes a.newest other)
 
 may_same : (fate : Fate) → MayBecome fate fate
 may_same Stays = tt
@@ -194,59 +156,43 @@ failed_making {C} a n new none is =
     is
 
 -- a removal that failed: the name is there as before, or is in doubt
-record Thrown {C : Type 0} (files : List (File C)) (more names : List Name) : Type 0 where
+record Thrown {C : Type 0} (after : List (File C)) (more names : List Name) : Type 0 where
   others : List (File C)
-  are : FilesResolve (thrown files) others
+  are : FilesResolve after others
   same : names_of others ++ more ≡ names
 
-thrown_again : {C : Type 0} (files : List (File C)) (more : List Name) → Thrown files more (names_of files ++ more)
-thrown_again [] more = record { others = []; are = tt; same = refl }
-thrown_again (Gone commands ∷ files) more =
-    let rest : Thrown files more (names_of files ++ more) = thrown_again files more in
+thrown_again : {C : Type 0} (n : ℕ) (files : List (File C)) (more : List Name) → Thrown (thrown n files) more (names_of files ++ more)
+thrown_again n [] more = record { others = []; are = tt; same = refl }
+thrown_again n (Gone commands ∷ files) more =
+    let rest : Thrown (thrown n files) more (names_of files ++ more) = thrown_again n files more in
     record { others = Gone commands ∷ rest.others; are = (refl, rest.are); same = rest.same }
-thrown_again {C} (There is_thrown n content ∷ files) more = one n.number n.fate (thrown_again files more)
-  where
-    one : (m : ℕ) (fate : Fate) → Thrown files more (names_of files ++ more) → Thrown (There is_thrown (name m fate) content ∷ files) more (name m fate ∷ (names_of files ++ more))
-    one m Stays rest = record { others = There true (name m Stays) content ∷ files; are = (refl, refl, tt, refl, same_files files); same = refl }
-    one m Comes rest = record { others = There true (name m Comes) content ∷ files; are = (refl, refl, tt, refl, same_files files); same = refl }
-    one m Goes rest = record { others = There true (name m Goes) content ∷ rest.others; are = (refl, refl, tt, refl, rest.are); same = ap (λ (l : List Name). name m Goes ∷ l) rest.same }
+thrown_again n (There is_thrown first content ∷ files) more =
+    let rest : Thrown (thrown n files) more (names_of files ++ more) = thrown_again n files more in
+    elim (first.number == n) as (λ b. Thrown (if b then There true (name first.number Goes) content ∷ files else There is_thrown first content ∷ thrown n files) more (first ∷ (names_of files ++ more))) [
+      | true ↦ record { others = There true first content ∷ files; are = (refl, refl, tt, refl, same_files files); same = refl }
+      | false ↦ record {
+        others = There is_thrown first content ∷ rest.others;
+        are = (refl, refl, may_same first.fate, refl, rest.are);
+        same = ap (λ (l : List Name). first ∷ l) rest.same;
+      }
+    ]
 
-fated_here : (m n : ℕ) (fate other : Fate) (ns : List Name) → m ≡ n → name m fate ∷ ns ≡ with_fate n fate (name m other ∷ ns)
-fated_here m n fate other ns same = ap (λ (b : Bool). if b then name m fate ∷ ns else name m other ∷ with_fate n fate ns) (sym (same_test m n same))
-
-fated_later : (m n : ℕ) (fate other : Fate) (ns after : List Name) → m < n → after ≡ with_fate n fate ns → name m other ∷ after ≡ with_fate n fate (name m other ∷ ns)
-fated_later m n fate other ns after less is =
-    ap (λ (l : List Name). name m other ∷ l) is ∙ ap (λ (b : Bool). if b then name m fate ∷ ns else name m other ∷ with_fate n fate ns) (sym (below_test m n less))
-
-thrown_as : {C : Type 0} (files : List (File C)) (more : List Name) (n : ℕ) (fate : Fate) (rest : List ℕ) → AreRising (names_of files ++ more) → listed (names_of files) ≡ n ∷ rest
-    → Thrown files more (with_fate n fate (names_of files ++ more))
-thrown_as [] more n fate rest rising is = absurd (never n rest is)
-  where
-    never : (n : ℕ) (rest : List ℕ) → [] ≡ n ∷ rest → ⊥
-    never n rest is = cc
-thrown_as (Gone commands ∷ files) more n fate rest rising is =
-    let later : Thrown files more (with_fate n fate (names_of files ++ more)) = thrown_as files more n fate rest rising is in
-    record { others = Gone commands ∷ later.others; are = (refl, later.are); same = later.same }
-thrown_as {C} (There is_thrown first content ∷ files) more n fate rest rising is =
-    one first.number first.fate rising (thrown_as files more n fate rest (rising_tail first (names_of files ++ more) rising)) is
-  where
-    one : (m : ℕ) (old : Fate) → AreAbove m (names_of files ++ more) → (listed (names_of files) ≡ n ∷ rest → Thrown files more (with_fate n fate (names_of files ++ more)))
-        → listed_one m old ++ listed (names_of files) ≡ n ∷ rest
-        → Thrown (There is_thrown (name m old) content ∷ files) more (with_fate n fate (name m old ∷ (names_of files ++ more)))
-    one m Stays above later is =
-        let same : m ≡ n = cc in
-        record { others = There true (name m fate) content ∷ files; are = (refl, refl, tt, refl, same_files files); same = fated_here m n fate Stays (names_of files ++ more) same }
-    one m Comes above later is =
-        let same : m ≡ n = cc in
-        record { others = There true (name m fate) content ∷ files; are = (refl, refl, tt, refl, same_files files); same = fated_here m n fate Comes (names_of files ++ more) same }
-    one m Goes above later is =
-        let on : Thrown files more (with_fate n fate (names_of files ++ more)) = later is in
-        let less : m < n = above_listed m n (names_of files) rest (above_front m (names_of files) more above) is in
-        record {
-          others = There true (name m Goes) content ∷ on.others;
-          are = (refl, refl, tt, refl, on.are);
-          same = fated_later m n fate Goes (names_of files ++ more) (names_of on.others ++ more) less on.same;
-        }
+thrown_as : {C : Type 0} (n : ℕ) (fate : Fate) (files : List (File C)) (more : List Name) → with_fate n fate more ≡ more → Thrown (thrown n files) more (with_fate n fate (names_of files ++ more))
+thrown_as n fate [] more same = record { others = []; are = tt; same = sym same }
+thrown_as n fate (Gone commands ∷ files) more same =
+    let rest : Thrown (thrown n files) more (with_fate n fate (names_of files ++ more)) = thrown_as n fate files more same in
+    record { others = Gone commands ∷ rest.others; are = (refl, rest.are); same = rest.same }
+thrown_as n fate (There is_thrown first content ∷ files) more same =
+    let rest : Thrown (thrown n files) more (with_fate n fate (names_of files ++ more)) = thrown_as n fate files more same in
+    elim (first.number == n) as (λ b. Thrown (if b then There true (name first.number Goes) content ∷ files else There is_thrown first content ∷ thrown n files) more
+    (if b then name first.number fate ∷ (names_of files ++ more) else first ∷ with_fate n fate (names_of files ++ more))) [
+      | true ↦ record { others = There true (name first.number fate) content ∷ files; are = (refl, refl, tt, refl, same_files files); same = refl }
+      | false ↦ record {
+        others = There is_thrown first content ∷ rest.others;
+        are = (refl, refl, may_same first.fate, refl, rest.are);
+        same = ap (λ (l : List Name). first ∷ l) rest.same;
+      }
+    ]
 
 same_newest : {C : Type 0} (newest : Option (Newest C)) → NewestResolves newest newest
 same_newest None = tt
@@ -255,19 +201,20 @@ same_newest (Some file) = (refl, may_same file.name.fate, refl)
 pub same_account : {C : Type 0} (a : Archive C) → Resolves a a
 same_account a = (same_files a.ended, same_newest a.newest)
 
-thrown_event : {C : Type 0} (a : Archive C) (new : List Name) → Thrown a.ended (newest_names a.newest) new → (b : Archive C) × Resolves (begun_by a Throwing) b × (new ≡ names b)
-thrown_event a new by = (archive by.others a.newest, (by.are, same_newest a.newest), sym by.same)
+thrown_event : {C : Type 0} (a : Archive C) (n : ℕ) (new : List Name) → Thrown (thrown n a.ended) (newest_names a.newest) new → (b : Archive C) × Resolves (begun_by a (Throwing n)) b × (new ≡ names b)
+thrown_event a n new by = (archive by.others a.newest, (by.are, same_newest a.newest), sym by.same)
 
-pub failed_throwing : {C : Type 0} (a : Archive C) (n : ℕ) (rest : List ℕ) (new : List Name) → AreRising (names a) → listed (names_of a.ended) ≡ n ∷ rest → MayHaveRemoved n (names a) new
-    → (b : Archive C) × Resolves (begun_by a Throwing) b × (new ≡ names b)
-failed_throwing {C} a n rest new rising is may =
+pub failed_throwing : {C : Type 0} (a : Archive C) (n : ℕ) (new : List Name) → IsNotNewest n a.newest → MayHaveRemoved n (names a) new
+    → (b : Archive C) × Resolves (begun_by a (Throwing n)) b × (new ≡ names b)
+failed_throwing a n new other may =
     let more = newest_names a.newest in
+    let after = thrown n a.ended in
     ⊎_elim
-    (λ same. thrown_event a new (subst (Thrown a.ended more) (sym same) (thrown_again a.ended more)))
-    (λ other. ⊎_elim
-    (λ comes. thrown_event a new (subst (Thrown a.ended more) (sym comes) (thrown_as a.ended more n Comes rest rising is)))
-    (λ goes. thrown_event a new (subst (Thrown a.ended more) (sym goes) (thrown_as a.ended more n Goes rest rising is)))
-    other)
+    (λ same. thrown_event a n new (subst (Thrown after more) (sym same) (thrown_again n a.ended more)))
+    (λ changed. ⊎_elim
+    (λ comes. thrown_event a n new (subst (Thrown after more) (sym comes) (thrown_as n Comes a.ended more (not_newest n Comes a.newest other))))
+    (λ goes. thrown_event a n new (subst (Thrown after more) (sym goes) (thrown_as n Goes a.ended more (not_newest n Goes a.newest other))))
+    changed)
     may
 
 -- a file that is sealed has its contents as its only image

@@ -48,10 +48,10 @@ aside_known : all_acknowledged (set_aside two) ≡ 10 ∷ 11 ∷ 12 ∷ []
 aside_known = refl
 
 -- without the first file
-one_thrown : MayHoldAll (begun_by two Throwing).ended (begun_by two Throwing).newest (12 ∷ [])
+one_thrown : MayHoldAll (begun_by two (Throwing 1)).ended (begun_by two (Throwing 1)).newest (12 ∷ [])
 one_thrown = inl refl
 
-still_known : all_acknowledged (begun_by two Throwing) ≡ 10 ∷ 11 ∷ 12 ∷ []
+still_known : all_acknowledged (begun_by two (Throwing 1)) ≡ 10 ∷ 11 ∷ 12 ∷ []
 still_known = refl
 
 -- a third file may begin once the second has ended

@@ -1,5 +1,5 @@
 -- What faults, syncs and stops make of an account that stands.
-use Rattle.std.specs.Prelude.{◌≡◌, ℕ, ◌<◌, List, [], ◌∷◌, ◌++◌, Option, None, Some, refl}
+use Rattle.std.specs.Prelude.{◌≡◌, ℕ, ◌==◌, true, false, if◌then◌else◌, List, [], ◌∷◌, ◌++◌, Option, None, Some, refl}
 use Rattle.std.specs.List.{AllByRecursion}
 use Rattle.std.proofs.Common.{inl, inr, ⊎_elim, sym, ◌∙◌, ap, subst}
 use Rattle.disk_model.specs.declared.disk.Disk.{Ghosts as DiskModel}
@@ -12,7 +12,7 @@ use Rattle.archive_folder.specs.Names.{name, AreBelow, restarted}
 use Rattle.history.specs.Showing.{StartsFrom}
 use Rattle.history.specs.World.{World}
 use Rattle.history.specs.History.{ShowsWorld}
-use Rattle.archive_history.specs.Archive.{File, There, Gone, Content, commands_in, Newest, names_of, newest_names, thrown_one, thrown, MayBecome, FilesResolve, NewestResolves}
+use Rattle.archive_history.specs.Archive.{File, There, Gone, Content, commands_in, Newest, names_of, newest_names, thrown, MayBecome, FilesResolve, NewestResolves}
 use Rattle.archive_history.specs.Showing.{numbers, ShowsContent}
 use Rattle.archive_history.specs.Standing.{Bytes, AreSafe, NewestSafe, NewestAbove, FilesStand, NewestStands}
 
@@ -45,16 +45,14 @@ below_resolved n (Gone commands ∷ files) [] are below = absurd are
 below_resolved n (Gone commands ∷ files) (There was_thrown other content' ∷ others) are below = absurd are
 below_resolved n (Gone commands ∷ files) (Gone commands' ∷ others) are below = below_resolved n files others are.1 below
 
-pub below_thrown : {C : Type 0} (n : ℕ) (files : List (File C)) → AreBelow n (names_of files) → AreBelow n (names_of (thrown files))
-below_thrown n [] below = tt
-below_thrown n (Gone commands ∷ files) below = below_thrown n files below
-below_thrown n (There is_thrown name content ∷ files) below = one n name.number name.fate content files (thrown files) below.0 below.1 (below_thrown n files below.1)
-  where
-    one : {C : Type 0} (n m : ℕ) (fate : Fate) (content : Content C) (files rest : List (File C)) → m < n → AreBelow n (names_of files) → AreBelow n (names_of rest)
-        → AreBelow n (names_of (thrown_one m fate content files rest))
-    one n m Stays content files rest less below after = (less, below)
-    one n m Comes content files rest less below after = (less, below)
-    one n m Goes content files rest less below after = (less, after)
+pub below_thrown : {C : Type 0} (m n : ℕ) (files : List (File C)) → AreBelow m (names_of files) → AreBelow m (names_of (thrown n files))
+below_thrown m n [] below = tt
+below_thrown m n (Gone commands ∷ files) below = below_thrown m n files below
+below_thrown m n (There is_thrown first content ∷ files) below =
+    elim (first.number == n) as (λ b. AreBelow m (names_of (if b then There true (name first.number Goes) content ∷ files else There is_thrown first content ∷ thrown n files))) [
+      | true ↦ below
+      | false ↦ (below.0, below_thrown m n files below.1)
+    ]
 
 -- a name that stays, stays
 still_stays : (fate other : Fate) → MayBecome fate other → fate ≡ Stays → other ≡ Stays
@@ -84,16 +82,14 @@ safe_resolved (Gone commands ∷ files) [] are safe = absurd are
 safe_resolved (Gone commands ∷ files) (There was_thrown other content' ∷ others) are safe = absurd are
 safe_resolved (Gone commands ∷ files) (Gone commands' ∷ others) are safe = safe_resolved files others are.1 safe
 
-pub safe_thrown : {C : Type 0} (files : List (File C)) → AreSafe files → AreSafe (thrown files)
-safe_thrown [] safe = tt
-safe_thrown (Gone commands ∷ files) safe = safe_thrown files safe
-safe_thrown (There is_thrown name content ∷ files) safe = one name.number name.fate content files (thrown files) safe.1 (safe_thrown files safe.1)
-  where
-    one : {C : Type 0} (m : ℕ) (fate : Fate) (content : Content C) (files rest : List (File C)) → AreSafe files → AreSafe rest
-        → AreSafe (thrown_one m fate content files rest)
-    one m Stays content files rest safe after = (inl refl, safe)
-    one m Comes content files rest safe after = (inl refl, safe)
-    one m Goes content files rest safe after = (inl refl, after)
+pub safe_thrown : {C : Type 0} (n : ℕ) (files : List (File C)) → AreSafe files → AreSafe (thrown n files)
+safe_thrown n [] safe = tt
+safe_thrown n (Gone commands ∷ files) safe = safe_thrown n files safe
+safe_thrown n (There is_thrown first content ∷ files) safe =
+    elim (first.number == n) as (λ b. AreSafe (if b then There true (name first.number Goes) content ∷ files else There is_thrown first content ∷ thrown n files)) [
+      | true ↦ (inl refl, safe.1)
+      | false ↦ (safe.0, safe_thrown n files safe.1)
+    ]
 
 pub newest_safe_resolved : {C : Type 0} (newest other : Option (Newest C)) → NewestResolves newest other → NewestSafe newest → NewestSafe other
 newest_safe_resolved None None are safe = tt

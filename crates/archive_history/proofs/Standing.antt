@@ -1,12 +1,11 @@
 -- In every history the folder shows what the account says.
-use Rattle.std.specs.Prelude.{ℕ, ◌<◌, List, [], ◌∷◌, ◌++◌, Option, None, Some}
+use Rattle.std.specs.Prelude.{ℕ, ◌<◌, ◌==◌, true, false, if◌then◌else◌, List, [], ◌∷◌, ◌++◌, Option, None, Some}
 use Rattle.std.specs.List.{AllByRecursion}
 use Rattle.std.proofs.Common.{inl, inr, ⊎_elim, subst}
-use Rattle.archive_folder.specs.declared.names.Fate.{Fate}
-use Rattle.archive_folder.specs.declared.names.Fate.TheVariants.{Stays, Comes, Goes}
+use Rattle.archive_folder.specs.declared.names.Fate.TheVariants.{Goes}
 use Rattle.archive_folder.specs.Names.{name, IsLeft, AreBelow}
-use Rattle.archive_history.specs.Archive.{File, There, Gone, Content, Newest, names_of, newest_names, thrown_one, thrown}
-use Rattle.archive_history.specs.Showing.{numbers, ShowsContent, ShowsNewest, ShowsFiles}
+use Rattle.archive_history.specs.Archive.{File, There, Gone, Newest, names_of, newest_names, thrown}
+use Rattle.archive_history.specs.Showing.{numbers, ShowsNewest, ShowsFiles}
 use Rattle.archive_history.specs.Standing.{Bytes, FilesStand, NewestStands}
 
 module _ {S C : Type 0} (shows : List ℕ → S → Type 0) (next : S → C → S) (first : S) where
@@ -43,13 +42,11 @@ module _ {S C : Type 0} (shows : List ℕ → S → Type 0) (next : S → C → 
   files_all of other (Gone commands ∷ files) stand same = files_all of other files stand same
   files_all of other (There is_thrown name content ∷ files) stand same = ((λ b is. stand.0 b (same name.number b is)), files_all of other files stand.1 same)
 
-  pub thrown_stand : (of : Bytes) (files : List (File C)) → FilesStand shows next first of files → FilesStand shows next first of (thrown files)
-  thrown_stand of [] stand = tt
-  thrown_stand of (Gone commands ∷ files) stand = thrown_stand of files stand
-  thrown_stand of (There is_thrown name content ∷ files) stand = one name.number name.fate content files (thrown files) stand.0 stand.1 (thrown_stand of files stand.1)
-    where
-      one : (n : ℕ) (fate : Fate) (content : Content C) (files rest : List (File C)) → ((b : List ℕ) → of n b → ShowsContent shows next first content b)
-          → FilesStand shows next first of files → FilesStand shows next first of rest → FilesStand shows next first of (thrown_one n fate content files rest)
-      one n Stays content files rest only stand after = (only, stand)
-      one n Comes content files rest only stand after = (only, stand)
-      one n Goes content files rest only stand after = (only, after)
+  pub thrown_stand : (of : Bytes) (n : ℕ) (files : List (File C)) → FilesStand shows next first of files → FilesStand shows next first of (thrown n files)
+  thrown_stand of n [] stand = tt
+  thrown_stand of n (Gone commands ∷ files) stand = thrown_stand of n files stand
+  thrown_stand of n (There is_thrown file content ∷ files) stand =
+      elim (file.number == n) as (λ b. FilesStand shows next first of (if b then There true (name file.number Goes) content ∷ files else There is_thrown file content ∷ thrown n files)) [
+        | true ↦ stand
+        | false ↦ (stand.0, thrown_stand of n files stand.1)
+      ]

@@ -104,18 +104,18 @@ module _ {F D S C : Type 0} (names_in : F → List Name) (moment : F → ℕ) (l
     same_disks : (a : Archive C) (old new : Point F D) → new.disk ≡ old.disk → Stands (Now old) a → Stands (Now new) a
     same_disks a old new same stands = subst (λ (disk : ℕ → D). Stands (λ n b. IsImage (model.state (disk n)) b) a) (sym same) stands
 
-    pub threw : (of : Bytes) (a : Archive C) → Stands of a → Stands of (begun_by a Throwing)
-    threw of a stands = record {
-      files = thrown_stand shows next first of a.ended stands.files;
+    pub threw : (of : Bytes) (a : Archive C) (n : ℕ) → Stands of a → Stands of (begun_by a (Throwing n))
+    threw of a n stands = record {
+      files = thrown_stand shows next first of n a.ended stands.files;
       newest = stands.newest;
-      safe = safe_thrown a.ended stands.safe;
+      safe = safe_thrown n a.ended stands.safe;
       newest_safe = stands.newest_safe;
       above = above_thrown a.newest stands.above;
     }
       where
-        above_thrown : (newest : Option (Newest C)) → NewestAbove a.ended newest → NewestAbove (thrown a.ended) newest
+        above_thrown : (newest : Option (Newest C)) → NewestAbove a.ended newest → NewestAbove (thrown n a.ended) newest
         above_thrown None above = tt
-        above_thrown (Some file) above = below_thrown file.name.number a.ended above
+        above_thrown (Some file) above = below_thrown file.name.number n a.ended above
 
     recording : (ended : List (File C)) (newest : Option (Newest C)) (call : Call C) (old new : Point F D) → Stands (Now old) (archive ended newest) → MayBegin (archive ended newest) (Recording call)
         → LeavesIt (archive ended newest) (Recording call) old new → Stands (During (archive ended newest) (Recording call) old new) (begun_by (archive ended newest) (Recording call))
@@ -135,7 +135,7 @@ module _ {F D S C : Type 0} (names_in : F → List Name) (moment : F → ℕ) (l
         made a.ended n old new (subst (λ (newest : Option (Newest C)). Stands (Now old) (archive a.ended newest)) may.0 stands)
         (subst (λ (newest : Option (Newest C)). MayBegin (archive a.ended newest) (Making n)) may.0 may)
         (subst (λ (newest : Option (Newest C)). LeavesIt (archive a.ended newest) (Making n) old new) may.0 leaves)
-    during a Throwing old new stands may leaves = same_disks (begun_by a Throwing) old new leaves.1 (threw (Now old) a stands)
+    during a (Throwing n) old new stands may leaves = same_disks (begun_by a (Throwing n)) old new leaves.1 (threw (Now old) a n stands)
     during a Syncing old new stands may leaves = same_disks a old new leaves.1 stands
     during a Asking old new stands may leaves = same_disks a old new leaves.1 stands
     during a (Recording call) old new stands may leaves = recording a.ended a.newest call old new stands may leaves
@@ -146,7 +146,7 @@ module _ {F D S C : Type 0} (names_in : F → List Name) (moment : F → ℕ) (l
     each_during : (a : Archive C) (move : Move C) (old new : Point F D) (image : List (ℕ × List ℕ)) → Was a move old new image
         → AllByRecursion (λ (file : ℕ × List ℕ). During a move old new file.0 file.1) image
     each_during a (Making n) old new image was = was.1
-    each_during a Throwing old new image was = was.1
+    each_during a (Throwing n) old new image was = was.1
     each_during a Syncing old new image was = was.1
     each_during a Asking old new image was = was.1
     each_during a (Recording call) old new image was = was.1
@@ -158,7 +158,7 @@ module _ {F D S C : Type 0} (names_in : F → List Name) (moment : F → ℕ) (l
     left_during : (a : Archive C) (move : Move C) (old new : Point F D) (image : List (ℕ × List ℕ)) → names_in old.folder ≡ names a → LeavesIt a move old new → Was a move old new image
         → IsLeft (names (begun_by a move)) (numbers image)
     left_during a (Making n) old new image same leaves was = leaves.0.each (numbers image) was.0
-    left_during a Throwing old new image same leaves was = leaves.0.each (numbers image) was.0
+    left_during a (Throwing n) old new image same leaves was = leaves.0.each (numbers image) was.0
     left_during a Syncing old new image same leaves was = leaves.0.each (numbers image) was.0
     left_during a Asking old new image same leaves was = leaves.0.each (numbers image) was.0
     left_during a (Recording call) old new image same leaves was =
@@ -289,7 +289,7 @@ module _ {F D S C : Type 0} (names_in : F → List Name) (moment : F → ℕ) (l
 
     pub event_stands : (a : Archive C) (event : Event C) (b : Archive C) (old new : Point F D) → Holds a old → Is a event b old new → names_in new.folder ≡ names b → Stands (Now new) b
     event_stands a (Called (Making n)) b old new holds is same = made_now a n b old new holds is
-    event_stands a (Called Throwing) b old new holds is same = resolved (Now new) (begun_by a Throwing) b is.3 (during a Throwing old new holds.stands is.1 is.2)
+    event_stands a (Called (Throwing n)) b old new holds is same = resolved (Now new) (begun_by a (Throwing n)) b is.3 (during a (Throwing n) old new holds.stands is.1 is.2)
     event_stands a (Called Syncing) b old new holds is same = resolved (Now new) a b is.3 (during a Syncing old new holds.stands is.1 is.2)
     event_stands a (Called Asking) b old new holds is same = resolved (Now new) a b is.3 (during a Asking old new holds.stands is.1 is.2)
     event_stands a (Called (Recording call)) b old new holds is same = absurd is.0
@@ -374,7 +374,7 @@ module _ {F D S C : Type 0} (names_in : F → List Name) (moment : F → ℕ) (l
     one_kept : (a : Archive C) (event : Event C) (b : Archive C) (old new : Point F D) (events : List (Event C × Archive C × Point F D)) → Holds a old → Is a event b old new
         → ThrowsNothing ((event, b, new) ∷ events) → AreKept a.ended → AreKept b.ended × ThrowsNothing events
     one_kept a (Called (Making n)) b old new events holds is none kept = (kept_resolved a.ended b.ended is.3.0 holds.stands.safe kept, none)
-    one_kept a (Called Throwing) b old new events holds is none kept = absurd none
+    one_kept a (Called (Throwing n)) b old new events holds is none kept = absurd none
     one_kept a (Called Syncing) b old new events holds is none kept = (kept_resolved a.ended b.ended is.3.0 holds.stands.safe kept, none)
     one_kept a (Called Asking) b old new events holds is none kept = (kept_resolved a.ended b.ended is.3.0 holds.stands.safe kept, none)
     one_kept a (Called (Recording call)) b old new events holds is none kept = absurd is.0
@@ -385,7 +385,7 @@ module _ {F D S C : Type 0} (names_in : F → List Name) (moment : F → ℕ) (l
         (subst (λ (after : Archive C). AreKept after.ended) (sym is.0.is) (kept_front is.0.files (is.0.file ∷ is.0.gone) (subst AreKept is.0.ended kept)), none)
     one_kept a Halted b old new events holds is none kept = (kept_resolved a.ended b.ended is.3.0 holds.stands.safe kept, none)
     one_kept a (HaltedIn (Making n)) b old new events holds is none kept = (kept_resolved a.ended b.ended is.3.3.0 holds.stands.safe kept, none)
-    one_kept a (HaltedIn Throwing) b old new events holds is none kept = absurd none
+    one_kept a (HaltedIn (Throwing n)) b old new events holds is none kept = absurd none
     one_kept a (HaltedIn Syncing) b old new events holds is none kept = (kept_resolved a.ended b.ended is.3.3.0 holds.stands.safe kept, none)
     one_kept a (HaltedIn Asking) b old new events holds is none kept = (kept_resolved a.ended b.ended is.3.3.0 holds.stands.safe kept, none)
     one_kept a (HaltedIn (Recording call)) b old new events holds is none kept = (kept_resolved a.ended b.ended is.3.3.0 holds.stands.safe kept, none)

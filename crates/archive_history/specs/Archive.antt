@@ -1,6 +1,6 @@
 -- What is known of an archive's files, and what calls and stops make of that. Nothing is said here of the folder and of
 -- its disks. Ours.
-use Rattle.std.specs.Prelude.{◌≡◌, ◌⊎◌, ℕ, Bool, true, false, if◌then◌else◌, List, [], ◌∷◌, ◌++◌, Option, None, Some, ⊤}
+use Rattle.std.specs.Prelude.{◌≡◌, ◌⊎◌, ◌==◌, ℕ, Bool, true, false, if◌then◌else◌, List, [], ◌∷◌, ◌++◌, Option, None, Some, ⊤}
 use Rattle.archive_folder.specs.declared.names.Name.{Name}
 use Rattle.archive_folder.specs.declared.names.Fate.{Fate}
 use Rattle.archive_folder.specs.declared.names.Fate.TheVariants.{Stays, Comes, Goes}
@@ -63,24 +63,21 @@ names a = names_of a.ended ++ newest_names a.newest
 pub data Move (C : Type 0) : Type 0 where
   -- an empty file is made under this number
   Making : (number : ℕ) → Move C
-  -- the oldest file that is there is removed
-  Throwing : Move C
+  -- the file with this number is removed
+  Throwing : (number : ℕ) → Move C
   -- the folder is synced
   Syncing : Move C
   -- names are listed, a file is opened or given back
   Asking : Move C
   Recording : (call : Call C) → Move C
 
--- The oldest file that is there is removed, so that an image may lack it. Of several that were removed since the last
--- sync a stop may bring back any: the numbers tell the gap.
-abbrev pub thrown_one : {C : Type 0} → ℕ → Fate → Content C → List (File C) → List (File C) → List (File C)
-thrown_one n Goes content files rest = There true (name n Goes) content ∷ rest
-thrown_one n fate content files rest = There true (name n Goes) content ∷ files
-
-abbrev pub thrown : {C : Type 0} → List (File C) → List (File C)
-thrown [] = []
-thrown (There is_thrown name content ∷ files) = thrown_one name.number name.fate content files (thrown files)
-thrown (Gone commands ∷ files) = Gone commands ∷ thrown files
+-- The file with this number is removed, so that an image may lack it. Of several that were removed since the last sync a
+-- stop may bring back any: the numbers tell the gap.
+abbrev pub thrown : {C : Type 0} → ℕ → List (File C) → List (File C)
+thrown n [] = []
+thrown n (There is_thrown first content ∷ files) =
+    if first.number == n then There true (name first.number Goes) content ∷ files else There is_thrown first content ∷ thrown n files
+thrown n (Gone commands ∷ files) = Gone commands ∷ thrown n files
 
 abbrev pub with_world : {C : Type 0} → (World C → World C) → Option (Newest C) → Option (Newest C)
 with_world change None = None
@@ -101,7 +98,7 @@ world_of commands = record { acknowledged = commands; in_doubt = []; held = []; 
 -- what is known while a call runs, and if it ends without its answer
 abbrev pub begun_by : {C : Type 0} → Archive C → Move C → Archive C
 begun_by a (Making n) = archive a.ended (Some (record { name = name n Comes; world = start }))
-begun_by a Throwing = archive (thrown a.ended) a.newest
+begun_by a (Throwing n) = archive (thrown n a.ended) a.newest
 begun_by a Syncing = a
 begun_by a Asking = a
 begun_by a (Recording call) = archive a.ended (with_world (λ w. begun w call) a.newest)

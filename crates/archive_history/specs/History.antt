@@ -46,6 +46,11 @@ abbrev pub IfNewest : {C : Type 0} → Option (Newest C) → (Newest C → Type 
 IfNewest None P = ⊥
 IfNewest (Some newest) P = P newest
 
+-- the newest file has another number
+abbrev pub IsNotNewest : {C : Type 0} → ℕ → Option (Newest C) → Type 0
+IsNotNewest n None = ⊤
+IsNotNewest n (Some newest) = newest.name.number ≢ n
+
 -- the disk has these bytes as its only image
 pub record IsOnly (bytes : List ℕ) (disk : DiskState) : Type 0 where
   pub is_image : IsImage disk bytes
@@ -106,8 +111,8 @@ point_after old ((event, b, new) ∷ events) = point_after new events
 -- nothing is thrown away
 abbrev pub ThrowsNothing : {F D C : Type 0} → List (Event C × Archive C × Point F D) → Type 0
 ThrowsNothing [] = ⊤
-ThrowsNothing ((Called Throwing, b, new) ∷ events) = ⊥
-ThrowsNothing ((HaltedIn Throwing, b, new) ∷ events) = ⊥
+ThrowsNothing ((Called (Throwing n), b, new) ∷ events) = ⊥
+ThrowsNothing ((HaltedIn (Throwing n), b, new) ∷ events) = ⊥
 ThrowsNothing ((event, b, new) ∷ events) = ThrowsNothing events
 
 -- what the answers say is kept, in order
@@ -135,9 +140,10 @@ module _ {F D S C : Type 0} (names_in : F → List Name) (moment : F → ℕ) (l
   abbrev pub AreSame : ℕ → Point F D → Point F D → Type 0
   AreSame n old new = (m : ℕ) → m ≢ n → new.disk m ≡ old.disk m
 
-  -- A file is begun only if none is written: the one before has ended.
+  -- A file is begun only if none is written: the one before has ended. The newest is never thrown away.
   abbrev pub MayMove : Archive C → Move C → Type 0
   MayMove a (Making n) = (a.newest ≡ None) × AreBelow n (names a)
+  MayMove a (Throwing n) = IsNotNewest n a.newest
   MayMove a (Recording call) = IfNewest a.newest (λ (file : Newest C). MayBegin accepts next first file.world call)
   MayMove a move = ⊤
 
@@ -148,7 +154,7 @@ module _ {F D S C : Type 0} (names_in : F → List Name) (moment : F → ℕ) (l
   -- What a call leaves at each moment, whatever it answers.
   abbrev pub LeavesAll : Archive C → Move C → Point F D → Point F D → Type 0
   LeavesAll a (Making n) old new = LeavesFolder a (Making n) old new × AreSame n old new
-  LeavesAll a Throwing old new = LeavesFolder a Throwing old new × (new.disk ≡ old.disk)
+  LeavesAll a (Throwing n) old new = LeavesFolder a (Throwing n) old new × (new.disk ≡ old.disk)
   LeavesAll a Syncing old new = LeavesFolder a Syncing old new × (new.disk ≡ old.disk)
   LeavesAll a Asking old new = LeavesFolder a Asking old new × (new.disk ≡ old.disk)
   LeavesAll a (Recording call) old new =

@@ -5,10 +5,10 @@ ghost use Rattle.archive_folder.specs.declared.names.Name.{Name};
 ghost use Rattle.archive_folder.specs.Clock.{MayHaveMade, MayHaveRemoved};
 ghost use Rattle.archive_folder.specs.Names.{IsLeft, AreRising, listed, made, removed, synced, restarted};
 ghost use Rattle.history.specs.Commands.{IsPartOf};
-ghost use Rattle.archive_history.specs.Archive.{Archive, Move, Making, Throwing, nothing, names_of, names, begun_by, ended_with, set_aside, shut, Resolves, acknowledged, all_acknowledged};
+ghost use Rattle.archive_history.specs.Archive.{Archive, Move, Making, Throwing, nothing, names, begun_by, ended_with, set_aside, shut, Resolves, acknowledged, all_acknowledged};
 ghost use Rattle.archive_history.specs.Showing.{numbers, ShowsArchive, ShowsCommands};
 ghost use Rattle.archive_history.specs.Standing.{StandsAs};
-ghost use Rattle.archive_history.specs.History.{Point, Event, IsOnly, IsImageOf, MayMove, LeavesAll, WasImage, IsEvent, IsArchiveHistory, Resumes, ThrowsNothing, answered};
+ghost use Rattle.archive_history.specs.History.{Point, Event, IsNotNewest, IsOnly, IsImageOf, MayMove, LeavesAll, WasImage, IsEvent, IsArchiveHistory, Resumes, ThrowsNothing, answered};
 ghost use Rattle.archive_history.specs.Starting.{AllStay, EndsEmpty, LastFile};
 
 use archive_folder::Folder;
@@ -107,22 +107,20 @@ pub fn folders_stand_as_their_account<D: Disk, F: Folder<File = D>, B: Recording
     disks_stand_in_their_world::<D, B>();
 }
 
-/// What the folder's clauses say of its names is what the account says: of a making, a removal of the oldest file and
-/// a sync, and of every stop.
+/// What the folder's clauses say of its names is what the account says: of a making, a removal and a sync, and of every
+/// stop.
 pub fn calls_are_events<B: Recordings>()
     ensures making { (a : Archive B.Command) (n : ℕ) → a.newest ≡ None
         → names (begun_by a (Making n)) ≡ made n (names a) }
-    ensures throwing { (a : Archive B.Command) (n : ℕ) (rest : List ℕ) → AreRising (names a)
-        → listed (names_of a.ended) ≡ n ∷ rest
-        → names (begun_by a Throwing) ≡ removed n (names a) }
+    ensures throwing { (a : Archive B.Command) (n : ℕ) → IsNotNewest n a.newest
+        → names (begun_by a (Throwing n)) ≡ removed n (names a) }
     // A making and a removal that failed are events too, whatever they left.
     ensures failed_making { (a : Archive B.Command) (n : ℕ) (new : List Name) → a.newest ≡ None
         → (new ≡ names a) ⊎ MayHaveMade n (names a) new
         → (b : Archive B.Command) × Resolves (begun_by a (Making n)) b × (new ≡ names b) }
-    ensures failed_throwing { (a : Archive B.Command) (n : ℕ) (rest : List ℕ) (new : List Name)
-        → AreRising (names a) → listed (names_of a.ended) ≡ n ∷ rest
+    ensures failed_throwing { (a : Archive B.Command) (n : ℕ) (new : List Name) → IsNotNewest n a.newest
         → MayHaveRemoved n (names a) new
-        → (b : Archive B.Command) × Resolves (begun_by a Throwing) b × (new ≡ names b) }
+        → (b : Archive B.Command) × Resolves (begun_by a (Throwing n)) b × (new ≡ names b) }
     ensures syncing { (a : Archive B.Command)
         → (b : Archive B.Command) × Resolves a b × (names b ≡ synced (names a)) }
     ensures stopping { (a : Archive B.Command) (left : List ℕ) → IsLeft (names a) left

@@ -18,4 +18,4 @@ pub use beginning::begin_file;
 pub use laws::{
     archives_keep_what_was_acknowledged, calls_are_events, folders_stand_as_their_account,
 };
-pub use throwing::throw_oldest;
+pub use throwing::throw_away;

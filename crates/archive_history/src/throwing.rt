@@ -1,18 +1,18 @@
-//! How the oldest file is thrown away.
-ghost use Rattle.std.specs.Prelude.{◌≡◌, [], ◌∷◌, ℕ, List, OnOk, OnErr};
+//! How a file is thrown away.
+ghost use Rattle.std.specs.Prelude.{[], ℕ, OnOk, OnErr};
 ghost use Rattle.std.specs.List.{Contains};
 ghost use Rattle.archive_folder.specs.Names.{IsKept, listed, removed};
-ghost use Rattle.archive_history.specs.Archive.{Archive, Throwing, names_of, begun_by, Resolves};
+ghost use Rattle.archive_history.specs.Archive.{Archive, Throwing, begun_by, Resolves};
 ghost use Rattle.archive_history.specs.Standing.{StandsAs};
-ghost use Rattle.archive_history.specs.History.{point, LeavesNames};
+ghost use Rattle.archive_history.specs.History.{point, IsNotNewest, LeavesNames};
 
 use crate::folders_stand_as_their_account;
 use archive_folder::{FileName, Folder};
 use disk_model::{Disk, DiskFault};
 use history::Recordings;
 
-/// Removes the oldest file that is there. Until the folder is synced a stop may bring it back, whole.
-pub fn throw_oldest<D: Disk, F: Folder<File = D>, B: Recordings>(
+/// Removes a file that isn't the newest. Until the folder is synced a stop may bring it back, whole.
+pub fn throw_away<D: Disk, F: Folder<File = D>, B: Recordings>(
     folder: &mut F,
     name: FileName,
 ) -> Result<(), DiskFault>
@@ -21,18 +21,18 @@ pub fn throw_oldest<D: Disk, F: Folder<File = D>, B: Recordings>(
     requires kept { IsKept (F.file folder.old name.number) }
 
     // The folder stands as an account says in which this file was thrown away.
-    ensures thrown { OnOk result ((first : B.State) (a : Archive B.Command) (disks : ℕ → D) (rest : List ℕ)
+    ensures thrown { OnOk result ((first : B.State) (a : Archive B.Command) (disks : ℕ → D)
         → B.shows [] first
         → StandsAs F.names D.Disk B.shows B.next first a (point folder.old disks)
-        → listed (names_of a.ended) ≡ name.number ∷ rest
-        → StandsAs F.names D.Disk B.shows B.next first (begun_by a Throwing) (point folder.new disks)) }
+        → IsNotNewest name.number a.newest
+        → StandsAs F.names D.Disk B.shows B.next first (begun_by a (Throwing name.number)) (point folder.new disks)) }
 
     // After a fault it is there, or gone, or in doubt.
-    ensures failed { OnErr result ((first : B.State) (a : Archive B.Command) (disks : ℕ → D) (rest : List ℕ)
+    ensures failed { OnErr result ((first : B.State) (a : Archive B.Command) (disks : ℕ → D)
         → B.shows [] first
         → StandsAs F.names D.Disk B.shows B.next first a (point folder.old disks)
-        → listed (names_of a.ended) ≡ name.number ∷ rest
-        → (b : Archive B.Command) × Resolves (begun_by a Throwing) b
+        → IsNotNewest name.number a.newest
+        → (b : Archive B.Command) × Resolves (begun_by a (Throwing name.number)) b
         × StandsAs F.names D.Disk B.shows B.next first b (point folder.new disks)) }
 
     // A stop at any moment leaves what was there, with this file or without it.
