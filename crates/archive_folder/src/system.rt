@@ -213,6 +213,8 @@ impl<
     fn remove_file(&mut self, name: FileName) -> Result<(), FaultKind> {
         let path = self.path_of(name)?;
         let times = times_beside(self.alloc, path.as_str())?;
+        // While a file is open its bytes stay on the device.
+        self.given_back = None;
         match fs::remove_file(&self.rt, path.as_str()) {
             Ok(()) => remove_if_there(&self.rt, times.as_str()),
             Err(error) => Err(kind_of(&error)),
