@@ -36,7 +36,11 @@ pub fn begin_file<D: Disk + Drop, F: Folder<File = D>, B: Recordings>(
     ensures any_moment { LeavesNames F.moment F.left_since (made name.number (F.names folder.old)) folder.old folder.new }
 {
     folders_stand_as_their_account::<D, F, B>();
-    let disk = folder.make(name)?;
-    folder.sync()?;
-    Ok(disk)
+    match folder.make(name) {
+        Ok(disk) => match folder.sync() {
+            Ok(()) => Ok(disk),
+            Err(fault) => Err(fault),
+        },
+        Err(fault) => Err(fault),
+    }
 }

@@ -1,20 +1,19 @@
 use Rattle.std.proofs.Common.{inl, inr, ⊎_elim, List, subst}
-use Rattle.std.proofs.lemmas.Result.{err_from_is_err_and}
 use Rattle.archive_folder.specs.declared.names.Name.{Name}
 use Rattle.archive_folder.specs.Names.{IsLeft, made}
 use Rattle.archive_folder.specs.NamesLaws.{left_of_made}
 use Rattle.archive_history.proofs.NewFiles.{not_made, not_synced, leaves_names, leaves_both, begun}
 use Rattle.archive_history.proofs.beginning.begin_file.Goals as goal
 
-pub returns-in_err-disk-clause-any_moment : goal.returns-in_err-disk-clause-any_moment
-returns-in_err-disk-clause-any_moment g c =
+pub returns-in-Err-clause-any_moment : goal.returns-in-Err-clause-any_moment
+returns-in-Err-clause-any_moment g c =
     let f = g.F.Folder in
     let old = c.args.folder.now in
     let bound = made c.args.name.number (f.names old) in
     leaves_names f.names f.moment f.left_since bound old c.make.new.self (g.met.F.Folder.laws old c.requires.honest) (c.make.ensures.time c.requires.honest) (left_of_made (f.names old) c.args.name.number)
 
-pub returns-in_err-sync-clause-any_moment : goal.returns-in_err-sync-clause-any_moment
-returns-in_err-sync-clause-any_moment g c =
+pub returns-in-Err-sync-clause-any_moment : goal.returns-in-Err-sync-clause-any_moment
+returns-in-Err-sync-clause-any_moment g c =
     let f = g.F.Folder in
     let old = c.args.folder.now in
     let mid = c.make.new.self in
@@ -22,10 +21,10 @@ returns-in_err-sync-clause-any_moment g c =
     let honest = c.make.ensures.honest.0 c.requires.honest in
     leaves_both f.moment f.left_since bound (f.names mid) old mid c.sync.new.self
     (leaves_names f.names f.moment f.left_since bound old mid (g.met.F.Folder.laws old c.requires.honest) (c.make.ensures.time c.requires.honest) (left_of_made (f.names old) c.args.name.number))
-    (c.sync.ensures.time honest) (λ left is. subst (λ (ns : List Name). IsLeft ns left) (c.in_ok-disk.ensures.made c.requires.honest) is)
+    (c.sync.ensures.time honest) (λ left is. subst (λ (ns : List Name). IsLeft ns left) (c.in-Ok.ensures.made c.requires.honest) is)
 
-pub returns-clause-any_moment : goal.returns-clause-any_moment
-returns-clause-any_moment g c =
+pub returns-in-Ok-sync-clause-any_moment : goal.returns-in-Ok-sync-clause-any_moment
+returns-in-Ok-sync-clause-any_moment g c =
     let f = g.F.Folder in
     let old = c.args.folder.now in
     let mid = c.make.new.self in
@@ -33,10 +32,10 @@ returns-clause-any_moment g c =
     let honest = c.make.ensures.honest.0 c.requires.honest in
     leaves_both f.moment f.left_since bound (f.names mid) old mid c.sync.new.self
     (leaves_names f.names f.moment f.left_since bound old mid (g.met.F.Folder.laws old c.requires.honest) (c.make.ensures.time c.requires.honest) (left_of_made (f.names old) c.args.name.number))
-    (c.sync.ensures.time honest) (λ left is. subst (λ (ns : List Name). IsLeft ns left) (c.in_ok-disk.ensures.made c.requires.honest) is)
+    (c.sync.ensures.time honest) (λ left is. subst (λ (ns : List Name). IsLeft ns left) (c.in-Ok.ensures.made c.requires.honest) is)
 
-pub returns-clause-begun : goal.returns-clause-begun
-returns-clause-begun g c = λ first a disks empty_shows none stands.
+pub returns-in-Ok-sync-clause-begun : goal.returns-in-Ok-sync-clause-begun
+returns-in-Ok-sync-clause-begun g c = λ first a disks empty_shows none stands.
     let f = g.F.Folder in
     let b = g.B.Recordings in
     let old = c.args.folder.now in
@@ -44,28 +43,28 @@ returns-clause-begun g c = λ first a disks empty_shows none stands.
     let honest = c.make.ensures.honest.0 c.requires.honest in
     begun f.names f.moment f.left_since g.D.Disk b.shows b.accepts b.next first
     (λ x y event o n s. c.folders_stand_as_their_account.ensures.event first x y event o n empty_shows s)
-    a c.args.name.number disks c.in_ok-disk.disk old mid c.sync.new.self none c.requires.above stands
+    a c.args.name.number disks c.in-Ok.disk old mid c.sync.new.self none c.requires.above stands
     (g.met.F.Folder.laws old c.requires.honest) (g.met.F.Folder.laws mid honest)
-    (c.in_ok-disk.ensures.empty c.requires.honest).1 (c.in_ok-disk.ensures.made c.requires.honest) (c.in_ok-sync.ensures.synced honest)
+    (c.in-Ok.ensures.empty c.requires.honest).1 (c.in-Ok.ensures.made c.requires.honest) (c.in-Ok-sync.ensures.synced honest)
     (c.make.ensures.time c.requires.honest) (c.sync.ensures.time honest)
 
-pub returns-in_err-disk-clause-failed : goal.returns-in_err-disk-clause-failed
-returns-in_err-disk-clause-failed g c = let p = err_from_is_err_and c.from_residual.result c.from_residual.ensures.1 in rw p.1 (λ first a disks empty_shows none stands.
+pub returns-in-Err-clause-failed : goal.returns-in-Err-clause-failed
+returns-in-Err-clause-failed g c = λ first a disks empty_shows none stands.
     let f = g.F.Folder in
     let b = g.B.Recordings in
     let old = c.args.folder.now in
     not_made f.names f.moment f.left_since g.D.Disk b.shows b.accepts b.next first
     (λ x y event o n s. c.folders_stand_as_their_account.ensures.event first x y event o n empty_shows s)
     a c.args.name.number disks old c.make.new.self none c.requires.above stands (g.met.F.Folder.laws old c.requires.honest) (c.make.ensures.time c.requires.honest)
-    (⊎_elim inl (λ may. inr (may.0, (may.1.0, may.1.3))) (c.in_err-disk.ensures.failed c.requires.honest)))
+    (⊎_elim inl (λ may. inr (may.0, (may.1.0, may.1.3))) (c.in-Err.ensures.failed c.requires.honest))
 
-pub returns-in_err-sync-clause-failed : goal.returns-in_err-sync-clause-failed
-returns-in_err-sync-clause-failed g c = let p = err_from_is_err_and c.from_residual-in_err-sync.result c.from_residual-in_err-sync.ensures.1 in rw p.1 (λ first a disks empty_shows none stands.
+pub returns-in-Err-sync-clause-failed : goal.returns-in-Err-sync-clause-failed
+returns-in-Err-sync-clause-failed g c = λ first a disks empty_shows none stands.
     let f = g.F.Folder in
     let b = g.B.Recordings in
     let old = c.args.folder.now in
     let honest = c.make.ensures.honest.0 c.requires.honest in
     not_synced f.names f.moment f.left_since g.D.Disk b.shows b.accepts b.next first
     (λ x y event o n s. c.folders_stand_as_their_account.ensures.event first x y event o n empty_shows s)
-    a c.args.name.number disks c.in_ok-disk.disk old c.make.new.self c.sync.new.self none c.requires.above stands (g.met.F.Folder.laws old c.requires.honest)
-    (c.in_ok-disk.ensures.empty c.requires.honest).1 (c.in_ok-disk.ensures.made c.requires.honest) (c.in_err-sync.ensures.failed honest) (c.make.ensures.time c.requires.honest))
+    a c.args.name.number disks c.in-Ok.disk old c.make.new.self c.sync.new.self none c.requires.above stands (g.met.F.Folder.laws old c.requires.honest)
+    (c.in-Ok.ensures.empty c.requires.honest).1 (c.in-Ok.ensures.made c.requires.honest) (c.in-Err-sync.ensures.failed honest) (c.make.ensures.time c.requires.honest)
