@@ -6,65 +6,65 @@ use Rattle.archive_history.proofs.NewFiles.{not_made, not_synced, leaves_names, 
 use Rattle.archive_history.proofs.beginning.begin_file.Goals as goal
 
 pub returns-in-Err-clause-any_moment : goal.returns-in-Err-clause-any_moment
-returns-in-Err-clause-any_moment g c =
+returns-in-Err-clause-any_moment g c = λ honest.
     let f = g.F.Folder in
     let old = c.args.folder.now in
     let bound = made c.args.name.number (f.names old) in
-    leaves_names f.names f.moment f.left_since bound old c.make.new.self (g.met.F.Folder.laws old c.requires.honest) (c.make.ensures.time c.requires.honest) (left_of_made (f.names old) c.args.name.number)
+    leaves_names f.names f.moment f.left_since bound old c.make.new.self (g.met.F.Folder.laws old honest) (c.make.ensures.time honest) (left_of_made (f.names old) c.args.name.number)
 
 pub returns-in-Err-sync-clause-any_moment : goal.returns-in-Err-sync-clause-any_moment
-returns-in-Err-sync-clause-any_moment g c =
+returns-in-Err-sync-clause-any_moment g c = λ honest.
     let f = g.F.Folder in
     let old = c.args.folder.now in
     let mid = c.make.new.self in
     let bound = made c.args.name.number (f.names old) in
-    let honest = c.make.ensures.honest.0 c.requires.honest in
+    let still = c.make.ensures.honest.0 honest in
     leaves_both f.moment f.left_since bound (f.names mid) old mid c.sync.new.self
-    (leaves_names f.names f.moment f.left_since bound old mid (g.met.F.Folder.laws old c.requires.honest) (c.make.ensures.time c.requires.honest) (left_of_made (f.names old) c.args.name.number))
-    (c.sync.ensures.time honest) (λ left is. subst (λ (ns : List Name). IsLeft ns left) (c.in-Ok.ensures.made c.requires.honest) is)
+    (leaves_names f.names f.moment f.left_since bound old mid (g.met.F.Folder.laws old honest) (c.make.ensures.time honest) (left_of_made (f.names old) c.args.name.number))
+    (c.sync.ensures.time still) (λ left is. subst (λ (ns : List Name). IsLeft ns left) (c.in-Ok.ensures.made honest) is)
 
 pub returns-in-Ok-sync-clause-any_moment : goal.returns-in-Ok-sync-clause-any_moment
-returns-in-Ok-sync-clause-any_moment g c =
+returns-in-Ok-sync-clause-any_moment g c = λ honest.
     let f = g.F.Folder in
     let old = c.args.folder.now in
     let mid = c.make.new.self in
     let bound = made c.args.name.number (f.names old) in
-    let honest = c.make.ensures.honest.0 c.requires.honest in
+    let still = c.make.ensures.honest.0 honest in
     leaves_both f.moment f.left_since bound (f.names mid) old mid c.sync.new.self
-    (leaves_names f.names f.moment f.left_since bound old mid (g.met.F.Folder.laws old c.requires.honest) (c.make.ensures.time c.requires.honest) (left_of_made (f.names old) c.args.name.number))
-    (c.sync.ensures.time honest) (λ left is. subst (λ (ns : List Name). IsLeft ns left) (c.in-Ok.ensures.made c.requires.honest) is)
+    (leaves_names f.names f.moment f.left_since bound old mid (g.met.F.Folder.laws old honest) (c.make.ensures.time honest) (left_of_made (f.names old) c.args.name.number))
+    (c.sync.ensures.time still) (λ left is. subst (λ (ns : List Name). IsLeft ns left) (c.in-Ok.ensures.made honest) is)
 
 pub returns-in-Ok-sync-clause-begun : goal.returns-in-Ok-sync-clause-begun
-returns-in-Ok-sync-clause-begun g c = λ first a disks empty_shows none stands.
+returns-in-Ok-sync-clause-begun g c = λ honest first a disks empty_shows none stands.
     let f = g.F.Folder in
     let b = g.B.Recordings in
     let old = c.args.folder.now in
     let mid = c.make.new.self in
-    let honest = c.make.ensures.honest.0 c.requires.honest in
+    let still = c.make.ensures.honest.0 honest in
     begun f.names f.moment f.left_since g.D.Disk b.shows b.accepts b.next first
     (λ x y event o n s. c.folders_stand_as_their_account.ensures.event first x y event o n empty_shows s)
-    a c.args.name.number disks c.in-Ok.disk old mid c.sync.new.self none c.requires.above stands
-    (g.met.F.Folder.laws old c.requires.honest) (g.met.F.Folder.laws mid honest)
-    (c.in-Ok.ensures.empty c.requires.honest).1 (c.in-Ok.ensures.made c.requires.honest) (c.in-Ok-sync.ensures.synced honest)
-    (c.make.ensures.time c.requires.honest) (c.sync.ensures.time honest)
+    a c.args.name.number disks c.in-Ok.disk old mid c.sync.new.self none (c.requires honest) stands
+    (g.met.F.Folder.laws old honest) (g.met.F.Folder.laws mid still)
+    (c.in-Ok.ensures.empty honest).1 (c.in-Ok.ensures.made honest) (c.in-Ok-sync.ensures.synced still)
+    (c.make.ensures.time honest) (c.sync.ensures.time still)
 
 pub returns-in-Err-clause-failed : goal.returns-in-Err-clause-failed
-returns-in-Err-clause-failed g c = λ first a disks empty_shows none stands.
+returns-in-Err-clause-failed g c = λ honest first a disks empty_shows none stands.
     let f = g.F.Folder in
     let b = g.B.Recordings in
     let old = c.args.folder.now in
     not_made f.names f.moment f.left_since g.D.Disk b.shows b.accepts b.next first
     (λ x y event o n s. c.folders_stand_as_their_account.ensures.event first x y event o n empty_shows s)
-    a c.args.name.number disks old c.make.new.self none c.requires.above stands (g.met.F.Folder.laws old c.requires.honest) (c.make.ensures.time c.requires.honest)
-    (⊎_elim inl (λ may. inr (may.0, (may.1.0, may.1.3))) (c.in-Err.ensures.failed c.requires.honest))
+    a c.args.name.number disks old c.make.new.self none (c.requires honest) stands (g.met.F.Folder.laws old honest) (c.make.ensures.time honest)
+    (⊎_elim inl (λ may. inr (may.0, (may.1.0, may.1.3))) (c.in-Err.ensures.failed honest))
 
 pub returns-in-Err-sync-clause-failed : goal.returns-in-Err-sync-clause-failed
-returns-in-Err-sync-clause-failed g c = λ first a disks empty_shows none stands.
+returns-in-Err-sync-clause-failed g c = λ honest first a disks empty_shows none stands.
     let f = g.F.Folder in
     let b = g.B.Recordings in
     let old = c.args.folder.now in
-    let honest = c.make.ensures.honest.0 c.requires.honest in
+    let still = c.make.ensures.honest.0 honest in
     not_synced f.names f.moment f.left_since g.D.Disk b.shows b.accepts b.next first
     (λ x y event o n s. c.folders_stand_as_their_account.ensures.event first x y event o n empty_shows s)
-    a c.args.name.number disks c.in-Ok.disk old c.make.new.self c.sync.new.self none c.requires.above stands (g.met.F.Folder.laws old c.requires.honest)
-    (c.in-Ok.ensures.empty c.requires.honest).1 (c.in-Ok.ensures.made c.requires.honest) (c.in-Err-sync.ensures.failed honest) (c.make.ensures.time c.requires.honest)
+    a c.args.name.number disks c.in-Ok.disk old c.make.new.self c.sync.new.self none (c.requires honest) stands (g.met.F.Folder.laws old honest)
+    (c.in-Ok.ensures.empty honest).1 (c.in-Ok.ensures.made honest) (c.in-Err-sync.ensures.failed still) (c.make.ensures.time honest)
