@@ -6,8 +6,8 @@ use Rattle.archive_folder.specs.declared.names.Name.{Name}
 use Rattle.archive_folder.specs.declared.names.Fate.{Fate}
 use Rattle.archive_folder.specs.declared.names.Fate.TheVariants.{Stays}
 use Rattle.archive_folder.specs.Names.{listed, listed_one, AreRising, AreAbove, AreBelow}
-use Rattle.history.specs.World.{World}
-use Rattle.archive_history.specs.Archive.{File, There, Gone, Content, Whole, Known, Foreign, Newest, Archive, archive, names_of, newest_names, names, commands_of, world_of, set_aside, aside_file, ended_with, ended_file}
+use Rattle.history.specs.World.{World, Step}
+use Rattle.archive_history.specs.Archive.{File, There, Gone, Content, Whole, Known, Foreign, Newest, Archive, archive, names_of, newest_names, names, commands_of, world_of, set_aside, aside_file, ended_with, ended_file, recorded}
 use Rattle.archive_history.specs.History.{MayResume, Resumes}
 use Rattle.archive_history.specs.Starting.{AllStay, EndsEmpty, LastFile, IsNewest, MayBeNewest, IsForeign}
 use Rattle.archive_history.proofs.Resolving.{same_head}
@@ -185,3 +185,10 @@ resumed_names {C} a b is =
     one (There is_thrown first (Known world)) newest may = ap (λ (m : Name). m ∷ names_of is.gone) (sym may.0)
     one (There is_thrown first (Foreign bytes)) newest may = absurd may
     one (Gone commands) newest may = absurd may
+
+pub recorded_names : {C : Type 0} (a : Archive C) (step : Step C) → names (recorded a step) ≡ names a
+recorded_names {C} a step = one a.ended a.newest
+  where
+    one : (ended : List (File C)) (newest : Option (Newest C)) → names (recorded (archive ended newest) step) ≡ names (archive ended newest)
+    one ended None = refl
+    one ended (Some file) = refl

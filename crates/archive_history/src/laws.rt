@@ -2,13 +2,14 @@
 ghost use Rattle.std.specs.Prelude.{◌≡◌, ◌⊎◌, [], ◌∷◌, ◌++◌, None, ℕ, List};
 ghost use Rattle.disk_model.specs.Image.{DiskState, IsImage, IsSettled};
 ghost use Rattle.archive_folder.specs.declared.names.Name.{Name};
-ghost use Rattle.archive_folder.specs.Clock.{MayHaveMade, MayHaveRemoved};
+ghost use Rattle.archive_folder.specs.Clock.{MayHaveMade, MayHaveRemoved, NamesPass};
 ghost use Rattle.archive_folder.specs.Names.{IsLeft, AreRising, listed, made, removed, synced, restarted};
 ghost use Rattle.history.specs.Commands.{IsPartOf};
-ghost use Rattle.archive_history.specs.Archive.{Archive, Move, Making, Throwing, nothing, names, begun_by, ended_with, set_aside, shut, Resolves, acknowledged, all_acknowledged};
+ghost use Rattle.history.specs.World.{Step};
+ghost use Rattle.archive_history.specs.Archive.{Archive, Move, Making, Throwing, nothing, names, begun_by, recorded, ended_with, set_aside, shut, Resolves, acknowledged, all_acknowledged};
 ghost use Rattle.archive_history.specs.Showing.{numbers, ShowsArchive, ShowsCommands};
 ghost use Rattle.archive_history.specs.Standing.{StandsAs};
-ghost use Rattle.archive_history.specs.History.{Point, Event, IsNotNewest, IsOnly, IsImageOf, MayMove, LeavesAll, WasImage, IsEvent, IsArchiveHistory, Resumes, ThrowsNothing, answered};
+ghost use Rattle.archive_history.specs.History.{Point, Event, IsNotNewest, IsOnly, IsImageOf, MayMove, LeavesAll, LeavesNames, WasImage, IsEvent, IsArchiveHistory, Resumes, ThrowsNothing, answered};
 ghost use Rattle.archive_history.specs.Starting.{AllStay, EndsEmpty, LastFile};
 
 use archive_folder::Folder;
@@ -125,10 +126,14 @@ pub fn calls_are_events<B: Recordings>()
         → (b : Archive B.Command) × Resolves a b × (names b ≡ synced (names a)) }
     ensures stopping { (a : Archive B.Command) (left : List ℕ) → IsLeft (names a) left
         → (b : Archive B.Command) × Resolves (shut a) b × (names b ≡ restarted left) }
-    // An ending, a setting aside and a resuming change no name.
+    // A step of the recorder, an ending, a setting aside and a resuming change no name.
+    ensures recorded { (a : Archive B.Command) (step : Step B.Command) → names (recorded a step) ≡ names a }
     ensures ended { (a : Archive B.Command) (bytes : List ℕ) → names (ended_with a bytes) ≡ names a }
     ensures set_aside { (a : Archive B.Command) → names (set_aside a) ≡ names a }
     ensures resumed { (a b : Archive B.Command) → Resumes a b → names b ≡ names a }
+
+    // A call that changed nothing is an event too.
+    ensures unchanged { (a : Archive B.Command) → Resolves a a }
 
     // Who starts on a folder, syncs it and lists it, finds the newest at the list's end, or a file that may be it.
     ensures starting { (a : Archive B.Command) (n : ℕ) (front : List ℕ)
@@ -138,4 +143,18 @@ pub fn calls_are_events<B: Recordings>()
     // A file that is sealed may be ended.
     ensures ending { (disk : DiskState) → IsSettled disk → IsImage disk disk.contents
         → IsOnly disk.contents disk }
+{}
+
+/// What a call of a folder says of the time that passed is what every stop since has left; so is a second call's, if it
+/// keeps within the same bound.
+pub fn calls_leave_names<F: Folder>()
+    ensures once { (old new : F) (bound : List Name) → F.is_honest old
+        → NamesPass (F.moment old) (F.moment new) (F.left_since old) (F.left_since new) bound
+        → ((left : List ℕ) → IsLeft (F.names old) left → IsLeft bound left)
+        → LeavesNames F.moment F.left_since bound old new }
+    ensures twice { (old mid new : F) (bound second : List Name)
+        → LeavesNames F.moment F.left_since bound old mid
+        → NamesPass (F.moment mid) (F.moment new) (F.left_since mid) (F.left_since new) second
+        → ((left : List ℕ) → IsLeft second left → IsLeft bound left)
+        → LeavesNames F.moment F.left_since bound old new }
 {}

@@ -1,5 +1,5 @@
-use Rattle.archive_history.proofs.Events.{making, throwing, failed_making, failed_throwing, syncing, stopping, ending}
-use Rattle.archive_history.proofs.Starting.{last_file, ended_names, aside_names, resumed_names}
+use Rattle.archive_history.proofs.Events.{same_account, making, throwing, failed_making, failed_throwing, syncing, stopping, ending}
+use Rattle.archive_history.proofs.Starting.{recorded_names, last_file, ended_names, aside_names, resumed_names}
 use Rattle.archive_history.proofs.laws.calls_are_events.Goals as goal
 
 pub returns-clause-making : goal.returns-clause-making
@@ -34,3 +34,9 @@ returns-clause-resumed g c = resumed_names
 
 pub returns-clause-starting : goal.returns-clause-starting
 returns-clause-starting g c = last_file
+
+pub returns-clause-recorded : goal.returns-clause-recorded
+returns-clause-recorded g c = recorded_names
+
+pub returns-clause-unchanged : goal.returns-clause-unchanged
+returns-clause-unchanged g c = same_account
