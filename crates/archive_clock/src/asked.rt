@@ -1,6 +1,6 @@
 //! A time that a person asks for.
 ghost use Rattle.std.specs.Prelude.{◌≡◌, ◌≢◌, ◌∷◌, ◌+◌, ◌*◌, ℕ, List, ℤ, Err, IfSome, MatchOption, None, Ok, Some, slice_index};
-ghost use Rattle.jiff.specs.Words.{datetime_parts, parse_timestamp, plain_zone};
+ghost use Rattle.jiff.specs.Words.{parse_timestamp, plain_zone};
 ghost use Rattle.jiff_core.specs.declared.error.Error.{Error as ErrorOf};
 ghost use Rattle.archive_clock.specs.Asked.{IsNotShown, IsShown, lacks_offset, millisecond_of};
 ghost use Rattle.archive_clock.specs.Span.{IsSpan};

@@ -2,7 +2,6 @@
 ghost use Rattle.std.specs.Prelude.{◌≡◌, ◌≤◌, ◌+◌, ◌++◌, ◌/◌, ℕ, pos};
 ghost use Rattle.jiff_core.specs.Date.{epoch_day};
 ghost use Rattle.jiff_core.specs.declared.civil.date.Date.{Date as DateOf};
-ghost use Rattle.text_line.specs.Line.{LineState};
 ghost use Rattle.archive_names.specs.Name.{IsText, clock_digits, day_digits, kind_text, on_text, padded};
 
 use jiff_core::civil::Date;

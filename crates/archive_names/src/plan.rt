@@ -1,5 +1,5 @@
 //! When a file is begun, and which are thrown away.
-ghost use Rattle.std.specs.Prelude.{◌≡◌, ◌+◌, ◌<◌, ◌↔◌, ◌≤◌, IsTrue, IfSome, length, not, option_map, position};
+ghost use Rattle.std.specs.Prelude.{◌≡◌, ◌+◌, ◌<◌, ◌↔◌, IsTrue, IfSome, length, not, option_map, position};
 ghost use Rattle.archive_names.specs.Plan.{IsFull, IsOver, goes, is_old, is_too_much, next_to_go};
 
 /// How long and how great a file becomes.

@@ -1,6 +1,6 @@
 //! What the lines say of a time, and when one is written.
 ghost use Rattle.std.specs.Prelude.{◌≡◌, ℕ, List, None, ◌↔◌, IsTrue};
-ghost use Rattle.archive_times.specs.Asked.{IsDue, line_at, offset_at};
+ghost use Rattle.archive_times.specs.Asked.{IsDue, line_at};
 ghost use Rattle.archive_times.specs.Times.{AreLinesOf};
 ghost use Rattle.archive_times.specs.declared.line.Line.{Line as LineOf};
 

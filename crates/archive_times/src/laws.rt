@@ -1,6 +1,6 @@
 //! What always holds of lines of times.
-ghost use Rattle.std.specs.Prelude.{◌≡◌, ◌≤◌, ◌<◌, ◌^◌, ℕ, List, [], true, nat_eq, ◌∷◌, ◌++◌, map, length, None, Option};
-ghost use Rattle.std.specs.List.{list_all, list_any};
+ghost use Rattle.std.specs.Prelude.{◌≡◌, ◌≤◌, ◌<◌, ◌^◌, ℕ, List, true, nat_eq, ◌∷◌, ◌++◌, map, length, None, Option};
+ghost use Rattle.std.specs.List.{list_any};
 ghost use Rattle.archive_times.specs.Asked.{IsPlaceAt, RiseFrom, line_at, offset_at, offset_of, place_of};
 ghost use Rattle.archive_times.specs.Times.{AreLinesOf, AreTimes, IsLine, behind_feed, has_no_line_feed, last_of, line_text, times_text};
 ghost use Rattle.archive_times.specs.declared.line.Line.{Line as LineOf};

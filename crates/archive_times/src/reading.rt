@@ -1,5 +1,5 @@
 //! Lines, read from any bytes.
-ghost use Rattle.std.specs.Prelude.{◌≡◌, ◌<◌, ◌≤◌, ◌↔◌, ◌++◌, ℕ, List, IfSome, IsTrue, length};
+ghost use Rattle.std.specs.Prelude.{◌≡◌, ◌↔◌, ◌++◌, ℕ, List, IfSome, IsTrue};
 ghost use Rattle.std.specs.Option.{IsSomeAnd};
 ghost use Rattle.archive_times.specs.Reading.{line_read, join_read, number_on};
 ghost use Rattle.archive_times.specs.Times.{AreLinesOf, Follows, IsNext, behind_feed, last_of, line_text};
