@@ -1,10 +1,5 @@
 -- The names in a folder, as numbers, and what a stop may leave of them. The rules are ours.
---
--- Assumed of a real folder, as POSIX and the usual file systems of Linux have it: making a file and removing one are
--- atomic with regard to its name, which a stop leaves or doesn't, and never in part; an `fsync` of the folder that
--- returns 0 makes what was made and removed before it outlive a stop; nobody else makes, removes or renames in it.
--- What is in a file is its disk's matter: a sync of the folder says nothing of it, and a sync of the file nothing of
--- its name.
+-- What is assumed of a real folder stands in docs/ARCHITECTURE.md.
 use Rattle.std.specs.Prelude.{◌≡◌, ◌⊎◌, ℕ, ◌<◌, ◌==◌, if◌then◌else◌, List, [], ◌∷◌, ◌++◌, map, ⊤}
 pub use Rattle.archive_folder.specs.declared.names.Name.{Name}
 pub use Rattle.archive_folder.specs.declared.names.FileName.{FileName}

@@ -1,5 +1,5 @@
 //! A folder of the system. That it is honest is a premise: no contract can give it.
-ghost use Rattle.std.specs.Prelude.{◌≡◌, [], None};
+ghost use Rattle.std.specs.Prelude.{◌≡◌, [], None, IfOk};
 ghost use Rattle.disk_model.specs.Image.{settled};
 ghost use Rattle.archive_folder.specs.Names.{Nowhere};
 
@@ -45,13 +45,18 @@ impl<
     R: Files<File = F> + Alloc + Clone + Drop,
     N: Naming + Drop,
 > SystemFolder<F, R, N> {
+    ghost use Rattle.archive_folder.specs.FileFolder.{last_of, failures_of};
+
     /// The folder at a path. Nothing of it is looked at yet.
     pub fn at(
         alloc: Global,
         rt: R,
         naming: N,
         path: &str,
-    ) -> Result<FileFolder<SystemFolder<F, R, N>>, Memory> {
+    ) -> Result<FileFolder<SystemFolder<F, R, N>>, Memory>
+        ensures last { IfOk result (λ folder. last_of folder ≡ None) }
+        ensures failures { IfOk result (λ folder. failures_of folder ≡ 0) }
+    {
         let mut whole = String::from_str(alloc, path)?;
         if !path.ends_with('/') {
             whole.push('/')?;
