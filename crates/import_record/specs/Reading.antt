@@ -44,8 +44,8 @@ module _ {S : Type 0} (answers : S → Record → Reply → List ℕ → S → T
       × HasTaken (Ended junk) new_reader.lent old pages before new new_pages after
 
 -- ---- when a step is due
--- What waits is flushed only if something does and more bytes are needed. Bytes are passed over only while the input goes
--- on. The end is taken for the end only if the reader has found it.
+-- What waits is flushed only if something does and more bytes are needed. Bytes are passed over only while the input
+-- goes on. The end is taken for the end only if the reader has found it.
 abbrev pub IsDue : Step → ℕ → ReaderState → ReaderState → Type 0
 IsDue (Flushed reply) held old new = (0 < held) × (page_at old.unread ≡ Err Short)
 IsDue PassedOver held old new = GoesOn old.outcome
@@ -68,8 +68,8 @@ TellsJunk (Page offset junk taken) old from before new left now = TakesJunk (Pag
 TellsJunk (Ended junk) old from before new left now = TakesJunk (Ended junk) new.offset before now
 
 -- ---- why memory is wanted
--- A growth of what is gathered was refused, or there was no room to make a page in. Or the page's commands begin a link,
--- which wants memory of its own.
+-- A growth of what is gathered was refused, or there was no room to make a page in. Or the page's commands begin a
+-- link, which wants memory of its own.
 abbrev pub LacksMemoryFor : ImportRun → ImportRun → ℕ → Type 0
 LacksMemoryFor old new room =
     LacksMemory new.input.gatherer room

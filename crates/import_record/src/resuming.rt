@@ -27,8 +27,8 @@ impl ImportRun {
     /// The commands that are to be run before the next step, after the file was opened again, in which a fault of the
     /// disk may have lost what waited. `streams` are those of its last link, and `serials` all that it has. If it has
     /// each stream open that the input has, only the others are ended. Otherwise all that is open is ended, and if the
-    /// input's link is open it begins again: with the streams that are open, under serials that are free. After `Memory`
-    /// all is as before.
+    /// input's link is open it begins again: with the streams that are open, under serials that are free. After
+    /// `Memory` all is as before.
     pub fn resume(
         &mut self,
         streams: &[StreamState],
