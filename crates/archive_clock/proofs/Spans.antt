@@ -6,7 +6,7 @@ use Rattle.std.proofs.lemmas.Bool.{and_parts, cases_Bool, cond-false, leb-true, 
 use Rattle.std.specs.Char.{is_ascii_digit}
 use Rattle.std.specs.Fmt.{decimal}
 use Rattle.archive_times.specs.Reading.{number_on}
-use Rattle.archive_times.proofs.Numbers.{number_is_read}
+use Rattle.archive_times.specs.Numbers.{number_is_read}
 use Rattle.archive_clock.specs.Span.{IsSpan, seconds_in}
 
 -- a text is one front and one last byte

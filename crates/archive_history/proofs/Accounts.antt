@@ -8,7 +8,7 @@ use Rattle.history.specs.World.{World, Step, Opened, Held, Kept, Flushed, Refuse
 use Rattle.history.specs.Commands.{IsPartOf}
 use Rattle.archive_history.specs.Archive.{File, There, Gone, Content, Whole, Known, Foreign, Newest, Archive, archive, commands_in, set_aside, Move, Making, Throwing, Syncing, Asking, Recording, thrown, with_world, begun_by, recorded, ended_with, shut, FilesResolve, NewestResolves, Resolves, commands_of, newest_commands, all_acknowledged}
 use Rattle.archive_history.specs.History.{MayResume, Resumes}
-use Rattle.archive_history.specs.Standing.{NewestSafe}
+use Rattle.archive_history.specs.Accounted.{NewestSafe}
 
 part_in_front : {A : Type 0} (xs ys : List A) (y : A) → IsPartOf xs ys → IsPartOf xs (y ∷ ys)
 part_in_front [] ys y p = tt

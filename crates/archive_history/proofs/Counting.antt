@@ -13,7 +13,7 @@ use Rattle.history.specs.History.{ShowsWorld}
 use Rattle.history.specs.Commands.{IsPartOf}
 use Rattle.archive_history.specs.Archive.{File, There, Gone, Content, Whole, Known, Foreign, commands_in, Newest, Archive, kept_of, newest_commands, MayHold, MayBeIn, MayHoldAll}
 use Rattle.archive_history.specs.Showing.{ShowsContent, ShowsNewest, ShowsFiles, ShowsArchive, AreShown, AreAmong, ShowsCommands}
-use Rattle.archive_history.specs.Standing.{AreSafe, NewestSafe}
+use Rattle.archive_history.specs.Accounted.{AreSafe, NewestSafe}
 use Rattle.archive_history.proofs.Accounts.{part_append, part_self}
 
 among_in_front : (files image : List (ℕ × List ℕ)) (file : ℕ × List ℕ) → AreAmong files image → AreAmong files (file ∷ image)

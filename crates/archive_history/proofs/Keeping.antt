@@ -5,7 +5,7 @@ use Rattle.archive_folder.specs.declared.names.Fate.{Fate}
 use Rattle.archive_folder.specs.declared.names.Fate.TheVariants.{Stays}
 use Rattle.archive_folder.specs.Names.{MayLack}
 use Rattle.archive_history.specs.Archive.{File, There, Gone, commands_in, Newest, ended_file, aside_file, FilesResolve, commands_of, kept_of}
-use Rattle.archive_history.specs.Standing.{AreSafe}
+use Rattle.archive_history.specs.Accounted.{AreSafe}
 
 -- no file was thrown away, and what is gone had no commands
 abbrev pub AreKept : {C : Type 0} → List (File C) → Type 0

@@ -1,4 +1,4 @@
-mod Standing
+mod Accounted
 mod Resolving
 mod Steps
 mod Counting

@@ -14,7 +14,7 @@ use Rattle.archive_folder.specs.NamesLaws.{left_of_made}
 use Rattle.archive_folder.specs.Clock.{HasLeft, NamesPass, MayHaveMade}
 use Rattle.archive_history.specs.Archive.{archive, File, There, Gone, Newest, Archive, names_of, newest_names, names, Making, Syncing, begun_by, FilesResolve, settled_file, settled_files, with_new, Resolves}
 use Rattle.archive_history.specs.History.{Point, point, with_disk, Called, LeavesNames, IsEmptyAt, IsEvent}
-use Rattle.archive_history.specs.Standing.{Stands as StandsBy, Now, StandsAs}
+use Rattle.archive_history.specs.Accounted.{Stands as StandsBy, Now, StandsAs}
 use Rattle.archive_history.proofs.Events.{making, failed_making, same_files}
 
 at_same : {D : Type 0} (n : ℕ) (disk : D) (disks : ℕ → D) → with_disk n disk disks n ≡ disk

@@ -14,7 +14,7 @@ use Rattle.history.specs.World.{World}
 use Rattle.history.specs.History.{ShowsWorld}
 use Rattle.archive_history.specs.Archive.{File, There, Gone, Content, commands_in, Newest, names_of, newest_names, thrown, MayBecome, FilesResolve, NewestResolves}
 use Rattle.archive_history.specs.Showing.{numbers, ShowsContent}
-use Rattle.archive_history.specs.Standing.{Bytes, AreSafe, NewestSafe, NewestAbove, FilesStand, NewestStands}
+use Rattle.archive_history.specs.Accounted.{Bytes, AreSafe, NewestSafe, NewestAbove, FilesStand, NewestStands}
 
 pub same_head : {A : Type 0} (x y : A) (xs ys : List A) → x ∷ xs ≡ y ∷ ys → x ≡ y
 same_head x y xs ys same = cc

@@ -13,8 +13,8 @@ use Rattle.archive_folder.specs.declared.names.Fate.TheVariants.{Comes}
 use Rattle.archive_history.specs.Archive.{File, There, Gone, Whole, Known, Foreign, Newest, Archive, archive, set_aside, nothing, names_of, names, Move, Making, Throwing, Syncing, Asking, Recording, thrown, begun_by, recorded, ended_with, shut, Resolves, newest_commands, acknowledged, all_acknowledged, NewestResolves, newest_names}
 use Rattle.archive_history.specs.Showing.{numbers, ShowsArchive, ShowsCommands}
 use Rattle.archive_history.specs.History.{Point, Event, Called, Recorded, Ended, SetAside, Resumed, MayResume, Resumes, Halted, HaltedIn, IsImageOf, MayMove, LeavesAll, WasBytes, WasImage, RestartsFrom, IsEvent, AreEvents, account_after, point_after, answered_one, answered, ThrowsNothing, IsArchiveHistory, MadeBytes, IsEmptyAt}
-use Rattle.archive_history.specs.Standing.{Bytes, AreSafe, NewestAbove, FilesStand, Stands as StandsBy, Now as NowBy, StandsAs, NewestStands}
-use Rattle.archive_history.proofs.Standing.{shows_files, files_same, thrown_stand}
+use Rattle.archive_history.specs.Accounted.{Bytes, AreSafe, NewestAbove, FilesStand, Stands as StandsBy, Now as NowBy, StandsAs, NewestStands}
+use Rattle.archive_history.proofs.Accounted.{shows_files, files_same, thrown_stand}
 use Rattle.archive_history.proofs.Counting.{shows_commands}
 use Rattle.archive_history.proofs.Accounts.{Grows, same_grows, grows_on, resolved_same, shut_same, begun_same, ended_same, aside_same, resumed_same, recorded_grows}
 use Rattle.archive_history.proofs.Keeping.{AreKept, kept_is_all, kept_resolved, kept_ended, kept_aside, kept_front}

@@ -1,5 +1,5 @@
 pub mod Archive
 pub mod Showing
 pub mod History
-pub mod Standing
+pub mod Accounted
 pub mod Starting

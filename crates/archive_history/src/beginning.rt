@@ -4,7 +4,7 @@ ghost use Rattle.disk_model.specs.Fault.{HasCause};
 ghost use Rattle.disk_model.specs.Image.{settled};
 ghost use Rattle.archive_folder.specs.Names.{AreBelow, Out, made, synced};
 ghost use Rattle.archive_history.specs.Archive.{Archive, Making, begun_by, with_new, Resolves};
-ghost use Rattle.archive_history.specs.Standing.{StandsAs};
+ghost use Rattle.archive_history.specs.Accounted.{StandsAs};
 ghost use Rattle.archive_history.specs.History.{Point, point, with_disk, LeavesNames};
 
 use crate::folders_stand_as_their_account;

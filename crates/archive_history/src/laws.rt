@@ -8,7 +8,7 @@ ghost use Rattle.history.specs.Commands.{IsPartOf};
 ghost use Rattle.history.specs.World.{Step};
 ghost use Rattle.archive_history.specs.Archive.{Archive, Move, Making, Throwing, nothing, names, begun_by, recorded, ended_with, set_aside, shut, Resolves, acknowledged, all_acknowledged};
 ghost use Rattle.archive_history.specs.Showing.{numbers, ShowsArchive, ShowsCommands};
-ghost use Rattle.archive_history.specs.Standing.{StandsAs};
+ghost use Rattle.archive_history.specs.Accounted.{StandsAs};
 ghost use Rattle.archive_history.specs.History.{Point, Event, IsNotNewest, IsOnly, IsImageOf, MayMove, LeavesAll, LeavesNames, WasImage, IsEvent, IsArchiveHistory, Resumes, ThrowsNothing, answered};
 ghost use Rattle.archive_history.specs.Starting.{AllStay, EndsEmpty, LastFile};
 

@@ -5,7 +5,7 @@ ghost use Rattle.archive_folder.specs.Clock.{MayHaveRemoved};
 ghost use Rattle.std.specs.List.{Contains};
 ghost use Rattle.archive_folder.specs.Names.{IsKept, listed, removed};
 ghost use Rattle.archive_history.specs.Archive.{Archive, Throwing, begun_by, Resolves};
-ghost use Rattle.archive_history.specs.Standing.{StandsAs};
+ghost use Rattle.archive_history.specs.Accounted.{StandsAs};
 ghost use Rattle.archive_history.specs.History.{point, IsNotNewest, LeavesNames};
 
 use crate::folders_stand_as_their_account;

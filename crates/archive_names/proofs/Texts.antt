@@ -6,7 +6,7 @@ use Rattle.std.specs.Fmt.{decimal}
 use Rattle.std.specs.Str.Parse.{AllDigits, digits_value_after}
 use Rattle.std.specs.Char.{is_ascii_digit}
 use Rattle.jiff_core.specs.declared.civil.date.Date.{Date}
-use Rattle.archive_times.proofs.Numbers.{digits_are_read}
+use Rattle.archive_times.specs.Numbers.{digits_are_read}
 use Rattle.archive_times.specs.Reading.{number_on}
 use Rattle.archive_names.specs.Name.{IsName, IsText, clock_digits, day_digits, kind_text, on_text, padded, second_of, text_before}
 use Rattle.archive_names.specs.declared.name.Kind.{Kind}

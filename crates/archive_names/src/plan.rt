@@ -5,9 +5,9 @@ ghost use Rattle.archive_names.specs.Plan.{IsFull, IsOver, goes, is_old, is_too_
 /// How long and how great a file becomes.
 #[derive(Clone, Copy, Debug, PartialEq, Eq)]
 pub struct Limits {
-    /// A file has the commands of one period of so many seconds; periods are counted since 1970.
+    /// A file has the commands of one period: how many seconds that has. Periods are counted since 1970.
     pub every: u64,
-    /// A file of so many bytes gets no further command.
+    /// A file that has this many bytes gets no further command.
     pub most_bytes: Option<u64>,
 }
 

@@ -1,5 +1,4 @@
 pub mod Ends
-pub mod Numbers
 pub mod Places
 pub mod Readings
 pub mod Texts

@@ -10,7 +10,7 @@ use Rattle.archive_times.specs.Reading.{join_read, line_read, number_on}
 use Rattle.archive_times.specs.Times.{IsJoin, IsLine, join_text, line_text}
 use Rattle.archive_times.specs.declared.line.Join.{Join}
 use Rattle.archive_times.specs.declared.line.Line.{Line}
-use Rattle.archive_times.proofs.Numbers.{number_is_read}
+use Rattle.archive_times.specs.Numbers.{number_is_read}
 
 -- a number begins with no dash
 no_dash : (digits rest : List ℕ) → 0 < length digits → AllDigits 10 digits → (slice_index (digits ++ rest) 0 == 45) ≡ false

@@ -1,4 +1,4 @@
-//! Lines of times: so many bytes of a file were committed at this time, and there the link that was open is joined.
+//! Lines of times: up to which offset a file was committed at a time, and where the link that was open then is joined.
 //!
 //! A file of an archive has its lines beside it, in `.times`. Offsets rise, and times never fall. They are advice:
 //! whatever the bytes are, reading takes the lines at their front, and ends where one isn't a line, doesn't follow

@@ -47,7 +47,7 @@ fn offset_rises(last: Option<Line>, offset: u64) -> bool
 }
 
 impl Line {
-    /// The line that is written after `last` when so many bytes are committed, if it tells of more than the last one.
+    /// The line that is written after `last` when `offset` bytes are committed, if it tells of more than the last one.
     /// A clock that goes back gives the last time again.
     pub fn after(last: Option<Line>, offset: u64, now: u64, join: Option<Join>) -> Option<Line>
         ensures line { IfSome result (λ line. line ≡ line_after last offset now join) }

@@ -6,7 +6,7 @@ use Rattle.archive_folder.specs.declared.names.Fate.TheVariants.{Goes}
 use Rattle.archive_folder.specs.Names.{name, IsLeft, AreBelow}
 use Rattle.archive_history.specs.Archive.{File, There, Gone, Newest, names_of, newest_names, thrown}
 use Rattle.archive_history.specs.Showing.{numbers, ShowsNewest, ShowsFiles}
-use Rattle.archive_history.specs.Standing.{Bytes, FilesStand, NewestStands}
+use Rattle.archive_history.specs.Accounted.{Bytes, FilesStand, NewestStands}
 
 module _ {S C : Type 0} (shows : List ℕ → S → Type 0) (next : S → C → S) (first : S) where
   shows_newest : (of : Bytes) (newest : Option (Newest C)) (image : List (ℕ × List ℕ)) → NewestStands shows next first of newest
