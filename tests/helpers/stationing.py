@@ -5,6 +5,9 @@
 `stationing.py answers PROGRAM WORK` has 64 connections at once ask for everything, their bytes interleaved at random, of
 a file that rests and of one that grows: each answer must be that of the plain program of serving.py.
 `stationing.py hears PROGRAM WORK` listens while one source follows another.
+`stationing.py fails PROGRAM LIBRARY WORK` has each device call fail once, by the library of failing.c, while two sources
+come one after the other that end without an end page, in a file of which an earlier run left a link open: one of them may
+lose something, and is told so.
 `stationing.py kills PROGRAM WORK COUNT` kills the station while a source sends and twenty listen: what any of them heard
 must be in the file, and the same command line goes on.
 
@@ -31,13 +34,15 @@ BASIC = b"Authorization: Basic " + base64.b64encode(b"source:" + PASSWORD)
 
 # ---- a station
 class Station:
-    def __init__(self, program, path, *words, given=subprocess.DEVNULL):
+    def __init__(self, program, path, *words, given=subprocess.DEVNULL, **more):
         self.port = serving.free_port()
         secret = os.path.join(os.path.dirname(path), "password")
         with open(secret, "wb") as file:
             file.write(PASSWORD + b"\n")
         command = [program, "station", path, "127.0.0.1:%d" % self.port, "--password-file", secret, *words]
-        self.process = subprocess.Popen(command, stdin=given, stdout=subprocess.PIPE, stderr=subprocess.PIPE)
+        self.process = subprocess.Popen(
+            command, stdin=given, stdout=subprocess.PIPE, stderr=subprocess.PIPE, env={**os.environ, **more}
+        )
         for _ in range(4000):
             if serving.listens(self.port) or self.process.poll() is not None:
                 break
@@ -416,6 +421,52 @@ def hears(program, work):
     return told.end()
 
 
+# ---- faults of the disk
+def fails(program, library, work):
+    told = Told()
+    path, mark = os.path.join(work, "fails.ogg"), os.path.join(work, "met")
+    for how in ("io", "full"):
+        for call in range(1, 200):
+            if os.path.exists(mark):
+                os.remove(mark)
+            with open(path, "wb") as file:
+                file.write(b"".join(stream(50, 3)))
+            failing = {"LD_PRELOAD": library, "FAILING_CALL": str(call), "FAILING_HOW": how, "FAILING_MET": mark}
+            station = Station(program, path, **failing)
+            answers = {}
+            for seed in (51, 52):
+                body = b"".join(stream(seed, 6))
+                if station.process.poll() is None:
+                    answers[seed] = station.ask(request(b"PUT", BASIC, b"Content-Length: %d" % len(body)), body)
+            err = station.stop()
+            if not os.path.exists(mark):
+                break
+            name = "%s at call %d" % (how, call)
+            again = subprocess.run([program, "archive", path], stdin=subprocess.DEVNULL, capture_output=True, timeout=20)
+            told.check("%s: the file is opened again" % name, again.returncode == 0, again.stderr)
+            with open(path, "rb") as file:
+                streams, _ = found(file.read())
+            kept = {seed: [one for one in streams if one["packets"][0] == struct.pack("<II", seed, 0)] for seed in (50, 51, 52)}
+            told.check("%s: all streams have ended" % name, all(one["ended"] for one in streams))
+            told.check("%s: what an earlier run left" % name, len(kept[50]) == 1 and is_whole(kept[50], 50, 3))
+            whole = [seed for seed in answers if is_whole(kept[seed], seed, 6)]
+            taken = [seed for seed in answers if b" 200 " in answers[seed].split(b"\r\n")[0]]
+            told.check("%s: whoever is told 200 is whole" % name, set(taken) <= set(whole), taken, whole, err)
+            told.check("%s: one source loses something at most" % name, len(taken) >= len(answers) - 1, answers, err)
+            told.check("%s: no link is refused" % name, b"LinkOpen" not in err, err)
+            # Without an answer the station has ended: its file couldn't be opened.
+            told.check("%s: it goes on" % name, len(answers) == 2 or err.splitlines()[-1].startswith(b"fault "), err)
+        else:
+            told.check("%s: it ends" % how, False)
+    return told.end()
+
+
+def is_whole(kept, seed, count):
+    """Whether the packets of these streams, one after the other, are all that `stream` has."""
+    packets = [each for one in kept for each in one["packets"]]
+    return packets == [struct.pack("<II", seed, 0)] + [packet(seed, number) for number in range(1, 2 * count - 1)]
+
+
 # ---- kills
 def kills(program, work, count):
     told, source = Told(), random.Random(11)
@@ -469,6 +520,8 @@ def main():
     what, program, work = sys.argv[1:4]
     if what == "kills":
         return kills(program, work, int(sys.argv[4]))
+    if what == "fails":
+        return fails(program, work, sys.argv[4])
     return {"sources": sources, "answers": answers, "hears": hears}[what](program, work)
 
 

@@ -207,7 +207,21 @@ run station "$work/empty.ogg" 127.0.0.1:0 </dev/null
 kill_status=$status
 check "an empty file is gone on with, until it is stopped" [ "$kill_status" = 124 ]
 
+# A password that comes in pieces is read to its line's end.
+mkfifo "$work/pipe"
+{
+    printf se
+    sleep 0.3
+    printf 'cret\nanother line\n'
+} >"$work/pipe" &
+up "$work/pieces.ogg" --password-file "$work/pipe" </dev/null
+check "a password in pieces" [ "$(code -u source:secret -T "$work/whole" "http://127.0.0.1:$port/x")" = 200 ]
+check "its first piece" [ "$(code -u source:se -T "$work/whole" "http://127.0.0.1:$port/x")" = 401 ]
+down
+
 mkdir "$work/station"
+cc -O2 -shared -fPIC -D_GNU_SOURCE -o "$work/failing.so" "$here/failing.c" || exit 1
+check "stationing.py fails" timeout 170 python3 "$here/stationing.py" fails "$program" "$work/failing.so" "$work/station"
 for what in sources answers hears "kills 30"; do
     # shellcheck disable=SC2086
     check "stationing.py $what" timeout 170 python3 "$here/stationing.py" ${what%% *} "$program" "$work/station" ${what#"${what%% *}"}

@@ -5,14 +5,15 @@ use Rattle.serve_clients.specs.declared.client.Stage.{Stage}
 use Rattle.serve_clients.specs.declared.client.Stage.TheVariants.{Asking, Offering, Waiting, Feeding, Reading, Sending, Hearing, Ending, Closing, Cut}
 
 -- A head is complete within 10 seconds, a source sends within 30, and a peer takes bytes within 60, if there are any for
--- it. A peer that was told the end closes within 10. Whoever is cut is given no time.
+-- it; of a response over the file within ten minutes, since whoever plays it may have stopped for a while. A peer that was
+-- told the end closes within 10 seconds. Whoever is cut is given no time.
 abbrev pub patience : Stage → Bool → Option ℕ
 patience Asking idle = Some 10000
 patience Offering idle = Some 10000
 patience Waiting idle = Some 10000
 patience Reading idle = Some 10000
 patience Feeding idle = Some 30000
-patience Sending idle = Some 60000
+patience Sending idle = Some 600000
 patience Ending idle = Some 60000
 patience Hearing true = None
 patience Hearing false = Some 60000

@@ -14,8 +14,11 @@ const WAITS: u64 = 1_000;
 /// For how many milliseconds a source may send no byte.
 const SENDS: u64 = 30_000;
 
-/// For how many milliseconds a peer may take no byte of what is to be sent.
+/// For how many milliseconds a peer may take no byte of what is to be sent: of what is recorded, or of its last bytes.
 const TAKES: u64 = 60_000;
+
+/// The same of a response over the file. Whoever plays it may have stopped for a while.
+const RESTS: u64 = 600_000;
 
 /// For how many milliseconds a peer that was told the end may take until it closes.
 const CLOSES: u64 = 10_000;
@@ -27,7 +30,8 @@ fn patience(client: &Client) -> Option<u64>
     match client.stage {
         Stage::Asking | Stage::Offering | Stage::Waiting | Stage::Reading => Some(HEAD),
         Stage::Feeding => Some(SENDS),
-        Stage::Sending | Stage::Ending => Some(TAKES),
+        Stage::Sending => Some(RESTS),
+        Stage::Ending => Some(TAKES),
         Stage::Hearing if client.idle => None,
         Stage::Hearing => Some(TAKES),
         Stage::Closing => Some(CLOSES),

@@ -1,5 +1,6 @@
 -- What a hub keeps, as its contracts see it. Ours.
-use Rattle.std.specs.Prelude.{◌≡◌, ◌⊎◌, ℕ, ◌^◌, ◌≤◌, Bool, true, Option, None, Some, IsSome, List, [], length}
+use Rattle.std.specs.Prelude.{◌≡◌, ◌⊎◌, ℕ, ◌^◌, ◌≤◌, Bool, true, false, not, ◌&&◌, nat_eq, Option, None, Some, IsSome, List, [], length}
+use Rattle.link_chain.specs.ChainState.{is_open}
 use Rattle.link_chain.specs.declared.stream_state.StreamState.{StreamState}
 use Rattle.link_index.specs.Adding.{IndexState}
 use Rattle.file_recorder.specs.Recorder.{RecorderState}
@@ -81,6 +82,16 @@ serials_in None = []
 abbrev pub failed_in : {D : Type 0} → Option (RecorderState D) → Bool
 failed_in (Some recorder) = recorder.file.failed
 failed_in None = true
+
+-- all that was accepted is kept: the disk hasn't failed, and no command waits
+abbrev pub is_settled : {D : Type 0} → Option (RecorderState D) → Bool
+is_settled (Some recorder) = not recorder.file.failed && nat_eq recorder.held 0
+is_settled None = false
+
+-- that is so, and no stream is open
+abbrev pub is_at_rest : {D : Type 0} → Option (RecorderState D) → Bool
+is_at_rest (Some recorder) = is_settled (Some recorder) && not (is_open recorder.chain)
+is_at_rest None = false
 
 -- ---- the hub
 -- what always holds

@@ -4,7 +4,7 @@ ghost use Rattle.ogg_page.specs.Page.{Page};
 ghost use Rattle.link_chain.specs.ChainState.{chain_state_of};
 ghost use Rattle.serve_machine.specs.Hub.{HubState, is_failed};
 ghost use Rattle.serve_hub.specs.declared.opening.Lost.{Lost as LostOf};
-ghost use Rattle.serve_hub.specs.Parts.{failed_in, length_in, links_in, serials_in, streams_in};
+ghost use Rattle.serve_hub.specs.Parts.{failed_in, is_at_rest, is_settled, length_in, links_in, serials_in, streams_in};
 ghost use Rattle.serve_hub.specs.Showing.{HasLinks, Shows, ShowsPlace};
 
 use crate::hub::Hub;
@@ -12,7 +12,7 @@ use crate::opening::Lost;
 use chain_rules::StreamState;
 use disk_model::Disk;
 use file_recorder::Recorder;
-use link_chain::bytes_are_one_chain;
+use link_chain::{bytes_are_one_chain, is_open};
 
 /// How many bytes are committed and wait. Without a file it is the last end that is known.
 pub(crate) fn length_of<D: Disk>(file: &Option<Recorder<D>>, lost: &Option<Lost<D>>) -> u64
@@ -98,6 +98,16 @@ pub(crate) fn has_failed<D: Disk>(file: &Option<Recorder<D>>) -> bool
     }
 }
 
+/// Whether all that was accepted is kept.
+fn settled<D: Disk>(file: &Option<Recorder<D>>) -> bool
+    ensures { result ≡ is_settled file.now }
+{
+    match file {
+        Some(recorder) => !recorder.is_failed() && recorder.held() == 0,
+        None => false,
+    }
+}
+
 impl<D: Disk> Hub<D> {
     /// The length of the committed bytes and of those of the commands that wait. Without a file it is the last end
     /// that is known. After a fault of the disk it still counts those of the group in doubt.
@@ -152,5 +162,22 @@ impl<D: Disk> Hub<D> {
         ensures machine { (machine : HubState) → Shows D.Disk self.now machine → result ≡ is_failed machine }
     {
         has_failed(&self.file)
+    }
+
+    /// Whether all that was accepted is kept: the disk hasn't failed, and nothing waits. Without a file it isn't.
+    pub fn is_settled(&self) -> bool
+        ensures { result ≡ is_settled self.now.file }
+    {
+        settled(&self.file)
+    }
+
+    /// Whether that is so, and no stream is open.
+    pub fn is_at_rest(&self) -> bool
+        ensures { result ≡ is_at_rest self.now.file }
+    {
+        match &self.file {
+            Some(recorder) => self.is_settled() && !is_open(recorder.streams()),
+            None => false,
+        }
     }
 }

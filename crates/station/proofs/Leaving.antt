@@ -1,7 +1,9 @@
 -- A source that leaves the air, and of which something is lost.
 use Rattle.std.proofs.Common.{◌≡◌, ◌⊎◌, ◌||◌, Bool, true, Option, Some, None, if◌then◌else◌, sym, ◌∙◌, ap, subst, inl, inr}
 use Rattle.gate_file.specs.declared.fault.OpenFault.{OpenFault}
+use Rattle.import_record.specs.declared.answering.Answered.{Answered}
 use Rattle.import_record.specs.declared.fault.RecordFault.{RecordFault}
+use Rattle.ogg_command.specs.declared.refusal.Refusal.{Refusal}
 use Rattle.serve_clients.specs.Client.{ClientState}
 use Rattle.serve_sources.specs.declared.body.Body.{Body}
 use Rattle.serve_sources.specs.declared.outcome.Outcome.TheVariants.{Lost}
@@ -27,25 +29,32 @@ resumed before lost after air same is resumes =
     resumes ∙ ap (λ (one : OnAir). record one { import = after.import }) (is ∙ ap (λ (one : OnAir). record one { lost = true }) same)
 
 -- a source that is resumed doesn't wait, and the file was opened
-reopened_failed : Reopened ≡ Failed → ⊥
-reopened_failed e = cc
+reopened_failed : (answered : Answered) → Reopened answered ≡ Failed → ⊥
+reopened_failed answered e = cc
 
-given_up_failed : (fault : RecordFault) → GivenUp fault ≡ Failed → ⊥
-given_up_failed fault e = cc
+given_up_failed : (fault : RecordFault) (refused : Option Refusal) → GivenUp fault refused ≡ Failed → ⊥
+given_up_failed fault refused e = cc
 
-reopened_lost : (why : OpenFault) → Reopened ≡ LostFile why → ⊥
-reopened_lost why e = cc
+reopened_lost : (answered : Answered) (why : OpenFault) → Reopened answered ≡ LostFile why → ⊥
+reopened_lost answered why e = cc
 
-given_up_lost : (fault : RecordFault) (why : OpenFault) → GivenUp fault ≡ LostFile why → ⊥
-given_up_lost fault why e = cc
+given_up_lost : (fault : RecordFault) (refused : Option Refusal) (why : OpenFault) → GivenUp fault refused ≡ LostFile why → ⊥
+given_up_lost fault refused why e = cc
 
-pub isnt_failed : (done : Done) → (done ≡ Reopened) ⊎ ((fault : RecordFault) × (done ≡ GivenUp fault)) → done ≡ Failed → ⊥
-isnt_failed done (inl is) failed = reopened_failed (sym is ∙ failed)
-isnt_failed done (inr (fault, is)) failed = given_up_failed fault (sym is ∙ failed)
+pub same_answered : (one other : Answered) → Reopened one ≡ Reopened other → one ≡ other
+same_answered one other e = cc
 
-pub isnt_lost : (done : Done) (why : OpenFault) → (done ≡ Reopened) ⊎ ((fault : RecordFault) × (done ≡ GivenUp fault)) → done ≡ LostFile why → ⊥
-isnt_lost done why (inl is) lost = reopened_lost why (sym is ∙ lost)
-isnt_lost done why (inr (fault, is)) lost = given_up_lost fault why (sym is ∙ lost)
+-- what resuming comes to
+abbrev pub IsResumed : Done → Type 0
+IsResumed done = ((answered : Answered) × (done ≡ Reopened answered)) ⊎ ((fault : RecordFault) × (refused : Option Refusal) × (done ≡ GivenUp fault refused))
+
+pub isnt_failed : (done : Done) → IsResumed done → done ≡ Failed → ⊥
+isnt_failed done (inl (answered, is)) failed = reopened_failed answered (sym is ∙ failed)
+isnt_failed done (inr (fault, refused, is)) failed = given_up_failed fault refused (sym is ∙ failed)
+
+pub isnt_lost : (done : Done) (why : OpenFault) → IsResumed done → done ≡ LostFile why → ⊥
+isnt_lost done why (inl (answered, is)) lost = reopened_lost answered why (sym is ∙ lost)
+isnt_lost done why (inr (fault, refused, is)) lost = given_up_lost fault refused why (sym is ∙ lost)
 
 -- the answer depends on what is noted of the source
 pub same_answer : (failed : Bool) (one other : OnAir) → one.body ≡ other.body → one.lost ≡ other.lost → one.complete ≡ other.complete

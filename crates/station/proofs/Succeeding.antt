@@ -163,8 +163,8 @@ still old mid new air turns is = record { next = is.next; has_air = still_has is
 
 pub still_by : (done : Done) (old mid new : Slab ClientState) (air : Option OnAir) → HaveTurns mid new → IsSucceededBy done old mid air
     → IsSucceededBy done old new air
-still_by (Ended offset junk taken) old mid new air turns is = still old mid new air turns is
-still_by (GivenUp fault) old mid new air turns is = still old mid new air turns is
+still_by (Ended offset junk taken refused) old mid new air turns is = still old mid new air turns is
+still_by (GivenUp fault refused) old mid new air turns is = still old mid new air turns is
 still_by done old mid new air turns is = tt
 
 -- turns after turns

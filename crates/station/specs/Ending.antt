@@ -10,8 +10,8 @@ gathers air ending = is_some air && not (is_some ending)
 abbrev pub is_over : Option OnAir → Option ℕ → Bool
 is_over air ending = is_some ending && not (is_some air)
 
--- A station that comes to its end has come to it once nobody is on the air, and nobody is connected any more, or those who
--- are have had a minute.
-abbrev pub has_finished : Option ℕ → Bool → Bool → ℕ → Bool
-has_finished None on_air left now = false
-has_finished (Some since) on_air left now = not on_air && (not left || nat_le 60000 (now - since))
+-- A station that comes to its end has come to it once nobody is on the air and all that was accepted is kept, and nobody is
+-- connected any more, or those who are have had a minute.
+abbrev pub has_finished : Option ℕ → Bool → Bool → Bool → ℕ → Bool
+has_finished None on_air settled left now = false
+has_finished (Some since) on_air settled left now = not on_air && (settled && (not left || nat_le 60000 (now - since)))

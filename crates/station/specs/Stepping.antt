@@ -1,14 +1,19 @@
 -- What a step of a station has done, of the source that had the air and in numbers. Ours.
-use Rattle.std.specs.Prelude.{◌≡◌, ⊤, ℕ, Bool, false, true, Option, Some, List, []}
+use Rattle.std.specs.Prelude.{◌≡◌, ⊤, ℕ, Bool, false, true, not, is_some, Option, None, Some, List, [], Result, Ok, Err}
 use Rattle.disk_model.specs.declared.disk.Disk.{Ghosts as DiskModel}
 use Rattle.feed_records.specs.declared.item.Record.TheVariants.{Flush}
 use Rattle.feed_replies.specs.declared.reply.Reply.{Reply}
 use Rattle.import_changes.specs.declared.options.Skeletons.{Skeletons}
+use Rattle.file_recorder.specs.Recorder.{RecorderState}
 use Rattle.import_mend.specs.declared.mend.Mend.{Mend}
+use Rattle.import_record.specs.declared.answering.Answered.{Answered}
+use Rattle.import_record.specs.Running.{nothing}
 use Rattle.import_record.specs.declared.intake.Taken.{Taken}
 use Rattle.import_record.specs.declared.reading.ImportRun.{ImportRun}
 use Rattle.import_record.specs.declared.reading.Step.{Step}
+use Rattle.ogg_command.specs.declared.refusal.Refusal.{Refusal}
 use Rattle.serve_clients.specs.Client.{ClientState}
+use Rattle.serve_hub.specs.Parts.{is_at_rest}
 use Rattle.serve_hub.specs.Running.{Answers, IsIn, Progress}
 use Rattle.slab.specs.Slab.{Slab}
 use Rattle.station_hub.specs.declared.live_hub.LiveHub.{LiveHub}
@@ -26,18 +31,39 @@ use Rattle.station.specs.declared.stepping.Done.TheVariants.{Bytes, Ended, Faile
 -- ---- in numbers
 abbrev pub with_done : Done → Counts → Counts
 with_done (Stepped step) counts = with_step step counts
-with_done (Ended offset junk taken) counts = with_taken taken (with_mend junk counts)
-with_done Reopened counts = record counts { reopenings = counted counts.reopenings 1 }
+with_done (Ended offset junk taken refused) counts = with_taken taken (with_mend junk counts)
+with_done (Reopened answered) counts = record counts { reopenings = counted counts.reopenings 1 }
 with_done done counts = counts
 
 -- ---- of the file
 -- the file was opened again, or couldn't be
 abbrev pub reopens : Done → Bool
-reopens Reopened = true
+reopens (Reopened answered) = true
 reopens (Lost fault) = true
 reopens Failed = true
-reopens (GivenUp fault) = true
+reopens (GivenUp fault refused) = true
 reopens done = false
+
+-- ---- of what was open
+-- what became of the ends alone that were run
+abbrev pub only_refused : Result ⊤ Refusal → Answered
+only_refused (Ok done) = nothing
+only_refused (Err refusal) = record nothing { refused = Some refusal }
+
+-- Nothing is left to be done in the file, unless something was refused.
+abbrev pub RestsUnless : {D : Type 0} → Option Refusal → Option (RecorderState D) → Type 0
+RestsUnless refused file = is_at_rest file ≡ not (is_some refused)
+
+-- Once a source has left the air, what was open is ended and kept, or it is told why not.
+abbrev pub RestsBy : {D : Type 0} → Done → Option (RecorderState D) → Type 0
+RestsBy (Ended offset junk taken refused) file = RestsUnless refused file
+RestsBy (GivenUp fault refused) file = RestsUnless refused file
+RestsBy done file = ⊤
+
+-- The same once the file was opened again, if nobody was on the air: what is open then is nobody's.
+abbrev pub FreesBy : {D : Type 0} → Done → Option OnAir → Option (RecorderState D) → Type 0
+FreesBy (Reopened answered) None file = RestsUnless answered.refused file
+FreesBy done air file = ⊤
 
 -- ---- of what waited
 -- it was committed, or couldn't be, as the recorder answers a flush
@@ -75,7 +101,7 @@ module _ {D : Type 0} (model : DiskModel D) where
   -- bytes.
   abbrev pub TakesFromSource : Done → OnAir → Option OnAir → LiveHub D → LiveHub D → Type 0
   TakesFromSource (Stepped step) air now old new = (before : Progress D) → IsIn model before old.hub → HasStepped step air now new before
-  TakesFromSource (Ended offset junk taken) air now old new =
+  TakesFromSource (Ended offset junk taken refused) air now old new =
       (before : Progress D) → IsIn model before old.hub → HasEnded offset junk taken air before
   TakesFromSource Bytes air now old new = HasPassedOn air now old new
   TakesFromSource done air now old new = ⊤
@@ -85,20 +111,20 @@ abbrev pub GoesOnWithLoss : OnAir → Option OnAir → Type 0
 GoesOnWithLoss air now = (after : OnAir) × (now ≡ Some after) × (after ≡ record air { import = after.import; lost = true })
 
 -- If the source has left the air, its connection gets its last bytes. Something of the source may be lost if it was given
--- up, or if the disk has failed by then.
-abbrev pub PartsBy : Done → Bool → OnAir → Slab ClientState → Slab ClientState → Type 0
-PartsBy (Ended offset junk taken) failed air old new = FeederParts (parting_answer failed (noted taken air)) air old new
-PartsBy (GivenUp fault) failed air old new = FeederParts (parting_answer true air) air old new
-PartsBy done failed air old new = ⊤
+-- up, or if what was open of it couldn't be ended and kept.
+abbrev pub PartsBy : Done → OnAir → Slab ClientState → Slab ClientState → Type 0
+PartsBy (Ended offset junk taken refused) air old new = FeederParts (parting_answer (is_some refused) (noted taken air)) air old new
+PartsBy (GivenUp fault refused) air old new = FeederParts (parting_answer true air) air old new
+PartsBy done air old new = ⊤
 
 -- If the source has left the air, it was offered to those that waited for it, in turn, until one of them had it.
 abbrev pub IsSucceededBy : Done → Slab ClientState → Slab ClientState → Option OnAir → Type 0
-IsSucceededBy (Ended offset junk taken) old new air = IsSucceeded old new air
-IsSucceededBy (GivenUp fault) old new air = IsSucceeded old new air
+IsSucceededBy (Ended offset junk taken refused) old new air = IsSucceeded old new air
+IsSucceededBy (GivenUp fault refused) old new air = IsSucceeded old new air
 IsSucceededBy done old new air = ⊤
 
 -- If another source has the air then, its stream has just begun, beside these serials.
 abbrev pub BeginsBy : Done → List ℕ → Skeletons → Option ImportRun → Type 0
-BeginsBy (Ended offset junk taken) serials skeletons run = BeginsBeside serials skeletons run
-BeginsBy (GivenUp fault) serials skeletons run = BeginsBeside serials skeletons run
+BeginsBy (Ended offset junk taken refused) serials skeletons run = BeginsBeside serials skeletons run
+BeginsBy (GivenUp fault refused) serials skeletons run = BeginsBeside serials skeletons run
 BeginsBy done serials skeletons run = ⊤

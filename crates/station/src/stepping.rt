@@ -1,5 +1,5 @@
 //! What is recorded, step by step.
-ghost use Rattle.std.specs.Prelude.{◌≡◌, ◌≢◌, ◌⊎◌, ◌||◌, None, Some, length, true, false};
+ghost use Rattle.std.specs.Prelude.{◌≡◌, ◌≢◌, ◌⊎◌, ◌||◌, None, Option, Some, OnErr, OnOk, is_some, length, true, false};
 ghost use Rattle.station_hub.specs.Waking.{woken_at};
 ghost use Rattle.slab.specs.Slab.{get};
 ghost use Rattle.serve_clients.specs.Client.{ClientState};
@@ -7,8 +7,10 @@ ghost use Rattle.serve_clients.specs.Clients.{OthersStay};
 ghost use Rattle.serve_clients.specs.declared.client.Stage.TheVariants.{Feeding as FeedingOf};
 ghost use Rattle.feed_replies.specs.declared.reply.Reply.{Reply as ReplyOf};
 ghost use Rattle.gate_file.specs.declared.fault.OpenFault.{OpenFault as OpenFaultOf};
+ghost use Rattle.import_record.specs.declared.answering.Answered.{Answered as AnsweredOf};
 ghost use Rattle.import_record.specs.declared.fault.RecordFault.{RecordFault as RecordFaultOf};
-ghost use Rattle.serve_hub.specs.Parts.{failed_in, serials_in};
+ghost use Rattle.ogg_command.specs.declared.refusal.Refusal.{Refusal as RefusalOf};
+ghost use Rattle.serve_hub.specs.Parts.{failed_in, is_at_rest, serials_in};
 ghost use Rattle.serve_hub.specs.Running.{IsIn, Progress};
 ghost use Rattle.station.specs.Beginning.{BeginsBeside, GoesOnAgain, HasReopened, run_in};
 ghost use Rattle.station_sources.specs.Air.{parting_answer};
@@ -17,7 +19,7 @@ ghost use Rattle.station.specs.Passing.{ArePassed};
 ghost use Rattle.station_hub.specs.Live.{RecordsLive};
 ghost use Rattle.station_sources.specs.declared.air.OnAir.{OnAir as OnAirOf};
 ghost use Rattle.station_hub.specs.Patience.{is_due, until_due};
-ghost use Rattle.station.specs.Stepping.{BeginsBy, GoesOnWithLoss, HasFlushed, IsSucceededBy, PartsBy, TakesFromSource, reopens, with_done};
+ghost use Rattle.station.specs.Stepping.{BeginsBy, FreesBy, GoesOnWithLoss, HasFlushed, IsSucceededBy, PartsBy, RestsBy, RestsUnless, TakesFromSource, only_refused, reopens, with_done};
 ghost use Rattle.station.specs.Succeeding.{IsSucceeded, SameWait};
 ghost use Rattle.serve_hub.specs.Showing.{Shows};
 ghost use Rattle.serve_machine.specs.Hub.{HubState};
@@ -28,7 +30,8 @@ use feed_replies::Reply;
 use feed_runner::Runner;
 use gate_file::OpenFault;
 use import_mend::Mend;
-use import_record::{RecordFault, Step, Taken, run_all};
+use import_record::{Answered, RecordFault, Step, Taken, run_all};
+use ogg_command::Refusal;
 use serve_clients::Stage;
 use serve_sources::Outcome;
 use station_hub::{is_due, until_due};
@@ -46,20 +49,46 @@ pub enum Done {
     Flushed(Reply),
     /// A step was taken of the source's stream.
     Stepped(Step),
-    /// The source's stream has ended at this offset.
+    /// The source's stream has ended at this offset. If what was open of it couldn't be ended and kept, that was refused
+    /// so first.
     Ended {
         offset: u64,
         junk: Option<Mend>,
         taken: Taken,
+        refused: Option<Refusal>,
     },
-    /// The source was given up.
-    GivenUp(RecordFault),
-    /// The disk had failed, and the file was opened again.
-    Reopened,
+    /// The source was given up. What was open of it became what it becomes at its end.
+    GivenUp {
+        fault: RecordFault,
+        refused: Option<Refusal>,
+    },
+    /// The disk had failed, and the file was opened again. This became of the commands that were run then: the ends of
+    /// what was open, and what begins the source's link again.
+    Reopened(Answered),
     /// The disk had failed, and the file couldn't be opened again.
     Lost(OpenFault),
     /// The disk has failed again, and nothing was kept since it did before.
     Failed,
+}
+
+/// Whether something may be lost of a source that leaves the air.
+fn is_lost(given_up: bool, refused: Option<Refusal>) -> bool
+    ensures { result ≡ (given_up || is_some refused) }
+{
+    given_up || refused.is_some()
+}
+
+/// What became of the ends alone that were run.
+fn only_refused(ended: Result<(), Refusal>) -> Answered
+    ensures { result ≡ only_refused ended }
+{
+    match ended {
+        Ok(()) => Answered::nothing(),
+        Err(refusal) => Answered {
+            refused: Some(refusal),
+            ..Answered::nothing()
+        },
+    }
 }
 
 impl<D: Disk + Drop> Station<D> {
@@ -72,10 +101,15 @@ impl<D: Disk + Drop> Station<D> {
             → TakesFromSource D.Disk result air self.new.air self.old.live self.new.live }
         // A fault of the disk comes before anything of the source that follows, and is noted.
         ensures failed { failed_in self.old.live.hub.file ≡ true → reopens result ≡ true }
-        ensures noted { (air : OnAirOf) → self.old.air ≡ Some air → result ≡ Done.Reopened → GoesOnWithLoss air self.new.air }
-        ensures resumes { (air : OnAirOf) (machine : HubState) → self.old.air ≡ Some air → Shows D.Disk self.old.live.hub machine
-            → result ≡ Done.Reopened → HasReopened D.Disk air self.new.air self.new.live machine }
-        // Once a source has left the air, it is offered to those that wait for it, in turn, until one of them has it.
+        ensures noted { (air : OnAirOf) (answered : AnsweredOf) → self.old.air ≡ Some air → result ≡ Done.Reopened answered
+            → GoesOnWithLoss air self.new.air }
+        ensures resumes { (air : OnAirOf) (answered : AnsweredOf) (machine : HubState) → self.old.air ≡ Some air → Shows D.Disk self.old.live.hub machine
+            → result ≡ Done.Reopened answered → HasReopened D.Disk answered air self.new.air self.new.live machine }
+        // Once a source has left the air, what was open is ended and kept, or it is told why not; the same once the file was
+        // opened again while nobody is on the air.
+        ensures at_rest { RestsBy result self.new.live.hub.file }
+        ensures frees { FreesBy result self.old.air self.new.live.hub.file }
+        // The air is offered then to those that wait for it, in turn, until one of them has it.
         ensures succeeded { IsSucceededBy result self.old.clients.slots self.new.clients.slots self.new.air }
         ensures begins { BeginsBy result (serials_in self.new.live.hub.file) self.old.options.skeletons (run_in self.new.air) }
         // What waits is committed once it is due, and answered as the recorder does.
@@ -115,7 +149,7 @@ impl<D: Disk + Drop> Station<D> {
             Done::Ended { junk, taken, .. } => {
                 self.counts = self.counts.with_end(junk, taken);
             }
-            Done::Reopened => self.counts.reopenings = counted(self.counts.reopenings, 1),
+            Done::Reopened(_) => self.counts.reopenings = counted(self.counts.reopenings, 1),
             _ => {}
         }
     }
@@ -125,13 +159,16 @@ impl<D: Disk + Drop> Station<D> {
         ensures takes { (air : OnAirOf) → self.old.air ≡ Some air
             → TakesFromSource D.Disk result air self.new.air self.old.live self.new.live }
         ensures parts { (air : OnAirOf) → self.old.air ≡ Some air
-            → PartsBy result (failed_in self.new.live.hub.file) air self.old.clients.slots self.new.clients.slots }
+            → PartsBy result air self.old.clients.slots self.new.clients.slots }
+        ensures at_rest { RestsBy result self.new.live.hub.file }
+        ensures frees { FreesBy result self.old.air self.new.live.hub.file }
         ensures succeeded { IsSucceededBy result self.old.clients.slots self.new.clients.slots self.new.air }
         ensures begins { BeginsBy result (serials_in self.new.live.hub.file) self.old.options.skeletons (run_in self.new.air) }
         ensures failed { failed_in self.old.live.hub.file ≡ true → reopens result ≡ true }
-        ensures noted { (air : OnAirOf) → self.old.air ≡ Some air → result ≡ Done.Reopened → GoesOnWithLoss air self.new.air }
-        ensures resumes { (air : OnAirOf) (machine : HubState) → self.old.air ≡ Some air → Shows D.Disk self.old.live.hub machine
-            → result ≡ Done.Reopened → HasReopened D.Disk air self.new.air self.new.live machine }
+        ensures noted { (air : OnAirOf) (answered : AnsweredOf) → self.old.air ≡ Some air → result ≡ Done.Reopened answered
+            → GoesOnWithLoss air self.new.air }
+        ensures resumes { (air : OnAirOf) (answered : AnsweredOf) (machine : HubState) → self.old.air ≡ Some air → Shows D.Disk self.old.live.hub machine
+            → result ≡ Done.Reopened answered → HasReopened D.Disk answered air self.new.air self.new.live machine }
         ensures commits { (machine : HubState) → Shows D.Disk self.old.live.hub machine → failed_in self.old.live.hub.file ≡ false
             → is_due machine.waiting self.old.waiting_since now ≡ true → HasFlushed D.Disk result self.old.live self.new.live }
         ensures rests { (machine : HubState) (reply : ReplyOf) → Shows D.Disk self.old.live.hub machine → result ≡ Done.Flushed reply
@@ -161,10 +198,11 @@ impl<D: Disk + Drop> Station<D> {
         ensures takes { (air : OnAirOf) → self.old.air ≡ Some air
             → TakesFromSource D.Disk result air self.new.air self.old.live self.new.live }
         ensures parts { (air : OnAirOf) → self.old.air ≡ Some air
-            → PartsBy result (failed_in self.new.live.hub.file) air self.old.clients.slots self.new.clients.slots }
+            → PartsBy result air self.old.clients.slots self.new.clients.slots }
+        ensures at_rest { RestsBy result self.new.live.hub.file }
         ensures succeeded { IsSucceededBy result self.old.clients.slots self.new.clients.slots self.new.air }
         ensures begins { BeginsBy result (serials_in self.new.live.hub.file) self.old.options.skeletons (run_in self.new.air) }
-        ensures goes_on { result ≢ Done.Reopened }
+        ensures goes_on { (answered : AnsweredOf) → result ≢ Done.Reopened answered }
         ensures rests { (reply : ReplyOf) → result ≢ Done.Flushed reply }
         ensures nothing { result ≡ Done.Nothing → (self.new.live ≡ self.old.live) × (self.new.air ≡ self.old.air) }
         ensures records { RecordsLive D.Disk self.old.live self.new.live }
@@ -184,55 +222,63 @@ impl<D: Disk + Drop> Station<D> {
                     taken,
                 },
             ) => {
-                self.leave_the_air(false, now);
+                let refused = self.leave_the_air(false, now);
                 Done::Ended {
                     offset,
                     junk,
                     taken,
+                    refused,
                 }
             }
-            Err(fault) => {
-                self.leave_the_air(true, now);
-                Done::GivenUp(fault)
-            }
+            Err(fault) => self.give_up(fault, now),
         }
     }
 
     /// Nobody is on the air any more. What is open is ended, what waits is committed, and the peer is answered if it
-    /// waits for that. If the source was given up, or the disk fails now, something of it may be lost.
-    fn leave_the_air(&mut self, given_up: bool, now: u64)
+    /// waits for that. If the source was given up, or something is refused now, something of it may be lost. It returns
+    /// what was refused first.
+    fn leave_the_air(&mut self, given_up: bool, now: u64) -> Option<Refusal>
         ensures parts { (air : OnAirOf) → self.old.air ≡ Some air
-            → FeederParts (parting_answer (given_up || failed_in self.new.live.hub.file) air) air self.old.clients.slots self.new.clients.slots }
+            → FeederParts (parting_answer (given_up || is_some result) air) air self.old.clients.slots self.new.clients.slots }
+        ensures at_rest { self.old.air ≢ None → RestsUnless result self.new.live.hub.file }
         ensures succeeded { self.old.air ≢ None → IsSucceeded self.old.clients.slots self.new.clients.slots self.new.air }
         ensures begins { self.old.air ≢ None → BeginsBeside (serials_in self.new.live.hub.file) self.old.options.skeletons (run_in self.new.air) }
         ensures records { RecordsLive D.Disk self.old.live self.new.live }
         ensures passed { ArePassed self.old.clients.slots self.new.clients.slots }
     {
-        if let Some(air) = self.air.take() {
-            self.left_by(&air, given_up, now);
+        match self.air.take() {
+            Some(air) => self.left_by(&air, given_up, now),
+            None => None,
         }
     }
 
     /// This source isn't on the air any more.
-    fn left_by(&mut self, air: &OnAir, given_up: bool, now: u64)
-        ensures parts { FeederParts (parting_answer (given_up || failed_in self.new.live.hub.file) air.now) air.now self.old.clients.slots self.new.clients.slots }
+    fn left_by(&mut self, air: &OnAir, given_up: bool, now: u64) -> Option<Refusal>
+        ensures parts { FeederParts (parting_answer (given_up || is_some result) air.now) air.now self.old.clients.slots self.new.clients.slots }
+        ensures at_rest { RestsUnless result self.new.live.hub.file }
         ensures succeeded { self.old.air ≡ None → IsSucceeded self.old.clients.slots self.new.clients.slots self.new.air }
         ensures begins { self.old.air ≡ None → BeginsBeside (serials_in self.new.live.hub.file) self.old.options.skeletons (run_in self.new.air) }
         ensures records { RecordsLive D.Disk self.old.live self.new.live }
         ensures passed { ArePassed self.old.clients.slots self.new.clients.slots }
     {
         self.waking = self.waking.with_more();
-        self.end_open();
-        let lost = self.is_lost(given_up);
+        let refused = self.unended();
+        let lost = is_lost(given_up, refused);
         self.answer_feeder(air, lost);
         self.offer_again(now);
+        refused
     }
 
-    /// Whether something may be lost of a source that leaves the air.
-    fn is_lost(&self, given_up: bool) -> bool
-        ensures { result ≡ (given_up || failed_in self.now.live.hub.file) }
+    /// Ends what is open, as `end_open` does. It returns what was refused first, if anything was.
+    fn unended(&mut self) -> Option<Refusal>
+        ensures rest { self.new ≡ record self.old { live = self.new.live } }
+        ensures at_rest { RestsUnless result self.new.live.hub.file }
+        ensures records { RecordsLive D.Disk self.old.live self.new.live }
     {
-        given_up || self.live.hub().is_failed()
+        match self.end_open() {
+            Ok(()) => None,
+            Err(refusal) => Some(refusal),
+        }
     }
 
     /// A source has left the air. If a connection sent it, that gets its last bytes.
@@ -268,20 +314,26 @@ impl<D: Disk + Drop> Station<D> {
         }
     }
 
-    /// Ends each stream that the file's last link has open, and commits that. It stops at the first end that is refused.
-    pub fn end_open(&mut self)
+    /// Ends each stream that the file's last link has open, and commits that. Unless nothing is left to be done then, it
+    /// returns what was refused first.
+    pub fn end_open(&mut self) -> Result<(), Refusal>
         ensures rest { self.new ≡ record self.old { live = self.new.live } }
+        ensures rests { OnOk result (is_at_rest self.new.live.hub.file ≡ true) }
+        ensures left { OnErr result (is_at_rest self.new.live.hub.file ≡ false) }
         ensures records { RecordsLive D.Disk self.old.live self.new.live }
     {
-        self.live.end_open();
+        self.live.end_open()
     }
 
     /// Opens the file again, if anything was kept since that was done before.
     fn reopen(&mut self, now: u64) -> Done
-        ensures noted { (air : OnAirOf) → self.old.air ≡ Some air → result ≡ Done.Reopened → GoesOnWithLoss air self.new.air }
-        ensures resumes { (air : OnAirOf) (machine : HubState) → self.old.air ≡ Some air → Shows D.Disk self.old.live.hub machine
-            → result ≡ Done.Reopened → HasReopened D.Disk air self.new.air self.new.live machine }
-        ensures parts { (air : OnAirOf) (fault : RecordFaultOf) → self.old.air ≡ Some air → result ≡ Done.GivenUp fault
+        ensures at_rest { RestsBy result self.new.live.hub.file }
+        ensures frees { FreesBy result self.old.air self.new.live.hub.file }
+        ensures noted { (air : OnAirOf) (answered : AnsweredOf) → self.old.air ≡ Some air → result ≡ Done.Reopened answered
+            → GoesOnWithLoss air self.new.air }
+        ensures resumes { (air : OnAirOf) (answered : AnsweredOf) (machine : HubState) → self.old.air ≡ Some air → Shows D.Disk self.old.live.hub machine
+            → result ≡ Done.Reopened answered → HasReopened D.Disk answered air self.new.air self.new.live machine }
+        ensures parts { (air : OnAirOf) (fault : RecordFaultOf) (refused : Option RefusalOf) → self.old.air ≡ Some air → result ≡ Done.GivenUp fault refused
             → FeederParts (parting_answer true air) air self.old.clients.slots self.new.clients.slots }
         ensures succeeded { IsSucceededBy result self.old.clients.slots self.new.clients.slots self.new.air }
         ensures begins { BeginsBy result (serials_in self.new.live.hub.file) self.old.options.skeletons (run_in self.new.air) }
@@ -302,40 +354,53 @@ impl<D: Disk + Drop> Station<D> {
         }
     }
 
-    /// What is on the air goes on in the file that was opened again. What waited may be lost.
+    /// What is on the air goes on in the file that was opened again. What waited may be lost. If nobody is on the air, what
+    /// is open is nobody's, and is ended.
     fn resume(&mut self, now: u64) -> Done
-        ensures noted { (air : OnAirOf) → self.old.air ≡ Some air → result ≡ Done.Reopened → GoesOnWithLoss air self.new.air }
-        ensures resumes { (air : OnAirOf) (before : Progress D) → self.old.air ≡ Some air → IsIn D.Disk before self.old.live.hub
-            → result ≡ Done.Reopened → GoesOnAgain D.Disk air self.new.air self.new.live before }
-        ensures parts { (air : OnAirOf) → self.old.air ≡ Some air → result ≢ Done.Reopened
+        ensures at_rest { RestsBy result self.new.live.hub.file }
+        ensures frees { FreesBy result self.old.air self.new.live.hub.file }
+        ensures noted { (air : OnAirOf) (answered : AnsweredOf) → self.old.air ≡ Some air → result ≡ Done.Reopened answered
+            → GoesOnWithLoss air self.new.air }
+        ensures resumes { (air : OnAirOf) (answered : AnsweredOf) (before : Progress D) → self.old.air ≡ Some air → IsIn D.Disk before self.old.live.hub
+            → result ≡ Done.Reopened answered → GoesOnAgain D.Disk answered air self.new.air self.new.live before }
+        ensures parts { (air : OnAirOf) (fault : RecordFaultOf) (refused : Option RefusalOf) → self.old.air ≡ Some air → result ≡ Done.GivenUp fault refused
             → FeederParts (parting_answer true air) air self.old.clients.slots self.new.clients.slots }
         ensures succeeded { IsSucceededBy result self.old.clients.slots self.new.clients.slots self.new.air }
         ensures begins { BeginsBy result (serials_in self.new.live.hub.file) self.old.options.skeletons (run_in self.new.air) }
-        ensures none { self.old.air ≡ None → (result ≡ Done.Reopened) × (self.new ≡ self.old) }
+        ensures none { self.old.air ≡ None → ((answered : AnsweredOf) × (result ≡ Done.Reopened answered)) × (self.new ≡ record self.old { live = self.new.live }) }
         ensures reopens { reopens result ≡ true }
-        ensures becomes { (result ≡ Done.Reopened) ⊎ ((fault : RecordFaultOf) × (result ≡ Done.GivenUp fault)) }
+        ensures becomes { ((answered : AnsweredOf) × (result ≡ Done.Reopened answered))
+            ⊎ ((fault : RecordFaultOf) × (refused : Option RefusalOf) × (result ≡ Done.GivenUp fault refused)) }
         ensures records { RecordsLive D.Disk self.old.live self.new.live }
         ensures passed { ArePassed self.old.clients.slots self.new.clients.slots }
     {
         let Some(air) = &mut self.air else {
-            return Done::Reopened;
+            return Done::Reopened(only_refused(self.end_open()));
         };
         air.lose();
         let hub = self.live.hub();
         let resumed = match air.resume(hub.streams(), hub.serials()) {
             Ok(commands) => run_all(&mut self.live, commands.as_slice(), &mut io::sink()),
-            Err(_) => {
-                self.leave_the_air(true, now);
-                return Done::GivenUp(RecordFault::Memory);
-            }
+            Err(_) => return self.give_up(RecordFault::Memory, now),
         };
         match resumed {
-            Ok(_) => Done::Reopened,
-            Err(_) => {
-                self.leave_the_air(true, now);
-                Done::GivenUp(RecordFault::Write)
-            }
+            Ok(answered) => Done::Reopened(answered),
+            Err(_) => self.give_up(RecordFault::Write, now),
         }
+    }
+
+    /// The source leaves the air before its end.
+    fn give_up(&mut self, fault: RecordFault, now: u64) -> Done
+        ensures done { (refused : Option RefusalOf) × (result ≡ Done.GivenUp fault refused) × (self.old.air ≢ None → RestsUnless refused self.new.live.hub.file) }
+        ensures parts { (air : OnAirOf) → self.old.air ≡ Some air
+            → FeederParts (parting_answer true air) air self.old.clients.slots self.new.clients.slots }
+        ensures succeeded { self.old.air ≢ None → IsSucceeded self.old.clients.slots self.new.clients.slots self.new.air }
+        ensures begins { self.old.air ≢ None → BeginsBeside (serials_in self.new.live.hub.file) self.old.options.skeletons (run_in self.new.air) }
+        ensures records { RecordsLive D.Disk self.old.live self.new.live }
+        ensures passed { ArePassed self.old.clients.slots self.new.clients.slots }
+    {
+        let refused = self.leave_the_air(true, now);
+        Done::GivenUp { fault, refused }
     }
 
     /// How many milliseconds may be waited before `step` commits what waits, if nothing comes; none if nothing waits.

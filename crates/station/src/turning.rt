@@ -1,6 +1,7 @@
 //! Whose turn it is.
 ghost use Rattle.std.specs.Prelude.{◌≡◌, ◌≢◌, ◌≤◌, ◌<◌, ◌-◌, ◌==◌, ◌∷◌, ◌⊎◌, [], ℕ, None, Some, false, true, not, is_some, length, IfSome};
 ghost use Rattle.slab.specs.Slab.{get, slab_len};
+ghost use Rattle.serve_hub.specs.Parts.{is_settled};
 ghost use Rattle.serve_hub.specs.Showing.{Shows};
 ghost use Rattle.serve_machine.specs.Hub.{HubState};
 ghost use Rattle.serve_clients.specs.Client.{ClientState, HasWritten, after_of, with_line, with_stage};
@@ -254,14 +255,16 @@ impl<D: Disk + Drop> Station<D> {
         }
     }
 
-    /// Whether the station has come to its end: all that came is recorded, and nobody is connected any more, or those who
-    /// are have had a minute.
+    /// Whether the station has come to its end: all that came is recorded and kept, and nobody is connected any more, or
+    /// those who are have had a minute.
     pub fn is_finished(&self, now: u64) -> bool
-        ensures { result ≡ has_finished self.now.ending (is_some self.now.air) (not (slab_len self.now.clients.slots == 0)) now }
+        ensures { result ≡ has_finished self.now.ending (is_some self.now.air) (is_settled self.now.live.hub.file)
+            (not (slab_len self.now.clients.slots == 0)) now }
     {
         match self.ending {
             Some(since) => {
                 self.air.is_none()
+                    && self.live.hub().is_settled()
                     && (self.clients.slots.is_empty() || MOST_ENDING <= now.saturating_sub(since))
             }
             None => false,

@@ -1,5 +1,6 @@
 pub mod Giving
 pub mod Asking
+pub mod Ending
 pub mod Going
 pub mod Places
 pub mod Marking

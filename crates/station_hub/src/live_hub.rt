@@ -1,18 +1,19 @@
 //! A hub, and where listeners may join what it records.
-ghost use Rattle.std.specs.Prelude.{◌≡◌, ◌++◌, ⊤, ℕ, Bool, List, [], None, IfOk, OnErr, Result, length};
+ghost use Rattle.std.specs.Prelude.{◌≡◌, ◌++◌, ⊤, ℕ, Bool, true, false, List, [], None, IfOk, OnOk, OnErr, Result, length};
 ghost use Rattle.std.specs.Io.KnownBytes.{Appends};
 ghost use Rattle.ogg_page.specs.Output.{WritesPart};
 ghost use Rattle.feed_records.specs.declared.item.Record.{Record as RecordOf};
 ghost use Rattle.chain_rules.specs.Decision.{is_begin};
 ghost use Rattle.feed_replies.specs.declared.reply.Reply.{Reply as ReplyOf};
 ghost use Rattle.feed_replies.specs.declared.reply.Reply.TheVariants.{Held as HeldOf};
-ghost use Rattle.serve_hub.specs.Parts.{OnlySessions};
+ghost use Rattle.serve_hub.specs.Parts.{OnlySessions, is_at_rest};
 ghost use Rattle.serve_hub.specs.Showing.{Shows};
 ghost use Rattle.serve_live.specs.Boundaries.{no_link, place_to_join};
 ghost use Rattle.serve_machine.specs.Calls.{Steps, found_by};
 ghost use Rattle.serve_machine.specs.Hub.{Close, HubState, Reopen};
 ghost use Rattle.serve_machine.specs.declared.fault.HubFault.{HubFault as HubFaultOf};
 ghost use Rattle.station_hub.specs.Keeping.{KeepsRecorded};
+ghost use Rattle.station_hub.specs.Ending.{first_of, refusal_in, reply_in};
 ghost use Rattle.station_hub.specs.Live.{BeginsOver, RecordsLive};
 ghost use Rattle.station_hub.specs.Places.{answered_by, committed_to, reopened_to};
 ghost use Rattle.station_hub.specs.Tracking.{IsOpenIn, IsTold, KeepsPlaces};
@@ -25,7 +26,7 @@ use feed_replies::Reply;
 use feed_runner::Runner;
 use gate_file::OpenFault;
 use link_chain::{StreamState, is_open};
-use ogg_command::{Command, command_is_in_range};
+use ogg_command::{Command, Refusal, command_is_in_range};
 use ogg_page::WriteFault;
 use serve_hub::Hub;
 use serve_live::JoinPlace;
@@ -108,26 +109,45 @@ impl<D: Disk + Drop> LiveHub<D> {
     }
 
     /// Ends each stream that the file's last link has open, and commits that. It stops at the first end that is refused.
-    pub fn end_open(&mut self)
+    /// Unless nothing is left to be done then, it returns what was refused first; `LinkOpen` says that nothing was, and a
+    /// stream is open still.
+    pub fn end_open(&mut self) -> Result<(), Refusal>
+        ensures rests { OnOk result (is_at_rest self.new.hub.file ≡ true) }
+        ensures left { OnErr result (is_at_rest self.new.hub.file ≡ false) }
+        ensures records { RecordsLive D.Disk self.old self.new }
+    {
+        let ended = self.end_all();
+        let kept = refusal_in(self.run_flush());
+        if self.hub.is_at_rest() {
+            Ok(())
+        } else {
+            Err(first_of(ended, kept))
+        }
+    }
+
+    /// Ends the open streams in turn, up to the first end that is refused. It returns what that was refused as.
+    fn end_all(&mut self) -> Option<Refusal>
         ensures records { RecordsLive D.Disk self.old self.new }
     {
         for _ in 0..MOST_STREAMS {
-            if !self.end_first() {
-                break;
+            match self.end_first() {
+                Some(Reply::Refused(refusal)) => return Some(refusal),
+                Some(_) => {}
+                None => return None,
             }
         }
-        let _ = self.run_flush();
+        None
     }
 
-    /// Ends the first open stream, if there is one. It returns whether there was, and the end wasn't refused.
-    fn end_first(&mut self) -> bool
+    /// Ends the first open stream, if there is one, and returns the answer.
+    fn end_first(&mut self) -> Option<Reply>
         ensures records { RecordsLive D.Disk self.old self.new }
     {
         let Some(serial) = first_open(self.hub.streams()) else {
-            return false;
+            return None;
         };
         let answer = self.run_command(&Command::End(serial), &mut io::sink());
-        is_taken(answer)
+        reply_in(answer)
     }
 
     /// A command got this reply. Before it, the file and what waited had `before` bytes. A boundary at which listeners join
@@ -180,9 +200,38 @@ fn is_begin(command: &Command) -> bool
     matches!(command, Command::Begin(_))
 }
 
-/// Whether a command was taken, by its answer.
-fn is_taken(answer: Result<Reply, WriteFault>) -> bool {
-    !matches!(answer, Ok(Reply::Refused(_)) | Err(_))
+/// The reply, if the command was answered.
+fn reply_in(answer: Result<Reply, WriteFault>) -> Option<Reply>
+    ensures { result ≡ reply_in answer }
+{
+    match answer {
+        Ok(reply) => Some(reply),
+        Err(_) => None,
+    }
+}
+
+/// What this reply refuses a command as, if it does.
+fn refusal_in(reply: Reply) -> Option<Refusal>
+    ensures { result ≡ refusal_in reply }
+{
+    match reply {
+        Reply::Refused(refusal) => Some(refusal),
+        Reply::Held(_) => None,
+        Reply::Kept(_) => None,
+    }
+}
+
+/// The first of two refusals. If there was none, a stream is open still.
+fn first_of(one: Option<Refusal>, other: Option<Refusal>) -> Refusal
+    ensures { result ≡ first_of one other }
+{
+    match one {
+        Some(refusal) => refusal,
+        None => match other {
+            Some(refusal) => refusal,
+            None => Refusal::LinkOpen,
+        },
+    }
 }
 
 /// The serial of the first stream that hasn't ended.

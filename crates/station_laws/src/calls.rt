@@ -3,6 +3,7 @@ ghost use Rattle.std.specs.Prelude.{length};
 ghost use Rattle.station_laws.specs.Calling.{Accepted, Aside, Closed, EndedOpen, IsCall, Looked, Next, NextTurn, PeerEnded, ReadFailed, Received, Stepped, Turned, Woken, WriteFailed, Wrote};
 
 use disk_model::Disk;
+use ogg_command::Refusal;
 use station::{After, Done, Memory, Station, Trouble, Unaccepted, Visit};
 
 /// A connection was made.
@@ -113,10 +114,10 @@ pub fn step<D: Disk + Drop>(station: &mut Station<D>, now: u64) -> Done
 }
 
 /// What is open is ended.
-pub fn end_open<D: Disk + Drop>(station: &mut Station<D>)
+pub fn end_open<D: Disk + Drop>(station: &mut Station<D>) -> Result<(), Refusal>
     ensures { IsCall D.Disk EndedOpen station.old station.new }
 {
-    station.end_open();
+    station.end_open()
 }
 
 /// The input has given bytes.

@@ -6,6 +6,7 @@ ghost use Rattle.import_record.specs.declared.intake.Taken.{Taken as TakenOf};
 ghost use Rattle.import_record.specs.Pushing.{Call, Feeds, NeedsNone, bytes_in, events_in};
 ghost use Rattle.import_record.specs.declared.reading.Step.{Step as StepOf};
 ghost use Rattle.import_record.specs.Whole.{pages_in};
+ghost use Rattle.ogg_command.specs.declared.refusal.Refusal.{Refusal as RefusalOf};
 ghost use Rattle.serve_hub.specs.Running.{IsIn, Progress};
 ghost use Rattle.serve_hub.specs.Showing.{Shows};
 ghost use Rattle.serve_machine.specs.Hub.{HubState};
@@ -82,9 +83,9 @@ pub fn stations_import_their_sources<D: Disk + Drop>()
         → (rest : List ℕ) × AreGoodPages old.import.input.pages.offset (old.import.input.pages.unread ++ bytes_in taken) (pages_in (events_in taken)) rest) }
     // So it is of a source that has come to its end.
     ensures ended { (calls last : List SourceCall) (old mid new : OnAirOf) (live between ending gone : LiveHubOf D) (next : Option OnAirOf)
-        (machine : HubState) (offset : ℕ) (junk : Option MendOf) (taken : TakenOf)
+        (machine : HubState) (offset : ℕ) (junk : Option MendOf) (taken : TakenOf) (refused : Option RefusalOf)
         → AreCalled D.Disk calls old mid live between → AreLast D.Disk last mid new between ending
-        → TakesFromSource D.Disk (Done.Ended offset junk taken) new next ending gone → Shows D.Disk live.hub machine
+        → TakesFromSource D.Disk (Done.Ended offset junk taken refused) new next ending gone → Shows D.Disk live.hub machine
         → IsImported D.Disk calls offset taken old mid machine }
     // Calls that follow make the list longer. Bytes that came are in it as they came, or it is noted that there was no room
     // for them.

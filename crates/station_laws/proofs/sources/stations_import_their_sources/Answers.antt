@@ -33,7 +33,7 @@ pub returns-clause-stepped : goal.returns-clause-stepped
 returns-clause-stepped g c = stepped_once g.D.Disk
 
 pub returns-clause-ended : goal.returns-clause-ended
-returns-clause-ended g c calls last old mid new live between ending gone next machine offset junk taken called lasts ends shows =
+returns-clause-ended g c calls last old mid new live between ending gone next machine offset junk taken refused called lasts ends shows =
     let (moves, after, shown, moved, fed) = moves_of g.D.Disk calls old mid live between machine called shows in
     let is = finished g.D.Disk last offset junk taken mid new between ending after lasts ends shown in
     let found = input_of is.between in

@@ -1,5 +1,4 @@
-use Rattle.std.proofs.Common.{◌≡◌, None, sym, ◌∙◌, ap, subst, ◌||◌}
-use Rattle.serve_hub.specs.Parts.{failed_in}
+use Rattle.std.proofs.Common.{◌≡◌, None, is_some, sym, ◌∙◌, ap, subst, ◌||◌}
 use Rattle.station.specs.Parting.{FeederParts}
 use Rattle.station.proofs.Leaving.{same_air}
 use Rattle.station_sources.specs.Air.{parting_answer}
@@ -9,7 +8,7 @@ use Rattle.station.proofs.station.Station.leave_the_air.Goals as goal
 pub returns-in-Some-clause-parts : goal.returns-in-Some-clause-parts
 returns-in-Some-clause-parts g c air is =
     let new = c.left_by.new.self in
-    subst (λ (one : OnAir). FeederParts (parting_answer (c.args.given_up || failed_in new.live.hub.file) one) one c.args.self.now.clients.slots new.clients.slots)
+    subst (λ (one : OnAir). FeederParts (parting_answer (c.args.given_up || is_some c.left_by.result) one) one c.args.self.now.clients.slots new.clients.slots)
     (same_air c.in-Some.air air (c.in-Some.ensures.value ∙ is)) c.left_by.ensures.parts
 
 pub returns-in-Some-clause-succeeded : goal.returns-in-Some-clause-succeeded
@@ -23,3 +22,6 @@ returns-in-Some-clause-records g c = c.left_by.ensures.records
 
 pub returns-in-Some-clause-passed : goal.returns-in-Some-clause-passed
 returns-in-Some-clause-passed g c = c.left_by.ensures.passed
+
+pub returns-in-Some-clause-at_rest : goal.returns-in-Some-clause-at_rest
+returns-in-Some-clause-at_rest g c some = c.left_by.ensures.at_rest

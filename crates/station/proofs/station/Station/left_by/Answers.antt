@@ -1,12 +1,13 @@
-use Rattle.std.proofs.Common.{◌≡◌, Bool, ◌||◌, Some, sym, ◌∙◌, ap, subst}
+use Rattle.std.proofs.Common.{◌≡◌, Bool, Some, sym, ◌∙◌, ap, subst}
 use Rattle.slab.specs.Slab.{get}
-use Rattle.serve_hub.specs.Parts.{failed_in, serials_in}
+use Rattle.serve_hub.specs.Parts.{serials_in}
 use Rattle.station_hub.specs.Live.{RecordsLive}
 use Rattle.station_hub.specs.declared.live_hub.LiveHub.{LiveHub}
 use Rattle.station.specs.Beginning.{BeginsBeside, run_in}
 use Rattle.station.specs.declared.station.Options.{Options}
 use Rattle.station.specs.Parting.{HasParted}
 use Rattle.station.specs.Passing.{ArePassed}
+use Rattle.station.specs.Stepping.{RestsUnless}
 use Rattle.station_sources.specs.Air.{parting_answer}
 use Rattle.station.specs.Succeeding.{IsSucceeded, waits}
 use Rattle.station.proofs.Passed.{all_then}
@@ -16,31 +17,32 @@ use Rattle.station.proofs.station.Station.left_by.Goals as goal
 pub returns : goal.returns
 returns g c = record {
   parts = λ key client feeder found feeding.
-      let still : get c.end_open.new.self.clients.slots key ≡ Some client = ap (λ s. get s.clients.slots key) c.end_open.ensures.rest ∙ found in
+      let still : get c.unended-refused.new.self.clients.slots key ≡ Some client = ap (λ s. get s.clients.slots key) c.unended-refused.ensures.rest ∙ found in
       let (after, left, parted) = c.answer_feeder.ensures.parts key client feeder still feeding in
-      let told = c.is_lost-lost.result in
-      let lost : told ≡ (c.args.given_up || failed_in c.offer_again.new.self.live.hub.file) =
-      c.is_lost-lost.ensures ∙ ap (λ live. c.args.given_up || failed_in live.hub.file) (sym (c.offer_again.ensures.live ∙ ap (λ s. s.live) c.answer_feeder.ensures.rest)) in (
+      let told = c.is_lost-lost.result in (
         after,
         c.offer_again.ensures.others key (ap waits left ∙ parted_waits (parting_answer told c.args.air.now) client after parted) ∙ left,
-        subst (λ (b : Bool). HasParted (parting_answer b c.args.air.now) client after) lost parted,
+        subst (λ (b : Bool). HasParted (parting_answer b c.args.air.now) client after) c.is_lost-lost.ensures parted,
       );
+  at_rest =
+      subst (λ (live : LiveHub _). RestsUnless c.unended-refused.result live.hub.file) (sym (c.offer_again.ensures.live ∙ ap (λ s. s.live) c.answer_feeder.ensures.rest))
+      c.unended-refused.ensures.at_rest;
   records =
       subst (λ live. RecordsLive g.D.Disk c.args.self.now.live live) (sym (c.offer_again.ensures.live ∙ ap (λ s. s.live) c.answer_feeder.ensures.rest))
-      c.end_open.ensures.records;
+      c.unended-refused.ensures.records;
   passed =
-      subst (λ slots. ArePassed slots c.offer_again.new.self.clients.slots) (ap (λ s. s.clients.slots) c.end_open.ensures.rest)
-      (all_then c.end_open.new.self.clients.slots c.answer_feeder.new.self.clients.slots c.offer_again.new.self.clients.slots
+      subst (λ slots. ArePassed slots c.offer_again.new.self.clients.slots) (ap (λ s. s.clients.slots) c.unended-refused.ensures.rest)
+      (all_then c.unended-refused.new.self.clients.slots c.answer_feeder.new.self.clients.slots c.offer_again.new.self.clients.slots
       c.answer_feeder.ensures.passed c.offer_again.ensures.passed);
   succeeded = λ free.
-      let before = c.end_open.new.self.clients.slots in
-      subst (λ slots. IsSucceeded slots c.offer_again.new.self.clients.slots c.offer_again.new.self.air) (ap (λ s. s.clients.slots) c.end_open.ensures.rest)
+      let before = c.unended-refused.new.self.clients.slots in
+      subst (λ slots. IsSucceeded slots c.offer_again.new.self.clients.slots c.offer_again.new.self.air) (ap (λ s. s.clients.slots) c.unended-refused.ensures.rest)
       (succeeded before c.answer_feeder.new.self.clients.slots c.offer_again.new.self.clients.slots c.offer_again.new.self.air c.answer_feeder.ensures.waits
-      (c.offer_again.ensures.succeeded (ap (λ s. s.air) c.answer_feeder.ensures.rest ∙ ap (λ s. s.air) c.end_open.ensures.rest ∙ free)));
+      (c.offer_again.ensures.succeeded (ap (λ s. s.air) c.answer_feeder.ensures.rest ∙ ap (λ s. s.air) c.unended-refused.ensures.rest ∙ free)));
   begins = λ free.
       let before = c.answer_feeder.new.self in
       subst (λ (live : LiveHub _). BeginsBeside (serials_in live.hub.file) c.args.self.now.options.skeletons (run_in c.offer_again.new.self.air)) (sym c.offer_again.ensures.live)
       (subst (λ (one : Options). BeginsBeside (serials_in before.live.hub.file) one.skeletons (run_in c.offer_again.new.self.air))
-      (ap (λ s. s.options) c.answer_feeder.ensures.rest ∙ ap (λ s. s.options) c.end_open.ensures.rest)
-      (c.offer_again.ensures.begins (ap (λ s. s.air) c.answer_feeder.ensures.rest ∙ ap (λ s. s.air) c.end_open.ensures.rest ∙ free)));
+      (ap (λ s. s.options) c.answer_feeder.ensures.rest ∙ ap (λ s. s.options) c.unended-refused.ensures.rest)
+      (c.offer_again.ensures.begins (ap (λ s. s.air) c.answer_feeder.ensures.rest ∙ ap (λ s. s.air) c.unended-refused.ensures.rest ∙ free)));
 }

@@ -11,10 +11,10 @@ pub returns-in-Ok-clause-lost : goal.returns-in-Ok-clause-lost
 returns-in-Ok-clause-lost g c why lost = absurd (isnt_lost c.resume.result why c.resume.ensures.becomes lost)
 
 pub returns-in-Ok-clause-resumes : goal.returns-in-Ok-clause-resumes
-returns-in-Ok-clause-resumes g c air machine is shows reopened =
+returns-in-Ok-clause-resumes g c air answered machine is shows reopened =
     let (mid, seen, step) = c.in-Ok.ensures.step machine shows in
     let opened : Progress _ = record { now = c.reopen.new.self.hub; machine = mid } in
-    record { opened = opened; found = step; goes_on = c.resume.ensures.resumes air opened is (refl, seen) reopened }
+    record { opened = opened; found = step; goes_on = c.resume.ensures.resumes air answered opened is (refl, seen) reopened }
 
 pub returns-in-Ok-clause-records : goal.returns-in-Ok-clause-records
 returns-in-Ok-clause-records g c =

@@ -6,7 +6,7 @@ use Rattle.serve_hub.specs.Parts.{serials_in}
 use Rattle.station_hub.specs.Live.{RecordsLive}
 use Rattle.station.specs.Beginning.{run_in}
 use Rattle.station.specs.Passing.{ArePassed}
-use Rattle.station.specs.Stepping.{BeginsBy, GoesOnWithLoss, IsSucceededBy, TakesFromSource}
+use Rattle.station.specs.Stepping.{BeginsBy, FreesBy, GoesOnWithLoss, IsSucceededBy, RestsBy, TakesFromSource}
 use Rattle.station.specs.Succeeding.{HaveTurns}
 use Rattle.station.proofs.Passed.{all_then}
 use Rattle.station.proofs.Succeeding.{still_by, turns_then}
@@ -50,8 +50,8 @@ returns-clause-takes g c air is =
     (c.step_once-done.ensures.takes air is))
 
 pub returns-clause-noted : goal.returns-clause-noted
-returns-clause-noted g c air is told =
-    let noted = c.step_once-done.ensures.noted air is told in
+returns-clause-noted g c air answered is told =
+    let noted = c.step_once-done.ensures.noted air answered is told in
     subst (GoesOnWithLoss air) (sym (air_is g c)) noted
 
 pub returns-clause-succeeded : goal.returns-clause-succeeded
@@ -80,3 +80,11 @@ returns-clause-passed g c =
     (all_then mid.slots c.wake_listeners.new.self.clients.slots c.wake_feeder.new.self.clients.slots
     (subst (λ (clients : Clients). ArePassed clients.slots c.wake_listeners.new.self.clients.slots) (clients_are g c) c.wake_listeners.ensures.passed)
     c.wake_feeder.ensures.passed)
+
+pub returns-clause-at_rest : goal.returns-clause-at_rest
+returns-clause-at_rest g c =
+    subst (λ (live : LiveHub _). RestsBy c.step_once-done.result live.hub.file) (sym (live_is g c)) c.step_once-done.ensures.at_rest
+
+pub returns-clause-frees : goal.returns-clause-frees
+returns-clause-frees g c =
+    subst (λ (live : LiveHub _). FreesBy c.step_once-done.result c.args.self.now.air live.hub.file) (sym (live_is g c)) c.step_once-done.ensures.frees

@@ -1,6 +1,5 @@
-use Rattle.std.proofs.Common.{◌≡◌, Option, Result, Ok, refl, sym, ◌∙◌, ap, subst}
+use Rattle.std.proofs.Common.{◌≡◌, Option, Result, Ok, is_some, refl, sym, ◌∙◌, ap, subst}
 use Rattle.import_record.specs.declared.fault.RecordFault.{RecordFault}
-use Rattle.serve_hub.specs.Parts.{failed_in}
 use Rattle.serve_hub.specs.Running.{Answers}
 use Rattle.serve_sources.specs.declared.outcome.Outcome.{Outcome}
 use Rattle.station_sources.specs.Air.{GoesOn, HasAllTaken, KeepsBytes, noted}
@@ -9,6 +8,7 @@ use Rattle.station_sources.specs.declared.air.OnAir.{OnAir}
 use Rattle.station_sources.specs.declared.air.Took.{Took}
 use Rattle.station.specs.Parting.{HasParted}
 use Rattle.station.proofs.Leaving.{lost_answer, same_air, same_answer}
+use Rattle.station.proofs.Reopening.{parts_given}
 use Rattle.station_hub.specs.LiveLaws.{is_live_in, records_then}
 use Rattle.station_hub.specs.LiveRunning.{live_in}
 use Rattle.station.proofs.Recorded.{hub_ended, hub_stepped, took as took_led}
@@ -65,21 +65,23 @@ returns-in-Ok-Ended-clause-parts g c air is key client feeder found feeding =
     let taken = c.in-Ok-Ended.taken in
     let ended = c.in-Ok-Ended.is ∙ ap took c.in-Ok-Ended.field-0-is in
     let stays = c.step.ensures.same c.in-Ok-Ended.offset c.in-Ok-Ended.junk taken ended in
-    let (after, left, parted) = c.leave_the_air.ensures.parts new refl key client (stays.0 ∙ ap (λ (one : OnAir). one.feeder) same ∙ feeder) found feeding in (
+    let (after, left, parted) = c.leave_the_air-refused.ensures.parts new refl key client (stays.0 ∙ ap (λ (one : OnAir). one.feeder) same ∙ feeder) found feeding in (
       after,
       left,
       subst (λ (answer : Option Outcome). HasParted answer client after)
-          (same_answer (failed_in c.leave_the_air.new.self.live.hub.file) new (noted taken air) (stays.1 ∙ ap (λ (one : OnAir). one.body) same)
+          (same_answer (is_some c.leave_the_air-refused.result) new (noted taken air) (stays.1 ∙ ap (λ (one : OnAir). one.body) same)
           (c.step.ensures.lost c.in-Ok-Ended.offset c.in-Ok-Ended.junk taken ended ∙ ap (λ (one : OnAir). (noted taken one).lost) same) (stays.2 ∙ ap (λ (one : OnAir). one.complete) same)) parted,
     )
 
 pub returns-in-Err-clause-parts : goal.returns-in-Err-clause-parts
-returns-in-Err-clause-parts g c air is key client feeder found feeding =
+returns-in-Err-clause-parts g c air is =
     let same : c.in-Some.air ≡ air = same_air c.in-Some.air air (sym c.in-Some.is ∙ is) in
     let new = c.step.new.self in
     let stays = c.in-Err.ensures.err in
-    let (after, left, parted) = c.leave_the_air-in-Err.ensures.parts new refl key client (stays.0 ∙ ap (λ (one : OnAir). one.feeder) same ∙ feeder) found feeding in
-    (after, left, lost_answer new air client after (stays.1 ∙ ap (λ (one : OnAir). one.body) same) parted)
+    let (refused, done, rests) = c.give_up.ensures.done in
+    parts_given c.give_up.result _ refused air c.args.self.now.clients.slots c.give_up.new.self.clients.slots done (λ key client feeder found feeding.
+    let (after, left, parted) = c.give_up.ensures.parts new refl key client (stays.0 ∙ ap (λ (one : OnAir). one.feeder) same ∙ feeder) found feeding in
+    (after, left, lost_answer new air client after (stays.1 ∙ ap (λ (one : OnAir). one.body) same) parted))
 
 pub returns-in-Ok-Nothing-clause-records : goal.returns-in-Ok-Nothing-clause-records
 returns-in-Ok-Nothing-clause-records g c =
@@ -98,14 +100,14 @@ returns-in-Ok-Stepped-clause-records g c =
 
 pub returns-in-Ok-Ended-clause-records : goal.returns-in-Ok-Ended-clause-records
 returns-in-Ok-Ended-clause-records g c =
-    records_then g.D.Disk c.args.self.now.live c.step.new.runner c.leave_the_air.new.self.live
+    records_then g.D.Disk c.args.self.now.live c.step.new.runner c.leave_the_air-refused.new.self.live
     (took_led g.D.Disk c.args.self.now.live c.step.new.runner c.in-Some.air c.step.new.self _ c.step.result c.step.ensures.steps c.step.ensures.ends
     (λ e. (c.step.ensures.bytes e).0) (λ e. (c.step.ensures.nothing e).0) c.step.ensures.stops)
-    c.leave_the_air.ensures.records
+    c.leave_the_air-refused.ensures.records
 
 pub returns-in-Err-clause-records : goal.returns-in-Err-clause-records
 returns-in-Err-clause-records g c =
-    records_then g.D.Disk c.args.self.now.live c.step.new.runner c.leave_the_air-in-Err.new.self.live
+    records_then g.D.Disk c.args.self.now.live c.step.new.runner c.give_up.new.self.live
     (took_led g.D.Disk c.args.self.now.live c.step.new.runner c.in-Some.air c.step.new.self _ c.step.result c.step.ensures.steps c.step.ensures.ends
     (λ e. (c.step.ensures.bytes e).0) (λ e. (c.step.ensures.nothing e).0) c.step.ensures.stops)
-    c.leave_the_air-in-Err.ensures.records
+    c.give_up.ensures.records

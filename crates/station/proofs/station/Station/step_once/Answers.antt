@@ -1,6 +1,5 @@
 use Rattle.std.proofs.Common.{refl}
-use Rattle.serve_hub.specs.Parts.{failed_in}
-use Rattle.station.proofs.Reopening.{parts_if_given_up}
+use Rattle.station.proofs.Reopening.{frees_none, parts_if_given_up}
 use Rattle.station.specs.Stepping.{HasFlushed}
 use Rattle.station.specs.declared.stepping.Done.TheVariants.{Flushed}
 use Rattle.station.proofs.Recorded.{by_flush, flushed}
@@ -9,8 +8,8 @@ use Rattle.station.proofs.station.Station.step_once.Goals as goal
 
 pub returns-then-is_failed-clause-parts : goal.returns-then-is_failed-clause-parts
 returns-then-is_failed-clause-parts g c air is =
-    parts_if_given_up c.reopen.result (failed_in c.reopen.new.self.live.hub.file) air c.args.self.now.clients.slots c.reopen.new.self.clients.slots
-    c.reopen.ensures.reopens (λ fault given_up. c.reopen.ensures.parts air fault is given_up)
+    parts_if_given_up c.reopen.result air c.args.self.now.clients.slots c.reopen.new.self.clients.slots
+    c.reopen.ensures.reopens (λ fault refused given_up. c.reopen.ensures.parts air fault refused is given_up)
 
 pub returns-then-is_due-clause-records : goal.returns-then-is_due-clause-records
 returns-then-is_due-clause-records g c =
@@ -72,10 +71,10 @@ pub returns-then-not-waited-clause-passed : goal.returns-then-not-waited-clause-
 returns-then-not-waited-clause-passed g c = c.step_air-done.ensures.passed
 
 pub returns-then-not-waited-clause-noted : goal.returns-then-not-waited-clause-noted
-returns-then-not-waited-clause-noted g c air is reopened = absurd (c.step_air-done.ensures.goes_on reopened)
+returns-then-not-waited-clause-noted g c air answered is reopened = absurd (c.step_air-done.ensures.goes_on answered reopened)
 
 pub returns-then-not-waited-clause-resumes : goal.returns-then-not-waited-clause-resumes
-returns-then-not-waited-clause-resumes g c air machine is shows reopened = absurd (c.step_air-done.ensures.goes_on reopened)
+returns-then-not-waited-clause-resumes g c air answered machine is shows reopened = absurd (c.step_air-done.ensures.goes_on answered reopened)
 
 pub returns-then-not-waited-clause-flushed : goal.returns-then-not-waited-clause-flushed
 returns-then-not-waited-clause-flushed g c reply is = absurd (c.step_air-done.ensures.rests reply is)
@@ -105,13 +104,31 @@ pub returns-else-not-waited-clause-passed : goal.returns-else-not-waited-clause-
 returns-else-not-waited-clause-passed g c = c.step_air-done.ensures.passed
 
 pub returns-else-not-waited-clause-noted : goal.returns-else-not-waited-clause-noted
-returns-else-not-waited-clause-noted g c air is reopened = absurd (c.step_air-done.ensures.goes_on reopened)
+returns-else-not-waited-clause-noted g c air answered is reopened = absurd (c.step_air-done.ensures.goes_on answered reopened)
 
 pub returns-else-not-waited-clause-resumes : goal.returns-else-not-waited-clause-resumes
-returns-else-not-waited-clause-resumes g c air machine is shows reopened = absurd (c.step_air-done.ensures.goes_on reopened)
+returns-else-not-waited-clause-resumes g c air answered machine is shows reopened = absurd (c.step_air-done.ensures.goes_on answered reopened)
 
 pub returns-else-not-waited-clause-flushed : goal.returns-else-not-waited-clause-flushed
 returns-else-not-waited-clause-flushed g c reply is = absurd (c.step_air-done.ensures.rests reply is)
 
 pub returns-else-not-waited-clause-rests : goal.returns-else-not-waited-clause-rests
 returns-else-not-waited-clause-rests g c machine reply shows is = absurd (c.step_air-done.ensures.rests reply is)
+
+pub returns-then-is_failed-clause-at_rest : goal.returns-then-is_failed-clause-at_rest
+returns-then-is_failed-clause-at_rest g c = c.reopen.ensures.at_rest
+
+pub returns-then-is_failed-clause-frees : goal.returns-then-is_failed-clause-frees
+returns-then-is_failed-clause-frees g c = c.reopen.ensures.frees
+
+pub returns-then-not-waited-clause-at_rest : goal.returns-then-not-waited-clause-at_rest
+returns-then-not-waited-clause-at_rest g c = c.step_air-done.ensures.at_rest
+
+pub returns-else-not-waited-clause-at_rest : goal.returns-else-not-waited-clause-at_rest
+returns-else-not-waited-clause-at_rest g c = c.step_air-done.ensures.at_rest
+
+pub returns-then-not-waited-clause-frees : goal.returns-then-not-waited-clause-frees
+returns-then-not-waited-clause-frees g c = frees_none c.step_air-done.result c.args.self.now.air c.step_air-done.new.self.live.hub.file c.step_air-done.ensures.goes_on
+
+pub returns-else-not-waited-clause-frees : goal.returns-else-not-waited-clause-frees
+returns-else-not-waited-clause-frees g c = frees_none c.step_air-done.result c.args.self.now.air c.step_air-done.new.self.live.hub.file c.step_air-done.ensures.goes_on
