@@ -46,6 +46,11 @@ stopped() {
     check "$name: what stops leave" is_text "$work/told" "$want"
 }
 
+# A file that is made is synced whole, and so is its folder, before anything is written into it. After that only data is
+# synced: by the opening, which writes the closed byte, and by the commit.
+recorded "a new file" 'sync whole\nsync whole\nsync\nwrite 1 0\nsync\nwrite 31 1\nsync\nwrite 1 0\nsync\n' "$begin"
+check "a new file: there were no other calls" [ "$(wc -l <"$work/log")" -eq 9 ]
+
 # A page is written behind its first byte, with a closed byte after it. It is synced, and then the first byte is written.
 : >"$work/file.ogg"
 recorded "a link" 'write 31 1\nsync\nwrite 1 0\nsync\n' "$begin"

@@ -1,2 +1,3 @@
 pub mod Foreign
 pub mod Searching
+pub mod Telling

@@ -14,6 +14,7 @@ mod telling;
 
 pub use mends::MendLines;
 pub use recorders::{
-    lock_file, open_own_recorder, open_recorder, own_recorder_on, reopen, seal_file, seal_if,
+    is_foreign, lock_file, open_own_recorder, open_recorder, own_recorder_on, reopen, seal_file,
+    seal_if,
 };
 pub use telling::Told;

@@ -1,6 +1,8 @@
 //! Files that commands are recorded into: they are opened, and sealed.
-ghost use Rattle.std.specs.Prelude.{◌≡◌, ◌↔◌, ◌⊎◌, IfOk, IfErr, IsTrue, Err, codes, drop};
+ghost use Rattle.std.specs.Prelude.{◌≡◌, ◌↔◌, ◌⊎◌, ◌<◌, IfOk, IfErr, IsTrue, OnErr, Ok, Err, true, false, codes, drop};
 ghost use Rattle.disk_model.specs.Fault.{HasCause};
+ghost use Rattle.disk_model.specs.Image.{IsSettled};
+ghost use Rattle.file_recorder.specs.Recorder.{committed};
 ghost use Rattle.gate_file.specs.declared.fault.OpenFault.{OpenFault as OpenFaultOf};
 ghost use Rattle.record_actions.specs.Foreign.{IsForeign, front_of};
 
@@ -80,7 +82,7 @@ pub fn own_recorder_on<D: Disk + Drop>(alloc: Global, mut disk: D) -> Result<Rec
 }
 
 /// Whether a disk begins with bytes that no recording begins with.
-fn is_foreign<D: Disk>(disk: &mut D) -> Result<bool, DiskFault>
+pub fn is_foreign<D: Disk>(disk: &mut D) -> Result<bool, DiskFault>
     ensures told { IfOk result (λ found. D.is_honest disk.old → IsTrue found ↔ IsForeign (front_of (D.state disk.old).contents)) }
     ensures same { D.is_honest disk.old → D.state disk.new ≡ D.state disk.old }
     ensures honest { D.is_honest disk.old ↔ D.is_honest disk.new }
@@ -114,19 +116,39 @@ pub fn reopen(rt: &HostRuntime, recorder: Recorder<FileDisk>) -> Result<Recorder
     recorder_on(rt.alloc(), recorder.give_back())
 }
 
-/// Seals the file, unless its recorder has failed or a command waits. It is `Seal` if the file isn't cut to its
-/// committed bytes, which stay.
-pub fn seal_file<D: Disk + Drop>(recorder: Recorder<D>) -> Result<(), Fault> {
-    if recorder.is_failed() || recorder.held() > 0 {
-        return Ok(());
+/// Seals the file: the disk that is returned holds its committed bytes, and nothing else.
+///
+/// It is `Failed` if the recorder has failed, and `Seal` if a command waits, or the file isn't cut to its committed bytes,
+/// which stay. The disk is let go then.
+pub fn seal_file<D: Disk + Drop>(recorder: Recorder<D>) -> Result<D, Fault>
+    ensures sealed { IfOk result (λ disk. D.is_honest recorder.file.disk
+        → IsSettled (D.state disk) × ((D.state disk).contents ≡ committed D.state recorder)) }
+    ensures failed { recorder.file.failed ≡ true → result ≡ Err Fault.Failed }
+    ensures waits { recorder.file.failed ≡ false → 0 < recorder.held → result ≡ Err Fault.Seal }
+    ensures only { recorder.file.failed ≡ false → OnErr result (result ≡ Err Fault.Seal) }
+{
+    if recorder.is_failed() {
+        return Err(Fault::Failed);
+    }
+    if recorder.held() > 0 {
+        return Err(Fault::Seal);
     }
     match recorder.seal() {
-        Ok(_) => Ok(()),
+        Ok(disk) => Ok(disk),
         Err(_) => Err(Fault::Seal),
     }
 }
 
-/// Seals the file, if that is asked for.
-pub fn seal_if(recorder: Recorder<FileDisk>, seal: bool) -> Result<(), Fault> {
-    if seal { seal_file(recorder) } else { Ok(()) }
+/// Seals the file, if that is asked for. Otherwise its disk is returned as it stands.
+pub fn seal_if<D: Disk + Drop>(recorder: Recorder<D>, seal: bool) -> Result<D, Fault>
+    ensures asked { seal ≡ true → IfOk result (λ disk. D.is_honest recorder.file.disk
+        → IsSettled (D.state disk) × ((D.state disk).contents ≡ committed D.state recorder)) }
+    ensures failed { seal ≡ true → recorder.file.failed ≡ true → result ≡ Err Fault.Failed }
+    ensures unasked { seal ≡ false → result ≡ Ok recorder.file.disk }
+{
+    if seal {
+        seal_file(recorder)
+    } else {
+        Ok(recorder.give_back())
+    }
 }

@@ -1,12 +1,17 @@
 //! What is told of a recording: mends and refusals as they come, how far it has come at a terminal, and what it came
 //! to.
+ghost use Rattle.std.specs.Prelude.{◌≡◌, ◌≢◌, ◌↔◌, ◌&&◌, ◌||◌, ◌<◌, ℕ, nat_lt, IsTrue, None, Some, true};
+ghost use Rattle.record_actions.specs.Telling.{fault_of};
+ghost use Rattle.ogg_command.specs.declared.refusal.Refusal.{Refusal as RefusalOf};
 
 use crate::mends::MendLines;
 use crate::searching::Search;
 use fault_lines::{Fault, write_fault};
 use import_feed::Mends;
 use import_mend::Mend;
-use import_record::{RecordFault, Step, Taken, Totals, archived_line, progress_line, refused_line};
+use import_record::{
+    Answered, RecordFault, Step, Taken, Totals, archived_line, progress_line, refused_line,
+};
 use ogg_command::Refusal;
 use ogg_page::write_whole;
 use std::io::{IsTerminal, Stderr};
@@ -115,20 +120,36 @@ impl<'a> Told<'a> {
     /// A page that begins at this offset was taken.
     pub fn taken(&mut self, offset: u64, taken: &Taken) {
         self.mended(taken.mend);
-        if taken.answered.links > 0 {
+        self.answered(offset, &taken.answered);
+    }
+
+    /// Commands were run when the input was read up to this offset.
+    pub fn answered(&mut self, offset: u64, answered: &Answered) {
+        if answered.links > 0 {
             self.lines.link_begun();
         }
-        self.links = self.links.saturating_add(taken.answered.links);
-        self.packets = self.packets.saturating_add(taken.answered.packets);
-        match taken.answered.refused {
-            // A fault of the disk is told when the file is opened again.
+        self.links = self.links.saturating_add(answered.links);
+        self.packets = self.packets.saturating_add(answered.packets);
+        self.unended(offset, answered.refused);
+    }
+
+    /// This was refused when the input was read up to this offset, if anything was. A fault of the disk is told when the
+    /// file is opened again.
+    pub fn unended(&mut self, offset: u64, refused: Option<Refusal>)
+        ensures noted { (refusal : RefusalOf) → refused ≡ Some refusal → refusal ≢ Refusal.Disk → refusal ≢ Refusal.Failed
+            → self.new.is_refused ≡ true }
+    {
+        match refused {
             None | Some(Refusal::Disk | Refusal::Failed) => {}
             Some(refusal) => self.refused(refusal, offset),
         }
     }
 
     /// Packets of the page at this offset are refused.
-    fn refused(&mut self, refusal: Refusal, offset: u64) {
+    fn refused(&mut self, refusal: Refusal, offset: u64)
+        ensures noted { self.new.is_refused ≡ true }
+        ensures rest { self.new ≡ record self.old { is_refused = true; shown = None } }
+    {
         self.is_refused = true;
         self.erase();
         let mut errors = self.rt.stderr();
@@ -149,7 +170,10 @@ impl<'a> Told<'a> {
 
     /// The disk has failed once the input was read up to this offset, and what waited is lost. Whether the file, whose
     /// pages have `end` bytes, is to be opened again: not if nothing was kept since that was done before.
-    pub fn lost(&mut self, offset: u64, end: u64) -> bool {
+    pub fn lost(&mut self, offset: u64, end: u64) -> bool
+        ensures again { IsTrue result ↔ (self.old.reopened ≢ Some end) }
+        ensures noted { (self.new.reopened ≡ Some end) × (self.new.is_refused ≡ true) }
+    {
         self.refused(Refusal::Disk, offset);
         self.links = 0;
         self.packets = 0;
@@ -159,12 +183,16 @@ impl<'a> Told<'a> {
     }
 
     /// Whether a strict run ends here.
-    pub fn has_enough(&self) -> bool {
+    pub fn has_enough(&self) -> bool
+        ensures { result ≡ (self.now.strict && (self.now.is_refused || nat_lt 0 self.now.totals.mends)) }
+    {
         self.strict && (self.is_refused || self.totals.mends > 0)
     }
 
     /// The fault with which the run ends, if it has one.
-    pub fn fault(&self) -> Option<Fault> {
+    pub fn fault(&self) -> Option<Fault>
+        ensures { result ≡ fault_of self.now.is_refused self.now.strict self.now.totals.mends }
+    {
         if self.is_refused {
             Some(Fault::Refused)
         } else if self.has_enough() {
@@ -202,7 +230,9 @@ impl<'a> Told<'a> {
     }
 
     /// Takes the line off the terminal that tells how far the recording has come, if it stands there.
-    fn erase(&mut self) {
+    fn erase(&mut self)
+        ensures { self.new ≡ record self.old { shown = None } }
+    {
         if self.shown.is_some() {
             self.shown = None;
             let _ = write_whole(&mut self.rt.stderr(), ERASE);

@@ -1,11 +1,17 @@
 //! A stream that is recorded as it comes.
+ghost use Rattle.std.specs.Prelude.{◌≡◌, ◌⊎◌, IfOk, OnOk, Err, true, false};
+ghost use Rattle.gate_file.specs.declared.fault.OpenFault.{OpenFault as OpenFaultOf};
+ghost use Rattle.link_chain.specs.ChainState.{is_open};
+ghost use Rattle.record_actions.specs.Foreign.{IsForeign, front_of};
+ghost use Rattle.stream_actions.specs.Resting.{IsAtRest};
 
-use disk_model::{FileDisk, FileMode};
+use disk_model::{Disk, FileDisk, FileMode};
 use fault_lines::Fault;
 use file_recorder::{Recorder, end_open_streams};
 use import_feed::{ChangeOptions, Skeletons};
-use import_record::{ImportRun, RecordFault, Step, Taken, run_all};
-use record_actions::{Told, open_own_recorder, reopen, seal_if};
+use import_record::{ImportRun, RecordFault, Step, run_all};
+use record_actions::{Told, lock_file, own_recorder_on, reopen, seal_if};
+use std::alloc::Global;
 use std::os::unix::fs::MetadataExt;
 use std::{fs, io};
 
@@ -42,7 +48,19 @@ pub fn archive(rt: &HostRuntime, file: &str, options: ArchiveOptions) -> Result<
 
 /// Opens the file, which is made if there is none, and ends what an earlier run left open in it.
 fn open_ended(rt: &HostRuntime, file: &str, most: u32) -> Result<Recorder<FileDisk>, Fault> {
-    let mut recorder = open_own_recorder(rt, file)?;
+    let disk = lock_file(rt, file, FileMode::Create)?;
+    ended_on(rt.alloc(), disk, most)
+}
+
+/// A recorder on a disk that holds a recording, or nothing yet. What was open in it is ended, and that is kept.
+///
+/// Its faults are those of `own_recorder_on` and of `end_open`.
+fn ended_on<D: Disk + Drop>(alloc: Global, disk: D, most: u32) -> Result<Recorder<D>, Fault>
+    ensures rests { IfOk result IsAtRest }
+    ensures foreign { D.is_honest disk → IsForeign (front_of (D.state disk).contents)
+        → (result ≡ Err Fault.Foreign) ⊎ (result ≡ Err (Fault.Open OpenFaultOf.Disk)) }
+{
+    let mut recorder = own_recorder_on(alloc, disk)?;
     // `clap` has checked that `most` lies in this range, and nothing waits yet.
     recorder.group(most.clamp(1, 1024));
     end_open(&mut recorder)?;
@@ -81,7 +99,10 @@ fn close(
     let recorder = recorded?;
     match told {
         Some(fault) => Err(fault),
-        None => seal_if(recorder, seal),
+        None => {
+            seal_if(recorder, seal)?;
+            Ok(())
+        }
     }
 }
 
@@ -93,8 +114,14 @@ fn is_input(rt: &HostRuntime, file: &str) -> bool {
     input.dev() == output.dev() && input.ino() == output.ino()
 }
 
-/// Ends the streams that are open in the file, and keeps that.
-fn end_open(recorder: &mut Recorder<FileDisk>) -> Result<(), Fault> {
+/// Ends the streams that are open in the file, and keeps that with all that waits.
+///
+/// It is `Failed` if the disk has failed, and `Refused` if an end was refused for something else.
+fn end_open<D: Disk>(recorder: &mut Recorder<D>) -> Result<(), Fault>
+    ensures rests { OnOk result (IsAtRest recorder.new) }
+    ensures failed { result ≡ Err Fault.Failed → recorder.new.file.failed ≡ true }
+    ensures refused { result ≡ Err Fault.Refused → is_open recorder.new.chain ≡ true }
+{
     let left = match end_open_streams(recorder, &mut io::sink()) {
         Ok(left) => left,
         Err(_) => return Err(Fault::Write),
@@ -175,13 +202,7 @@ fn resume(
     };
     match run_all(recorder, commands.as_slice(), &mut io::sink()) {
         Ok(answered) => {
-            told.taken(
-                import.offset(),
-                &Taken {
-                    mend: None,
-                    answered,
-                },
-            );
+            told.answered(import.offset(), &answered);
             Ok(())
         }
         Err(_) => Err(Fault::Write),

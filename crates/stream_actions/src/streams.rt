@@ -202,7 +202,10 @@ fn close_record(
     seal: bool,
 ) -> Result<(), Fault> {
     match told(rt, ended, recorder.is_failed(), outcome) {
-        Ok(()) => seal_if(recorder, seal),
+        Ok(()) => {
+            seal_if(recorder, seal)?;
+            Ok(())
+        }
         Err(fault) => Err(fault),
     }
 }
