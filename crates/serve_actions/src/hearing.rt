@@ -1,5 +1,7 @@
 //! The file of a station, which is heard while it is recorded.
-ghost use Rattle.std.specs.Prelude.{◌≡◌, IfOk};
+ghost use Rattle.std.specs.Prelude.{◌≡◌, ◌⊎◌, IfOk, Err};
+ghost use Rattle.gate_file.specs.declared.fault.OpenFault.{OpenFault as OpenFaultOf};
+ghost use Rattle.record_actions.specs.Foreign.{IsForeign, front_of};
 
 use disk_model::{Disk, FileDisk, FileMode};
 use disk_tail::TailDisk;
@@ -32,8 +34,19 @@ fn open_heard(rt: &HostRuntime, file: &str) -> Result<Recorder<HeardDisk>, Fault
     ensures { IfOk result (λ recorder. recorder.held ≡ 0) }
 {
     let disk = lock_file(rt, file, FileMode::Create)?;
-    match TailDisk::new(rt.alloc(), disk, HEARD) {
-        Ok(disk) => own_recorder_on(rt.alloc(), disk),
+    heard_on(rt.alloc(), disk)
+}
+
+/// A recorder on a disk whose last bytes are heard. Nothing waits in it.
+///
+/// Its faults are those of `own_recorder_on`, and `Memory`.
+fn heard_on<D: Disk + Drop>(alloc: Global, disk: D) -> Result<Recorder<TailDisk<D>>, Fault>
+    ensures held { IfOk result (λ recorder. recorder.held ≡ 0) }
+    ensures foreign { D.is_honest disk → IsForeign (front_of (D.state disk).contents)
+        → (result ≡ Err Fault.Foreign) ⊎ (result ≡ Err (Fault.Open OpenFaultOf.Disk)) ⊎ (result ≡ Err Fault.Memory) }
+{
+    match TailDisk::new(alloc, disk, HEARD) {
+        Ok(disk) => own_recorder_on(alloc, disk),
         Err(_) => Err(Fault::Memory),
     }
 }

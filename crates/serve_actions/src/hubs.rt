@@ -78,7 +78,10 @@ fn seal_hub<D: Disk + Drop>(hub: Hub<D>) -> Result<(), Fault>
     ensures lost { hub.file ≡ None → result ≡ Ok tt }
 {
     match hub.into_recorder() {
-        Ok(recorder) => seal_file(recorder),
+        Ok(recorder) => {
+            seal_file(recorder)?;
+            Ok(())
+        }
         Err(_) => Ok(()),
     }
 }
