@@ -10,9 +10,9 @@
 . "$(dirname "$0")/common.bash"
 bytes=${1:-1000000000}
 # The name `program` is set anew by some wrappers of python3.
-export recorder=$program work
+export recorder=$archive work
 
-built "$program"
+built "$archive"
 cc -O2 -o "$work/pages_made" "$here/pages_made.c" -logg || exit 1
 cc -O2 -o "$work/commits" "$here/record_commits.c" -lsqlite3 || exit 1
 

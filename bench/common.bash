@@ -2,7 +2,10 @@
 # that a script began, and the rows of bench/RESULTS.md. Each row has a number of ours and that of a competitor.
 set -u
 here=$(cd "$(dirname "$0")" && pwd)
+# Of `mux`, `record`, `serve` and `live`; other words have programs of their own.
 program=${PROGRAM:-$here/../crates/ogg_main/out/ogg_main}
+archive=${PROGRAM:-$here/../crates/ogg_archive/out/ogg_archive}
+station=${PROGRAM:-$here/../crates/ogg_station/out/ogg_station}
 reader=${READ_OGG:-$here/../crates/test_read/out/test_read}
 work=$(mktemp -d "${TMPDIR:-/tmp}/$(basename "$0" .sh)-bench.XXXXXX")
 # The process numbers of servers that run.

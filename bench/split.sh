@@ -9,7 +9,7 @@
 . "$(dirname "$0")/common.bash"
 bytes=${1:-1000000000}
 
-built "$program"
+built "$program" "$archive"
 cc -O2 -o "$work/measured" "$here/measured.c" || exit 1
 for name in pages_made split_libogg; do
     cc -O2 -o "$work/$name" "$here/$name.c" -logg || exit 1
@@ -21,15 +21,16 @@ least() { sort -n "$1" | head -n 1; }
 
 # both NAME FILE OUR_WORDS .. -- THEIR_WORDS ..: runs both in turn, and prints what they took.
 both() {
-    local name=$1 file=$2 ours=() theirs=()
+    local name=$1 file=$2 ours=() theirs=() run=$program
     shift 2
     while [ "$1" != -- ]; do ours+=("$1"); shift; done
     shift
     theirs=("$@")
+    [ "${ours[0]}" != archive ] || run=$archive
     : >"$work/ours.s"
     : >"$work/theirs.s"
     for _ in 1 2 3; do
-        "$work/measured" "$work/ours" /dev/null "$program" "${ours[@]}" >>"$work/ours.s" 2>"$work/told"
+        "$work/measured" "$work/ours" /dev/null "$run" "${ours[@]}" >>"$work/ours.s" 2>"$work/told"
         "$work/measured" "$work/theirs" "$file" "${theirs[@]}" >>"$work/theirs.s"
     done
     local least_ours least_theirs what

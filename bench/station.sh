@@ -8,7 +8,7 @@ chmod 777 "$work"
 seconds=${1:-10}
 ulimit -n 8192 || { echo "too few files may be open: ulimit -n" >&2; exit 1; }
 
-built "$program"
+built "$station"
 ffmpeg -nostdin -loglevel error -f lavfi -i "anoisesrc=d=60:c=pink" -c:a libvorbis -b:a 128k "$work/in.ogg" || exit 1
 printf 'secret\n' >"$work/password"
 ours=$(free_port)
@@ -21,7 +21,7 @@ cat >"$work/icecast.xml" <<END
 <adminroot>/usr/share/icecast2/admin</adminroot></paths><logging><loglevel>1</loglevel></logging>
 <security><chroot>0</chroot><changeowner><user>nobody</user><group>nogroup</group></changeowner></security></icecast>
 END
-"$program" station "$work/station.ogg" "127.0.0.1:$ours" --password-file "$work/password" --listeners 4096 </dev/null 2>"$work/err" &
+"$station" station "$work/station.ogg" "127.0.0.1:$ours" --password-file "$work/password" --listeners 4096 </dev/null 2>"$work/err" &
 station=$!
 icecast2 -c "$work/icecast.xml" >"$work/out" 2>&1 &
 icecast=$!
@@ -61,7 +61,7 @@ cc -O2 -shared -fPIC -D_GNU_SOURCE -o "$work/slow_sync.so" "$here/slow_sync.c" -
 quick=
 for shim in "" "$work/slow_sync.so"; do
     to=$(free_port)
-    LD_PRELOAD=$shim "$program" station "$work/pages.${shim:+slow}" "127.0.0.1:$to" --password-file "$work/password" </dev/null 2>"$work/err" &
+    LD_PRELOAD=$shim "$station" station "$work/pages.${shim:+slow}" "127.0.0.1:$to" --password-file "$work/password" </dev/null 2>"$work/err" &
     station=$!
     sleep 1
     ffmpeg -nostdin -loglevel error -re -stream_loop -1 -i "$work/in.ogg" -c copy -page_duration 20000 -f ogg \

@@ -13,7 +13,7 @@ seconds=${1:-5}
 bytes=${2:-200000000}
 ulimit -n 8192 || { echo "too few files may be open: ulimit -n" >&2; exit 1; }
 
-built "$program"
+built "$station"
 nginx=$(PATH=$PATH:/usr/sbin command -v nginx) || { echo "no nginx: apt-get install nginx-light" >&2; exit 1; }
 cc -O2 -o "$work/pages_made" "$here/pages_made.c" -logg || exit 1
 cc -O2 -D_GNU_SOURCE -o "$work/many_clients" "$here/many_clients.c" || exit 1
@@ -24,7 +24,7 @@ server_on=() clients_on=()
 start() {
     port=$(free_port)
     if [ "$1" = station ]; then
-        "${server_on[@]}" "$program" station "$work/served" "127.0.0.1:$port" --listeners 4096 </dev/null 2>"$work/err" &
+        "${server_on[@]}" "$station" station "$work/served" "127.0.0.1:$port" --listeners 4096 </dev/null 2>"$work/err" &
         server=$! begun=("$!")
     else
         mkdir -p "$work/nginx/www"

@@ -1,10 +1,10 @@
 #!/usr/bin/env python3
-"""Proves and builds the program, as many crates at once as there are processors, and then runs a command in its place.
+"""Proves and builds programs, as many crates at once as there are processors, and then runs a command in its place.
 
-    tools/build.py COMMAND [WORD ..]
+    tools/build.py PROGRAM[,PROGRAM ..] COMMAND [WORD ..]
 
-kudzuturret starts it if the program isn't built, and is the command. Progress goes to standard error; the status is 3
-if a crate isn't proved, and if INT, TERM or HUP came.
+kudzuturret starts it if a program isn't built that a word needs, and is the command. Progress goes to standard error;
+the status is 3 if a crate isn't proved, and if INT, TERM or HUP came.
 
 `rt lib` locks the folder of its crate and of each crate below it, so in one tree two crates that share one below never
 prove side by side. So each crate is proved in a room: a small tree that has copies of the crate and of those below, and
@@ -27,8 +27,8 @@ from concurrent.futures import FIRST_COMPLETED, Future, ThreadPoolExecutor, wait
 from pathlib import Path
 
 TOP = Path(__file__).resolve().parent.parent
-PROGRAM = "ogg_main"
-OUT = TOP / "crates" / PROGRAM / "out"
+# One build at a time locks this folder, and has its rooms in it.
+OUT = TOP / "out"
 ROOMS = OUT / "rooms"
 # The parts of a crate that a check reads.
 PARTS = ("src", "specs", "proofs")
@@ -49,12 +49,12 @@ def say(text: str) -> None:
     print(f"kudzuturret: {text}", file=sys.stderr, flush=True)
 
 
-def crates() -> Uses:
-    """The program and the crates below it, each with those of this repository that it uses."""
+def crates(programs: list[str]) -> Uses:
+    """The programs and the crates below them, each with those of this repository that it uses."""
     lines = [it.partition("#")[0].partition(":") for it in (TOP / "crates.txt").read_text().splitlines()]
     every = {name.strip(): words.split() for name, _, words in lines if name.strip()}
     uses: Uses = {}
-    wanted = [PROGRAM]
+    wanted = [*programs]
     while wanted:
         name = wanted.pop()
         if name not in uses:
@@ -77,7 +77,7 @@ def seconds_of(uses: Uses) -> Seconds:
 
 
 def chains(uses: Uses, seconds: Seconds) -> Seconds:
-    """How many seconds it takes at least from the start of each crate to the end of the program."""
+    """How many seconds it takes at least from the start of each crate to the end of a program above it."""
     found = dict.fromkeys(uses, 0.0)
     for name in reversed(list(graphlib.TopologicalSorter(uses).static_order())):
         found[name] += seconds[name]
@@ -121,8 +121,9 @@ def held(folder: Path, waiting: Callable[[], None]) -> Iterator[None]:
 class Build:
     """What is proved so far, and what is being proved, each crate in a thread that waits for its process."""
 
-    def __init__(self) -> None:
-        self.uses = crates()
+    def __init__(self, programs: list[str]) -> None:
+        self.programs = programs
+        self.uses = crates(programs)
         # How many checks run side by side: one a processor, as many as the free memory holds.
         memory = memory_for()
         self.lanes = min(len(os.sched_getaffinity(0)), memory)
@@ -131,8 +132,6 @@ class Build:
         self.has_spare = self.lanes > 2 and memory > self.lanes
         self.beside: str | None = None
         self.seconds = seconds_of(self.uses)
-        # All processors prove the program, which keeps two of them busy.
-        self.seconds[PROGRAM] /= min(self.lanes, 2)
         self.chains = chains(self.uses, self.seconds)
         self.read = max(time.time(), newest_source())
         self.began = self.told = time.monotonic()
@@ -155,7 +154,7 @@ class Build:
         return max(self.lanes - sum(self.jobs.values()), 0)
 
     def is_awaited(self, name: str) -> bool:
-        """Whether the program waits for a crate, and for those above it, longer than for any that is being proved."""
+        """Whether a program waits for a crate, and for those above it, longer than for any that is being proved."""
         now = time.monotonic()
         return all(self.chains[it] - (now - self.started[it]) <= self.chains[name] for it in self.started)
 
@@ -164,7 +163,7 @@ class Build:
         return self.took / self.said if self.said else 1.0
 
     def seconds_left(self) -> float:
-        """When the program is finished, if from now on each crate takes what is said of it."""
+        """When the programs are finished, if from now on each crate takes what is said of it."""
         left = {name: [it for it in words if it not in self.finished] for name, words in self.uses.items()}
         sorter = graphlib.TopologicalSorter({name: words for name, words in left.items() if name not in self.finished})
         sorter.prepare()
@@ -218,7 +217,7 @@ class Build:
             raise KeyboardInterrupt
 
     def prove(self, name: str, jobs: int) -> None:
-        """Proves a library whose crates below are finished."""
+        """Proves a crate whose crates below are finished; a program is built, and run once."""
         own = TOP / "crates" / name
         with held(own, self.go_on):
             room = make_room(name, below(name, self.uses))
@@ -226,11 +225,25 @@ class Build:
             if (own / "out").is_dir():
                 (own / "out").rename(at / "out")
             try:
-                self.run(name, at, "lib", "--jobs", str(jobs))
+                if name in self.programs:
+                    self.build(name, at, jobs)
+                else:
+                    self.run(name, at, "lib", "--jobs", str(jobs))
             finally:
                 if (at / "out").is_dir():
                     (at / "out").rename(own / "out")
                 shutil.rmtree(room)
+
+    def build(self, name: str, folder: Path, jobs: int) -> None:
+        """Proves, builds and runs a program; the word makes the run do nothing else."""
+        try:
+            self.run(name, folder, "run", "--jobs", str(jobs), "--", "--version")
+        except NotBuilt:
+            # The version is no work that was asked for, so the status is 2.
+            if not re.search(r"^kudzuturret \d", (ROOMS / f"{name}.log").read_text(errors="replace"), re.MULTILINE):
+                raise
+        # A source that was changed since then is in the next build.
+        os.utime(folder / "out" / name, (self.read, self.read))
 
     def note(self, name: str) -> None:
         """Notes that a crate is finished, and how long it took unless it was there already."""
@@ -245,13 +258,17 @@ class Build:
 
     def tell_progress(self) -> None:
         for name in self.started:
-            lines = (ROOMS / f"{name}.log").read_text(errors="replace").splitlines()
+            log = ROOMS / f"{name}.log"
+            if not log.exists():
+                self.tell(f"{name}: waiting for another check of it to end")
+                continue
+            lines = log.read_text(errors="replace").splitlines()
             told = [it for it in lines if it.startswith("so far: ")] or ["so far: begun"]
             self.tell(f"{name}: {told[-1].removeprefix('so far: ').partition(';')[0]}")
 
-    def libraries(self) -> None:
-        """Proves all libraries, those first that the longest chain of others waits for."""
-        sorter = graphlib.TopologicalSorter({it: words for it, words in self.uses.items() if it != PROGRAM})
+    def all_crates(self) -> None:
+        """Proves all crates, those first that the longest chain of others waits for."""
+        sorter = graphlib.TopologicalSorter(self.uses)
         sorter.prepare()
         ready: list[str] = []
         running: dict[Future[None], str] = {}
@@ -260,7 +277,7 @@ class Build:
                 while sorter.is_active():
                     ready = sorted([*ready, *sorter.get_ready()], key=self.chains.__getitem__)
                     while ready and self.idle():
-                        # Processors that no other crate waits for are shared. The crate that the program waits for
+                        # Processors that no other crate waits for are shared. The crate that a program waits for
                         # longest has a second job in any case: the others lose less than it gains.
                         taken = max(self.idle() // len(ready), 1)
                         name = ready.pop()
@@ -278,19 +295,6 @@ class Build:
             except BaseException:
                 self.end_all()
                 raise
-
-    def program(self) -> None:
-        """Proves, builds and runs the program; the word makes the run do nothing else."""
-        self.tell(f"crate {len(self.uses)} of {len(self.uses)}: the program itself; {self.time_left()}")
-        try:
-            self.run(PROGRAM, OUT.parent, "run", "--jobs", str(self.lanes), "--", "--version")
-        except NotBuilt:
-            # The version is no work that was asked for, so the status is 2.
-            if not re.search(r"^kudzuturret \d", (ROOMS / f"{PROGRAM}.log").read_text(errors="replace"), re.MULTILINE):
-                raise
-        # A source that was changed since then is in the next build.
-        os.utime(OUT / PROGRAM, (self.read, self.read))
-        self.tell("built")
 
 
 def make_room(name: str, deps: set[str]) -> Path:
@@ -327,18 +331,18 @@ def stop(*_: object) -> None:
     raise KeyboardInterrupt
 
 
-def build() -> None:
-    work = Build()
+def build(programs: list[str], asker: str) -> None:
+    work = Build(programs)
     say(
-        "the program isn't built. It is proved and built now, once: "
-        f"{len(work.uses)} crates on {work.lanes} processors, {work.time_left()}."
+        f"{asker} needs {len(work.uses)} crates. They are proved and built now, once, "
+        f"on {work.lanes} processors: {work.time_left()}."
     )
     try:
-        work.libraries()
-        work.program()
+        work.all_crates()
+        work.tell("built")
     except NotBuilt as failed:
         sys.stderr.write((ROOMS / f"{failed}.log").read_text(errors="replace"))
-        say("the program could not be built")
+        say(f"{failed} could not be built")
         sys.exit(3)
     except KeyboardInterrupt:
         work.end_all()
@@ -347,8 +351,10 @@ def build() -> None:
 
 
 def main() -> None:
-    if len(sys.argv) < 2:
+    if len(sys.argv) < 3:
         sys.exit(__doc__)
+    programs = sys.argv[1].split(",")
+    command = sys.argv[2:]
     for it in SIGNALS:
         signal.signal(it, stop)
     OUT.mkdir(exist_ok=True)
@@ -365,12 +371,12 @@ def main() -> None:
                 clear_rooms()
                 ROOMS.mkdir()
                 try:
-                    build()
+                    build(programs, command[1] if len(command) > 1 else "the program")
                 finally:
                     clear_rooms()
     except KeyboardInterrupt:
         sys.exit(3)
-    os.execv(sys.argv[1], sys.argv[1:])
+    os.execv(command[0], command)
 
 
 if __name__ == "__main__":

@@ -1,12 +1,21 @@
 # What the tests of the built program share.
 . "$(dirname "${BASH_SOURCE[0]}")/counting.bash"
-program=${PROGRAM:-$top/crates/ogg_main/out/ogg_main}
+. "$top/tools/programs.bash"
 
-if [ ! -x "$program" ]; then
-    echo "no program at $program: ./check and ./kudzuturret build it"
-    echo "0 passed, 1 failed"
-    exit 1
-fi
+# What runs the program that answers a word. PROGRAM names another one, which answers all.
+table=
+for program in $programs; do
+    words=words_of_$program
+    for word in ${!words}; do table="$table $word:$program"; done
+    if [ -z "${PROGRAM:-}" ] && [ ! -x "$top/crates/$program/out/$program" ]; then
+        echo "$program isn't built: ./check and ./kudzuturret --build build it"
+        echo "0 passed, 1 failed"
+        exit 1
+    fi
+done
+program=${PROGRAM:-$work/program}
+[ -n "${PROGRAM:-}" ] ||
+    cc -O2 -DCRATES="\"$top/crates\"" -DTABLE="\"$table \"" -o "$program" "$here/program.c" || exit 1
 
 # Runs the program on standard input as it is, for a bounded time. Leaves its status in `status`, and what it wrote in
 # out and err.

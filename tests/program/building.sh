@@ -6,18 +6,20 @@
 tree=$work/tree
 mkdir -p "$tree/tools" "$work/bin"
 cp "$top/kudzuturret" "$tree"
-cp "$top"/tools/{build,rt_once}.py "$tree/tools"
+cp "$top"/tools/{build.py,rt_once.py,programs.bash} "$tree/tools"
 cat >"$tree/crates.txt" <<'END'
-# Two chains that share the lowest crate, and one crate that the program doesn't use.
+# Two chains that share the lowest crate, and one crate that only another program uses.
 low: byteorder
 left: low
 right: low itoa
 top: left
-ogg_main: top right
+ogg_archive: top right
 apart: low
+ogg_station: apart
+ogg_main: right
 END
-printf '%s 1\n' low left right top ogg_main >"$tree/tools/seconds.txt"
-for name in low left right top ogg_main apart; do
+printf '%s 1\n' low left right top ogg_archive >"$tree/tools/seconds.txt"
+for name in low left right top ogg_archive apart ogg_station ogg_main; do
     mkdir -p "$tree/crates/$name/src"
     echo "text of $name" >"$tree/crates/$name/src/lib.rt"
 done
@@ -40,8 +42,9 @@ lib)
     echo logic=proved
     ;;
 run)
-    printf '#!/bin/sh\necho "ran $*"\n' >out/ogg_main
-    chmod +x out/ogg_main
+    mkdir -p out
+    printf '#!/bin/sh\necho "%s ran $*"\n' "$name" >"out/$name"
+    chmod +x "out/$name"
     echo "kudzuturret 0.0.0" >&2
     exit 2
     ;;
@@ -54,17 +57,31 @@ launch() { timeout 60 "$tree/kudzuturret" "$@" >"$work/out" 2>"$work/err" </dev/
 
 launch links FILE
 check "a first start: status $?" [ $? -eq 0 ]
-check "it builds and runs" is_text "$work/out" 'ran links FILE\n'
+check "it builds and runs" is_text "$work/out" 'ogg_archive ran links FILE\n'
+check "it says what the word needs" grep -q 'kudzuturret: links needs 5 crates' "$work/err"
 check "each crate of the program is built once" \
     [ "$(sed -n 's/^begins //p' "$LOG" | sort | tr '\n' ' ')" = "left low right top " ]
 check "low comes first" [ "$(head -n 2 "$LOG" | tr '\n' ' ')" = "begins low ends low " ]
 [ "$(nproc)" -lt 2 ] || check "left and right are built side by side" \
     [ "$(sed -n '3,4s/ .*//p' "$LOG" | tr '\n' ' ')" = "begins begins " ]
-check "it tells of each crate" [ "$(grep -c 'crate [1-4] of 5 is proved: .*; about .* to go$' "$work/err")" -eq 4 ]
-check "no room is left" [ ! -e "$tree/crates/ogg_main/out/rooms" ]
+check "it tells of each crate" [ "$(grep -c 'crate [1-5] of 5 is proved: .*; about .* to go$' "$work/err")" -eq 5 ]
+check "no room is left" [ ! -e "$tree/out/rooms" ]
 
 launch links FILE
 check "a second start builds nothing" is_text "$work/err" ''
+launch --help
+check "what any program answers builds nothing" is_text "$work/err" ''
+check "and is answered" is_text "$work/out" 'ogg_archive ran --help\n'
+
+# A word of another program builds what that needs besides, and all of them are built at once.
+launch station FILE
+check "a word of another program" is_text "$work/out" 'ogg_station ran station FILE\n'
+check "only one crate more was built for it" [ "$(sed -n 's/^begins //p' "$LOG" | sort | tr '\n' ' ')" = "apart left low right top " ]
+launch --build
+check "all of them: status $?" [ $? -eq 0 ]
+check "all of them: the third one is there" [ -x "$tree/crates/ogg_main/out/ogg_main" ]
+launch --build
+check "all of them again: nothing is built" is_text "$work/err" ''
 
 rm -r "$tree"/crates/*/out "$LOG"
 PAUSE=5 "$tree/kudzuturret" links >"$work/out" 2>"$work/err" </dev/null &
@@ -79,11 +96,11 @@ check "interrupted: status $?" [ $? -eq 3 ]
 check "interrupted: it says so" grep -q 'interrupted; what is proved stays' "$work/err"
 wait "$other"
 check "the start that waited: status $?" [ $? -eq 0 ]
-check "the start that waited goes on and runs" is_text "$work/other" 'ran links\n'
+check "the start that waited goes on and runs" is_text "$work/other" 'ogg_archive ran links\n'
 check "what was built before stays" [ "$(grep -c 'begins low' "$LOG")" -eq 1 ]
 
 echo "wrong" >>"$tree/crates/left/src/lib.rt"
-rm -r "$tree/crates/left/out" "$tree/crates/ogg_main/out"
+rm -r "$tree/crates/left/out" "$tree/crates/ogg_archive/out"
 launch links
 check "a crate that isn't proved: status $?" [ $? -eq 3 ]
 check "a crate that isn't proved: its log is shown" grep -qx 'left is wrong' "$work/err"
@@ -97,9 +114,9 @@ if [ "$(nproc)" -ge 3 ] && [ "$(awk '/^MemAvailable/ { print $2 }' /proc/meminfo
             echo "text of $name" >"$tree/crates/$name/src/lib.rt"
             echo "$name:"
         done
-        echo "ogg_main: a b c d e f"
+        echo "ogg_archive: a b c d e f"
     } >"$tree/crates.txt"
-    printf '%s\n' 'a 1' 'b 1' 'c 1' 'd 9' 'e 1' 'f 1' 'ogg_main 1' >"$tree/tools/seconds.txt"
+    printf '%s\n' 'a 1' 'b 1' 'c 1' 'd 9' 'e 1' 'f 1' 'ogg_archive 1' >"$tree/tools/seconds.txt"
     rm -r "$tree"/crates/*/out "$LOG.jobs"
     taskset -c 0-2 timeout 60 "$tree/kudzuturret" links >"$work/out" 2>"$work/err" </dev/null
     check "the crate that is waited for longest has a job more" grep -qx 'd 2' "$LOG.jobs"

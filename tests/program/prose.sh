@@ -35,7 +35,7 @@ END
 check "rows with other cells than their head are found" is_text "$work/found" \
     'page.md:4: 1 cells, and the head has 2\npage.md:5: 3 cells, and the head has 2\npage.md:7: this row has no line of dashes below it, so it begins no table\n'
 
-pages=(README.md docs/*.md docs/proofs/* crates/*/promises.txt crates/*/tested.md)
+pages=(README.md CONTRIBUTING.md CHANGELOG.md docs/*.md docs/proofs/* crates/*/promises.txt crates/*/tested.md)
 check "long lines" prose lines "${pages[@]}"
 check "tables" prose tables "${pages[@]}"
 check "words" prose words "${pages[@]}" crates/*/src/lib.rt crates/*/src/main.rt crates/command_line/src/*.rt

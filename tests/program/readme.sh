@@ -1,15 +1,19 @@
 #!/usr/bin/env bash
 # Each command in docs/OPERATION.md's table of things to try works as it stands there, in a folder that has what a clone
-# has in which the program is built; the commands that install packages aren't run. README.md's first lines print what
+# has in which the programs are built; the commands that install packages aren't run. README.md's first lines print what
 # stands there.
 . "$(dirname "$0")/../helpers/common.bash"
 
-# The launcher is a copy, so that it finds the program here, which is newer than its sources.
-mkdir -p "$work/clone/crates/ogg_main/out"
+# The launcher is a copy, so that it finds the programs here, which are newer than their sources.
+mkdir -p "$work/clone"
 cd "$work/clone" || exit 1
-for name in check examples tests bench crates.txt crates/ogg_main/src; do ln -s "$top/$name" "$name"; done
+for name in check examples tests bench tools crates.txt; do ln -s "$top/$name" "$name"; done
 cp "$top/kudzuturret" .
-ln -s "$program" crates/ogg_main/out/ogg_main
+for name in $programs; do
+    mkdir -p "crates/$name/out"
+    ln -s "$top/crates/$name/src" "crates/$name/src"
+    ln -s "$top/crates/$name/out/$name" "crates/$name/out/$name"
+done
 # What an encoder of Opus begins with (RFC 7845, section 5), and a packet.
 pages "02 0 1 0 19 OpusHead-----------" "00 0 1 1 16 OpusTags--------" "04 960 1 2 5 hello" >SONG.ogg
 printf 'begin 1 abc\nput 1 5 hello\n' >MINE.txt

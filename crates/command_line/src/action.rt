@@ -1,5 +1,7 @@
 //! What the words ask for.
 
+use import_changes::Skeletons;
+
 /// What the command line asks for.
 #[derive(Clone, Copy)]
 pub enum Action<'a> {
@@ -84,15 +86,4 @@ pub enum Action<'a> {
         count: u32,
         most: u32,
     },
-}
-
-/// What becomes of the Skeletons of a feed.
-#[derive(Clone, Copy)]
-pub enum Skeletons {
-    /// Those of the input stay.
-    Kept,
-    /// Those of the input are left out.
-    LeftOut,
-    /// Each link gets one that is made anew, of this serial or the next one that is free.
-    Made(u32),
 }

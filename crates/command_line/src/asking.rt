@@ -2,11 +2,12 @@
 ghost use Rattle.std.specs.Prelude.{◌≤◌, IfOk, IfSome};
 ghost use Rattle.command_line.specs.Action.{IsCount, IsGroup, IsInBounds};
 
-use crate::action::{Action, Skeletons};
+use crate::action::Action;
 use crate::building::program;
 use crate::rows::{Bounds, CONNECTIONS, COUNTS, GROUPS};
 use clap::error::ErrorKind;
 use clap::{ArgMatches, Error};
+use import_changes::Skeletons;
 use std::alloc::{AllocError, Global};
 
 /// What the words ask for; the first is the program's own name. An error is the text to show in place of it: help, the
@@ -28,6 +29,14 @@ pub fn action_of<'a>(alloc: Global, words: &'a [String]) -> Result<Action<'a>, E
 /// What is said of words that are no text.
 pub fn not_text(alloc: Global) -> Result<Error, AllocError> {
     refusal(alloc, "an argument isn't text in UTF-8")
+}
+
+/// What is said of words that another program is asked for: there is one for each family of words.
+pub fn elsewhere(alloc: Global) -> Result<Error, AllocError> {
+    refusal(
+        alloc,
+        "another program does this; ./kudzuturret runs the one that does",
+    )
 }
 
 /// An error that `clap` didn't find, in the form of `clap`'s own errors.

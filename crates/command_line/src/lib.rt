@@ -4,6 +4,8 @@
 //! functions make `clap`'s commands of the rows, and `clap` reads the words by them. Its errors are the texts to show:
 //! help, the version, or what is wrong with the words.
 //!
+//! There is one table for all programs, so that each of them shows the same help and refuses the same words.
+//!
 //! A subcommand more is a row of the table, a variant of `Action`, and an arm of `asked`.
 #![tactic(auto)]
 
@@ -11,8 +13,11 @@ mod action;
 mod asking;
 mod building;
 mod rows;
+mod starting;
 mod subcommands;
 
-pub use action::{Action, Skeletons};
-pub use asking::{action_of, not_text};
+pub use action::Action;
+pub use asking::{action_of, elsewhere, not_text};
 pub use clap::Error;
+pub use import_changes::Skeletons;
+pub use starting::{Program, answer};

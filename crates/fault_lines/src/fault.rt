@@ -15,6 +15,7 @@ use ogg_page::{WriteFault, write_whole};
 use ogg_split::SplitFault;
 use serve_machine::HubFault;
 use std::io::Write;
+use std::process::ExitCode;
 use text_line::Line;
 use thiserror::Error;
 
@@ -98,6 +99,17 @@ pub fn write_fault<W: Write>(fault: &Fault, writer: &mut W) -> Result<(), WriteF
     ensures err { OnErr result (WritesPart (W.contents writer.old) (W.contents writer.new) (fault_line fault.now)) }
 {
     write_whole(writer, line_of(*fault).as_slice())
+}
+
+/// The status of a program that has ended so. A fault's line goes to standard error.
+pub fn status_of(rt: &HostRuntime, ended: Result<(), Fault>) -> ExitCode {
+    match ended {
+        Ok(()) => ExitCode::SUCCESS,
+        Err(fault) => {
+            let _ = write_fault(&fault, &mut rt.stderr());
+            ExitCode::from(1)
+        }
+    }
 }
 
 /// The fault's line, with its line feed.

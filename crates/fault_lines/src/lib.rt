@@ -10,5 +10,5 @@
 mod fault;
 mod mends;
 
-pub use fault::{Fault, write_fault};
+pub use fault::{Fault, status_of, write_fault};
 pub use mends::write_mend;

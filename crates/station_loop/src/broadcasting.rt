@@ -4,6 +4,7 @@ use crate::running::Running;
 use crate::sockets::Sockets;
 use fault_lines::Fault;
 use import_feed::Skeletons;
+use ogg_command::Refusal;
 use record_actions::Told;
 use serve_actions::{HeardDisk, Log, close_hub, hear_file, read_password, tell_serving};
 use station::{Options as StationOptions, Station};
@@ -89,10 +90,16 @@ fn open_station(rt: &HostRuntime, options: Options<'_>) -> Result<Station<HeardD
         log: options.log,
     };
     match Station::new(rt.alloc(), hub, options) {
-        Ok(mut station) => {
-            station.end_open();
-            Ok(station)
-        }
+        Ok(station) => ended(station),
         Err(_) => Err(Fault::Memory),
+    }
+}
+
+/// Ends what an earlier run left open. If the disk fails at that, the file is opened again by the first step, which ends
+/// it then.
+fn ended(mut station: Station<HeardDisk>) -> Result<Station<HeardDisk>, Fault> {
+    match station.end_open() {
+        Ok(()) | Err(Refusal::Disk) => Ok(station),
+        Err(_) => Err(Fault::Refused),
     }
 }

@@ -21,17 +21,21 @@ pub fn tell_done(
             offset,
             junk,
             taken,
+            refused,
         } => {
             log.source_ended(station.counts());
             told.mended(*junk);
             told.taken(*offset, taken);
+            told.unended(*offset, *refused);
         }
-        Done::GivenUp(fault) => {
+        Done::GivenUp { fault, refused } => {
             log.source_ended(station.counts());
             told.given_up(*fault);
+            told.unended(0, *refused);
         }
-        Done::Reopened => {
+        Done::Reopened(answered) => {
             let _ = told.lost(0, hub.end());
+            told.answered(0, answered);
         }
         Done::Lost(fault) => return Err(Fault::Open(*fault)),
         Done::Failed => return Err(Fault::Failed),

@@ -1,0 +1,59 @@
+//! The program of archives: streams are recorded into files, and these are listed, cut out again, and finished. It opens
+//! no socket.
+//!
+//! The status is 0 if the work was done, and 1 after a fault, whose line is on standard error. The status is 2 if the
+//! command line asks for nothing that can be done, or for what another program does; then a text on standard error says
+//! what it could ask for.
+#![tactic(auto)]
+
+use command_line::{Action, Program, answer};
+use fault_lines::status_of;
+use import_feed::ChangeOptions;
+use std::process::ExitCode;
+use stream_actions::ArchiveOptions;
+
+/// The words about archives.
+struct Archives;
+
+fn main(rt: HostRuntime) -> ExitCode {
+    answer(&rt, &Archives)
+}
+
+impl Program for Archives {
+    fn run(&self, rt: &HostRuntime, action: Action<'_>) -> Option<ExitCode> {
+        let ended = match action {
+            Action::Archive {
+                file,
+                skeletons,
+                most,
+                strict,
+                seal,
+            } => {
+                let options = ArchiveOptions {
+                    skeletons,
+                    most,
+                    strict,
+                    seal,
+                };
+                stream_actions::archive(rt, file, options)
+            }
+            Action::Feed {
+                mend,
+                renumber,
+                skeletons,
+            } => {
+                let changes = ChangeOptions {
+                    renumber,
+                    skeletons,
+                };
+                stream_actions::feed(rt, mend, changes)
+            }
+            Action::Links { file } => file_actions::links(rt, file),
+            Action::Split { file, link, serial } => file_actions::split(rt, file, link, serial),
+            Action::Finish { file, link } => file_actions::finish(rt, file, link),
+            Action::Salvage { file } => file_actions::salvage(rt, file),
+            _ => return None,
+        };
+        Some(status_of(rt, ended))
+    }
+}

@@ -1,0 +1,47 @@
+//! The program of stations: what a command line asks for, done over a file and sockets.
+//!
+//! The status is 0 if the work was done, and 1 after a fault, whose line is on standard error. The status is 2 if the
+//! command line asks for nothing that can be done, or for what another program does; then a text on standard error says
+//! what it could ask for.
+#![tactic(auto)]
+
+use command_line::{Action, Program, answer};
+use fault_lines::status_of;
+use station_loop::Options;
+use std::process::ExitCode;
+
+/// The word about stations.
+struct Stations;
+
+fn main(rt: HostRuntime) -> ExitCode {
+    answer(&rt, &Stations)
+}
+
+impl Program for Stations {
+    fn run(&self, rt: &HostRuntime, action: Action<'_>) -> Option<ExitCode> {
+        let ended = match action {
+            Action::Station {
+                file,
+                address,
+                password_file,
+                listeners,
+                skeletons,
+                seal,
+                log,
+            } => {
+                let options = Options {
+                    file,
+                    address,
+                    password_file,
+                    listeners,
+                    skeletons,
+                    seal,
+                    log,
+                };
+                station_loop::station(rt, options)
+            }
+            _ => return None,
+        };
+        Some(status_of(rt, ended))
+    }
+}
