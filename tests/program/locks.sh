@@ -92,7 +92,7 @@ came "a folder that can be synced again" 0 'kept 1 31\nkept 2 64\nkept 3 91\n' '
 mkdir "$work/blind"
 chmod 777 "$work/blind"
 chmod 755 "$work"
-cp "$program" "$work/program"
+[ "$program" -ef "$work/program" ] || cp "$program" "$work/program"
 nobody=()
 [ "$(id -u)" -ne 0 ] || nobody=(setpriv --reuid 65534 --clear-groups)
 chmod 333 "$work/blind"

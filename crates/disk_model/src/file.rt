@@ -84,8 +84,8 @@ impl FileDisk {
 
     /// Opens the file, which is made only if the mode says so. In a mode that writes it is locked until the disk is
     /// dropped, so that of the programs that take the lock one writes it. In the mode that makes it, all that the system
-    /// keeps of it is synced, and its folder, so that its name outlives a stop. After `Locked` nothing was changed; after `Refused` and `Memory` the
-    /// file may have been made, and is empty.
+    /// keeps of it is synced, and its folder, so that its name outlives a stop. After `Locked` nothing was changed; after
+    /// `Refused` and `Memory` the file may have been made, and is empty.
     pub fn lock<R: Files<File = File> + Alloc>(
         rt: &R,
         path: &str,
@@ -129,12 +129,15 @@ fn fault_of(error: &io::Error) -> FileFault
     }
 }
 
-/// Syncs a file that may be new, with its owner and its rights. The syncs of a disk leave these out.
+/// Syncs a file that may be new, with its owner and its rights. The syncs of a disk leave these out. Of what can't be
+/// synced, such as a pipe, nothing is kept; the calls of the disk tell that.
 fn sync_whole(file: &File) -> Result<(), FileFault>
     ensures { result ≢ Err FileFault.Locked }
 {
     match file.sync_all() {
         Ok(()) => Ok(()),
+        // EINVAL of fsync(2)
+        Err(error) if error.kind() == ErrorKind::InvalidInput => Ok(()),
         Err(error) => Err(fault_of(&error)),
     }
 }
