@@ -10,7 +10,8 @@ and the docs with the examples. It needs libc6 alone, so one machine proves and 
     dpkg -i out/kudzuturret_VERSION_amd64.deb
 
 Manual pages and completion are made of what the programs say at --help. The maintainer is DEBFULLNAME and DEBEMAIL, as
-other tools of Debian take it, or else who runs this. The path of the package goes to standard output.
+other tools of Debian take it, or else as git is told, or else who runs this. The path of the package goes to standard
+output.
 """
 import getpass
 import gzip
@@ -129,8 +130,17 @@ def unit() -> str:
 
 
 def maintainer() -> str:
-    name = os.environ.get("DEBFULLNAME") or getpass.getuser()
-    return f"{name} <{os.environ.get('DEBEMAIL') or f'{getpass.getuser()}@{socket.getfqdn()}'}>"
+    """Who makes the package: as Debian's tools are told it, or else as git is, or else whoever runs this."""
+    name = os.environ.get("DEBFULLNAME") or configured("user.name") or getpass.getuser()
+    mail = os.environ.get("DEBEMAIL") or configured("user.email") or f"{getpass.getuser()}@{socket.getfqdn()}"
+    return f"{name} <{mail}>"
+
+
+def configured(key: str) -> str:
+    """What git is told, if there is a git."""
+    if not shutil.which("git"):
+        return ""
+    return subprocess.run(["git", "-C", TOP, "config", key], capture_output=True, text=True, check=False).stdout.strip()
 
 
 def libc() -> str:
