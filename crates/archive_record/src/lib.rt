@@ -1,0 +1,17 @@
+//! An archive that is written: a folder of files, of which the newest is recorded into.
+//!
+//! `Files` owns the folder. It begins files under numbers above all others, hands the newest out and takes it back, and
+//! throws files away. Nothing of a file that it has begun can be lost with the file's name.
+//!
+//! `open_sound` says which file can be gone on with, and leaves every other exactly as it is.
+//!
+//! Start at `specs/Files.antt`, which says what is known of a folder's files, and at `specs/Opening.antt`.
+#![tactic(auto)]
+
+mod damage;
+mod files;
+mod opening;
+
+pub use damage::Damage;
+pub use files::{BeginFault, Files};
+pub use opening::open_sound;

@@ -1,0 +1,102 @@
+//! Which file can be gone on with.
+ghost use Rattle.std.specs.Prelude.{◌≡◌, ◌+◌, ℕ, IfOk, IfErr, length, take, drop, false};
+ghost use Rattle.disk_model.specs.Frame.{Frame};
+ghost use Rattle.file_recorder.specs.Recorder.{committed};
+ghost use Rattle.gate_file.specs.Gate.{EndsAt};
+ghost use Rattle.record_actions.specs.Foreign.{IsForeign, front_of};
+ghost use Rattle.archive_record.specs.Opening.{IsLeftBy, IsSoundAt};
+
+use crate::damage::Damage;
+use disk_model::{Disk, DiskFault};
+use file_recorder::Recorder;
+use gate_file::{GateFile, OpenFault, committed_bytes_are_unique};
+use record_actions::is_foreign;
+use std::alloc::Global;
+
+/// A recorder on a disk that holds a recording, or nothing yet. Nothing waits in it, and each command is a group of its
+/// own.
+///
+/// Nothing is written to what can't be gone on with, and its disk is given back: to what begins with bytes of another
+/// kind, to what is no chain of links, and to what has two bytes or more after its last whole page of which the first
+/// isn't 00. What a stop leaves there begins with 00, or is one byte.
+pub fn open_sound<D: Disk + Drop>(alloc: Global, disk: D) -> Result<Recorder<D>, (Damage, D)>
+    ensures fresh { IfOk result (λ r. (r.file.failed ≡ false) × (r.held ≡ 0)) }
+    ensures sound { IfOk result (λ r. D.is_honest disk → IsSoundAt (D.state disk).contents r.file.end
+        × (IsForeign (front_of (D.state disk).contents) → ⊥)) }
+    ensures commits { IfOk result (λ r. D.is_honest disk → committed D.state r ≡ take r.file.end (D.state disk).contents) }
+    ensures left { IfErr result (λ (why, back). IsLeftBy D.Disk disk why back) }
+{
+    // For the proof alone.
+    committed_bytes_are_unique();
+    match with_own(disk) {
+        Ok(disk) => match with_sound_tail(alloc, disk) {
+            Ok(disk) => recorder_on(alloc, disk),
+            Err(left) => Err(left),
+        },
+        Err(left) => Err(left),
+    }
+}
+
+/// The same disk, if it doesn't begin with bytes of another kind.
+fn with_own<D: Disk + Drop>(disk: D) -> Result<D, (Damage, D)>
+    ensures own { IfOk result (λ same. D.is_honest disk → (D.state same ≡ D.state disk)
+        × (IsForeign (front_of (D.state disk).contents) → ⊥)) }
+    ensures frame { IfOk result (λ same. Frame D.Disk disk same ⊥) }
+    ensures left { IfErr result (λ (why, back). IsLeftBy D.Disk disk why back) }
+{
+    let mut disk = disk;
+    match is_foreign(&mut disk) {
+        Ok(false) => Ok(disk),
+        Ok(true) => Err((Damage::Foreign, disk)),
+        Err(DiskFault) => Err((Damage::Open(OpenFault::Disk), disk)),
+    }
+}
+
+/// The same disk, synced, if what follows its last whole page is what a stop may leave.
+fn with_sound_tail<D: Disk + Drop>(alloc: Global, disk: D) -> Result<D, (Damage, D)>
+    ensures same { IfOk result (λ same. D.is_honest disk → (D.state same).contents ≡ (D.state disk).contents) }
+    ensures sound { IfOk result (λ same. D.is_honest disk → (end : ℕ) × IsSoundAt (D.state disk).contents end) }
+    ensures frame { IfOk result (λ same. Frame D.Disk disk same ⊥) }
+    ensures left { IfErr result (λ (why, back). IsLeftBy D.Disk disk why back) }
+{
+    match GateFile::find(alloc, disk) {
+        Ok(found) => {
+            let (end, tail) = (found.end(), found.tail());
+            with_sound_end(found.give_back(), end, tail)
+        }
+        Err((fault, disk)) => Err((Damage::Open(fault), disk)),
+    }
+}
+
+/// The same disk, whose pages end at `end`, if the bytes that follow are what a stop may leave.
+fn with_sound_end<D: Disk + Drop>(disk: D, end: u64, tail: u64) -> Result<D, (Damage, D)>
+    requires { D.is_honest disk → EndsAt (D.state disk).contents end × (end + tail ≡ length (D.state disk).contents) }
+    ensures same { IfOk result (λ same. D.is_honest disk → D.state same ≡ D.state disk) }
+    ensures sound { IfOk result (λ same. D.is_honest disk → IsSoundAt (D.state disk).contents end) }
+    ensures frame { IfOk result (λ same. Frame D.Disk disk same ⊥) }
+    ensures left { IfErr result (λ (why, back). IsLeftBy D.Disk disk why back) }
+{
+    if tail < 2 {
+        return Ok(disk);
+    }
+    let mut disk = disk;
+    let mut first = [0; 1];
+    match disk.read_at(end, &mut first) {
+        Ok(()) if first[0] == 0 => Ok(disk),
+        Ok(()) => Err((Damage::Tail(end), disk)),
+        Err(DiskFault) => Err((Damage::Open(OpenFault::Disk), disk)),
+    }
+}
+
+/// A recorder on this disk.
+fn recorder_on<D: Disk + Drop>(alloc: Global, disk: D) -> Result<Recorder<D>, (Damage, D)>
+    ensures fresh { IfOk result (λ r. (r.file.failed ≡ false) × (r.held ≡ 0)) }
+    ensures ends { IfOk result (λ r. D.is_honest disk → EndsAt (D.state disk).contents r.file.end
+        × (committed D.state r ≡ take r.file.end (D.state disk).contents)) }
+    ensures left { IfErr result (λ (why, back). IsLeftBy D.Disk disk why back) }
+{
+    match Recorder::open(alloc, disk) {
+        Ok(recorder) => Ok(recorder),
+        Err((fault, disk)) => Err((Damage::Open(fault), disk)),
+    }
+}
