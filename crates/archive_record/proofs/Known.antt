@@ -142,7 +142,7 @@ module _ {D : Type 0} where
       → ((m : ℕ) → m ≢ n → now m ≡ before m)
       → IsKnown new now files next None
   known_unmade names new before now files next n known made_may next_is others =
-      ⊎_elim (λ same. rw same unmade) (λ may. ⊎_elim (λ comes. rw comes (doubtful Comes may.1)) (λ goes. rw goes (doubtful Goes may.1)) may.0) made_may
+      ⊎_elim (λ same. rw same unmade) (λ may. ⊎_elim (λ comes. rw comes (may_be_there Comes may.1)) (λ goes. rw goes (may_be_there Goes may.1)) may.0) made_may
     where
       below : (some : List Name) → AreBelow (n + 1) some → NoneOrBelow next some
       below some is = ⊎_elim
@@ -164,8 +164,8 @@ module _ {D : Type 0} where
         held = λ m is. absurd (no_number m is);
       }
 
-      doubtful : (fate : Fate) → IsKept (now n) → IsKnown (names ++ name n fate ∷ []) now files next None
-      doubtful fate new_kept = record {
+      may_be_there : (fate : Fate) → IsKept (now n) → IsKnown (names ++ name n fate ∷ []) now files next None
+      may_be_there fate new_kept = record {
         below = below (names ++ name n fate ∷ []) (below_next n fate names known.below);
         there = λ m has. subst (λ (l : List ℕ). Has l m) (sym (listed_more names n fate)) (has_left (listed names) (listed_one n fate) m (known.there m has));
         kept = λ m has other. kept m (has_either (listed names) (listed_one n fate) m (subst (λ (l : List ℕ). Has l m) (listed_more names n fate) has)) (either m n);
