@@ -17,7 +17,7 @@ IsRoom count = (1 ≤ count) × (count ≤ 16384)
 
 -- each number lies within its bounds
 abbrev pub IsInBounds : Action → Type 0
-IsInBounds (Archive file skeletons most strict seal) = IsGroup most
+IsInBounds (Archive path filing skeletons most strict seal) = IsGroup most
 IsInBounds (Station file address password_file listeners skeletons seal log) = IsRoom listeners
 IsInBounds (Record file end_open renumber seal most strict) = IsGroup most
 IsInBounds (Serve file address count) = IsCount count

@@ -2,6 +2,19 @@
 
 use import_changes::Skeletons;
 
+/// How the files of an archive are begun and kept: what was asked for of it.
+#[derive(Clone, Copy, Debug, PartialEq, Eq)]
+pub struct Filing {
+    /// A file has the commands of one period of so many seconds.
+    pub every: Option<u64>,
+    /// A file that has so many bytes gets no further command.
+    pub most_bytes: Option<u64>,
+    /// A file goes so many seconds after its last command.
+    pub keep: Option<u64>,
+    /// The oldest goes while all files together have more bytes.
+    pub keep_bytes: Option<u64>,
+}
+
 /// What the command line asks for.
 #[derive(Clone, Copy)]
 pub enum Action<'a> {
@@ -12,11 +25,12 @@ pub enum Action<'a> {
         renumber: bool,
         skeletons: Skeletons,
     },
-    /// The Ogg stream on standard input into the file, mended where it has to be. As many as `most` commands share a
-    /// commit while more of the stream is at hand. With `strict` the first mend or refusal ends the run. The file is
-    /// sealed at the end if `seal` says so.
+    /// The Ogg stream on standard input into the file or the folder, mended where it has to be. As many as `most`
+    /// commands share a commit while more of the stream is at hand. With `strict` the first mend or refusal ends the run.
+    /// The file, or the newest of the folder, is sealed at the end if `seal` says so.
     Archive {
-        file: &'a str,
+        path: &'a str,
+        filing: Filing,
         skeletons: Skeletons,
         most: u32,
         strict: bool,
@@ -33,6 +47,26 @@ pub enum Action<'a> {
         skeletons: Skeletons,
         seal: bool,
         log: bool,
+    },
+    /// The files of the folder whose time overlaps the time from `since` to `until`, in milliseconds since 1970, and
+    /// with `links` what is in them.
+    List {
+        folder: &'a str,
+        since: Option<u64>,
+        until: Option<u64>,
+        links: bool,
+    },
+    /// What was recorded into the folder after `since` and not after `until`, in milliseconds since 1970, as one Ogg file.
+    /// Its ends are where players look for them, unless it is `raw`.
+    Cut {
+        folder: &'a str,
+        since: Option<u64>,
+        until: Option<u64>,
+        raw: bool,
+    },
+    /// Whatever is wrong with the file, or the folder.
+    Verify {
+        path: &'a str,
     },
     /// The pages of the feed on standard input, with `strict` up to the first refusal.
     Mux {

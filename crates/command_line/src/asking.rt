@@ -2,27 +2,43 @@
 ghost use Rattle.std.specs.Prelude.{◌≤◌, IfOk, IfSome};
 ghost use Rattle.command_line.specs.Action.{IsCount, IsGroup, IsInBounds};
 
-use crate::action::Action;
+use crate::action::{Action, Filing};
 use crate::building::program;
 use crate::rows::{Bounds, CONNECTIONS, COUNTS, GROUPS};
+use crate::times::time_asked;
+use archive_clock::read_span;
 use clap::error::ErrorKind;
 use clap::{ArgMatches, Error};
 use import_changes::Skeletons;
 use std::alloc::{AllocError, Global};
 
+/// What is said of words of which `clap` has checked that they aren't there: all have their subcommand and their bounds.
+const NOTHING: &str = "the words ask for nothing";
+
+/// What is said of a text that is no span of time.
+const NO_SPAN: &str = "a DURATION is a number from 1 on and one of s m h d w, as in 90s, 1h or 6w";
+
+/// What is said of a text that is no number of bytes.
+const NO_BYTES: &str = "BYTES is a number from 1 on";
+
+/// What is said of a text that is no time.
+const NO_TIME: &str =
+    "T is a time as 2026-11-28T14:05:00Z or 2026-11-28T14:05:00 (local), or counted back from now, as -90s";
+
 /// What the words ask for; the first is the program's own name. An error is the text to show in place of it: help, the
 /// version, or what is wrong with the words.
-pub fn action_of<'a>(alloc: Global, words: &'a [String]) -> Result<Action<'a>, Error>
+pub fn action_of<'a>(rt: &HostRuntime, words: &'a [String]) -> Result<Action<'a>, Error>
     ensures { IfOk result IsInBounds }
 {
+    let alloc = rt.alloc();
     let matches = program(alloc)?.try_get_matches_from(words)?;
     match matches.subcommand() {
-        Some((name, words)) => match asked(name, words) {
-            Some(action) => Ok(action),
-            None => Err(refusal(alloc, "the words ask for nothing")?),
+        Some((name, words)) => match asked(rt, name, words) {
+            Ok(action) => Ok(action),
+            Err(message) => Err(refusal(alloc, message)?),
         },
-        // `clap` has checked that there is a subcommand, that it is one of these, and that it has its words.
-        None => Err(refusal(alloc, "the words ask for nothing")?),
+        // `clap` has checked that there is a subcommand.
+        None => Err(refusal(alloc, NOTHING)?),
     }
 }
 
@@ -44,13 +60,29 @@ fn refusal(alloc: Global, message: &str) -> Result<Error, AllocError> {
     program(alloc)?.error(ErrorKind::InvalidValue, message)
 }
 
-/// What a subcommand with these words asks for.
-fn asked<'a>(name: &str, words: &ArgMatches<'a>) -> Option<Action<'a>>
-    ensures { IfSome result IsInBounds }
+/// What a subcommand with these words asks for, or what is to be said of them.
+fn asked<'a>(
+    rt: &HostRuntime,
+    name: &str,
+    words: &ArgMatches<'a>,
+) -> Result<Action<'a>, &'static str>
+    ensures { IfOk result IsInBounds }
 {
     match name {
         "archive" => archive_of(words),
+        "list" => list_of(rt, words),
+        "cut" => cut_of(rt, words),
+        _ => asked_of_files(name, words).ok_or(NOTHING),
+    }
+}
+
+/// The same for a subcommand without spans and times.
+fn asked_of_files<'a>(name: &str, words: &ArgMatches<'a>) -> Option<Action<'a>>
+    ensures { IfSome result IsInBounds }
+{
+    match name {
         "station" => station_of(words),
+        "verify" => verify_of(words),
         "feed" => Some(feed_of(words)),
         "mux" => Some(mux_of(words)),
         "record" => record_of(words),
@@ -97,15 +129,100 @@ fn skeletons_of(words: &ArgMatches<'_>) -> Skeletons {
     }
 }
 
-fn archive_of<'a>(words: &ArgMatches<'a>) -> Option<Action<'a>>
+/// The seconds of a span, if one is given.
+fn span_of(words: &ArgMatches<'_>, name: &str) -> Result<Option<u64>, &'static str> {
+    let Some(text) = words.get_str(name) else {
+        return Ok(None);
+    };
+    match read_span(text.as_bytes()) {
+        Some(seconds) => Ok(Some(seconds)),
+        None => Err(NO_SPAN),
+    }
+}
+
+/// A number of bytes, if one is given.
+fn bytes_of(words: &ArgMatches<'_>, name: &str) -> Result<Option<u64>, &'static str> {
+    let Some(text) = words.get_str(name) else {
+        return Ok(None);
+    };
+    match text.parse::<u64>() {
+        Ok(bytes) if bytes > 0 => Ok(Some(bytes)),
+        _ => Err(NO_BYTES),
+    }
+}
+
+/// A time in milliseconds since 1970, if one is given.
+fn time_of(
+    rt: &HostRuntime,
+    words: &ArgMatches<'_>,
+    name: &str,
+) -> Result<Option<u64>, &'static str> {
+    let Some(text) = words.get_str(name) else {
+        return Ok(None);
+    };
+    match time_asked(rt, text) {
+        Some(time) => Ok(Some(time)),
+        None => Err(NO_TIME),
+    }
+}
+
+/// How the files of an archive are begun and kept.
+fn filing_of(words: &ArgMatches<'_>) -> Result<Filing, &'static str> {
+    Ok(Filing {
+        every: span_of(words, "every")?,
+        most_bytes: bytes_of(words, "most-bytes")?,
+        keep: span_of(words, "keep")?,
+        keep_bytes: bytes_of(words, "keep-bytes")?,
+    })
+}
+
+fn archive_of<'a>(words: &ArgMatches<'a>) -> Result<Action<'a>, &'static str>
+    ensures { IfOk result IsInBounds }
+{
+    let filing = filing_of(words)?;
+    archive_filed(words, filing).ok_or(NOTHING)
+}
+
+fn archive_filed<'a>(words: &ArgMatches<'a>, filing: Filing) -> Option<Action<'a>>
     ensures { IfSome result IsInBounds }
 {
     Some(Action::Archive {
-        file: words.get_str("FILE")?,
+        path: words.get_str("PATH")?,
+        filing,
         skeletons: skeletons_of(words),
         most: group_of(words)?,
         strict: words.get_flag("strict"),
         seal: words.get_flag("seal"),
+    })
+}
+
+fn list_of<'a>(rt: &HostRuntime, words: &ArgMatches<'a>) -> Result<Action<'a>, &'static str>
+    ensures { IfOk result IsInBounds }
+{
+    Ok(Action::List {
+        folder: words.get_str("DIR").ok_or(NOTHING)?,
+        since: time_of(rt, words, "since")?,
+        until: time_of(rt, words, "until")?,
+        links: words.get_flag("links"),
+    })
+}
+
+fn cut_of<'a>(rt: &HostRuntime, words: &ArgMatches<'a>) -> Result<Action<'a>, &'static str>
+    ensures { IfOk result IsInBounds }
+{
+    Ok(Action::Cut {
+        folder: words.get_str("DIR").ok_or(NOTHING)?,
+        since: time_of(rt, words, "since")?,
+        until: time_of(rt, words, "until")?,
+        raw: words.get_flag("raw"),
+    })
+}
+
+fn verify_of<'a>(words: &ArgMatches<'a>) -> Option<Action<'a>>
+    ensures { IfSome result IsInBounds }
+{
+    Some(Action::Verify {
+        path: words.get_str("PATH")?,
     })
 }
 

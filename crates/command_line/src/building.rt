@@ -45,6 +45,7 @@ fn argument_of<'a>(alloc: Global, row: &Argument) -> Result<Arg<'a>, AllocError>
         Kind::Flag => Ok(flag(argument, row.name)),
         Kind::FlagWithout(other) => flag(argument, row.name).conflicts_with(other),
         Kind::Named(value) => Ok(valued(argument, row.name, value, None)),
+        Kind::Time => Ok(valued(argument, row.name, "T", None).allow_hyphen_values(true)),
         Kind::Valued {
             value,
             bounds,

@@ -15,8 +15,9 @@ mod building;
 mod rows;
 mod starting;
 mod subcommands;
+mod times;
 
-pub use action::Action;
+pub use action::{Action, Filing};
 pub use asking::{action_of, elsewhere, not_text};
 pub use clap::Error;
 pub use import_changes::Skeletons;

@@ -48,6 +48,8 @@ pub(crate) enum Kind {
     FlagWithout(&'static str),
     /// `--name TEXT`, where help calls the text by this name.
     Named(&'static str),
+    /// `--name T`: a time, which may begin with `-`.
+    Time,
     /// `--name NUMBER`, where help calls the number `value`.
     Valued {
         value: &'static str,

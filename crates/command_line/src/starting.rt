@@ -27,7 +27,7 @@ pub fn answer<P: Program>(rt: &HostRuntime, program: &P) -> ExitCode {
 
 /// Does what these words ask for.
 fn answer_words<P: Program>(rt: &HostRuntime, program: &P, words: &[String]) -> ExitCode {
-    let action = match action_of(rt.alloc(), words) {
+    let action = match action_of(rt, words) {
         Ok(action) => action,
         Err(error) => return show(rt, &error),
     };

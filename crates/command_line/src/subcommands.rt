@@ -10,6 +10,8 @@ pub(crate) static PROGRAM: Program = Program {
     help: "\
 From an encoder to an archive, to a file that plays well, and to listeners:
 
+  ffmpeg -i INPUT -f ogg - | kudzuturret archive radio/ --keep 6w
+  kudzuturret cut radio/ --since 2026-11-24T14:05:00 --until 2026-11-24T14:20:00 > tuesday.ogg
   ffmpeg -i INPUT -f ogg - | kudzuturret archive radio.ogg
   kudzuturret finish radio.ogg > radio-to-play.ogg
   ffmpeg -re -i INPUT -f ogg - | kudzuturret station radio.ogg 127.0.0.1:8000
@@ -25,9 +27,10 @@ or a command line that can't be read.
 };
 
 /// The subcommands, as help lists them.
-pub(crate) fn subcommands() -> [&'static Subcommand; 11] {
+pub(crate) fn subcommands() -> [&'static Subcommand; 14] {
     [
-        &ARCHIVE, &STATION, &FEED, &MUX, &RECORD, &LINKS, &SPLIT, &FINISH, &SALVAGE, &SERVE, &LIVE,
+        &ARCHIVE, &LIST, &CUT, &VERIFY, &STATION, &FEED, &MUX, &RECORD, &LINKS, &SPLIT, &FINISH,
+        &SALVAGE, &SERVE, &LIVE,
     ]
 }
 
@@ -102,11 +105,56 @@ const SEAL: Argument = Argument {
     help: "At the end, if no fault came, cuts the file to its pages",
 };
 
+/// The folder of an archive that is only read.
+const READ_FOLDER: Argument = Argument {
+    name: "DIR",
+    kind: Kind::Text,
+    help: "The folder of an archive, which is only read",
+};
+
+/// The time after which what was recorded is meant.
+const SINCE: Argument = Argument {
+    name: "since",
+    kind: Kind::Time,
+    help: "What was recorded after this time; without it, from the first",
+};
+
+/// The time up to which what was recorded is meant.
+const UNTIL: Argument = Argument {
+    name: "until",
+    kind: Kind::Time,
+    help: "What was recorded up to this time; without it, up to the last",
+};
+
 static ARCHIVE: Subcommand = Subcommand {
     name: "archive",
-    about: "Records the Ogg stream on standard input into a file, whatever stops or restarts",
+    about: "Records the Ogg stream on standard input into a folder or a file, whatever stops or restarts",
     arguments: &[
-        RECORDED_FILE,
+        Argument {
+            name: "PATH",
+            kind: Kind::Text,
+            help: "The folder or the file; it is made if there is none, and continued if there is one",
+        },
+        Argument {
+            name: "every",
+            kind: Kind::Named("DURATION"),
+            help: "Begins a file each so often, as 1h, which is meant for a folder without this",
+        },
+        Argument {
+            name: "most-bytes",
+            kind: Kind::Named("BYTES"),
+            help: "Begins a file also once the last one has so many bytes",
+        },
+        Argument {
+            name: "keep",
+            kind: Kind::Named("DURATION"),
+            help: "Throws files away that are so old, as 6w; not the newest, and none beside which is NAME.keep",
+        },
+        Argument {
+            name: "keep-bytes",
+            kind: Kind::Named("BYTES"),
+            help: "Throws the oldest files away while all together have more bytes",
+        },
         SKELETON,
         NO_SKELETON,
         Argument {
@@ -128,8 +176,19 @@ static ARCHIVE: Subcommand = Subcommand {
     help: "\
 The stream comes from an encoder, from a server, or from a file:
 
-  ffmpeg -i INPUT -f ogg - | kudzuturret archive radio.ogg
+  ffmpeg -i INPUT -f ogg - | kudzuturret archive radio/ --every 1h --keep 6w
   curl -s http://127.0.0.1:8000/radio.ogg | kudzuturret archive radio.ogg
+
+A PATH that is a folder, or ends in `/`, or comes with `--every`, `--most-bytes`, `--keep` or `--keep-bytes`, is
+a folder of files, an hour each unless `--every` says otherwise; every other PATH is one file. DURATION is a
+number and one of s, m, h, d, w. Each file is a plain Ogg file, NUMBER-TIME.ogg or NUMBER-TIME-on.ogg if it goes
+on with the file before; beside it stand its times. Without `--keep` and `--keep-bytes` nothing is ever removed.
+What happens to files is told on standard error:
+
+  file NUMBER begins NAME                  recorded into from now on
+  file NUMBER ends NAME BYTES              never written again
+  file NUMBER removed NAME                 thrown away, by `--keep` or `--keep-bytes`
+  damaged NAME CODE ..                     left as it is; the next file is begun
 
 Run the same line again after whatever stopped it: all that was on the disk is kept, what was left
 open is ended, and the stream goes on as a new link. A page is on the disk as soon as it has come; only
@@ -153,6 +212,82 @@ The last line is `archived LINKS PACKETS BYTES MENDS`: how many links were begun
 how many bytes the file's pages have, and how often something was mended. Mends are no fault. After a
 refusal the status is 1, and the last line is `fault refused`. At a terminal a line tells how far the
 recording has come.
+",
+};
+
+static LIST: Subcommand = Subcommand {
+    name: "list",
+    about: "Lists the files of an archive with their times and sizes",
+    arguments: &[
+        READ_FOLDER,
+        SINCE,
+        UNTIL,
+        Argument {
+            name: "links",
+            kind: Kind::Flag,
+            help: "Lists what is in each file too, as `links` does",
+        },
+    ],
+    help: "\
+T is a time as 2026-11-28T14:05:00Z or 2026-11-28T14:05:00+01:00, the same without an offset (local time), or
+counted back from now, as -90s, -2h or -3d:
+
+  kudzuturret list radio/ --since -2d
+
+  file NUMBER BEGIN END BYTES NAME         a file whose time overlaps
+  gap BEGIN END                            nothing was recorded for ten seconds or more
+  damaged NAME CODE ..                     with `--links`: the file can't be read as links
+
+Times are told in UTC. The folder may be recorded into meanwhile.
+",
+};
+
+static CUT: Subcommand = Subcommand {
+    name: "cut",
+    about: "Writes what was recorded between two times as one Ogg file",
+    arguments: &[
+        READ_FOLDER,
+        SINCE,
+        UNTIL,
+        Argument {
+            name: "raw",
+            kind: Kind::Flag,
+            help: "Leaves the ends of streams as they are; players may play padding there",
+        },
+    ],
+    help: "\
+What was said on Tuesday from 14:05 to 14:20, as one sound file on standard output:
+
+  kudzuturret cut radio/ --since 2026-11-24T14:05:00 --until 2026-11-24T14:20:00 > tuesday.ogg
+  kudzuturret cut radio/ --since -90s | ffplay -
+
+T is a time as for `list`. A cut holds what was on the disk after the one time and not after the other: of two
+cuts that meet at a time, none has a packet of the other, and none is missing. Standard error tells what is in
+it, and each gap:
+
+  cut BEGIN END FILES files LINKS links BYTES bytes
+  nothing from BEGIN to END
+
+The folder may be recorded into meanwhile. If there is nothing, the status is 1, and the line is
+`fault cut 1 Nothing`.
+",
+};
+
+static VERIFY: Subcommand = Subcommand {
+    name: "verify",
+    about: "Reads a file or an archive once, and tells whatever is wrong",
+    arguments: &[Argument {
+        name: "PATH",
+        kind: Kind::Text,
+        help: "The file, or the folder of an archive, which is only read",
+    }],
+    help: "\
+It reads names, pages with their checksums, links and times:
+
+  damaged NAME ..                          what is wrong, and where
+  verified FILES LINKS BYTES FAULTS        the last line
+
+If anything is wrong, the status is 1. At a terminal a line tells how far it has come.
 ",
 };
 

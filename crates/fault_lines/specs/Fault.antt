@@ -21,7 +21,7 @@ use Rattle.ogg_finish.specs.FinishFault as Fin
 use Rattle.ogg_split.specs.SplitFault as S
 use Rattle.serve_machine.specs.HubFault as H
 use Rattle.fault_lines.specs.declared.fault.Fault.{Fault}
-use Rattle.fault_lines.specs.declared.fault.Fault.TheVariants.{File, Locked, Foreign, Memory, Open, Feed, Write, TooMany, Index, Split, Finish, Make, Archive, Mended, Net, Serve, Failed, Refused, Seal}
+use Rattle.fault_lines.specs.declared.fault.Fault.TheVariants.{File, Locked, Foreign, Memory, Open, Feed, Write, TooMany, Index, Split, Finish, Make, Archive, Mended, Net, Serve, Failed, Refused, Seal, Nothing, Damaged}
 
 -- a number and a name, and then this
 abbrev pub coded : ℕ → List ℕ → List ℕ → List ℕ
@@ -81,6 +81,8 @@ fault_line (Serve fault) = codes "fault serve " ++ coded (H.code_of fault) (H.na
 fault_line Failed = codes "fault failed" ++ line_end
 fault_line Refused = codes "fault refused" ++ line_end
 fault_line Seal = codes "fault seal" ++ line_end
+fault_line Nothing = codes "fault cut 1 Nothing" ++ line_end
+fault_line Damaged = codes "fault damaged" ++ line_end
 
 -- the fault that the program reports if a run over a feed ended with one
 abbrev pub fault_of_run : RunFault → Fault

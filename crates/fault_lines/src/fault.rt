@@ -79,6 +79,12 @@ pub enum Fault {
     /// A file wasn't cut to its committed bytes.
     #[error("the file wasn't sealed")]
     Seal,
+    /// Nothing was recorded in the time that was asked for.
+    #[error("nothing was recorded in that time")]
+    Nothing,
+    /// A file or a folder that was read holds damage, which was told.
+    #[error("there is damage")]
+    Damaged,
 }
 
 impl From<RunFault> for Fault {
@@ -176,6 +182,8 @@ fn line_of(fault: Fault) -> Line
         Fault::Failed => words(b"fault failed"),
         Fault::Refused => words(b"fault refused"),
         Fault::Seal => words(b"fault seal"),
+        Fault::Nothing => words(b"fault cut 1 Nothing"),
+        Fault::Damaged => words(b"fault damaged"),
     }
 }
 

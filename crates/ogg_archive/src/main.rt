@@ -6,11 +6,11 @@
 //! what it could ask for.
 #![tactic(auto)]
 
+use archive_actions::ArchiveOptions;
 use command_line::{Action, Program, answer};
 use fault_lines::status_of;
 use import_feed::ChangeOptions;
 use std::process::ExitCode;
-use stream_actions::ArchiveOptions;
 
 /// The words about archives.
 struct Archives;
@@ -23,7 +23,8 @@ impl Program for Archives {
     fn run(&self, rt: &HostRuntime, action: Action<'_>) -> Option<ExitCode> {
         let ended = match action {
             Action::Archive {
-                file,
+                path,
+                filing: _,
                 skeletons,
                 most,
                 strict,
@@ -35,7 +36,7 @@ impl Program for Archives {
                     strict,
                     seal,
                 };
-                stream_actions::archive(rt, file, options)
+                archive_actions::archive(rt, path, options)
             }
             Action::Feed {
                 mend,

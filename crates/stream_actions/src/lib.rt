@@ -1,4 +1,4 @@
-//! What the program does with what comes on standard input: `mux`, `check`, `feed`, `record` and `archive`.
+//! What the program does with what comes on standard input: `mux`, `check`, `feed` and `record`.
 //!
 //! Each of these functions opens what it needs, calls the crates below, and returns the first fault that it met. It
 //! leaves the fault's line to its caller.
@@ -6,8 +6,6 @@
 //! Start at `src/streams.rt`, which has the shortest of them.
 #![tactic(auto)]
 
-mod archiving;
 mod streams;
 
-pub use archiving::{ArchiveOptions, archive};
 pub use streams::{RecordEnds, check, feed, mux, record};

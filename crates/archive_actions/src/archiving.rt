@@ -3,7 +3,7 @@ ghost use Rattle.std.specs.Prelude.{◌≡◌, ◌⊎◌, IfOk, OnOk, Err, true,
 ghost use Rattle.gate_file.specs.declared.fault.OpenFault.{OpenFault as OpenFaultOf};
 ghost use Rattle.link_chain.specs.ChainState.{is_open};
 ghost use Rattle.record_actions.specs.Foreign.{IsForeign, front_of};
-ghost use Rattle.stream_actions.specs.Resting.{IsAtRest};
+ghost use Rattle.archive_actions.specs.Resting.{IsAtRest};
 
 use disk_model::{Disk, FileDisk, FileMode};
 use fault_lines::Fault;
