@@ -274,10 +274,18 @@ are_heard adds bytes links recording begin passed since ca cs l h kept none open
       begin_pages = begin_pages;
       begin_is = refl;
       passed_pages = mid;
+      joins = joins;
+      held_begin = held_begin;
+      held_joined = held_joined;
       joined = longer.split;
       after_pages = later ++ flattened further;
       added = same_behind front (bytes_of_commands joined_links since) rest
           (ap (λ x. x ++ bytes_of_commands joined_links since) (sym joined_is) ∙ now_bytes);
+      later = later;
+      further = further;
+      after_are = refl;
+      unmarked = grown.unmarked;
+      grown = now_is;
       heard_links = heard_link begin_pages mid later ∷ further;
       are_links = are_links bytes_now links further begin_pages mid later are joins grown.unmarked;
       holds = holds_at bytes_now links further begin_pages mid later begun (last_streams joined_recording) (drop (length recording) recording_now)

@@ -1,4 +1,3 @@
-mod Packets
 mod OneStream
 mod OneLink
 mod Chain

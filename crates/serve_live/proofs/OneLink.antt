@@ -19,7 +19,7 @@ use Rattle.link_chain.specs.Laws.Fronts.{goes_on, front_is_link, page_fits}
 use Rattle.link_chain.specs.Laws.TakenLinks.{without}
 use Rattle.serve_live.specs.Heard.{gap, heard_page, ended_unheard, end_page, end_pages, heard_link}
 use Rattle.serve_live.specs.Joining.{AreLater, IsJoined, heard_stream, heard_streams}
-use Rattle.serve_live.proofs.Packets.{HoldsNothing, held_rest, none_held}
+use Rattle.serve_live.specs.Packets.{HoldsNothing, held_rest, none_held}
 use Rattle.serve_live.proofs.OneStream.{numbers_rise, nothing_follows, with_heard, own_of, heard_last, heard_holds, go_on_heard, end_fits, none_of, not_of, one_of}
 use Rattle.ogg_page.specs.Laws.PageBytes.{all_both}
 

@@ -13,3 +13,5 @@ pub mod Places
 pub mod JoinFault
 pub mod Pulling
 pub mod Renumbering
+pub mod Linear
+pub mod Packets

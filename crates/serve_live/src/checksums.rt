@@ -20,7 +20,7 @@ pub fn checksum_change(old: u32, new: u32, size: u64) -> u32
 }
 
 /// The checksum of some bytes and this many zeros after them, from the checksum of the bytes.
-fn with_zeros(before: u32, count: u64) -> u32
+pub fn with_zeros(before: u32, count: u64) -> u32
     ensures { (front : List ℕ) → before ≡ checksum_of front → result ≡ checksum_of (front ++ replicate count 0) }
 {
     let zeros = [0; ZEROS];

@@ -25,6 +25,7 @@ mod pages;
 mod pieces;
 
 pub use boundaries::{AHEAD, Boundaries};
+pub use checksums::with_zeros;
 pub use fault::JoinFault;
 pub use laws::{
     commands_are_heard, commands_make_places, listeners_hear_what_they_should,

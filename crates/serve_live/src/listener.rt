@@ -3,6 +3,7 @@ ghost use Rattle.std.specs.Prelude.{◌≡◌, ◌≤◌, ◌<◌, ◌-◌, ℕ,
 ghost use Rattle.ogg_page.specs.Page.{Page, bytes_of_pages};
 ghost use Rattle.link_chain.specs.ChainState.{chain_state_of};
 ghost use Rattle.link_chain.specs.Links.{AreLinks};
+ghost use Rattle.serve_live.specs.Gaps.{gap_in};
 ghost use Rattle.serve_live.specs.Hearing.{IsHearing};
 ghost use Rattle.serve_live.specs.Joined.{IsNew, ends_of};
 ghost use Rattle.serve_live.specs.Live.{Moment};
@@ -14,7 +15,7 @@ ghost use Rattle.serve_live.specs.Listening.{Gives, HasFailed, IsLeft};
 ghost use Rattle.serve_live.specs.Pulling.{HasMoved};
 
 use crate::fault::JoinFault;
-use crate::gaps::StreamGap;
+use crate::gaps::{StreamGap, gap_in};
 use crate::joined::{JoinedStream, LinkPart, gaps_of, note_pages, streams_of_now};
 use crate::pages::PageLeft;
 use crate::pieces::{pull_behind, pull_part};
@@ -194,6 +195,17 @@ impl Listener {
                 skip: 0,
                 anew: true,
             },
+        }
+    }
+
+    /// How many numbers of the stream with this serial aren't heard, until another link begins.
+    pub fn gap(&self, serial: u32) -> u64
+        ensures { result ≡ gap_in self.now.gaps serial }
+    {
+        if self.left.anew {
+            0
+        } else {
+            gap_in(self.gaps.as_slice(), serial)
         }
     }
 

@@ -1,4 +1,4 @@
--- The packets of a stream's pages after the packets of those before them.
+-- The packets of a stream's pages after the packets of those before them. These are laws, to be cited.
 use Rattle.std.proofs.Common.{◌≡◌, ℕ, List, [], ◌∷◌, ◌++◌, length, drop, refl, sym, ◌∙◌, ap, append_assoc}
 use Rattle.std.specs.List.{AllByRecursion, flat_map, concat}
 use Rattle.std.proofs.lemmas.List.{append-nil}
