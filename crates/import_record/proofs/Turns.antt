@@ -17,7 +17,7 @@ use Rattle.import_mend.specs.Whole.{TakesPages}
 use Rattle.import_mend.specs.declared.mend.Mend.{Mend}
 use Rattle.import_record.specs.Running.{records_of}
 use Rattle.import_record.specs.Begun.{BegunState, streams_after}
-use Rattle.import_record.specs.Resuming.{ResumesIf, begin_of, ends_of, holds_open}
+use Rattle.import_record.specs.Resuming.{ResumesIf, ends_of, holds_open, link_again}
 use Rattle.import_record.specs.Steps.{Become, IntakeState}
 use Rattle.import_record.proofs.Kept.{streams_both}
 use Rattle.import_record.specs.Whole.{Done, Event, GivesOn, GoOn, Records, pages_in}
@@ -93,8 +93,8 @@ gives_on true streams serials old next new commands rest done (same, is) become 
 gives_on false streams serials old next new commands rest done (given, again, is) become plain given_is more_is = (
   given ++ rest.given,
   given_is ∙ ap (λ l. l ++ rest.given) is ∙ append_assoc (ends_of [] streams) given rest.given,
-  subst (λ l. HasChangedBeside serials new.changes (begin_of old.begun.streams ∷ l) (given ++ rest.given)) (sym more_is)
-      (become serials (begin_of old.begun.streams ∷ []) given again.changed plain),
+  subst (λ l. HasChangedBeside serials new.changes (link_again old.begun.streams ++ l) (given ++ rest.given)) (sym more_is)
+      (become serials (link_again old.begun.streams) given again.changed plain),
 )
 
 -- ---- records

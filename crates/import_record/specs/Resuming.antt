@@ -7,7 +7,8 @@ use Rattle.ogg_command.specs.declared.command.Command.{Command}
 use Rattle.ogg_command.specs.declared.command.Command.TheVariants.{Begin as BeginOf, End as EndOf}
 use Rattle.ogg_command.specs.declared.command.NewStream.{NewStream}
 use Rattle.import_changes.specs.Changed.{HasChangedBeside}
-use Rattle.import_record.specs.Begun.{bare, open_after}
+use Rattle.import_record.specs.Begun.{bare, comes_again, open_after, stream_of}
+use Rattle.import_record.specs.declared.begun.BegunStream.{BegunStream}
 use Rattle.import_record.specs.Steps.{IntakeState}
 
 -- ---- what the file holds
@@ -40,13 +41,24 @@ ends_of ours streams = map end_of (filter (is_left ours) streams)
 abbrev pub begin_of : List NewStream → Command
 begin_of streams = BeginOf (record { skeleton = None; streams = map bare streams })
 
+-- it comes again, and it has ended
+abbrev pub is_over : BegunStream → Bool
+is_over begun = begun.ended && not begun.has_packets
+
+abbrev pub end_again : BegunStream → Command
+end_again begun = EndOf begun.stream.serial
+
+-- The link again: the streams that the input hasn't ended, and those that it has ended with no packet but their headers,
+-- as a Skeleton, in the order in which they began. These others end at once, as they did.
+abbrev pub link_again : List BegunStream → List Command
+link_again streams = begin_of (map stream_of (filter comes_again streams)) ∷ map end_again (filter is_over streams)
+
 -- The link begins again, as any link is begun in a file that has these serials: under serials that none of them is.
--- It has only the streams that the input hasn't ended. A stream that has ended would have none of its packets.
 pub record BeginsAgain (taken : List ℕ) (old new : IntakeState) (given : List Command) : Type 0 where
   pub mending : new.mending ≡ old.mending
   pub same : new.options ≡ old.options
   pub options : new.changes.options ≡ old.options
-  pub changed : HasChangedBeside taken new.changes (begin_of old.begun.streams ∷ []) given
+  pub changed : HasChangedBeside taken new.changes (link_again old.begun.streams) given
   pub begun : new.begun ≡ record { streams = old.begun.streams; serials = open_after [] given }
 
 -- ---- the commands that are run before the next page

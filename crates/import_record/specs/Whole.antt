@@ -13,7 +13,7 @@ use Rattle.feed_runner.specs.Counting.{commands_in}
 use Rattle.import_mend.specs.Whole.{HasMended}
 use Rattle.import_mend.specs.declared.mend.Mend.{Mend}
 use Rattle.ogg_page.specs.Page.{Page}
-use Rattle.import_record.specs.Resuming.{Resumes, begin_of, ends_of, holds_open}
+use Rattle.import_record.specs.Resuming.{Resumes, ends_of, holds_open, link_again}
 use Rattle.import_record.specs.Running.{HasRun, records_of}
 use Rattle.import_record.specs.Steps.{Become, IntakeState, Takes}
 use Rattle.import_record.specs.declared.answering.Answered.{Answered}
@@ -82,7 +82,7 @@ GivesOn true streams serials old new done =
     (rest : List Command) × (done.given ≡ ends_of old.begun.serials streams ++ rest) × Become old.changes new.changes done.more rest
 GivesOn false streams serials old new done =
     (rest : List Command) × (done.given ≡ ends_of [] streams ++ rest)
-    × HasChangedBeside serials new.changes (begin_of old.begun.streams ∷ done.more) rest
+    × HasChangedBeside serials new.changes (link_again old.begun.streams ++ done.more) rest
 
 module _ {S : Type 0} (answers : S → Record → Reply → List ℕ → S → Type 0) where
   -- In turn a page is taken, or what waits is flushed, or commands are run with which the recording goes on.

@@ -1,18 +1,18 @@
 //! A recording that goes on after its file was opened again.
-ghost use Rattle.std.specs.Prelude.{◌≡◌, ◌++◌, ◌∷◌, [], nat_eq, IfOk, OnOk, OnErr};
-ghost use Rattle.std.specs.List.{list_any};
+ghost use Rattle.std.specs.Prelude.{◌≡◌, ◌++◌, [], map, nat_eq, IfOk, OnOk, OnErr};
+ghost use Rattle.std.specs.List.{filter, list_any};
 ghost use Rattle.import_changes.specs.Changed.{HasChangedBeside};
 ghost use Rattle.import_record.specs.Begun.{open_after};
-ghost use Rattle.import_record.specs.Resuming.{Resumes, begin_of, ends_of, has_open, holds_open, is_left};
+ghost use Rattle.import_record.specs.Resuming.{Resumes, end_again, ends_of, has_open, holds_open, is_left, is_over, link_again};
 ghost use Rattle.import_record.specs.Steps.{state_of};
 ghost use Rattle.ogg_command.specs.declared.command.Command.{Command as CommandOf};
 
 use crate::Memory;
-use crate::begun::{all_bare, keep_all_open};
+use crate::begun::{BegunStream, all_again, keep_all_open};
 use crate::reading::ImportRun;
 use import_changes::{ChangeOptions, Changes};
 use link_chain::StreamState;
-use ogg_command::{Begin, Command, Listed, NewStream};
+use ogg_command::{Begin, Command, Listed};
 use std::alloc::Global;
 
 /// A link that is begun again.
@@ -27,8 +27,8 @@ impl ImportRun {
     /// The commands that are to be run before the next step, after the file was opened again, in which a fault of the
     /// disk may have lost what waited. `streams` are those of its last link, and `serials` all that it has. If it has
     /// each stream open that the input has, only the others are ended. Otherwise all that is open is ended, and if the
-    /// input's link is open it begins again: with the streams that are open, under serials that are free. After
-    /// `Memory` all is as before.
+    /// input's link is open it begins again: with the streams that are open, and with those that have ended and had no
+    /// packet but their headers, as a Skeleton, under serials that are free. After `Memory` all is as before.
     pub fn resume(
         &mut self,
         streams: &[StreamState],
@@ -61,25 +61,20 @@ impl ImportRun {
     }
 }
 
-/// Begins a link of these streams, in a file that has these serials.
+/// Begins a link of these streams again, in a file that has these serials.
 fn begin_again(
     alloc: Global,
     options: ChangeOptions,
     serials: &[u32],
-    streams: &[NewStream],
+    streams: &[BegunStream],
 ) -> Result<Again, Memory>
-    ensures changed { IfOk result (λ again. HasChangedBeside serials.now again.changes (begin_of streams.now ∷ []) again.given.items) }
+    ensures changed { IfOk result (λ again. HasChangedBeside serials.now again.changes (link_again streams.now) again.given.items) }
     ensures options { IfOk result (λ again. again.changes.options ≡ options) }
     ensures ours { IfOk result (λ again. again.ours.items ≡ open_after [] again.given.items) }
 {
     let mut changes = Changes::new(alloc, options);
     changes.avoid(serials)?;
-    let streams = all_bare(alloc, streams)?;
-    let mut commands = Vec::new(alloc);
-    commands.push(Command::Begin(Begin {
-        skeleton: None,
-        streams: Listed::of(streams),
-    }))?;
+    let commands = link_again(alloc, streams)?;
     let given = changes.apply(commands)?;
     let mut ours = Vec::new(alloc);
     keep_all_open(alloc, &mut ours, given.as_slice())?;
@@ -88,6 +83,39 @@ fn begin_again(
         given,
         ours,
     })
+}
+
+/// The link of these streams again, as the input gave it.
+fn link_again(alloc: Global, streams: &[BegunStream]) -> Result<Vec<Command>, Memory>
+    ensures { IfOk result (λ commands. commands.items ≡ link_again streams.now) }
+{
+    let mut commands = Vec::new(alloc);
+    let again = all_again(alloc, streams)?;
+    commands.push(Command::Begin(Begin {
+        skeleton: None,
+        streams: Listed::of(again),
+    }))?;
+    push_ends_again(&mut commands, streams)?;
+    Ok(commands)
+}
+
+/// Whether the stream has ended and had no packet but its headers.
+fn is_over(begun: &BegunStream) -> bool
+    ensures { result ≡ is_over begun.now }
+{
+    begun.ended && !begun.has_packets
+}
+
+/// Appends the ends of the streams that had no packet but their headers. After `Memory` only some were appended.
+fn push_ends_again(commands: &mut Vec<Command>, streams: &[BegunStream]) -> Result<(), Memory>
+    ensures { OnOk result (commands.new.items ≡ commands.old.items ++ map end_again (filter is_over streams.now)) }
+{
+    for begun in streams {
+        if is_over(begun) {
+            commands.push(Command::End(begun.stream.serial))?;
+        }
+    }
+    Ok(())
 }
 
 /// Whether a stream of the file's last link, which has these streams, has this serial and is open.
