@@ -1,0 +1,10 @@
+pub mod Cut
+pub mod Packets
+pub mod Parts
+pub mod Files
+pub mod Retold
+pub mod Joined
+pub mod Times
+pub mod Cutting
+pub mod Finished
+pub mod CutFault

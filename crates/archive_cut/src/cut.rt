@@ -1,0 +1,110 @@
+//! A cut: what is still to be given of it.
+ghost use Rattle.std.specs.Prelude.{◌≡◌, ◌≤◌, ◌<◌, ℕ, List, [], ◌++◌, Err, length, min, take, drop, IfOk, IsErr, OnErr};
+ghost use Rattle.std.specs.List.{AllByRecursion};
+ghost use Rattle.ogg_page.specs.Page.{Page, IsPage};
+ghost use Rattle.ogg_page.specs.Window.{KeepsSource};
+ghost use Rattle.link_chain.specs.ChainState.{chain_state_of};
+ghost use Rattle.link_chain.specs.Links.{AreLinks};
+ghost use Rattle.serve_live.specs.Hearing.{IsHearing};
+ghost use Rattle.serve_live.specs.Listening.{HasFailed};
+ghost use Rattle.serve_live.specs.Live.{Moment};
+ghost use Rattle.archive_cut.specs.Cut.{ends_of};
+ghost use Rattle.archive_cut.specs.Cutting.{GivesOf, IsCutting, IsLeftOf, IsSameLink};
+
+use crate::endings::ends_of;
+use crate::fault::CutFault;
+use link_chain::StreamState;
+use ogg_page::{PageSource, SourceFault};
+use serve_live::Listener;
+use std::alloc::Global;
+use std::marker::Model;
+
+/// What is still to be given of a cut.
+#[derive(Debug, Drop)]
+pub struct Cut {
+    listener: Listener,
+    end: u64,
+    text: Vec<u8>,
+    sent: usize,
+}
+
+impl Model for Cut {
+    ghost use Rattle.std.specs.Prelude.{◌≤◌, drop, length};
+    ghost use Rattle.archive_cut.specs.Cutting.{CutState};
+
+    ghost Value = { CutState };
+
+    ghost view = { λ c. record { listener = c.listener; end = c.end; text = drop c.sent c.text.items } };
+
+    ghost invariant = { λ c. c.sent ≤ length c.text.items };
+}
+
+/// Copies the first bytes of the text into the buffer, as many as it holds, and returns how many these are.
+fn copy_text(text: &[u8], buffer: &mut [u8]) -> usize
+    ensures count { result ≡ min (length text.now) (length buffer.old) }
+    ensures given { take result buffer.new ≡ take (length buffer.old) text.now }
+{
+    let count = text.len().min(buffer.len());
+    let (front, _) = buffer.split_at_mut(count);
+    front.copy_from_slice(&text[..count]);
+    count
+}
+
+impl Cut {
+    /// A cut from where the listener joined up to `end`. `streams` are those of the file's last link there; `same` says
+    /// whether it is the link that was joined. Memory is taken for a page for each stream that is open there.
+    pub fn new(
+        alloc: Global,
+        listener: Listener,
+        end: u64,
+        streams: &[StreamState],
+        same: bool,
+    ) -> Result<Cut, CutFault>
+        ensures cuts { (moment : Moment) (committed : List ℕ) (links : List (List Page)) → IsHearing moment committed listener []
+            → length committed ≡ end → AreLinks committed links → streams.now ≡ (chain_state_of links).streams
+            → IsSameLink moment committed same → IfOk result (λ cut. IsCutting moment committed cut []) }
+        // A stream that is open has no number left.
+        ensures numbers { result ≡ Err CutFault.NoNumber → AllByRecursion IsPage (ends_of streams.now) → ⊥ }
+    {
+        let text = ends_of(alloc, &listener, same, streams)?;
+        Ok(Cut {
+            listener,
+            end,
+            text,
+            sent: 0,
+        })
+    }
+
+    /// Fills the buffer with the bytes of the cut that come next. It returns how many these are: fewer than go in only
+    /// at the cut's end. No memory is taken.
+    ///
+    /// After `SourceFault` the cut is as it was, and the buffer may hold anything.
+    pub fn pull<S: PageSource>(
+        &mut self,
+        source: &mut S,
+        buffer: &mut [u8],
+    ) -> Result<usize, SourceFault>
+        ensures gives { (committed more rest : List ℕ) → S.is_honest source.old → S.bytes source.old ≡ committed ++ more
+            → IsLeftOf committed self.old rest
+            → IfOk result (λ count. GivesOf committed rest (length buffer.old) buffer.new count self.new) }
+        // A fault has a cause, and a byte was to be given.
+        ensures cause { (committed more rest : List ℕ) → S.is_honest source.old → S.bytes source.old ≡ committed ++ more
+            → IsLeftOf committed self.old rest → IsErr result
+            → HasFailed (S.failures source.old) (S.failures source.new) × (0 < min (length rest) (length buffer.old)) }
+        ensures same { OnErr result (self.new ≡ self.old) }
+        ensures within { IfOk result (λ count. count ≤ length buffer.old) }
+        ensures later { S.failures source.old ≤ S.failures source.new }
+        ensures source { KeepsSource S.bytes S.is_honest S.size S.only_reads source.old source.new }
+    {
+        match self.listener.pull(source, self.end, buffer) {
+            Ok(heard) => {
+                let (_, text) = self.text.as_slice().split_at(self.sent);
+                let (_, room) = buffer.split_at_mut(heard);
+                let told = copy_text(text, room);
+                self.sent += told;
+                Ok(heard + told)
+            }
+            Err(fault) => Err(fault),
+        }
+    }
+}

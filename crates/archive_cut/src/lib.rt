@@ -1,0 +1,20 @@
+//! Cuts: what was committed to a file from one place to another, as a sound Ogg bitstream of its own (RFC 3533,
+//! section 4), and cuts of several files, one after the other.
+//!
+//! Start at `specs/Cut.antt`, which says what a cut is, and go on to `specs/Packets.antt` and `specs/Parts.antt`, which
+//! say what it holds, and that cuts side by side hold each packet once.
+#![tactic(auto)]
+
+mod cut;
+mod endings;
+mod fault;
+mod laws;
+mod retelling;
+
+pub use cut::Cut;
+pub use fault::CutFault;
+pub use laws::{
+    commands_are_cut, cuts_add_up, cuts_are_a_chain, cuts_are_given, cuts_can_be_finished,
+    cuts_hold_what_was_put, cuts_of_times_add_up, files_go_on, links_go_on, retelling_is_exact,
+};
+pub use retelling::retold_head;
