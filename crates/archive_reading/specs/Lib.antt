@@ -1,0 +1,4 @@
+pub mod Ends
+pub mod Folder
+pub mod Prefix
+pub mod Span

@@ -1,0 +1,15 @@
+-- The front of a disk, as a source of pages. Ours.
+use Rattle.std.specs.Prelude.{ℕ, List, take}
+use Rattle.disk_model.specs.Image.{DiskState}
+
+-- the disk, and how many bytes its front has
+pub record PrefixState (D : Type 0) : Type 0 where
+  pub disk : D
+  pub end : ℕ
+
+abbrev pub prefix_state : {D : Type 0} → D → ℕ → PrefixState D
+prefix_state disk end = record { disk = disk; end = end }
+
+-- the bytes of the front
+abbrev pub prefix_bytes : {D : Type 0} → (D → DiskState) → PrefixState D → List ℕ
+prefix_bytes state prefix = take prefix.end (state prefix.disk).contents
