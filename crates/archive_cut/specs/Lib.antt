@@ -8,3 +8,5 @@ pub mod Times
 pub mod Cutting
 pub mod Finished
 pub mod CutFault
+pub mod Heads
+pub mod Starting

@@ -1,5 +1,5 @@
 //! A cut: what is still to be given of it.
-ghost use Rattle.std.specs.Prelude.{◌≡◌, ◌≤◌, ◌<◌, ℕ, List, [], ◌++◌, Err, length, min, take, drop, IfOk, IsErr, OnErr};
+ghost use Rattle.std.specs.Prelude.{◌≡◌, ◌≢◌, ◌≤◌, ◌<◌, ℕ, List, [], ◌++◌, Err, length, min, take, drop, IfOk, IsErr, OnErr};
 ghost use Rattle.std.specs.List.{AllByRecursion};
 ghost use Rattle.ogg_page.specs.Page.{Page, IsPage};
 ghost use Rattle.ogg_page.specs.Window.{KeepsSource};
@@ -8,14 +8,18 @@ ghost use Rattle.link_chain.specs.Links.{AreLinks};
 ghost use Rattle.serve_live.specs.Hearing.{IsHearing};
 ghost use Rattle.serve_live.specs.Listening.{HasFailed};
 ghost use Rattle.serve_live.specs.Live.{Moment};
-ghost use Rattle.archive_cut.specs.Cut.{ends_of};
+ghost use Rattle.serve_live.specs.Places.{IsPlaceIn};
+ghost use Rattle.archive_cut.specs.Cut.{HasNumbers, ends_of};
 ghost use Rattle.archive_cut.specs.Cutting.{GivesOf, IsCutting, IsLeftOf, IsSameLink};
+ghost use Rattle.archive_cut.specs.Starting.{IsStart, IsStartJoined, IsStartWaiting};
 
 use crate::endings::ends_of;
 use crate::fault::CutFault;
+use crate::heads::{next_begin, take_pages};
+use archive_times::Join;
 use link_chain::StreamState;
 use ogg_page::{PageSource, SourceFault};
-use serve_live::Listener;
+use serve_live::{JoinFault, JoinPlace, Listener, listeners_hear_what_they_should};
 use std::alloc::Global;
 use std::marker::Model;
 
@@ -50,6 +54,110 @@ fn copy_text(text: &[u8], buffer: &mut [u8]) -> usize
     count
 }
 
+/// The cut from a place where no link is open.
+fn waiting<S: PageSource>(
+    alloc: Global,
+    source: &mut S,
+    start: u64,
+    end: u64,
+) -> Result<Cut, CutFault>
+    ensures cuts { (committed more : List ℕ) (links : List (List Page)) (moment : Moment) → S.is_honest source.old
+        → S.bytes source.old ≡ committed ++ more → length committed ≡ end → AreLinks committed links
+        → IsStartWaiting links moment start → IfOk result (λ cut. IsCutting moment committed cut []) }
+    ensures cause { (committed more : List ℕ) (links : List (List Page)) (moment : Moment) → S.is_honest source.old
+        → S.bytes source.old ≡ committed ++ more → length committed ≡ end → AreLinks committed links
+        → IsStartWaiting links moment start → result ≡ Err CutFault.Source
+        → HasFailed (S.failures source.old) (S.failures source.new) }
+    ensures numbers { (committed more : List ℕ) (links : List (List Page)) (moment : Moment) → S.is_honest source.old
+        → S.bytes source.old ≡ committed ++ more → length committed ≡ end → AreLinks committed links
+        → IsStartWaiting links moment start → result ≡ Err CutFault.NoNumber → HasNumbers links → ⊥ }
+    ensures later { S.failures source.old ≤ S.failures source.new }
+    ensures source { KeepsSource S.bytes S.is_honest S.size S.only_reads source.old source.new }
+{
+    let mut streams = Vec::new(alloc);
+    match take_pages(source, start, end, &mut streams) {
+        Ok(()) => {
+            listeners_hear_what_they_should();
+            let listener = Listener::wait(alloc, start);
+            Cut::new(alloc, listener, end, streams.as_slice(), false)
+        }
+        Err(fault) => Err(fault),
+    }
+}
+
+/// The listener that joins a link, of which the pages end at `link_end`.
+fn join_link<S: PageSource>(
+    alloc: Global,
+    source: &mut S,
+    place: JoinPlace,
+    link_end: u64,
+    streams: &[StreamState],
+) -> Result<Listener, CutFault>
+    ensures joins { (committed more : List ℕ) (links : List (List Page)) (moment : Moment) → S.is_honest source.old
+        → S.bytes source.old ≡ committed ++ more → length committed ≡ link_end → AreLinks committed links
+        → streams.now ≡ (chain_state_of links).streams → IsPlaceIn links moment place
+        → IfOk result (λ listener. IsHearing moment committed listener []) }
+    ensures cause { (committed more : List ℕ) (links : List (List Page)) (moment : Moment) → S.is_honest source.old
+        → S.bytes source.old ≡ committed ++ more → length committed ≡ link_end → AreLinks committed links
+        → streams.now ≡ (chain_state_of links).streams → IsPlaceIn links moment place
+        → result ≡ Err CutFault.Source → HasFailed (S.failures source.old) (S.failures source.new) }
+    ensures number { result ≢ Err CutFault.NoNumber }
+    ensures later { S.failures source.old ≤ S.failures source.new }
+    ensures source { KeepsSource S.bytes S.is_honest S.size S.only_reads source.old source.new }
+{
+    match Listener::join(alloc, source, place, link_end, streams) {
+        Ok(listener) => Ok(listener),
+        Err(JoinFault::Source) => Err(CutFault::Source),
+        Err(JoinFault::Memory) => Err(CutFault::Memory),
+    }
+}
+
+/// The cut from a place in a link that is open.
+fn joined<S: PageSource>(
+    alloc: Global,
+    source: &mut S,
+    link: Join,
+    start: u64,
+    end: u64,
+) -> Result<Cut, CutFault>
+    ensures cuts { (committed more : List ℕ) (links : List (List Page)) (moment : Moment) → S.is_honest source.old
+        → S.bytes source.old ≡ committed ++ more → length committed ≡ end → AreLinks committed links
+        → IsStartJoined links moment start link → IfOk result (λ cut. IsCutting moment committed cut []) }
+    ensures cause { (committed more : List ℕ) (links : List (List Page)) (moment : Moment) → S.is_honest source.old
+        → S.bytes source.old ≡ committed ++ more → length committed ≡ end → AreLinks committed links
+        → IsStartJoined links moment start link → result ≡ Err CutFault.Source
+        → HasFailed (S.failures source.old) (S.failures source.new) }
+    ensures numbers { (committed more : List ℕ) (links : List (List Page)) (moment : Moment) → S.is_honest source.old
+        → S.bytes source.old ≡ committed ++ more → length committed ≡ end → AreLinks committed links
+        → IsStartJoined links moment start link → result ≡ Err CutFault.NoNumber → HasNumbers links → ⊥ }
+    ensures later { S.failures source.old ≤ S.failures source.new }
+    ensures source { KeepsSource S.bytes S.is_honest S.size S.only_reads source.old source.new }
+{
+    let place = JoinPlace {
+        begin: link.begin,
+        begun: link.begun,
+        boundary: start,
+    };
+    let mut streams = Vec::new(alloc);
+    match next_begin(source, start, end) {
+        Ok(link_end) => match take_pages(source, link.begin, link_end, &mut streams) {
+            Ok(()) => match join_link(alloc, source, place, link_end, streams.as_slice()) {
+                Ok(listener) => match take_pages(source, link_end, end, &mut streams) {
+                    Ok(()) => {
+                        listeners_hear_what_they_should();
+                        let same = link_end == end;
+                        Cut::new(alloc, listener, end, streams.as_slice(), same)
+                    }
+                    Err(fault) => Err(fault),
+                },
+                Err(fault) => Err(fault),
+            },
+            Err(fault) => Err(fault),
+        },
+        Err(_) => Err(CutFault::Source),
+    }
+}
+
 impl Cut {
     /// A cut from where the listener joined up to `end`. `streams` are those of the file's last link there; `same` says
     /// whether it is the link that was joined. Memory is taken for a page for each stream that is open there.
@@ -65,6 +173,8 @@ impl Cut {
             → IsSameLink moment committed same → IfOk result (λ cut. IsCutting moment committed cut []) }
         // A stream that is open has no number left.
         ensures numbers { result ≡ Err CutFault.NoNumber → AllByRecursion IsPage (ends_of streams.now) → ⊥ }
+        // Nothing is read.
+        ensures reads { result ≢ Err CutFault.Source }
     {
         let text = ends_of(alloc, &listener, same, streams)?;
         Ok(Cut {
@@ -73,6 +183,37 @@ impl Cut {
             text,
             sent: 0,
         })
+    }
+
+    /// The cut of a file from `start` up to `end`, which are places between commands. At `start` the link is open that
+    /// is joined, or none is, and pages follow. The heads of the pages are read from the joined link's beginning on.
+    /// Memory is taken for the streams of a link, and for a page for each.
+    pub fn between<S: PageSource>(
+        alloc: Global,
+        source: &mut S,
+        start: u64,
+        join: Option<Join>,
+        end: u64,
+    ) -> Result<Cut, CutFault>
+        ensures cuts { (committed more : List ℕ) (links : List (List Page)) (moment : Moment) → S.is_honest source.old
+            → S.bytes source.old ≡ committed ++ more → length committed ≡ end → AreLinks committed links
+            → IsStart links moment start join → IfOk result (λ cut. IsCutting moment committed cut []) }
+        // A fault of the source has a cause.
+        ensures cause { (committed more : List ℕ) (links : List (List Page)) (moment : Moment) → S.is_honest source.old
+            → S.bytes source.old ≡ committed ++ more → length committed ≡ end → AreLinks committed links
+            → IsStart links moment start join → result ≡ Err CutFault.Source
+            → HasFailed (S.failures source.old) (S.failures source.new) }
+        // A stream that is open at the end has no number left.
+        ensures numbers { (committed more : List ℕ) (links : List (List Page)) (moment : Moment) → S.is_honest source.old
+            → S.bytes source.old ≡ committed ++ more → length committed ≡ end → AreLinks committed links
+            → IsStart links moment start join → result ≡ Err CutFault.NoNumber → HasNumbers links → ⊥ }
+        ensures later { S.failures source.old ≤ S.failures source.new }
+        ensures source { KeepsSource S.bytes S.is_honest S.size S.only_reads source.old source.new }
+    {
+        match join {
+            Some(link) => joined(alloc, source, link, start, end),
+            None => waiting(alloc, source, start, end),
+        }
     }
 
     /// Fills the buffer with the bytes of the cut that come next. It returns how many these are: fewer than go in only

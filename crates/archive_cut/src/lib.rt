@@ -8,6 +8,7 @@
 mod cut;
 mod endings;
 mod fault;
+mod heads;
 mod laws;
 mod retelling;
 
