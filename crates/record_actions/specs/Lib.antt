@@ -1,3 +1,5 @@
 pub mod Foreign
+pub mod Tail
+pub mod TailLine
 pub mod Searching
 pub mod Telling

@@ -7,14 +7,21 @@
 //! Start at `src/recorders.rt`.
 #![tactic(auto)]
 
+mod asides;
+mod beside;
+mod copying;
 mod mends;
 mod recorders;
 mod searching;
+mod tails;
 mod telling;
 
+pub use asides::{Aside, Asides};
+pub use beside::TailFiles;
 pub use mends::MendLines;
 pub use recorders::{
-    is_foreign, lock_file, open_own_recorder, open_recorder, own_recorder_on, reopen, seal_file,
-    seal_if,
+    is_foreign, keeping_recorder_on, lock_file, open_own_recorder, open_recorder, own_recorder_on,
+    reopen, seal_file, seal_if,
 };
+pub use tails::{Tail, find_tail};
 pub use telling::Told;

@@ -5,7 +5,9 @@ ghost use Rattle.disk_model.specs.Image.{IsSettled};
 ghost use Rattle.file_recorder.specs.Recorder.{committed};
 ghost use Rattle.gate_file.specs.declared.fault.OpenFault.{OpenFault as OpenFaultOf};
 ghost use Rattle.record_actions.specs.Foreign.{IsForeign, front_of};
+ghost use Rattle.record_actions.specs.Tail.{IsKeptAside};
 
+use crate::asides::{Aside, Asides, keep_tail};
 use disk_model::{Disk, DiskFault, FileDisk, FileFault, FileMode};
 use fault_lines::Fault;
 use file_recorder::Recorder;
@@ -68,14 +70,53 @@ pub(crate) fn recorder_on<D: Disk + Drop>(alloc: Global, disk: D) -> Result<Reco
 ///
 /// It is `Foreign` if the disk holds anything else, as far as its first bytes show that, and then nothing is written. Else
 /// its faults are those of `recorder_on`.
-pub fn own_recorder_on<D: Disk + Drop>(alloc: Global, mut disk: D) -> Result<Recorder<D>, Fault>
+pub fn own_recorder_on<D: Disk + Drop>(alloc: Global, disk: D) -> Result<Recorder<D>, Fault>
     ensures held { IfOk result (λ recorder. recorder.held ≡ 0) }
     ensures foreign { D.is_honest disk → IsForeign (front_of (D.state disk).contents)
         → (result ≡ Err Fault.Foreign) ⊎ (result ≡ Err (Fault.Open OpenFaultOf.Disk)) }
     ensures only { D.is_honest disk → result ≡ Err Fault.Foreign → IsForeign (front_of (D.state disk).contents) }
 {
+    match own(disk) {
+        Ok(disk) => recorder_on(alloc, disk),
+        Err(fault) => Err(fault),
+    }
+}
+
+/// The same, and no byte is written over after the pages that no stop has left there: they are kept aside first, and what
+/// keeps them is returned.
+///
+/// Its faults are those of `own_recorder_on` and of `keep_tail`, and after those of `keep_tail` nothing is written.
+pub fn keeping_recorder_on<D: Disk + Drop, A: Asides>(
+    alloc: Global,
+    disk: D,
+    asides: &mut A,
+) -> Result<(Recorder<D>, Option<Aside<A::Copy>>), Fault>
+    ensures held { IfOk result (λ (recorder, aside). recorder.held ≡ 0) }
+    ensures foreign { D.is_honest disk → IsForeign (front_of (D.state disk).contents)
+        → (result ≡ Err Fault.Foreign) ⊎ (result ≡ Err (Fault.Open OpenFaultOf.Disk)) }
+    // The copy holds what followed the pages before anything was written.
+    ensures kept { IfOk result (λ (recorder, aside). D.is_honest disk
+        → IsKeptAside A.Copy.Disk (D.state disk).contents aside) }
+{
+    let disk = own(disk)?;
+    match keep_tail(alloc, disk, asides) {
+        Ok((disk, aside)) => match recorder_on(alloc, disk) {
+            Ok(recorder) => Ok((recorder, aside)),
+            Err(fault) => Err(fault),
+        },
+        Err((fault, _)) => Err(fault),
+    }
+}
+
+/// The same disk, unless it begins with bytes that no recording begins with.
+fn own<D: Disk + Drop>(mut disk: D) -> Result<D, Fault>
+    ensures same { IfOk result (λ same. D.is_honest disk → D.is_honest same × (D.state same ≡ D.state disk)) }
+    ensures own { IfOk result (λ same. D.is_honest disk → IsForeign (front_of (D.state disk).contents) → ⊥) }
+    ensures why { IfErr result (λ fault. (fault ≡ Fault.Foreign) ⊎ (fault ≡ Fault.Open OpenFaultOf.Disk)) }
+    ensures only { D.is_honest disk → result ≡ Err Fault.Foreign → IsForeign (front_of (D.state disk).contents) }
+{
     match is_foreign(&mut disk) {
-        Ok(false) => recorder_on(alloc, disk),
+        Ok(false) => Ok(disk),
         Ok(true) => Err(Fault::Foreign),
         Err(DiskFault) => Err(Fault::Open(OpenFault::Disk)),
     }
