@@ -1,13 +1,15 @@
 //! A stream that is recorded as it comes.
-ghost use Rattle.std.specs.Prelude.{◌≡◌, ◌⊎◌, IfOk, OnOk, Err, true, false};
+ghost use Rattle.std.specs.Prelude.{◌≡◌, ◌⊎◌, ◌↔◌, IfOk, OnOk, Err, true, false};
 ghost use Rattle.gate_file.specs.declared.fault.OpenFault.{OpenFault as OpenFaultOf};
 ghost use Rattle.link_chain.specs.ChainState.{is_open};
 ghost use Rattle.record_actions.specs.Foreign.{IsForeign, front_of};
-ghost use Rattle.archive_actions.specs.Resting.{IsAtRest};
+ghost use Rattle.archive_record.specs.Resting.{IsAtRest};
 
+use crate::filing::{Filing, archive_folder, is_folder};
+use archive_record::Unended;
 use disk_model::{Disk, FileDisk, FileMode};
 use fault_lines::Fault;
-use file_recorder::{Recorder, end_open_streams};
+use file_recorder::Recorder;
 use import_feed::{ChangeOptions, Skeletons};
 use import_record::{ImportRun, RecordFault, Step, run_all};
 use record_actions::{Told, lock_file, own_recorder_on, reopen, seal_if};
@@ -16,7 +18,7 @@ use std::os::unix::fs::MetadataExt;
 use std::{fs, io};
 
 /// How many bytes of the stream are read at once.
-const ROOM: usize = 1 << 20;
+pub(crate) const ROOM: usize = 1 << 20;
 
 /// How a stream is recorded.
 #[derive(Clone, Copy)]
@@ -31,14 +33,28 @@ pub struct ArchiveOptions {
     pub seal: bool,
 }
 
-/// Records the Ogg stream on standard input into the file, which is made if there is none. What an earlier run left
+/// Records the Ogg stream on standard input into the file or the folder, which is made if there is none. What an earlier run left
 /// open is ended first. What is mended or refused is told on standard error, and at the end what was recorded.
 ///
 /// It is `Archive` if standard input is the file itself, which isn't opened then, or if the stream isn't recorded to
 /// its end. It is `Locked`, `File`, `Foreign`, `Memory` or `Open` if the file can't be opened, first or after a fault of
 /// the disk, and `Failed` if the disk fails again before anything more is kept. It is `Refused` or `Mended` after a refusal, or
 /// in a strict run a mend, and `Seal` if the file isn't cut. What was told as recorded stays in the file.
-pub fn archive(rt: &HostRuntime, file: &str, options: ArchiveOptions) -> Result<(), Fault> {
+pub fn archive(
+    rt: &HostRuntime,
+    path: &str,
+    filing: Filing,
+    options: ArchiveOptions,
+) -> Result<(), Fault> {
+    if is_folder(rt, path, filing) {
+        archive_folder(rt, path, filing, options)
+    } else {
+        archive_file(rt, path, options)
+    }
+}
+
+/// The same into one file.
+fn archive_file(rt: &HostRuntime, file: &str, options: ArchiveOptions) -> Result<(), Fault> {
     if is_input(rt, file) {
         return Err(Fault::Archive(RecordFault::Read));
     }
@@ -122,17 +138,22 @@ fn end_open<D: Disk>(recorder: &mut Recorder<D>) -> Result<(), Fault>
     ensures failed { result ≡ Err Fault.Failed → recorder.new.file.failed ≡ true }
     ensures refused { result ≡ Err Fault.Refused → is_open recorder.new.chain ≡ true }
 {
-    let left = match end_open_streams(recorder, &mut io::sink()) {
-        Ok(left) => left,
-        Err(_) => return Err(Fault::Write),
-    };
-    if recorder.flush().is_err() {
-        return Err(Fault::Failed);
+    match archive_record::end_open(recorder) {
+        Ok(()) => Ok(()),
+        Err(unended) => Err(unended_fault(unended)),
     }
-    if left {
-        return Err(Fault::Refused);
+}
+
+/// The fault of ends that aren't kept.
+pub(crate) fn unended_fault(unended: Unended) -> Fault
+    ensures failed { (result ≡ Fault.Failed) ↔ (unended ≡ Unended.Failed) }
+    ensures refused { (result ≡ Fault.Refused) ↔ (unended ≡ Unended.Refused) }
+{
+    match unended {
+        Unended::Failed => Fault::Failed,
+        Unended::Refused => Fault::Refused,
+        Unended::Untold => Fault::Write,
     }
-    Ok(())
 }
 
 /// The stream that is to be recorded. Its streams get serials that the file doesn't have.

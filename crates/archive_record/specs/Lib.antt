@@ -1,3 +1,4 @@
 pub mod Files
 pub mod FilesState
 pub mod Opening
+pub mod Resting

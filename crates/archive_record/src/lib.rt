@@ -8,10 +8,21 @@
 //! Start at `specs/Files.antt`, which says what is known of a folder's files, and at `specs/Opening.antt`.
 #![tactic(auto)]
 
+mod archive;
+mod beside;
 mod damage;
+mod ending;
 mod files;
+mod naming;
+mod newest;
 mod opening;
+mod retention;
 
+pub use archive::{Archive, ArchiveFault, Rules};
+pub use archive_folder::FileName;
+pub use beside::Beside;
 pub use damage::Damage;
+pub use ending::{Unended, end_open};
 pub use files::{BeginFault, Files};
+pub use naming::{ArchiveNames, name_of, text_of};
 pub use opening::open_sound;

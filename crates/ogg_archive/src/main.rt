@@ -6,7 +6,7 @@
 //! what it could ask for.
 #![tactic(auto)]
 
-use archive_actions::ArchiveOptions;
+use archive_actions::{ArchiveOptions, Filing};
 use command_line::{Action, Program, answer};
 use fault_lines::status_of;
 use import_feed::ChangeOptions;
@@ -24,7 +24,7 @@ impl Program for Archives {
         let ended = match action {
             Action::Archive {
                 path,
-                filing: _,
+                filing,
                 skeletons,
                 most,
                 strict,
@@ -36,7 +36,7 @@ impl Program for Archives {
                     strict,
                     seal,
                 };
-                archive_actions::archive(rt, path, options)
+                archive_actions::archive(rt, path, filed(filing), options)
             }
             Action::Feed {
                 mend,
@@ -56,5 +56,15 @@ impl Program for Archives {
             _ => return None,
         };
         Some(status_of(rt, ended))
+    }
+}
+
+/// What was asked for of an archive's files.
+fn filed(filing: command_line::Filing) -> Filing {
+    Filing {
+        every: filing.every,
+        most_bytes: filing.most_bytes,
+        keep: filing.keep,
+        keep_bytes: filing.keep_bytes,
     }
 }

@@ -1,0 +1,314 @@
+//! A stream that is recorded into a folder, file after file.
+
+use crate::archiving::{ArchiveOptions, ROOM, unended_fault};
+use crate::keeping::Keeper;
+use archive_folder::{FileFolder, SystemFile, SystemFolder};
+use archive_names::{Keeping, Limits};
+use archive_record::{Archive, ArchiveFault, ArchiveNames, Rules};
+use disk_model::{FileDisk, FileMode};
+use fault_lines::Fault;
+use import_feed::ChangeOptions;
+use import_record::{ImportRun, RecordFault, Step};
+use record_actions::{Told, lock_file};
+use std::alloc::{AllocError, Global};
+use std::fs::{self, File};
+use std::time::SystemTime;
+
+/// How many seconds a file's period has, if nothing else is said.
+const HOUR: u64 = 3600;
+
+/// A folder of the system whose files are recorded into.
+type Folders<'a> = FileFolder<SystemFolder<File, &'a HostRuntime, ArchiveNames>>;
+
+/// Its machine.
+type Recording<'a> = Archive<FileDisk<SystemFile<File>>, Folders<'a>>;
+
+/// How the files of a folder are begun and kept: what was asked for.
+#[derive(Clone, Copy)]
+pub struct Filing {
+    /// A file has the commands of one period of so many seconds.
+    pub every: Option<u64>,
+    /// A file that has so many bytes gets no further command.
+    pub most_bytes: Option<u64>,
+    /// A file goes so many seconds after its last command.
+    pub keep: Option<u64>,
+    /// The oldest goes while all files together have more bytes.
+    pub keep_bytes: Option<u64>,
+}
+
+impl Filing {
+    /// Whether anything was asked for.
+    fn is_asked(self) -> bool {
+        self.every.is_some()
+            || self.most_bytes.is_some()
+            || self.keep.is_some()
+            || self.keep_bytes.is_some()
+    }
+
+    fn rules(self, most: u32) -> Rules {
+        Rules {
+            limits: Limits {
+                every: self.every.unwrap_or(HOUR).max(1),
+                most_bytes: self.most_bytes,
+            },
+            keeping: Keeping {
+                span: match self.keep {
+                    Some(seconds) => Some(seconds.saturating_mul(1000)),
+                    None => None,
+                },
+                bytes: self.keep_bytes,
+            },
+            most,
+        }
+    }
+}
+
+/// Whether a path is meant as a folder: it is one, it ends in a slash, or something is asked for that a file hasn't.
+pub(crate) fn is_folder(rt: &HostRuntime, path: &str, filing: Filing) -> bool {
+    if path.ends_with('/') || filing.is_asked() {
+        return true;
+    }
+    match fs::metadata(rt, path) {
+        Ok(metadata) => metadata.is_dir(),
+        Err(_) => false,
+    }
+}
+
+/// The milliseconds since 1970, or 0 if the clock can't be read.
+fn now(rt: &HostRuntime) -> u64 {
+    let Ok(now) = SystemTime::now(rt) else {
+        return 0;
+    };
+    match now.duration_since(SystemTime::UNIX_EPOCH) {
+        Ok(since) => u64::try_from(since.as_millis()).unwrap_or(u64::MAX),
+        Err(_) => 0,
+    }
+}
+
+/// Records the Ogg stream on standard input into the folder, which is made if there is none.
+///
+/// It is `Locked` if another program records into it, `File` if it can't be read or written, `Memory`, `Failed` if the
+/// disk has failed three times and nothing was kept between, and otherwise as for a file.
+pub(crate) fn archive_folder(
+    rt: &HostRuntime,
+    path: &str,
+    filing: Filing,
+    options: ArchiveOptions,
+) -> Result<(), Fault> {
+    let folder = with_slash(rt.alloc(), path)?;
+    let folder = folder.as_str();
+    if fs::metadata(rt, folder).is_err() {
+        // If it can't be made, its lock can't either.
+        let _ = fs::create_dir(rt, folder);
+    }
+    let lock = joined(rt.alloc(), folder, "lock")?;
+    let _lock = lock_file(rt, lock.as_str(), FileMode::Create)?;
+    let files = granted(SystemFolder::at(rt.alloc(), rt, ArchiveNames, folder))?;
+    let mut keeper = Keeper::new(rt, folder, Told::new(rt, options.strict, 0));
+    let opened = Archive::open(
+        rt.alloc(),
+        files,
+        filing.rules(options.most),
+        now(rt),
+        &mut keeper,
+    );
+    let mut archive = match opened {
+        Ok(archive) => archive,
+        Err(fault) => return Err(fault_of(fault)),
+    };
+    let changes = ChangeOptions {
+        renumber: true,
+        skeletons: options.skeletons,
+    };
+    let serials = granted(archive.serials())?;
+    let import = ImportRun::new(rt.alloc(), ROOM, changes, serials.as_slice());
+    let mut import = granted(import)?;
+    let recorded = record_all(rt, &mut archive, &mut import, &mut keeper);
+    keeper.told.close();
+    recorded?;
+    if let Some(fault) = keeper.told.fault() {
+        return Err(fault);
+    }
+    if options.seal && !archive.close(&mut keeper) {
+        return Err(Fault::Seal);
+    }
+    Ok(())
+}
+
+/// What memory was granted for.
+fn granted<T>(asked: Result<T, AllocError>) -> Result<T, Fault> {
+    match asked {
+        Ok(it) => Ok(it),
+        Err(AllocError) => Err(Fault::Memory),
+    }
+}
+
+/// One text behind the other.
+fn joined(alloc: Global, front: &str, rest: &str) -> Result<String, Fault> {
+    let mut text = granted(String::from_str(alloc, front))?;
+    granted(text.push_str(rest))?;
+    Ok(text)
+}
+
+/// The path with a slash at its end.
+fn with_slash(alloc: Global, path: &str) -> Result<String, Fault> {
+    joined(alloc, path, if path.ends_with('/') { "" } else { "/" })
+}
+
+fn fault_of(fault: ArchiveFault) -> Fault {
+    match fault {
+        ArchiveFault::Folder | ArchiveFault::Numbers => Fault::File,
+        ArchiveFault::Memory => Fault::Memory,
+        ArchiveFault::Disk => Fault::Failed,
+        ArchiveFault::Input(fault) => Fault::Archive(fault),
+    }
+}
+
+/// Records what comes until the stream ends, or has to. Then what is open is ended, and what waits is kept.
+fn record_all(
+    rt: &HostRuntime,
+    archive: &mut Recording<'_>,
+    import: &mut ImportRun,
+    keeper: &mut Keeper<'_>,
+) -> Result<(), Fault> {
+    let met = record_steps(rt, archive, import, keeper);
+    let ended = match met {
+        // If the reader has failed, what has come is a stream that stops there.
+        Ok(()) | Err(Fault::Archive(RecordFault::Read)) => finish(rt, archive, import, keeper),
+        Err(_) => Ok(()),
+    };
+    let kept = end_open(rt, archive, keeper);
+    met.and(ended).and(kept)
+}
+
+/// Records what comes, page by page, until the stream ends, or a strict run has to end.
+fn record_steps(
+    rt: &HostRuntime,
+    archive: &mut Recording<'_>,
+    import: &mut ImportRun,
+    keeper: &mut Keeper<'_>,
+) -> Result<(), Fault> {
+    let mut more = true;
+    for _ in 0..u64::MAX {
+        if keeper.told.has_enough() {
+            return Ok(());
+        }
+        if more && import.waits() {
+            more = wait(rt, archive, import, keeper)?;
+        } else if take(rt, archive, import, keeper, more)? {
+            return Ok(());
+        }
+        recover(rt, archive, import, keeper)?;
+        keeper
+            .told
+            .settle(archive.held(), archive.is_failed(), archive.end());
+    }
+    Ok(())
+}
+
+/// Keeps what waits, or else waits for more of the stream. Returns whether the stream may have more.
+fn wait(
+    rt: &HostRuntime,
+    archive: &mut Recording<'_>,
+    import: &mut ImportRun,
+    keeper: &mut Keeper<'_>,
+) -> Result<bool, Fault> {
+    if archive.held() > 0 {
+        archive.flush(now(rt), keeper);
+        return Ok(true);
+    }
+    if !import.waits() {
+        return Ok(true);
+    }
+    match import.read_once(&mut rt.stdin()) {
+        Ok(count) => Ok(count > 0),
+        Err(fault) => Err(Fault::Archive(fault)),
+    }
+}
+
+/// Takes one step over what has come, and returns whether it was the last. The next file is begun before it, if the
+/// newest is over, but not at the end of the stream.
+fn take(
+    rt: &HostRuntime,
+    archive: &mut Recording<'_>,
+    import: &mut ImportRun,
+    keeper: &mut Keeper<'_>,
+    more: bool,
+) -> Result<bool, Fault> {
+    let now = now(rt);
+    let offset = import.offset();
+    if more {
+        match archive.begin_if_due(import, now, keeper) {
+            Ok(answered) => keeper.told.answered(offset, &answered),
+            Err(fault) => return Err(fault_of(fault)),
+        }
+        if archive.is_failed() {
+            return Ok(false);
+        }
+    }
+    match archive.step(import, now, keeper) {
+        Ok(Step::Ended { junk }) => {
+            keeper.told.mended(junk);
+            Ok(true)
+        }
+        Ok(step) => {
+            keeper.told.stepped(&step);
+            keeper.told.searched(&step, import.offset());
+            Ok(false)
+        }
+        Err(fault) => Err(fault_of(fault)),
+    }
+}
+
+/// Goes on after the disk has failed.
+fn recover(
+    rt: &HostRuntime,
+    archive: &mut Recording<'_>,
+    import: &mut ImportRun,
+    keeper: &mut Keeper<'_>,
+) -> Result<(), Fault> {
+    // Each failure with nothing kept between counts, and the third ends the run.
+    for _ in 0..3 {
+        if !archive.is_failed() {
+            return Ok(());
+        }
+        let offset = import.offset();
+        keeper.told.lost(offset, archive.end());
+        match archive.recover(import, now(rt), keeper) {
+            Ok(answered) => keeper.told.answered(offset, &answered),
+            Err(fault) => return Err(fault_of(fault)),
+        }
+    }
+    Ok(())
+}
+
+/// Ends the stream that was recorded.
+fn finish(
+    rt: &HostRuntime,
+    archive: &mut Recording<'_>,
+    import: &mut ImportRun,
+    keeper: &mut Keeper<'_>,
+) -> Result<(), Fault> {
+    let offset = import.offset();
+    match archive.finish(import, now(rt), keeper) {
+        Ok(taken) => keeper.told.taken(offset, &taken),
+        Err(fault) => return Err(fault_of(fault)),
+    }
+    recover(rt, archive, import, keeper)
+}
+
+/// Ends what is open in the newest file, and keeps that.
+fn end_open(
+    rt: &HostRuntime,
+    archive: &mut Recording<'_>,
+    keeper: &mut Keeper<'_>,
+) -> Result<(), Fault> {
+    let ended = archive.end_open(now(rt), keeper);
+    keeper
+        .told
+        .settle(archive.held(), archive.is_failed(), archive.end());
+    match ended {
+        Ok(()) => Ok(()),
+        Err(unended) => Err(unended_fault(unended)),
+    }
+}

@@ -1,0 +1,191 @@
+//! What stands beside the files of an archive, and what is told of them.
+
+use archive_names::Kind;
+use archive_record::{Beside, Damage, FileName, name_of, text_of};
+use archive_times::{Line, last_line};
+use fault_lines::{Fault, write_fault};
+use record_actions::Told;
+use std::fs::{File, OpenFile, OpenOptions};
+use std::io::Read;
+use std::os::unix::fs::FileExt;
+use text_line::Line as Text;
+
+/// The times of a file, as they are written.
+#[derive(Drop)]
+struct Times {
+    file: File,
+    // how many bytes it has
+    end: u64,
+}
+
+/// Tells what becomes of an archive's files, and keeps their times in the folder. If times can't be written, that is told
+/// once for each file, and the file has none from then on.
+#[derive(Drop)]
+pub(crate) struct Keeper<'a> {
+    rt: &'a HostRuntime,
+    // with a slash at the end
+    folder: &'a str,
+    pub(crate) told: Told<'a>,
+    times: Option<Times>,
+}
+
+impl<'a> Keeper<'a> {
+    /// Nothing was told yet.
+    pub(crate) fn new(rt: &'a HostRuntime, folder: &'a str, told: Told<'a>) -> Keeper<'a> {
+        Keeper {
+            rt,
+            folder,
+            told,
+            times: None,
+        }
+    }
+
+    /// The path of what stands under a file's name.
+    fn path_of(&self, file: FileName, kind: Kind) -> Option<String> {
+        let alloc = self.rt.alloc();
+        let Ok(name) = text_of(alloc, file, kind) else {
+            return None;
+        };
+        joined(alloc, self.folder, name.as_str())
+    }
+
+    /// Tells `file NUMBER WORD NAME`, and then this.
+    fn tell_file(&mut self, file: FileName, word: &[u8], rest: Option<u64>) {
+        let mut line = Text::new();
+        if let Some(bytes) = rest {
+            line.put_number(bytes);
+            line.put_text(b" ");
+        }
+        put_name(&mut line, file);
+        line.put_text(b" ");
+        line.put_text(&word[..word.len().min(10)]);
+        line.put_text(b" ");
+        line.put_number(file.number);
+        line.put_text(b"file ");
+        self.told.tell(line.as_slice());
+    }
+
+    /// Tells that a file has no times from here on.
+    fn lose_times(&mut self) {
+        if self.times.is_some() {
+            self.times = None;
+            self.told
+                .tell(b"no times: they can't be written for this file\n");
+        }
+    }
+
+    /// Opens the times of a file, cut behind their last sound line, which is returned.
+    fn open_times(&mut self, file: FileName, committed: u64) -> Option<Line> {
+        let path = self.path_of(file, Kind::Times)?;
+        let mut options = OpenOptions::new();
+        options.read(true);
+        options.write(true);
+        options.create(true);
+        let Ok(mut times) = options.open(self.rt, path.as_str()) else {
+            return None;
+        };
+        let mut text = Vec::new(self.rt.alloc());
+        if times.read_to_end(&mut text).is_err() {
+            return None;
+        }
+        let (last, rest) = last_line(text.as_slice(), None, committed);
+        let end = text.len().saturating_sub(rest.len()) as u64;
+        if !rest.is_empty() && OpenFile::set_len(&times, end).is_err() {
+            return None;
+        }
+        self.times = Some(Times { file: times, end });
+        last
+    }
+}
+
+/// Puts a file's name in front of a line.
+fn put_name(line: &mut Text, file: FileName) {
+    let text = name_of(file).text(Kind::Pages);
+    let text = text.as_slice();
+    line.put_text(&text[..text.len().min(50)]);
+}
+
+/// One text behind the other.
+fn joined(alloc: std::alloc::Global, front: &str, rest: &str) -> Option<String> {
+    let Ok(mut text) = String::from_str(alloc, front) else {
+        return None;
+    };
+    match text.push_str(rest) {
+        Ok(()) => Some(text),
+        Err(_) => None,
+    }
+}
+
+impl Beside for Keeper<'_> {
+    fn opened(&mut self, file: FileName, committed: u64) -> Option<Line> {
+        self.times = None;
+        self.open_times(file, committed)
+    }
+
+    fn begun(&mut self, file: FileName) {
+        self.times = None;
+        let _ = self.open_times(file, 0);
+        self.tell_file(file, b"begins", None);
+    }
+
+    fn timed(&mut self, line: Line) {
+        let text = line.text();
+        let text = text.as_slice();
+        if let Some(times) = &mut self.times {
+            if FileExt::write_all_at(&times.file, text, times.end).is_ok() {
+                times.end = times.end.saturating_add(text.len() as u64);
+                return;
+            }
+        }
+        self.lose_times();
+    }
+
+    fn ended(&mut self, file: FileName, bytes: u64) {
+        if let Some(times) = &self.times {
+            let _ = OpenFile::sync_data(&times.file);
+        }
+        self.times = None;
+        self.tell_file(file, b"ends", Some(bytes));
+    }
+
+    fn removed(&mut self, file: FileName) {
+        self.tell_file(file, b"removed", None);
+    }
+
+    fn damaged(&mut self, file: FileName, why: Damage) {
+        let mut text = Vec::new(self.rt.alloc());
+        let line = damaged_line(&mut text, file, why);
+        match line {
+            Ok(()) => self.told.tell(text.as_slice()),
+            Err(_) => self.told.tell(b"damaged\n"),
+        }
+    }
+}
+
+/// The line that a file is left as it is, and why: what follows its name is what follows `fault` in a fault's line.
+fn damaged_line(
+    text: &mut Vec<u8>,
+    file: FileName,
+    why: Damage,
+) -> Result<(), std::alloc::AllocError> {
+    let mut front = Text::new();
+    put_name(&mut front, file);
+    front.put_text(b"damaged ");
+    let front = front.as_slice();
+    text.extend_from_slice(&front[..front.len().saturating_sub(1)])?;
+    let fault = match why {
+        Damage::Unreadable => Fault::File,
+        Damage::Foreign => Fault::Foreign,
+        Damage::Open(fault) => Fault::Open(fault),
+        Damage::Tail(offset) => {
+            let mut rest = Text::new();
+            rest.put_number(offset);
+            rest.put_text(b" tail ");
+            return text.extend_from_slice(rest.as_slice());
+        }
+    };
+    let mut line = Vec::new(*text.allocator());
+    let _ = write_fault(&fault, &mut line);
+    let rest = line.as_slice();
+    text.extend_from_slice(rest.strip_prefix(b"fault").unwrap_or(rest))
+}

@@ -1,0 +1,28 @@
+//! What a program does beside recording.
+
+use crate::damage::Damage;
+use archive_folder::FileName;
+use archive_times::Line;
+
+/// What a program does beside recording: it tells what becomes of files, and keeps their times. No fault of it stops the
+/// recording.
+pub trait Beside {
+    /// The newest file was opened, of which this many bytes are committed: the last line of its times that is sound. What
+    /// follows that line is cut off.
+    fn opened(&mut self, file: FileName, committed: u64) -> Option<Line>;
+
+    /// The file was begun. It has no times yet.
+    fn begun(&mut self, file: FileName);
+
+    /// This line is appended to the times of the file that was opened or begun last.
+    fn timed(&mut self, line: Line);
+
+    /// The file has ended, with so many bytes: nothing writes it again. Its times are synced.
+    fn ended(&mut self, file: FileName, bytes: u64);
+
+    /// The file was thrown away, with its times.
+    fn removed(&mut self, file: FileName);
+
+    /// The file is left exactly as it is.
+    fn damaged(&mut self, file: FileName, why: Damage);
+}

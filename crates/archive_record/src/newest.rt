@@ -1,0 +1,94 @@
+//! The newest file, which is recorded into.
+ghost use Rattle.std.specs.Prelude.{◌≡◌};
+
+use archive_folder::FileName;
+use archive_times::{Join, Line};
+use disk_model::Disk;
+use feed_replies::Reply;
+use feed_runner::Runner;
+use file_recorder::Recorder;
+use link_chain::{MOST_LINKS, is_open};
+use ogg_command::Command;
+use ogg_page::WriteFault;
+use std::io::Write;
+
+/// The newest file, and where its open link is joined. It answers commands as its recorder does.
+#[derive(Drop)]
+pub struct Newest<D: Disk> {
+    pub(crate) name: FileName,
+    pub(crate) recorder: Recorder<D>,
+    // of the last link, if it was begun since the file was opened
+    pub(crate) join: Option<Join>,
+}
+
+/// Where a link is joined that was begun by this command, if it was taken: its pages stand from `before` to `after`.
+fn join_of(command: &Command, reply: Reply, before: u64, after: u64) -> Option<Join> {
+    match (command, reply) {
+        (Command::Begin(_), Reply::Held(_) | Reply::Kept(_)) => Some(Join {
+            begin: before,
+            begun: after,
+        }),
+        _ => None,
+    }
+}
+
+impl<D: Disk> Newest<D> {
+    /// Whether a link more would be refused, and none is open.
+    pub(crate) fn is_full(&self) -> bool {
+        self.recorder.links() >= MOST_LINKS && !is_open(self.recorder.streams())
+    }
+
+    /// The line of times that is to be written after `last`, if what is committed says more.
+    pub(crate) fn line(&self, last: Option<Line>, now: u64) -> Option<Line> {
+        let join = if is_open(self.recorder.streams()) {
+            self.join
+        } else {
+            None
+        };
+        Line::after(last, self.recorder.end(), now, join)
+    }
+}
+
+impl<D: Disk> Runner for Newest<D> {
+    ghost use Rattle.std.specs.Prelude.{◌≡◌};
+    ghost use Rattle.file_recorder.specs.Running.{Progress, Answers, waiting_in, end_in};
+
+    ghost State = { Progress D };
+
+    ghost is_in = { λ before newest. before.now ≡ newest.recorder };
+
+    ghost answers = { Answers D.Disk };
+
+    ghost held_in = { waiting_in };
+
+    ghost end_in = { end_in };
+
+    ghost counted = { λ newest. 0 };
+
+    fn run_command<P: Write>(
+        &mut self,
+        command: &Command,
+        pages: &mut P,
+    ) -> Result<Reply, WriteFault> {
+        let before = self.recorder.length();
+        let answer = self.recorder.run_command(command, pages);
+        if let Ok(reply) = answer {
+            if let Some(join) = join_of(command, reply, before, self.recorder.length()) {
+                self.join = Some(join);
+            }
+        }
+        answer
+    }
+
+    fn run_flush(&mut self) -> Reply {
+        self.recorder.run_flush()
+    }
+
+    fn waiting(&self) -> u64 {
+        self.recorder.waiting()
+    }
+
+    fn kept_length(&self) -> u64 {
+        self.recorder.kept_length()
+    }
+}

@@ -1,0 +1,148 @@
+//! Which files are thrown away, and that they are.
+
+ghost use Rattle.std.specs.Prelude.{◌≡◌};
+
+use crate::archive::{Archive, ArchiveFault};
+use crate::beside::Beside;
+use crate::files::Files;
+use crate::naming::name_of;
+use archive_folder::{FileName, Folder};
+use archive_names::{Going, Held, Keeping, next_to_go};
+use disk_model::{Disk, DiskFault};
+
+/// Whether a file may have to be thrown away at all.
+fn throws(keeping: Keeping) -> bool {
+    keeping.span.is_some() || keeping.bytes.is_some()
+}
+
+/// The last moment of a file that the next one follows, in milliseconds since 1970: what the file has was recorded before
+/// the next one was begun.
+fn last_of(next: Option<&FileName>, now: u64) -> u64 {
+    match next {
+        Some(next) => name_of(*next)
+            .begin
+            .saturating_mul(1000)
+            .saturating_add(999),
+        None => now,
+    }
+}
+
+/// What stands under a name. A file that can't be looked at is never thrown away.
+fn look<F: Folder>(files: &mut Files<F>, name: FileName, last: u64) -> Held
+    ensures { files.new.files ≡ files.old.files }
+{
+    match files.facts(name) {
+        Ok(facts) => Held {
+            bytes: facts.bytes,
+            last,
+            is_kept: facts.is_held,
+        },
+        Err(DiskFault) => Held {
+            bytes: 0,
+            last,
+            is_kept: true,
+        },
+    }
+}
+
+impl<D: Disk + Drop, F: Folder<File = D> + Drop> Archive<D, F> {
+    /// What stands under each name is noted, in the order of the files, if something may have to be thrown away.
+    pub(crate) fn look_at_all(&mut self, now: u64) -> Result<(), ArchiveFault> {
+        if !throws(self.rules.keeping) {
+            return Ok(());
+        }
+        for at in 0..self.files.names().len() {
+            let Some(name) = self.files.names().get(at) else {
+                return Ok(());
+            };
+            let (name, last) = (*name, last_of(self.files.names().get(at + 1), now));
+            let held = look(&mut self.files, name, last);
+            match self.held.push(held) {
+                Ok(()) => {}
+                Err(_) => return Err(ArchiveFault::Memory),
+            }
+        }
+        Ok(())
+    }
+
+    /// A file was begun: the one before it has ended.
+    pub(crate) fn look_at_newest(&mut self, now: u64) -> Result<(), ArchiveFault> {
+        if !throws(self.rules.keeping) {
+            return Ok(());
+        }
+        if let [.., before, _] = self.files.names() {
+            let before = *before;
+            self.held.pop();
+            let held = look(&mut self.files, before, now);
+            match self.held.push(held) {
+                Ok(()) => {}
+                Err(_) => return Err(ArchiveFault::Memory),
+            }
+        }
+        let newest = Held {
+            bytes: 0,
+            last: now,
+            is_kept: false,
+        };
+        match self.held.push(newest) {
+            Ok(()) => Ok(()),
+            Err(_) => Err(ArchiveFault::Memory),
+        }
+    }
+
+    /// Throws away what is to be thrown away at this time, oldest first.
+    pub(crate) fn throw_away<B: Beside>(&mut self, now: u64, beside: &mut B) {
+        let mut gone: usize = 0;
+        for _ in 0..self.held.len() {
+            let Some(going) = next_to_go(self.held.as_slice(), self.rules.keeping, now, gone) else {
+                return;
+            };
+            if self.throw_one(going, beside) && going.by_age {
+                gone = gone.saturating_add(1);
+            }
+        }
+    }
+
+    /// Throws a file away, unless it has a mark by now, and returns whether it did.
+    fn throw_one<B: Beside>(&mut self, going: Going, beside: &mut B) -> bool {
+        let (Some(name), Some(held)) = (self.files.names().get(going.at), self.held.get(going.at))
+        else {
+            return false;
+        };
+        let (name, last) = (*name, held.last);
+        if look(&mut self.files, name, last).is_kept {
+            self.keep(going.at);
+            return false;
+        }
+        match self.files.throw_away(name) {
+            Ok(true) => {
+                self.forget(going.at);
+                beside.removed(name);
+                true
+            }
+            Ok(false) => {
+                self.keep(going.at);
+                false
+            }
+            // The file is forgotten until the archive is opened again.
+            Err(DiskFault) => {
+                self.forget(going.at);
+                false
+            }
+        }
+    }
+
+    /// The file at this place isn't to be thrown away.
+    fn keep(&mut self, at: usize) {
+        if let Some(held) = self.held.get_mut(at) {
+            held.is_kept = true;
+        }
+    }
+
+    /// The file at this place is gone.
+    fn forget(&mut self, at: usize) {
+        if at < self.held.len() {
+            self.held.remove(at);
+        }
+    }
+}
