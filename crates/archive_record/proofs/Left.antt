@@ -11,7 +11,8 @@ use Rattle.gate_file.specs.Gate.{EndsAt}
 use Rattle.file_recorder.specs.Taking.{IsBrokenAt, IsUnfinished}
 use Rattle.record_actions.specs.Foreign.{IsForeign, front_of}
 use Rattle.archive_record.specs.declared.damage.Damage.{Damage}
-use Rattle.archive_record.specs.Opening.{IsLeftBy, IsSoundAt, IsUnsoundAt}
+use Rattle.record_actions.specs.Tail.{IsSoundAt, IsUnsoundAt}
+use Rattle.archive_record.specs.Opening.{IsLeftBy}
 
 rises_earlier : (first then now : ℕ) → first ≤ then → Rises then now → Rises first now
 rises_earlier first then now le rises = ⊎_elim (λ less. inl (omega (arith, le, less))) (λ top. inr top) rises

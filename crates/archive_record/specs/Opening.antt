@@ -1,5 +1,5 @@
 -- Which file can be gone on with. Ours.
-use Rattle.std.specs.Prelude.{◌≡◌, ◌≢◌, ℕ, List, [], ◌∷◌, length, take, drop, ⊤}
+use Rattle.std.specs.Prelude.{◌≡◌, ◌≢◌, ℕ, List, take}
 use Rattle.disk_model.specs.declared.disk.Disk.{Ghosts as DiskModel}
 use Rattle.disk_model.specs.Frame.{Frame}
 use Rattle.ogg_page.specs.declared.fault.PageFault.{PageFault}
@@ -10,25 +10,9 @@ use Rattle.gate_file.specs.Found.{IsDamagedAt}
 use Rattle.gate_file.specs.Gate.{EndsAt}
 use Rattle.file_recorder.specs.Taking.{IsBrokenAt, IsUnfinished}
 use Rattle.record_actions.specs.Foreign.{IsForeign, front_of}
+use Rattle.record_actions.specs.Tail.{IsUnsoundAt}
 use Rattle.archive_record.specs.declared.damage.Damage.{Damage}
 use Rattle.archive_record.specs.declared.damage.Damage.TheVariants.{Unreadable, Foreign, Open, Tail}
-
--- What a stop leaves after the last whole page: nothing, one byte, or what begins with the closed byte 00. What begins
--- otherwise may be pages of which the first has another first byte.
-abbrev pub IsSoundTail : List ℕ → Type 0
-IsSoundTail [] = ⊤
-IsSoundTail (byte ∷ []) = ⊤
-IsSoundTail (byte ∷ next ∷ rest) = byte ≡ 0
-
--- pages end here, and what follows is sound
-pub record IsSoundAt (contents : List ℕ) (end : ℕ) : Type 0 where
-  pub ends : EndsAt contents end
-  pub tail : IsSoundTail (drop end contents)
-
--- pages end here, and what follows isn't
-pub record IsUnsoundAt (contents : List ℕ) (end : ℕ) : Type 0 where
-  pub ends : EndsAt contents end
-  pub tail : IsSoundTail (drop end contents) → ⊥
 
 -- Why a file is left as it is, by what it holds. Unless its disk has failed it holds what it held.
 pub record IsLeftBy {D : Type 0} (model : DiskModel D) (disk : D) (why : Damage) (back : D) : Type 0 where

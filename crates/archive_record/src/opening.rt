@@ -1,16 +1,17 @@
 //! Which file can be gone on with.
-ghost use Rattle.std.specs.Prelude.{◌≡◌, ◌+◌, ℕ, IfOk, IfErr, length, take, drop, false};
+ghost use Rattle.std.specs.Prelude.{◌≡◌, ℕ, IfOk, IfErr, take, false};
 ghost use Rattle.disk_model.specs.Frame.{Frame};
 ghost use Rattle.file_recorder.specs.Recorder.{committed};
 ghost use Rattle.gate_file.specs.Gate.{EndsAt};
 ghost use Rattle.record_actions.specs.Foreign.{IsForeign, front_of};
-ghost use Rattle.archive_record.specs.Opening.{IsLeftBy, IsSoundAt};
+ghost use Rattle.record_actions.specs.Tail.{IsSoundAt};
+ghost use Rattle.archive_record.specs.Opening.{IsLeftBy};
 
 use crate::damage::Damage;
 use disk_model::{Disk, DiskFault};
 use file_recorder::Recorder;
-use gate_file::{GateFile, OpenFault, committed_bytes_are_unique};
-use record_actions::is_foreign;
+use gate_file::{OpenFault, committed_bytes_are_unique};
+use record_actions::{find_tail, is_foreign};
 use std::alloc::Global;
 
 /// A recorder on a disk that holds a recording, or nothing yet. Nothing waits in it, and each command is a group of its
@@ -59,32 +60,12 @@ fn with_sound_tail<D: Disk + Drop>(alloc: Global, disk: D) -> Result<D, (Damage,
     ensures frame { IfOk result (λ same. Frame D.Disk disk same ⊥) }
     ensures left { IfErr result (λ (why, back). IsLeftBy D.Disk disk why back) }
 {
-    match GateFile::find(alloc, disk) {
-        Ok(found) => {
-            let (end, tail) = (found.end(), found.tail());
-            with_sound_end(found.give_back(), end, tail)
-        }
+    match find_tail(alloc, disk) {
+        Ok((disk, tail)) => match tail {
+            Some(tail) => Err((Damage::Tail(tail.offset), disk)),
+            None => Ok(disk),
+        },
         Err((fault, disk)) => Err((Damage::Open(fault), disk)),
-    }
-}
-
-/// The same disk, whose pages end at `end`, if the bytes that follow are what a stop may leave.
-fn with_sound_end<D: Disk + Drop>(disk: D, end: u64, tail: u64) -> Result<D, (Damage, D)>
-    requires { D.is_honest disk → EndsAt (D.state disk).contents end × (end + tail ≡ length (D.state disk).contents) }
-    ensures same { IfOk result (λ same. D.is_honest disk → D.state same ≡ D.state disk) }
-    ensures sound { IfOk result (λ same. D.is_honest disk → IsSoundAt (D.state disk).contents end) }
-    ensures frame { IfOk result (λ same. Frame D.Disk disk same ⊥) }
-    ensures left { IfErr result (λ (why, back). IsLeftBy D.Disk disk why back) }
-{
-    if tail < 2 {
-        return Ok(disk);
-    }
-    let mut disk = disk;
-    let mut first = [0; 1];
-    match disk.read_at(end, &mut first) {
-        Ok(()) if first[0] == 0 => Ok(disk),
-        Ok(()) => Err((Damage::Tail(end), disk)),
-        Err(DiskFault) => Err((Damage::Open(OpenFault::Disk), disk)),
     }
 }
 

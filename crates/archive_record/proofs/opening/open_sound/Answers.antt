@@ -1,6 +1,6 @@
 use Rattle.std.proofs.Common.{◌≡◌, ◌∙◌, ap, subst, List, ℕ}
 use Rattle.gate_file.specs.Gate.{EndsAt}
-use Rattle.archive_record.specs.Opening.{IsSoundAt}
+use Rattle.record_actions.specs.Tail.{IsSoundAt}
 use Rattle.archive_record.proofs.Left.{err_after, left_after, frame_after, ok_where, sound_there}
 use Rattle.archive_record.proofs.opening.open_sound.Goals as goal
 
