@@ -11,6 +11,7 @@ use std::alloc::Global;
 
 /// The copies of a file's tails: files beside it, named for where the tail begins. Each is told by a line on standard
 /// error.
+#[derive(Drop)]
 pub struct TailFiles<'a> {
     rt: &'a HostRuntime,
     file: &'a str,
