@@ -3,6 +3,7 @@ ghost use Rattle.std.specs.Prelude.{◌≡◌, ◌⊎◌, ◌↔◌, IfOk, OnOk,
 ghost use Rattle.gate_file.specs.declared.fault.OpenFault.{OpenFault as OpenFaultOf};
 ghost use Rattle.link_chain.specs.ChainState.{is_open};
 ghost use Rattle.record_actions.specs.Foreign.{IsForeign, front_of};
+ghost use Rattle.record_actions.specs.Tail.{IsKeptAside};
 ghost use Rattle.archive_record.specs.Resting.{IsAtRest};
 
 use crate::filing::{Filing, archive_folder, is_folder};
@@ -12,7 +13,9 @@ use fault_lines::Fault;
 use file_recorder::Recorder;
 use import_feed::{ChangeOptions, Skeletons};
 use import_record::{ImportRun, RecordFault, Step, run_all};
-use record_actions::{Told, lock_file, own_recorder_on, reopen, seal_if};
+use record_actions::{
+    Aside, Asides, TailFiles, Told, keeping_recorder_on, lock_file, reopen, seal_if,
+};
 use std::alloc::Global;
 use std::os::unix::fs::MetadataExt;
 use std::{fs, io};
@@ -62,25 +65,37 @@ fn archive_file(rt: &HostRuntime, file: &str, options: ArchiveOptions) -> Result
     archive_by(rt, recorder, options)
 }
 
-/// Opens the file, which is made if there is none, and ends what an earlier run left open in it.
+/// Opens the file, which is made if there is none, and ends what an earlier run left open in it. What follows its pages
+/// is kept beside it first, unless a stop may have left that.
 fn open_ended(rt: &HostRuntime, file: &str, most: u32) -> Result<Recorder<FileDisk>, Fault> {
     let disk = lock_file(rt, file, FileMode::Create)?;
-    ended_on(rt.alloc(), disk, most)
+    match ended_on(rt.alloc(), disk, &mut TailFiles::of(rt, file), most) {
+        Ok((recorder, _)) => Ok(recorder),
+        Err(fault) => Err(fault),
+    }
 }
 
-/// A recorder on a disk that holds a recording, or nothing yet. What was open in it is ended, and that is kept.
+/// A recorder on a disk that holds a recording, or nothing yet, and what keeps the tail that the disk had, unless a stop
+/// may have left that. What was open is ended, and that is kept.
 ///
-/// Its faults are those of `own_recorder_on` and of `end_open`.
-fn ended_on<D: Disk + Drop>(alloc: Global, disk: D, most: u32) -> Result<Recorder<D>, Fault>
-    ensures rests { IfOk result IsAtRest }
+/// Its faults are those of `keeping_recorder_on` and of `end_open`.
+fn ended_on<D: Disk + Drop, A: Asides>(
+    alloc: Global,
+    disk: D,
+    asides: &mut A,
+    most: u32,
+) -> Result<(Recorder<D>, Option<Aside<A::Copy>>), Fault>
+    ensures rests { IfOk result (λ (recorder, aside). IsAtRest recorder) }
     ensures foreign { D.is_honest disk → IsForeign (front_of (D.state disk).contents)
         → (result ≡ Err Fault.Foreign) ⊎ (result ≡ Err (Fault.Open OpenFaultOf.Disk)) }
+    ensures kept { IfOk result (λ (recorder, aside). D.is_honest disk
+        → IsKeptAside A.Copy.Disk (D.state disk).contents aside) }
 {
-    let mut recorder = own_recorder_on(alloc, disk)?;
+    let (mut recorder, aside) = keeping_recorder_on(alloc, disk, asides)?;
     // `clap` has checked that `most` lies in this range, and nothing waits yet.
     recorder.group(most.clamp(1, 1024));
     end_open(&mut recorder)?;
-    Ok(recorder)
+    Ok((recorder, aside))
 }
 
 /// Records the Ogg stream on standard input by this recorder, in whose file nothing is open.
