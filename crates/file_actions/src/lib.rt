@@ -1,16 +1,25 @@
-//! What the program does with a file that it only reads: `links`, `split`, `finish` and `salvage`.
+//! What the program does with what it only reads: `links`, `split`, `finish` and `salvage` of a file, `list` and
+//! `verify` of an archive.
 //!
 //! Each of these functions opens what it needs, calls the crates below, and returns the first fault that it met. It
 //! leaves the fault's line to its caller.
 //!
-//! Start at `src/files.rt`, which has the shortest of them.
+//! Start at `src/files.rt`, which has the shortest of them, and for archives at `specs/Lines.antt`.
 #![tactic(auto)]
 
+mod checks;
 mod files;
 mod finishing;
 mod indexing;
+mod lines;
+mod listing;
+mod progress;
 mod salvaging;
+mod telling;
+mod verifying;
 
 pub use files::{links, split};
 pub use finishing::finish;
+pub use listing::list;
 pub use salvaging::salvage;
+pub use verifying::verify;

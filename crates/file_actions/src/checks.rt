@@ -1,0 +1,129 @@
+//! What `verify` decides of a file.
+ghost use Rattle.std.specs.Prelude.{◌≡◌, ◌↔◌, IsTrue};
+ghost use Rattle.file_actions.specs.Checks.{IsSoundTail, LacksBefore, seconds_left};
+
+use archive_names::Name;
+use archive_reading::Listed;
+use archive_times::{Line, next_line};
+
+/// Whether so many bytes may follow the last page, the first of which is this one. The file that is written now may have
+/// what a stop leaves there.
+pub(crate) fn is_sound_tail(is_written: bool, tail: u64, first: u8) -> bool
+    ensures { IsTrue result ↔ IsSoundTail is_written tail first }
+{
+    if is_written {
+        tail < 2 || first == 0
+    } else {
+        tail == 0
+    }
+}
+
+/// Whether a file goes on with one that isn't there. `before` is the file before it in the folder.
+pub(crate) fn lacks_before(before: Option<Listed>, name: Name) -> bool
+    ensures { IsTrue result ↔ LacksBefore before name }
+{
+    match before {
+        Some(before) => {
+            name.goes_on
+                && !before.is_kept
+                && before.name.number.checked_add(1) != Some(name.number)
+        }
+        None => false,
+    }
+}
+
+/// The seconds that are left if what is done took so many milliseconds. They are cut where they would be too many.
+pub(crate) fn seconds_left(passed: u64, done: u64, total: u64) -> u64
+    ensures { result ≡ seconds_left passed done total }
+{
+    passed.saturating_mul(total.saturating_sub(done)) / done.max(1) / 1000
+}
+
+/// What is wrong with lines of times, at a byte of their text.
+#[derive(Clone, Copy, Debug, PartialEq, Eq)]
+pub(crate) enum TimesFault {
+    /// No line stands here that may follow the one before.
+    Line(u64),
+    /// A line stands here whose offset is none between two pages.
+    Page(u64),
+}
+
+/// Lines of times, compared with the places between pages as these pass.
+#[derive(Debug, Drop)]
+pub(crate) struct Places {
+    text: Vec<u8>,
+    /// The line that is waited for.
+    next: Option<Line>,
+    /// Where it begins in the text, or what is no line.
+    at: usize,
+    /// Where it ends, or what is no line begins.
+    end: usize,
+    fault: Option<TimesFault>,
+}
+
+impl Places {
+    /// No place has passed.
+    pub(crate) fn of(text: Vec<u8>) -> Places {
+        let mut places = Places {
+            text,
+            next: None,
+            at: 0,
+            end: 0,
+            fault: None,
+        };
+        places.step();
+        places
+    }
+
+    /// What follows the line.
+    fn rest(&self) -> &[u8] {
+        let text = self.text.as_slice();
+        let (_, rest) = text.split_at(self.end.min(text.len()));
+        rest
+    }
+
+    /// Goes on to the next line.
+    fn step(&mut self) {
+        let rest = self.rest();
+        let (next, left) = match next_line(rest, self.next, u64::MAX) {
+            Some((line, after)) => (Some(line), after.len()),
+            None => (None, rest.len()),
+        };
+        self.at = self.end;
+        self.end = self.text.len().saturating_sub(left);
+        self.next = next;
+    }
+
+    /// A page begins at this place, or the last one ends there. Places rise.
+    pub(crate) fn pass(&mut self, place: u64) {
+        if let Some(line) = self.next {
+            if line.offset < place && self.fault.is_none() {
+                self.fault = Some(TimesFault::Page(self.at as u64));
+            }
+            if line.offset == place {
+                self.step();
+            }
+        }
+    }
+
+    /// The first fault, after all places. The last line of a file that is written now may be torn.
+    pub(crate) fn fault(&self, is_written: bool) -> Option<TimesFault> {
+        if self.fault.is_some() {
+            return self.fault;
+        }
+        if self.next.is_some() {
+            return Some(TimesFault::Page(self.at as u64));
+        }
+        let rest = self.rest();
+        if rest.is_empty() || (is_written && is_torn(rest)) {
+            None
+        } else {
+            Some(TimesFault::Line(self.at as u64))
+        }
+    }
+}
+
+/// Whether a text has no line feed.
+fn is_torn(text: &[u8]) -> bool {
+    !text.contains(&b'\n')
+}
