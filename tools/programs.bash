@@ -1,6 +1,6 @@
 # The programs, and the words that each of them answers. Words that none has are answered by any of them.
 programs="ogg_archive ogg_station ogg_main"
-words_of_ogg_archive="archive feed finish links salvage split"
+words_of_ogg_archive="archive cut feed finish links list salvage split verify"
 words_of_ogg_station="station"
 words_of_ogg_main="live mux record serve"
 

@@ -1,27 +1,22 @@
 //! A stream that is recorded into a folder, file after file.
+ghost use Rattle.archive_record.specs.Files.{AllKept};
 
 use crate::archiving::{ArchiveOptions, ROOM, unended_fault};
 use crate::keeping::Keeper;
-use archive_folder::{FileFolder, SystemFile, SystemFolder};
+use archive_folder::{Folder, SystemFolder};
 use archive_names::{Keeping, Limits};
 use archive_record::{Archive, ArchiveFault, ArchiveNames, Rules};
-use disk_model::{FileDisk, FileMode};
+use disk_model::{Disk, FileMode};
 use fault_lines::Fault;
 use import_feed::ChangeOptions;
 use import_record::{ImportRun, RecordFault, Step};
 use record_actions::{Told, lock_file};
 use std::alloc::{AllocError, Global};
-use std::fs::{self, File};
+use std::fs;
 use std::time::SystemTime;
 
 /// How many seconds a file's period has, if nothing else is said.
 const HOUR: u64 = 3600;
-
-/// A folder of the system whose files are recorded into.
-type Folders<'a> = FileFolder<SystemFolder<File, &'a HostRuntime, ArchiveNames>>;
-
-/// Its machine.
-type Recording<'a> = Archive<FileDisk<SystemFile<File>>, Folders<'a>>;
 
 /// How the files of a folder are begun and kept: what was asked for.
 #[derive(Clone, Copy)]
@@ -105,34 +100,48 @@ pub(crate) fn archive_folder(
     let _lock = lock_file(rt, lock.as_str(), FileMode::Create)?;
     let files = granted(SystemFolder::at(rt.alloc(), rt, ArchiveNames, folder))?;
     let mut keeper = Keeper::new(rt, folder, Told::new(rt, options.strict, 0));
-    let opened = Archive::open(
-        rt.alloc(),
-        files,
-        filing.rules(options.most),
-        now(rt),
-        &mut keeper,
-    );
-    let mut archive = match opened {
+    record_into(rt, files, &mut keeper, filing.rules(options.most), options)
+}
+
+/// Records the stream into the files of this folder.
+fn record_into<D: Disk + Drop, F: Folder<File = D> + Drop>(
+    rt: &HostRuntime,
+    folder: F,
+    keeper: &mut Keeper<'_>,
+    rules: Rules,
+    options: ArchiveOptions,
+) -> Result<(), Fault>
+    requires { F.is_honest folder → AllKept (F.names folder) (F.file folder) }
+{
+    let mut archive = match Archive::open(rt.alloc(), folder, rules, now(rt), keeper) {
         Ok(archive) => archive,
         Err(fault) => return Err(fault_of(fault)),
     };
+    let serials = granted(archive.serials())?;
     let changes = ChangeOptions {
         renumber: true,
         skeletons: options.skeletons,
     };
-    let serials = granted(archive.serials())?;
     let import = ImportRun::new(rt.alloc(), ROOM, changes, serials.as_slice());
     let mut import = granted(import)?;
-    let recorded = record_all(rt, &mut archive, &mut import, &mut keeper);
+    let recorded = record_all(rt, &mut archive, &mut import, keeper);
     keeper.told.close();
     recorded?;
-    if let Some(fault) = keeper.told.fault() {
-        return Err(fault);
+    close(archive, keeper, options.seal)
+}
+
+/// Returns what was told of, if that is a fault. Else the newest file is sealed, if that is asked for.
+fn close<D: Disk + Drop, F: Folder<File = D> + Drop>(
+    archive: Archive<D, F>,
+    keeper: &mut Keeper<'_>,
+    seal: bool,
+) -> Result<(), Fault> {
+    let mut archive = archive;
+    match keeper.told.fault() {
+        Some(fault) => Err(fault),
+        None if seal && !archive.close(keeper) => Err(Fault::Seal),
+        None => Ok(()),
     }
-    if options.seal && !archive.close(&mut keeper) {
-        return Err(Fault::Seal);
-    }
-    Ok(())
 }
 
 /// What memory was granted for.
@@ -165,9 +174,9 @@ fn fault_of(fault: ArchiveFault) -> Fault {
 }
 
 /// Records what comes until the stream ends, or has to. Then what is open is ended, and what waits is kept.
-fn record_all(
+fn record_all<D: Disk + Drop, F: Folder<File = D> + Drop>(
     rt: &HostRuntime,
-    archive: &mut Recording<'_>,
+    archive: &mut Archive<D, F>,
     import: &mut ImportRun,
     keeper: &mut Keeper<'_>,
 ) -> Result<(), Fault> {
@@ -182,9 +191,9 @@ fn record_all(
 }
 
 /// Records what comes, page by page, until the stream ends, or a strict run has to end.
-fn record_steps(
+fn record_steps<D: Disk + Drop, F: Folder<File = D> + Drop>(
     rt: &HostRuntime,
-    archive: &mut Recording<'_>,
+    archive: &mut Archive<D, F>,
     import: &mut ImportRun,
     keeper: &mut Keeper<'_>,
 ) -> Result<(), Fault> {
@@ -207,9 +216,9 @@ fn record_steps(
 }
 
 /// Keeps what waits, or else waits for more of the stream. Returns whether the stream may have more.
-fn wait(
+fn wait<D: Disk + Drop, F: Folder<File = D> + Drop>(
     rt: &HostRuntime,
-    archive: &mut Recording<'_>,
+    archive: &mut Archive<D, F>,
     import: &mut ImportRun,
     keeper: &mut Keeper<'_>,
 ) -> Result<bool, Fault> {
@@ -228,9 +237,9 @@ fn wait(
 
 /// Takes one step over what has come, and returns whether it was the last. The next file is begun before it, if the
 /// newest is over, but not at the end of the stream.
-fn take(
+fn take<D: Disk + Drop, F: Folder<File = D> + Drop>(
     rt: &HostRuntime,
-    archive: &mut Recording<'_>,
+    archive: &mut Archive<D, F>,
     import: &mut ImportRun,
     keeper: &mut Keeper<'_>,
     more: bool,
@@ -261,9 +270,9 @@ fn take(
 }
 
 /// Goes on after the disk has failed.
-fn recover(
+fn recover<D: Disk + Drop, F: Folder<File = D> + Drop>(
     rt: &HostRuntime,
-    archive: &mut Recording<'_>,
+    archive: &mut Archive<D, F>,
     import: &mut ImportRun,
     keeper: &mut Keeper<'_>,
 ) -> Result<(), Fault> {
@@ -283,9 +292,9 @@ fn recover(
 }
 
 /// Ends the stream that was recorded.
-fn finish(
+fn finish<D: Disk + Drop, F: Folder<File = D> + Drop>(
     rt: &HostRuntime,
-    archive: &mut Recording<'_>,
+    archive: &mut Archive<D, F>,
     import: &mut ImportRun,
     keeper: &mut Keeper<'_>,
 ) -> Result<(), Fault> {
@@ -298,9 +307,9 @@ fn finish(
 }
 
 /// Ends what is open in the newest file, and keeps that.
-fn end_open(
+fn end_open<D: Disk + Drop, F: Folder<File = D> + Drop>(
     rt: &HostRuntime,
-    archive: &mut Recording<'_>,
+    archive: &mut Archive<D, F>,
     keeper: &mut Keeper<'_>,
 ) -> Result<(), Fault> {
     let ended = archive.end_open(now(rt), keeper);

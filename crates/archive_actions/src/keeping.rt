@@ -152,6 +152,13 @@ impl Beside for Keeper<'_> {
         self.tell_file(file, b"removed", None);
     }
 
+    fn stands_twice(&mut self, number: u64) {
+        let mut line = Text::new();
+        line.put_number(number);
+        line.put_text(b"twice ");
+        self.told.tell(line.as_slice());
+    }
+
     fn damaged(&mut self, file: FileName, why: Damage) {
         let mut text = Vec::new(self.rt.alloc());
         let line = damaged_line(&mut text, file, why);

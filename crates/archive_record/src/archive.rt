@@ -95,6 +95,12 @@ fn open_newest<D: Disk + Drop, F: Folder<File = D>, B: Beside>(
     if !files.is_free() {
         return Ok(None);
     }
+    if let [.., other, newest] = files.names() {
+        if other.number == newest.number {
+            beside.stands_twice(newest.number);
+            return Ok(None);
+        }
+    }
     let found = match files.open_newest() {
         Ok(found) => found,
         Err(DiskFault) => {

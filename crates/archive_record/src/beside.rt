@@ -23,6 +23,9 @@ pub trait Beside {
     /// The file was thrown away, with its times.
     fn removed(&mut self, file: FileName);
 
+    /// Two files have this number. Both are left exactly as they are.
+    fn stands_twice(&mut self, number: u64);
+
     /// The file is left exactly as it is.
     fn damaged(&mut self, file: FileName, why: Damage);
 }

@@ -27,6 +27,19 @@ fn last_of(next: Option<&FileName>, now: u64) -> u64 {
     }
 }
 
+/// Whether the file at this place has this number, if there is one.
+fn has_number(files: &[FileName], at: usize, number: u64) -> bool {
+    match files.get(at) {
+        Some(file) => file.number == number,
+        None => false,
+    }
+}
+
+/// Whether a neighbour of the file at this place has its number too, in the order of the numbers. Both are left as they are.
+fn stands_twice(files: &[FileName], at: usize, number: u64) -> bool {
+    (at > 0 && has_number(files, at - 1, number)) || has_number(files, at.saturating_add(1), number)
+}
+
 /// What stands under a name. A file that can't be looked at is never thrown away.
 fn look<F: Folder>(files: &mut Files<F>, name: FileName, last: u64) -> Held
     ensures { files.new.files ≡ files.old.files }
@@ -56,7 +69,9 @@ impl<D: Disk + Drop, F: Folder<File = D> + Drop> Archive<D, F> {
                 return Ok(());
             };
             let (name, last) = (*name, last_of(self.files.names().get(at + 1), now));
-            let held = look(&mut self.files, name, last);
+            let is_twice = stands_twice(self.files.names(), at, name.number);
+            let mut held = look(&mut self.files, name, last);
+            held.is_kept = held.is_kept || is_twice;
             match self.held.push(held) {
                 Ok(()) => {}
                 Err(_) => return Err(ArchiveFault::Memory),

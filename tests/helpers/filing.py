@@ -1,0 +1,167 @@
+#!/usr/bin/env python3
+"""Folders of recordings for the tests of `archive DIR`: what they hold, and kills of an encoder and of the program.
+
+`filing.py holds FOLDER COUNT ..` checks a folder that streams of so many pages were recorded into, one after the other, whole:
+each packet stands once, in order, over all files. `filing.py kills PROGRAM FOLDER COUNT` runs an encoder into `archive`
+again and again over one growing folder whose files have few pages, each time killing the encoder, the program or both,
+and checks after each run what the folder holds. `filing.py fails PROGRAM LIBRARY FOLDER` has each device call fail in turn,
+by the library of failing.c, and once or from then on.
+"""
+import os
+import random
+import re
+import select
+import struct
+import subprocess
+import sys
+import time
+
+from archiving import found, packet, stream
+
+NAME = re.compile(r"(\d{6,})-\d{8}T\d{6}Z(-on)?\.ogg")
+
+
+def files_of(folder):
+    """The files by number: each with its name, whether it goes on, its bytes, and the lines of its times."""
+    files = []
+    for name in os.listdir(folder):
+        if it := NAME.fullmatch(name):
+            path = os.path.join(folder, name)
+            times = path[:-4] + ".times"
+            lines = open(times).read().splitlines() if os.path.exists(times) else []
+            files.append((int(it[1]), name, bool(it[2]), open(path, "rb").read(), lines))
+    return sorted(files)
+
+
+def wrong_times(data, end, lines):
+    """What is wrong with the times of a file whose pages end here."""
+    boundaries, where = {0}, 0
+    while where < end:
+        count = data[where + 26]
+        where += 27 + count + sum(data[where + 27 : where + 27 + count])
+        boundaries.add(where)
+    last = (0, 0)
+    for number, line in enumerate(lines):
+        offset, moment, begin, begun = line.split(" ")
+        offset, moment = int(offset), int(moment)
+        if offset not in boundaries:
+            yield f"line {number}: {offset} is no end of a page"
+        if number and (offset <= last[0] or moment < last[1]):
+            yield f"line {number} doesn't rise: {line}"
+        if begin != "-" and not int(begin) < int(begun) <= offset:
+            yield f"line {number}: {line}"
+        if begin != "-" and data[int(begin) + 5] & 2 == 0:
+            yield f"line {number}: no link begins at {begin}"
+        last = (offset, moment)
+
+
+def wrong(folder, whole=(), ended=False):
+    """What is wrong with a folder: each stream's packets are the first of its encoder, in order, over all files, and those
+    of the streams in `whole` are all there. Returns the faults, and how many packets of each stream there are."""
+    faults, counts, going = [], {}, None
+    files = files_of(folder)
+    numbers = [it[0] for it in files]
+    if numbers != sorted(set(numbers)):
+        faults.append(f"numbers {numbers}")
+    for number, name, goes_on, data, lines in files:
+        streams, end = found(data)
+        is_newest = number == numbers[-1]
+        if not is_newest and end != len(data):
+            faults.append(f"{name}: {len(data) - end} bytes behind its pages")
+        if is_newest and len(data) - end > 1 and data[end] != 0:
+            faults.append(f"{name}: a tail of {len(data) - end} bytes")
+        faults += [f"{name}: times: {it}" for it in wrong_times(data, end, lines)]
+        for place, one in enumerate(streams):
+            seed, _ = struct.unpack("<II", one["packets"][0][:8])
+            before = counts.get(seed, 0)
+            continues = place == 0 and seed == going
+            if before and not continues:
+                # The link was begun again after a fault, or a file was set aside.
+                faults.append(f"{name}: stream {seed} begins a second time at link {place}")
+            if goes_on and place == 0 and not continues:
+                faults.append(f"{name}: it goes on with nothing")
+            if continues and not goes_on:
+                faults.append(f"{name}: it goes on, and doesn't say so")
+            for at, got in enumerate(one["packets"][1:], before + 1):
+                if got != packet(seed, at):
+                    faults.append(f"{name}: packet {at} of stream {seed}")
+                    break
+            counts[seed] = before + len(one["packets"]) - 1
+            if not one["ended"] and (ended or not is_newest or place + 1 < len(streams)):
+                faults.append(f"{name}: link {place} is open")
+            going = seed
+        serials = [one["serial"] for one in streams]
+        if len(set(serials)) != len(serials):
+            faults.append(f"{name}: a serial stands twice")
+    for seed, count in dict(whole).items():
+        if counts.get(seed, 0) != count:
+            faults.append(f"stream {seed} has {counts.get(seed, 0)} packets, not {count}")
+    return faults, counts
+
+
+def kills(program, folder, count):
+    rng = random.Random(21)
+    path = os.path.join(folder, "kills") + "/"
+    bad = runs = 0
+    kept = {}
+    for seed in range(1, count + 1):
+        encoder = subprocess.Popen(
+            [sys.executable, os.path.join(os.path.dirname(__file__), "archiving.py"), "encode", str(seed)],
+            stdout=subprocess.PIPE,
+            stderr=subprocess.PIPE,
+        )
+        most = str(rng.choice([300, 1000, 5000]))
+        archive = subprocess.Popen(
+            [program, "archive", path, "--every", "1s", "--most-bytes", most],
+            stdin=encoder.stdout,
+            stdout=subprocess.DEVNULL,
+            stderr=subprocess.PIPE,
+        )
+        encoder.stdout.close()
+        if seed % 8:
+            select.select([encoder.stderr], [], [], 20)
+        time.sleep(rng.uniform(0, 0.2))
+        victims = rng.choice([[encoder], [archive], [encoder, archive], [archive, encoder]])
+        for victim in victims:
+            victim.kill()
+        try:
+            told = archive.communicate(timeout=20)[1]
+        except subprocess.TimeoutExpired:
+            archive.kill()
+            told = b"it didn't end"
+        if archive not in victims and (archive.returncode != 0 or not told.splitlines()[-1].startswith(b"archived ")):
+            print(f"run {seed}: status {archive.returncode}, {told[-200:]}")
+            bad += 1
+        encoder.kill()
+        encoder.communicate()
+        faults, counts = wrong(path) if os.path.isdir(path) else ([], {})
+        faults += [f"stream {it} had {much} packets" for it, much in kept.items() if counts.get(it, 0) < much]
+        for fault in faults[:3]:
+            print(f"run {seed}: {fault}")
+        bad += bool(faults)
+        kept, runs = counts, runs + 1
+    files = len(files_of(path))
+    if len(kept) < count // 4 or files < count // 2:
+        print(f"only {len(kept)} streams in {files} files in {count} runs")
+        bad += 1
+    print(f"{runs} runs, {bad} wrong")
+
+
+def main():
+    match sys.argv[1:]:
+        case ["stream", seed, count]:
+            sys.stdout.buffer.write(b"".join(stream(int(seed), int(count))))
+        case ["holds", folder, *counts]:
+            # Of a stream of so many pages all but the first have two packets.
+            whole = {seed: 2 * (int(it) - 1) for seed, it in enumerate(counts, 1)}
+            faults, _ = wrong(folder, whole, ended=True)
+            print("\n".join(faults[:5]), end="\n" if faults else "")
+            sys.exit(bool(faults))
+        case ["kills", program, folder, count]:
+            kills(program, folder, int(count))
+        case _:
+            sys.exit(__doc__)
+
+
+if __name__ == "__main__":
+    main()
