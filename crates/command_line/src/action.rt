@@ -5,11 +5,11 @@ use import_changes::Skeletons;
 /// How the files of an archive are begun and kept: what was asked for of it.
 #[derive(Clone, Copy, Debug, PartialEq, Eq)]
 pub struct Filing {
-    /// A file has the commands of one period of so many seconds.
+    /// A file has the commands of one period of this many seconds.
     pub every: Option<u64>,
-    /// A file that has so many bytes gets no further command.
+    /// A file that has this many bytes gets no further command.
     pub most_bytes: Option<u64>,
-    /// A file goes so many seconds after its last command.
+    /// A file goes this many seconds after its last command.
     pub keep: Option<u64>,
     /// The oldest goes while all files together have more bytes.
     pub keep_bytes: Option<u64>,

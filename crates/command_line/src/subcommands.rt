@@ -143,7 +143,7 @@ static ARCHIVE: Subcommand = Subcommand {
         Argument {
             name: "most-bytes",
             kind: Kind::Named("BYTES"),
-            help: "Begins a file also once the last one has so many bytes",
+            help: "Begins a file also once the last one has this many bytes",
         },
         Argument {
             name: "keep",
