@@ -1,4 +1,5 @@
 //! A folder of the system, read.
+ghost use Rattle.std.specs.Prelude.{◌≡◌};
 
 use crate::listed::{Entry, Listed, Seen, read_entries};
 use crate::prefix::Prefix;
@@ -174,7 +175,10 @@ pub fn committed(
         for _ in 0..2 {
             let mut bytes = whole(open(rt, folder, name, Kind::Pages)?)?;
             if let Ok(end) = end_from(&mut bytes, line.offset) {
-                return Ok(bytes.up_to(end));
+                // Lines are advice: one may speak of a place within a page.
+                if is_closed(&mut bytes, end) {
+                    return Ok(bytes.up_to(end));
+                }
             }
         }
     }
@@ -182,6 +186,22 @@ pub fn committed(
         Ok(bytes) => Ok(bytes),
         Err(ReadingFault::Open(OpenFault::Page(..))) => found(rt, folder, name),
         Err(fault) => Err(fault),
+    }
+}
+
+/// Whether what follows this place is what our files have after their pages: nothing, a byte 00 and what comes after it,
+/// or one byte.
+fn is_closed(bytes: &mut Prefix<FileDisk>, end: u64) -> bool
+    ensures { bytes.new.end ≡ bytes.old.end }
+{
+    let size = bytes.end();
+    if end >= size {
+        return true;
+    }
+    let mut byte = [0];
+    match bytes.read_at(end, &mut byte) {
+        Ok(()) => byte[0] == 0 || size - end == 1,
+        Err(_) => false,
     }
 }
 
