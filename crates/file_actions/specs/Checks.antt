@@ -1,8 +1,11 @@
 -- What `verify` decides of a file. Ours.
-use Rattle.std.specs.Prelude.{◌≡◌, ◌≢◌, ◌⊎◌, ℕ, ◌+◌, ◌-◌, ◌*◌, ◌/◌, ◌^◌, ◌<◌, max, min, Bool, true, false, Option, Some, None}
+use Rattle.std.specs.Prelude.{◌≡◌, ◌≢◌, ◌⊎◌, ℕ, ◌+◌, ◌-◌, ◌*◌, ◌/◌, ◌^◌, ◌<◌, max, min, nat_lt, Bool, true, false, ◌&&◌, if◌then◌else◌, List, [], ◌∷◌, Option, Some, None}
 use Rattle.archive_names.specs.declared.name.Name.{Name}
 use Rattle.archive_reading.specs.declared.listed.Listed.{Listed}
+use Rattle.archive_times.specs.Times.{has_no_line_feed}
 use Rattle.archive_times.specs.declared.line.Line.{Line}
+use Rattle.file_actions.specs.declared.checks.TimesFault.{TimesFault}
+use Rattle.file_actions.specs.declared.checks.TimesFault.TheVariants.{Line as LineFault, Page}
 
 -- what a stop may leave after the last page of the file that is written: one byte, or what begins with a byte 00
 abbrev pub IsLeftByStop : ℕ → ℕ → Type 0
@@ -26,3 +29,28 @@ LacksBefore (Some before) name = (name.goes_on ≡ true) × (before.is_kept ≡ 
 -- the seconds that are left, if what is done took so many milliseconds, as far as a product has room
 abbrev pub seconds_left : ℕ → ℕ → ℕ → ℕ
 seconds_left passed done total = min (passed * (total - done)) (2 ^ 64 - 1) / max done 1 / 1000
+
+-- ---- Lines of times, compared with the places between pages as these pass in turn.
+
+-- The first fault so far: a place passes before which the next line speaks of an offset, at which none has passed. The line
+-- stands at this byte of the text.
+abbrev pub fault_after : Option TimesFault → Option Line → ℕ → ℕ → Option TimesFault
+fault_after (Some fault) next at place = Some fault
+fault_after None None at place = None
+fault_after None (Some line) at place = if nat_lt line.offset place then Some (Page at) else None
+
+-- the next line speaks of this place, so it is done
+abbrev pub IsReached : Option Line → ℕ → Type 0
+IsReached None place = ⊥
+IsReached (Some line) place = line.offset ≡ place
+
+-- what follows the lines is none: it is nothing, or the last line of a file that is written now, which may be torn
+abbrev pub is_excused : Bool → List ℕ → Bool
+is_excused is_written [] = true
+is_excused is_written (byte ∷ rest) = is_written && has_no_line_feed (byte ∷ rest)
+
+-- the first fault after all places: a line that waits speaks of none of them
+abbrev pub last_fault : Bool → Option TimesFault → Option Line → ℕ → List ℕ → Option TimesFault
+last_fault is_written (Some fault) next at rest = Some fault
+last_fault is_written None (Some line) at rest = Some (Page at)
+last_fault is_written None None at rest = if is_excused is_written rest then None else Some (LineFault at)

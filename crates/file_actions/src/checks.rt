@@ -1,6 +1,7 @@
 //! What `verify` decides of a file.
 ghost use Rattle.std.specs.Prelude.{◌≡◌, ◌↔◌, IsTrue};
-ghost use Rattle.file_actions.specs.Checks.{IsSoundTail, LacksBefore, seconds_left};
+ghost use Rattle.file_actions.specs.Checks.{IsReached, IsSoundTail, LacksBefore, fault_after, is_excused, last_fault, seconds_left};
+ghost use Rattle.archive_times.specs.Times.{has_no_line_feed};
 
 use archive_names::Name;
 use archive_reading::Listed;
@@ -46,6 +47,72 @@ pub(crate) enum TimesFault {
     Line(u64),
     /// A line stands here whose offset is none between two pages.
     Page(u64),
+}
+
+/// The first fault of lines, when a place passes. The next line stands at this byte of their text.
+fn fault_after(
+    fault: Option<TimesFault>,
+    next: Option<Line>,
+    at: u64,
+    place: u64,
+) -> Option<TimesFault>
+    ensures { result ≡ fault_after fault next at place }
+{
+    match (fault, next) {
+        (Some(fault), _) => Some(fault),
+        (None, Some(line)) if line.offset < place => Some(TimesFault::Page(at)),
+        (None, _) => None,
+    }
+}
+
+/// Whether the next line speaks of this place.
+fn is_reached(next: Option<Line>, place: u64) -> bool
+    ensures { IsTrue result ↔ IsReached next place }
+{
+    match next {
+        Some(line) => line.offset == place,
+        None => false,
+    }
+}
+
+/// Whether a text has no line feed.
+fn is_torn(text: &[u8]) -> bool
+    ensures { result ≡ has_no_line_feed text.now }
+{
+    text.iter().all(|byte| *byte != b'\n')
+}
+
+/// Whether what follows the lines is no fault.
+fn is_excused(is_written: bool, rest: &[u8]) -> bool
+    ensures { result ≡ is_excused is_written rest.now }
+{
+    match rest {
+        [] => true,
+        [_, ..] => is_written && is_torn(rest),
+    }
+}
+
+/// The first fault of lines, after all places.
+fn last_fault(
+    is_written: bool,
+    fault: Option<TimesFault>,
+    next: Option<Line>,
+    at: u64,
+    rest: &[u8],
+) -> Option<TimesFault>
+    ensures { result ≡ last_fault is_written fault next at rest.now }
+{
+    match (fault, next) {
+        (Some(fault), _) => Some(fault),
+        (None, Some(_)) => Some(TimesFault::Page(at)),
+        (None, None) => {
+            if is_excused(is_written, rest) {
+                None
+            } else {
+                Some(TimesFault::Line(at))
+            }
+        }
+    }
 }
 
 /// Lines of times, compared with the places between pages as these pass.
@@ -96,34 +163,20 @@ impl Places {
 
     /// A page begins at this place, or the last one ends there. Places rise.
     pub(crate) fn pass(&mut self, place: u64) {
-        if let Some(line) = self.next {
-            if line.offset < place && self.fault.is_none() {
-                self.fault = Some(TimesFault::Page(self.at as u64));
-            }
-            if line.offset == place {
-                self.step();
-            }
+        self.fault = fault_after(self.fault, self.next, self.at as u64, place);
+        if is_reached(self.next, place) {
+            self.step();
         }
     }
 
     /// The first fault, after all places. The last line of a file that is written now may be torn.
     pub(crate) fn fault(&self, is_written: bool) -> Option<TimesFault> {
-        if self.fault.is_some() {
-            return self.fault;
-        }
-        if self.next.is_some() {
-            return Some(TimesFault::Page(self.at as u64));
-        }
-        let rest = self.rest();
-        if rest.is_empty() || (is_written && is_torn(rest)) {
-            None
-        } else {
-            Some(TimesFault::Line(self.at as u64))
-        }
+        last_fault(
+            is_written,
+            self.fault,
+            self.next,
+            self.at as u64,
+            self.rest(),
+        )
     }
-}
-
-/// Whether a text has no line feed.
-fn is_torn(text: &[u8]) -> bool {
-    !text.contains(&b'\n')
 }
