@@ -1,5 +1,6 @@
 #!/usr/bin/env bash
-# An archive's files are listed with their times, gaps and links, and all damage of a folder or a file is told.
+# An archive's files are listed with their times, gaps and links, and all damage of a folder or a file is told, also while
+# a file grows.
 . "$(dirname "$0")/../helpers/common.bash"
 
 dir=$work/radio
@@ -193,5 +194,30 @@ came "an empty folder" 0 'verified 0 0 0 0\n' ''
 "$program" verify "$dir" >/dev/full 2>"$work/err"
 check "no room for what is verified: status" [ $? -eq 1 ]
 check "no room for what is verified: the fault" is_text "$work/err" 'fault write\n'
+
+# A file that grows meanwhile is read up to a commit.
+mkdir "$work/growing"
+python3 "$here/growing.py" "$work/growing/$a.ogg" 4 &
+writer=$!
+until [ -s "$work/growing/$a.times" ]; do sleep 0.05; done
+listed=0
+while kill -0 $writer 2>/dev/null; do
+    run list "$work/growing"
+    read -r _ _ _ _ bytes _ <"$work/out"
+    [ "$status" -eq 0 ] && [ $(((bytes - 31) % 8086)) -eq 0 ] || {
+        cat "$work/out"
+        listed=0
+        break
+    }
+    listed=$((listed + 1))
+    run verify "$work/growing"
+    [ "$status" -eq 0 ] || {
+        cat "$work/out"
+        listed=0
+        break
+    }
+done
+wait $writer
+check "a file that grows meanwhile: $listed" [ "$listed" -gt 2 ]
 
 finish
