@@ -96,8 +96,8 @@ file_in group = option_list (file_of group.entries)
 abbrev pub twice_in : Group → List ℕ
 twice_in group = if nat_le 2 (how_many group.entries) then group.number ∷ [] else []
 
--- Names that are groups with numbers that rise: the files are those of the groups that have one file, and the numbers of
--- the groups that have more are told.
+-- Names that are groups with numbers that rise: the files are those of the groups that have one file, and the numbers
+-- of the groups that have more are told.
 pub record AreGrouped (entries : List Entry) (files : List Listed) (twice : List ℕ) : Type 0 where
   pub groups : List Group
   pub names : entries ≡ flat_map entries_of groups

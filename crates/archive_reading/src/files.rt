@@ -136,8 +136,8 @@ fn end_of_times(
     Ok((text, count == length))
 }
 
-/// The last of the file's lines of times that speaks of at most `bytes` bytes. It is read from the end of the lines; only
-/// if none is found there are all of them read. There is none if they can't be read.
+/// The last of the file's lines of times that speaks of at most `bytes` bytes. It is read from the end of the lines;
+/// only if none is found there are all of them read. There is none if they can't be read.
 pub fn last_line_of(
     rt: &HostRuntime,
     folder: &str,
@@ -159,8 +159,8 @@ pub fn last_line_of(
     Ok(last_line(text.as_slice(), None, bytes).0)
 }
 
-/// The committed bytes of the file, as a source of pages. From the offset of the line on pages are passed by their heads;
-/// if they don't end in what may follow the committed bytes, or if there is no line, all pages are read from the
+/// The committed bytes of the file, as a source of pages. From the offset of the line on pages are passed by their
+/// heads; if they don't end in what may follow the committed bytes, or if there is no line, all pages are read from the
 /// beginning. A file that is written just now may have been caught in a commit, so that is tried twice.
 ///
 /// It is `File` if the file can't be opened, `Open` if its committed bytes can't be found, and `Memory` if memory is
@@ -189,8 +189,8 @@ pub fn committed(
     }
 }
 
-/// Whether what follows this place is what our files have after their pages: nothing, a byte 00 and what comes after it,
-/// or one byte.
+/// Whether what follows this place is what our files have after their pages: nothing, a byte 00 and what comes after
+/// it, or one byte.
 fn is_closed(bytes: &mut Prefix<FileDisk>, end: u64) -> bool
     ensures { bytes.new.end ≡ bytes.old.end }
 {

@@ -1,8 +1,8 @@
 //! How a reader sees an archive's folder: its files in their order, the time of each, and where its pages end.
 //!
-//! `folder` reads the names, `times_of` the lines of times beside a file, and `committed` finds where the committed bytes
-//! of a file end, also of the one that is written just now: it reads pages by their heads, from the last line of times
-//! on. No call takes a lock, and none writes. A reader sees what was committed when it looked; more may follow.
+//! `folder` reads the names, `times_of` the lines of times beside a file, and `committed` finds where the committed
+//! bytes of a file end, also of the one that is written just now: it reads pages by their heads, from the last line of
+//! times on. No call takes a lock, and none writes. A reader sees what was committed when it looked; more may follow.
 //!
 //! What is decided, by names, lines and times that are handed in, is exact by contract: which of the names are files
 //! (`read_entries`), when a file was recorded (`span_of`), and where pages end (`end_from`).

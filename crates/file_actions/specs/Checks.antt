@@ -26,14 +26,14 @@ abbrev pub LacksBefore : Option Listed → Name → Type 0
 LacksBefore None name = ⊥
 LacksBefore (Some before) name = (name.goes_on ≡ true) × (before.is_kept ≡ false) × (before.name.number + 1 ≢ name.number)
 
--- the seconds that are left, if what is done took so many milliseconds, as far as a product has room
+-- the seconds that are left, if what is done took this many milliseconds, as far as a product has room
 abbrev pub seconds_left : ℕ → ℕ → ℕ → ℕ
 seconds_left passed done total = min (passed * (total - done)) (2 ^ 64 - 1) / max done 1 / 1000
 
 -- ---- Lines of times, compared with the places between pages as these pass in turn.
 
--- The first fault so far: a place passes before which the next line speaks of an offset, at which none has passed. The line
--- stands at this byte of the text.
+-- The first fault so far: a place passes before which the next line speaks of an offset, at which none has passed. The
+-- line stands at this byte of the text.
 abbrev pub fault_after : Option TimesFault → Option Line → ℕ → ℕ → Option TimesFault
 fault_after (Some fault) next at place = Some fault
 fault_after None None at place = None

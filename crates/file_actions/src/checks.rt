@@ -7,8 +7,8 @@ use archive_names::Name;
 use archive_reading::Listed;
 use archive_times::{Line, next_line};
 
-/// Whether so many bytes may follow the last page, the first of which is this one. The file that is written now may have
-/// what a stop leaves there.
+/// Whether `tail` bytes may follow the last page, the first of which is this one. The file that is written now may
+/// have what a stop leaves there.
 pub(crate) fn is_sound_tail(is_written: bool, tail: u64, first: u8) -> bool
     ensures { IsTrue result ↔ IsSoundTail is_written tail first }
 {
@@ -33,7 +33,7 @@ pub(crate) fn lacks_before(before: Option<Listed>, name: Name) -> bool
     }
 }
 
-/// The seconds that are left if what is done took so many milliseconds. They are cut where they would be too many.
+/// The seconds that are left, if what is done took `passed` milliseconds. They are cut where they would be too many.
 pub(crate) fn seconds_left(passed: u64, done: u64, total: u64) -> u64
     ensures { result ≡ seconds_left passed done total }
 {

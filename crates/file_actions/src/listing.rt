@@ -32,8 +32,8 @@ struct Told {
 }
 
 /// Writes a line to standard output for each file of the archive in the folder that has something after `since` and not
-/// after `until`, and a line for each gap between two of them. With `links` each file's line is followed by what `links`
-/// prints of it, or by what is wrong with it. Nothing is locked, and nothing is written to the folder.
+/// after `until`, and a line for each gap between two of them. With `links` each file's line is followed by what
+/// `links` prints of it, or by what is wrong with it. Nothing is locked, and nothing is written to the folder.
 ///
 /// It is `File` if the folder can't be read, `Memory` if memory is refused, `Write` if standard output takes no more: a
 /// part of the lines may be written then.

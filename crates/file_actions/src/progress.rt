@@ -55,7 +55,7 @@ impl<'a> Progress<'a> {
         }
     }
 
-    /// The file, which has so many bytes, is read.
+    /// The file is read; it has this many bytes.
     pub(crate) fn pass(&mut self, bytes: u64) {
         self.before = self.before.saturating_add(bytes);
     }
