@@ -8,14 +8,20 @@
 mod cut;
 mod endings;
 mod fault;
+mod finishing;
 mod heads;
 mod laws;
+mod paging;
+mod placing;
 mod retelling;
 
 pub use cut::Cut;
 pub use fault::CutFault;
+pub use finishing::{Mark, StreamEnds, Way, mark_last};
 pub use laws::{
     commands_are_cut, cuts_add_up, cuts_are_a_chain, cuts_are_given, cuts_can_be_finished,
     cuts_hold_what_was_put, cuts_of_times_add_up, files_go_on, links_go_on, retelling_is_exact,
 };
+pub use paging::Paged;
+pub use placing::{Recorded, Stand, is_before, stood_at, time_of};
 pub use retelling::retold_head;

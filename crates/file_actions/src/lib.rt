@@ -1,5 +1,5 @@
-//! What the program does with what it only reads: `links`, `split`, `finish` and `salvage` of a file, `list` and
-//! `verify` of an archive.
+//! What the program does with what it only reads: `links`, `split`, `finish` and `salvage` of a file, `list`,
+//! `verify` and `cut` of an archive.
 //!
 //! Each of these functions opens what it needs, calls the crates below, and returns the first fault that it met. It
 //! leaves the fault's line to its caller.
@@ -8,6 +8,8 @@
 #![tactic(auto)]
 
 mod checks;
+mod cut_lines;
+mod cutting;
 mod files;
 mod finishing;
 mod indexing;
@@ -18,6 +20,7 @@ mod salvaging;
 mod telling;
 mod verifying;
 
+pub use cutting::cut;
 pub use files::{links, split};
 pub use finishing::finish;
 pub use listing::list;

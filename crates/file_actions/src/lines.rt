@@ -37,7 +37,7 @@ fn file_front(number: u64, span: Span, bytes: u64) -> Line
 }
 
 /// All but the last byte.
-fn without_last(text: &[u8]) -> &[u8]
+pub(crate) fn without_last(text: &[u8]) -> &[u8]
     ensures { result.now ≡ take (length text.now - 1) text.now }
 {
     match text {

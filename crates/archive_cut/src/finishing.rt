@@ -1,0 +1,236 @@
+//! Cuts in which players find each stream's end on a page with a packet.
+ghost use Rattle.std.specs.Prelude.{IsSome, OnOk};
+
+use ogg_page::{
+    FIRST, LAST, Memory, PageBuffer, PageFault, PageHead, PageHeader, read_header, read_page,
+};
+use std::alloc::Global;
+
+/// The page that is to be marked as its stream's last.
+#[derive(Clone, Copy, Debug, PartialEq, Eq)]
+pub struct Mark {
+    /// The page's number within its stream.
+    pub sequence: u32,
+    /// The page's position.
+    pub position: u64,
+    /// How many bytes the pages after it have.
+    pub behind: u64,
+}
+
+/// What is known of a stream by some of its pages.
+#[derive(Clone, Copy, Debug, PartialEq, Eq)]
+struct StreamEnd {
+    link: u64,
+    serial: u32,
+    ended: bool,
+    mark: Option<Mark>,
+}
+
+/// What the pages of a cut say of its links, and of the ends of their streams.
+#[derive(Debug, Drop)]
+pub struct StreamEnds {
+    streams: Vec<StreamEnd>,
+    links: u64,
+    bytes: u64,
+}
+
+/// What is done with a page of a finished cut.
+#[derive(Clone, Copy, Debug, PartialEq, Eq)]
+pub enum Way {
+    /// It stays as it is.
+    Stays,
+    /// It is marked as its stream's last.
+    Marked,
+    /// It is left out.
+    Goes,
+}
+
+fn is_first(header: &PageHeader) -> bool {
+    header.head.flags / FIRST % 2 == 1
+}
+
+fn is_last(header: &PageHeader) -> bool {
+    header.head.flags / LAST % 2 == 1
+}
+
+/// Whether the page can carry the mark.
+fn is_full(header: &PageHeader) -> bool {
+    header.values > 0 && !is_first(header)
+}
+
+/// Where the mark is to stand after the page.
+fn mark_after(found: Option<Mark>, header: &PageHeader, size: u64) -> Option<Mark> {
+    if is_full(header) {
+        return Some(Mark {
+            sequence: header.head.sequence,
+            position: header.head.position,
+            behind: 0,
+        });
+    }
+    let mark = found?;
+    if header.head.position == mark.position || header.head.position == u64::MAX {
+        Some(Mark {
+            behind: mark.behind.saturating_add(size),
+            ..mark
+        })
+    } else {
+        None
+    }
+}
+
+/// What is known of the stream after the page, if it is one of its own.
+fn after_page(end: StreamEnd, link: u64, header: &PageHeader, size: u64) -> StreamEnd {
+    if end.link != link || end.serial != header.head.serial {
+        return end;
+    }
+    StreamEnd {
+        ended: end.ended || is_last(header),
+        mark: mark_after(end.mark, header, size),
+        ..end
+    }
+}
+
+/// Notes a page of the stream that it belongs to: the last of the streams with its serial.
+fn note(streams: &mut [StreamEnd], link: u64, header: &PageHeader, size: u64) {
+    for end in streams.iter_mut() {
+        *end = after_page(*end, link, header, size);
+    }
+}
+
+fn push(streams: &mut Vec<StreamEnd>, end: StreamEnd) -> Result<(), Memory> {
+    match streams.push(end) {
+        Ok(()) => Ok(()),
+        Err(_) => Err(Memory),
+    }
+}
+
+/// Whether a stream of the link hasn't ended.
+fn is_open(streams: &[StreamEnd], link: u64) -> bool {
+    streams.iter().any(|end| end.link == link && !end.ended)
+}
+
+/// What is known of the stream of the link.
+fn end_in(streams: &[StreamEnd], link: u64, serial: u32) -> Option<StreamEnd> {
+    streams
+        .iter()
+        .copied()
+        .find(|end| end.link == link && end.serial == serial)
+}
+
+impl StreamEnds {
+    /// Nothing is known yet.
+    pub fn new(alloc: Global) -> StreamEnds {
+        StreamEnds {
+            streams: Vec::new(alloc),
+            links: 0,
+            bytes: 0,
+        }
+    }
+
+    /// How many links there are.
+    pub fn links(&self) -> u64 {
+        self.links
+    }
+
+    /// How many bytes there are, as they are or finished.
+    pub fn bytes(&self, raw: bool) -> u64 {
+        if raw {
+            self.bytes
+        } else {
+            self.bytes.saturating_sub(behind(self.streams.as_slice()))
+        }
+    }
+
+    /// Notes a page more.
+    pub fn note(&mut self, page: &[u8]) -> Result<(), Memory> {
+        let Ok(header) = read_header(page) else {
+            return Ok(());
+        };
+        let size = page.len() as u64;
+        self.bytes = self.bytes.saturating_add(size);
+        if is_first(&header) {
+            if !is_open(self.streams.as_slice(), self.links) {
+                self.links = self.links.saturating_add(1);
+            }
+            push(
+                &mut self.streams,
+                StreamEnd {
+                    link: self.links,
+                    serial: header.head.serial,
+                    ended: is_last(&header),
+                    mark: None,
+                },
+            )
+        } else {
+            note(self.streams.as_mut_slice(), self.links, &header, size);
+            Ok(())
+        }
+    }
+
+    /// What becomes of a page of the link with this number, the first of which is 1.
+    pub fn way(&self, link: u64, page: &[u8]) -> Way {
+        let Ok(header) = read_header(page) else {
+            return Way::Stays;
+        };
+        if is_first(&header) {
+            return Way::Stays;
+        }
+        match end_in(self.streams.as_slice(), link, header.head.serial) {
+            Some(
+                StreamEnd {
+                    ended: true,
+                    mark: Some(mark),
+                    ..
+                },
+            ) => way_by(mark, &header),
+            _ => Way::Stays,
+        }
+    }
+}
+
+fn way_by(mark: Mark, header: &PageHeader) -> Way {
+    if header.head.sequence < mark.sequence {
+        Way::Stays
+    } else if header.head.sequence == mark.sequence {
+        if is_last(header) {
+            Way::Stays
+        } else {
+            Way::Marked
+        }
+    } else {
+        Way::Goes
+    }
+}
+
+/// How many bytes the pages have that are left out.
+fn behind(streams: &[StreamEnd]) -> u64 {
+    let mut sum: u64 = 0;
+    for end in streams {
+        if let Some(mark) = end.mark {
+            sum = sum.saturating_add(mark.behind);
+        }
+    }
+    sum
+}
+
+/// Makes the page in the buffer, with the mark of the last page, which it lacks.
+pub fn mark_last(page: &[u8], buffer: &mut PageBuffer) -> Result<(), PageFault>
+    ensures { OnOk result (IsSome buffer.new.finished) }
+{
+    let page = read_page(page)?;
+    if page.is_last() {
+        return Err(PageFault::Pattern);
+    }
+    // Since it is a page, its lacing values, its body and its flags are bounded.
+    // For the proof alone.
+    let _whole = page.whole();
+    buffer.start(page.lacing());
+    buffer.put(page.body());
+    buffer.finish(&PageHead {
+        flags: page.flags() + LAST,
+        position: page.position(),
+        serial: page.serial(),
+        sequence: page.sequence(),
+    });
+    Ok(())
+}

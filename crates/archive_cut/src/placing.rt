@@ -1,0 +1,96 @@
+//! Where a file stood at a time.
+
+use archive_times::{Join, Line, last_line, line_at, next_line};
+
+/// By how much the next file's beginning may lie after the time in its name, in milliseconds: names tell seconds.
+const NAMED_WITHIN: u64 = 1000;
+
+/// What is known of a file beside its lines of times. Times are in milliseconds since 1970.
+#[derive(Clone, Copy, Debug, PartialEq, Eq)]
+pub struct Recorded {
+    /// When the file was begun, by its name.
+    pub begin: u64,
+    /// When the next file was begun, by its name, or now: the time of what follows the last line.
+    pub later: u64,
+    /// How many of its bytes are committed.
+    pub committed: u64,
+}
+
+/// Where a file stood at a time.
+#[derive(Clone, Copy, Debug, PartialEq, Eq)]
+pub struct Stand {
+    /// How many bytes were committed.
+    pub offset: u64,
+    /// The link that was open, if one was and more follows.
+    pub join: Option<Join>,
+}
+
+/// Whether all of the file was committed by then, whatever its lines say.
+pub fn is_before(later: u64, time: u64) -> bool {
+    time >= later.saturating_add(NAMED_WITHIN)
+}
+
+/// Where the file stood at the time, by the text of its lines. What follows the last line has the time at which the next
+/// file was begun.
+pub fn stood_at(times: &[u8], file: Recorded, time: u64) -> Stand {
+    if is_before(file.later, time) {
+        return Stand {
+            offset: file.committed,
+            join: None,
+        };
+    }
+    if time < file.begin {
+        return Stand {
+            offset: 0,
+            join: None,
+        };
+    }
+    let (last, _) = last_line(times, None, file.committed);
+    if time >= end_of(file, last) {
+        return Stand {
+            offset: file.committed,
+            join: None,
+        };
+    }
+    match line_at(times, file.committed, time) {
+        Some(line) => Stand {
+            offset: line.offset,
+            join: line.join,
+        },
+        None => Stand {
+            offset: 0,
+            join: None,
+        },
+    }
+}
+
+/// The time of what follows the last line.
+fn end_of(file: Recorded, last: Option<Line>) -> u64 {
+    match last {
+        Some(last) => last.time.max(file.later),
+        None => file.later.max(file.begin),
+    }
+}
+
+/// The time of the first of the lines at the front of the text that tells of this many bytes or more.
+fn time_from(times: &[u8], committed: u64, offset: u64) -> Option<u64> {
+    let mut last = None;
+    let mut rest = times;
+    while let Some((line, after)) = next_line(rest, last, committed) {
+        if line.offset >= offset {
+            return Some(line.time);
+        }
+        last = Some(line);
+        rest = after;
+    }
+    None
+}
+
+/// When the first `offset` bytes of the file were committed.
+pub fn time_of(times: &[u8], file: Recorded, offset: u64) -> u64 {
+    let (last, _) = last_line(times, None, file.committed);
+    match time_from(times, file.committed, offset) {
+        Some(time) => time.max(file.begin),
+        None => end_of(file, last),
+    }
+}

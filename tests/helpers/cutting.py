@@ -1,0 +1,376 @@
+#!/usr/bin/env python3
+"""What `cut` must give of an archive, as the tests' own plain program says.
+
+    cutting.py cuts PROGRAM COUNT       COUNT random pairs of times, over archives that are made by hand
+    cutting.py parts PROGRAM COUNT      COUNT random divisions of time: the parts together have each packet once
+    cutting.py odd PROGRAM              times that are missing, torn or wrong, files that are damaged or gone, clocks
+
+An archive is a list of files, and a file one of commands, each with when it was committed. A line of times is written
+after a commit that comes a second or more after the line before, and after one that ends a link, or the file. A command
+has the time of the first line that tells of it, or else that of the next file's beginning. What `cut` writes are pages;
+their links, streams and packets are compared with what the commands put.
+"""
+import os
+import random
+import subprocess
+import sys
+import tempfile
+import time
+
+sys.path.insert(0, os.path.dirname(os.path.abspath(__file__)))
+from finishing import finished, links_of, pages_of
+from model import run_pages
+from pages import page
+
+# 2021-01-01T14:00:00Z
+START = 1609509600000
+
+
+def told(moment):
+    return time.strftime("%Y-%m-%dT%H:%M:%S", time.gmtime(moment // 1000)) + f".{moment % 1000:03}Z"
+
+
+class File:
+    """A file that is recorded: its bytes, its commands as (kind, what, end, when), and its lines of times."""
+
+    def __init__(self, number, begin, goes_on=False):
+        self.number, self.begin, self.goes_on = number, begin // 1000 * 1000, goes_on
+        self.data, self.commands, self.lines = b"", [], []
+        self.streams, self.skeleton, self.join, self.written = {}, None, None, None
+
+    def name(self):
+        stamp = time.strftime("%Y%m%dT%H%M%SZ", time.gmtime(self.begin // 1000))
+        return f"{self.number:06}-{stamp}{'-on' if self.goes_on else ''}"
+
+    def begun(self, when, streams, skeleton=None):
+        """`streams` has a serial and headers each. A Skeleton has its own serial, and ends with its last bone."""
+        at = len(self.data)
+        pages = [run_pages(serial, 0, 2, [(0, headers[0])])[0] for serial, headers in streams]
+        self.streams = {serial: [1, 0, False] for serial, _ in streams}
+        what = [[serial, list(headers)] for serial, headers in streams]
+        if skeleton is not None:
+            bones = [b"fisbone" + serial.to_bytes(4, "little") for serial, _ in streams]
+            pages.insert(0, run_pages(skeleton, 0, 2, [(0, b"fishead")])[0])
+            pages += [page(0, 0, skeleton, 1 + at, [len(bone)], bone) for at, bone in enumerate(bones)]
+            self.streams = {skeleton: [2 + len(bones), 0, True], **self.streams}
+            what.insert(0, [skeleton, [b"fishead"] + bones])
+        for serial, headers in streams:
+            rest = run_pages(serial, 1, 0, [(0, header) for header in headers[1:]])
+            self.streams[serial][0] += len(rest)
+            pages += rest
+        if skeleton is not None:
+            pages.append(page(4, 0, skeleton, 1 + len(streams), [], b""))
+        self.data += b"".join(pages)
+        self.join = (at, len(self.data))
+        self.note("begin", what, when)
+
+    def put(self, when, items):
+        """Each item has a serial, a position and a packet."""
+        for serial in dict.fromkeys(serial for serial, _, _ in items):
+            stream = self.streams[serial]
+            own = [(position, packet) for one, position, packet in items if one == serial]
+            pages = run_pages(serial, stream[0], 0, own)
+            stream[0] += len(pages)
+            stream[1] = own[-1][0]
+            self.data += b"".join(pages)
+        self.note("put", [(serial, packet) for serial, _, packet in items], when)
+
+    def end(self, when, serial):
+        stream = self.streams[serial]
+        self.data += page(4, stream[1], serial, stream[0], [], b"")
+        stream[2] = True
+        if not self.is_open():
+            self.join = None
+        self.note("end", serial, when)
+
+    def is_open(self):
+        return not all(ended for _, _, ended in self.streams.values())
+
+    def open_serials(self):
+        return [serial for serial, (_, _, ended) in self.streams.items() if not ended]
+
+    def note(self, kind, what, when):
+        self.commands.append((kind, what, len(self.data), when))
+        if self.written is None or abs(when - self.written) >= 1000 or kind == "end" and not self.is_open():
+            self.line(when)
+
+    def line(self, when):
+        last = self.lines[-1] if self.lines else (-1, 0, None)
+        if last[0] < len(self.data):
+            self.lines.append((len(self.data), max(last[1], when), self.join))
+            self.written = when
+
+    def times(self):
+        return "".join(f"{offset} {when} " + ("%d %d\n" % join if join else "- -\n") for offset, when, join in self.lines)
+
+    def save(self, folder, tail=b""):
+        with open(f"{folder}/{self.name()}.ogg", "wb") as out:
+            out.write(self.data + tail)
+        with open(f"{folder}/{self.name()}.times", "w") as out:
+            out.write(self.times())
+
+
+# ---- what a cut holds
+def times_of(file, later, lines=None):
+    """The time of each command."""
+    lines = file.lines if lines is None else lines
+    found = []
+    for _, _, end, _ in file.commands:
+        behind = [when for offset, when, _ in lines if offset >= end]
+        when = max(behind[0] if behind else max([later] + [when for _, when, _ in lines]), file.begin)
+        found.append(min(when, max(later + 1000, 0)))
+    return found
+
+
+def held(file, when, since, until):
+    """The links that the file's cut holds: of each stream its serial and its packets."""
+    links, begin, is_in, ended = [], None, False, set()
+    for (kind, what, _, _), moment in zip(file.commands, when):
+        chosen = (since is None or moment > since) and (until is None or moment <= until)
+        if chosen and not is_in:
+            is_in = True
+            if begin is not None and kind != "begin":
+                links.append([[serial, list(packets)] for serial, packets in begin])
+        if kind == "begin":
+            begin, ended = what, set()
+            if chosen:
+                links.append([[serial, list(packets)] for serial, packets in begin])
+        elif kind == "put" and chosen:
+            for serial, packet in what:
+                [own] = [stream for stream in links[-1] if stream[0] == serial]
+                own[1].append(packet)
+        elif kind == "end":
+            ended.add(what)
+            if len(ended) == sum(1 for _, packets in begin if packets[0] != b"fishead"):
+                begin = None
+    return links
+
+
+def packets_of(own):
+    """The packets of a stream's pages, whose numbers and flags are looked at."""
+    packets, rest = [], b""
+    for at, (flags, _, _, sequence, lacing, body, _) in enumerate(own):
+        assert sequence == at, ("number", sequence, at)
+        assert bool(flags & 2) == (at == 0) and bool(flags & 4) == (at == len(own) - 1), ("flags", at, flags)
+        assert bool(flags & 1) == bool(rest), ("continued", at)
+        for value in lacing:
+            rest, body = rest + body[:value], body[value:]
+            if value < 255:
+                packets.append(rest)
+                rest = b""
+    assert not rest
+    return packets
+
+
+def links_in(data):
+    found = []
+    for link in links_of(pages_of(data)):
+        serials = [one[2] for one in link if one[0] & 2]
+        found.append([[serial, packets_of([one for one in link if one[2] == serial])] for serial in serials])
+    return found
+
+
+# ---- runs
+class Archive:
+    def __init__(self, program, folder, files):
+        self.program, self.folder, self.files = program, folder, files
+
+    def laters(self):
+        return [file.begin for file in self.files[1:]] + [int(time.time() * 1000)]
+
+    def times(self):
+        return [times_of(file, later) for file, later in zip(self.files, self.laters())]
+
+    def run(self, since, until, *more):
+        words = [self.program, "cut", self.folder, *more]
+        words += ["--since", told(since)] if since is not None else []
+        words += ["--until", told(until)] if until is not None else []
+        return subprocess.run(words, capture_output=True, timeout=60)
+
+    def want(self, since, until):
+        return [link for file, when in zip(self.files, self.times()) for link in held(file, when, since, until)]
+
+    def compare(self, since, until):
+        """Whether the cut between two times has the right links, and is told."""
+        want = self.want(since, until)
+        raw = self.run(since, until, "--raw")
+        if not want:
+            assert (raw.returncode, raw.stdout, raw.stderr) == (1, b"", b"fault cut 1 Nothing\n"), raw
+            return
+        assert raw.returncode == 0, raw
+        assert links_in(raw.stdout) == want, (links_in(raw.stdout), want)
+        self.compare_told(since, until, raw, len(want))
+        whole = self.run(since, until)
+        links = links_of(pages_of(raw.stdout))
+        assert whole.stdout == b"".join(finished(link) for link in links), "finished"
+        # A gap up to now is one of another end.
+        gaps, other = raw.stderr.splitlines()[1:], whole.stderr.splitlines()[1:]
+        assert [gap.split()[:3] for gap in gaps] == [gap.split()[:3] for gap in other], (gaps, other)
+        assert whole.stderr.splitlines()[0].endswith(b" %d bytes" % len(whole.stdout)), whole.stderr
+
+    def compare_told(self, since, until, ran, links):
+        chosen = [[one for one in when if (since is None or one > since) and (until is None or one <= until)] for when in self.times()]
+        some = [moment for when in chosen for moment in when]
+        files = sum(1 for when in chosen if when)
+        # The newest may be told of with a later moment: what follows its last line has the time of now.
+        first = ran.stderr.decode().splitlines()[0].split()
+        assert first[:2] == ["cut", told(some[0])] and first[3:] == f"{files} files {links} links {len(ran.stdout)} bytes".split(), (
+            ran.stderr,
+            told(some[0]),
+            files,
+            links,
+        )
+        assert first[2] == told(some[-1]) or self.files[-1].lines[-1][0] < len(self.files[-1].data), (first, told(some[-1]))
+
+
+def headers_of(rng, serial):
+    return [b"head %d" % serial] + [rng.randbytes(rng.choice([3, 254, 255, 700])) for _ in range(rng.randrange(3))]
+
+
+def recorded(rng, folder, count=None):
+    """An archive of files of two seconds and some links; it is saved."""
+    when, number, serial = START + rng.randrange(1000), 1, 100
+    files = [File(1, when)]
+    file, streams, skeleton, position, packet = files[0], [], None, 0, 0
+    for _ in range(count or rng.randrange(5, 120)):
+        when += rng.choice([0, 0, 30, 200, 400, 1100, 1100, 12000 if rng.random() < 0.1 else 90])
+        if when // 2000 != file.begin // 2000:
+            # The next file, which goes on with the link if one is open.
+            goes_on = file.is_open() and rng.random() < 0.8
+            if file.is_open():
+                for one in file.open_serials():
+                    file.end(when, one)
+            file.line(when)
+            number += 1 if rng.random() < 0.9 else 3
+            file = File(number, when, goes_on)
+            files.append(file)
+            if goes_on:
+                streams = [(serial + at, headers) for at, (_, headers) in enumerate(streams)]
+                serial += 10
+                skeleton = None if skeleton is None else serial - 1
+                file.begun(when, streams, skeleton)
+                continue
+        if not file.is_open():
+            streams = [(serial + at, headers_of(rng, serial + at)) for at in range(rng.choice([1, 1, 2, 3]))]
+            serial += 10
+            skeleton = serial - 1 if rng.random() < 0.3 else None
+            file.begun(when, streams, skeleton)
+            continue
+        open_serials = file.open_serials()
+        if rng.random() < 0.08:
+            file.end(when, rng.choice(open_serials))
+            continue
+        items = []
+        for one in rng.sample(open_serials, rng.randrange(1, len(open_serials) + 1)):
+            for _ in range(rng.choice([1, 1, 2])):
+                position += rng.choice([0, 1, 960])
+                packet += 1
+                items.append((one, position, b"packet %d " % packet + bytes(rng.choice([0, 1, 240, 255, 1000, 70000 if rng.random() < 0.03 else 5]))))
+        file.put(when, items)
+    if rng.random() < 0.5:
+        for one in file.open_serials():
+            file.end(when, one)
+    file.line(when)
+    for file in files:
+        file.save(folder)
+    # The newest may have what isn't committed yet.
+    if rng.random() < 0.7:
+        files[-1].save(folder, b"\0" + rng.randbytes(rng.choice([0, 5, 300])))
+    return files
+
+
+def a_time(rng, files):
+    last = files[-1].lines[-1][1] if files[-1].lines else files[-1].begin
+    marks = [when for file in files for _, when, _ in file.lines] + [file.begin for file in files]
+    kind = rng.randrange(4)
+    if kind == 0:
+        return rng.choice(marks) + rng.choice([-1, 0, 1])
+    return rng.randrange(START - 2000, last + 3000)
+
+
+def cuts(program, count):
+    rng = random.Random(63)
+    while count > 0:
+        with tempfile.TemporaryDirectory() as folder:
+            archive = Archive(program, folder, recorded(rng, folder))
+            for _ in range(min(20, count)):
+                since, until = sorted([a_time(rng, archive.files), a_time(rng, archive.files)])
+                archive.compare(since if rng.random() < 0.9 else None, until if rng.random() < 0.9 else None)
+                count -= 1
+
+
+def parts(program, count):
+    """Each packet is in one part, in its order."""
+    rng = random.Random(64)
+    for _ in range(count):
+        with tempfile.TemporaryDirectory() as folder:
+            archive = Archive(program, folder, recorded(rng, folder))
+            times = sorted(a_time(rng, archive.files) for _ in range(rng.randrange(1, 6)))
+            bounds = [None, *times, None]
+            found = []
+            for since, until in zip(bounds, bounds[1:]):
+                ran = archive.run(since, until)
+                assert ran.returncode == 0 or ran.stderr == b"fault cut 1 Nothing\n", ran
+                found += [packet for link in links_in(ran.stdout) for _, packets in link for packet in packets if packet.startswith(b"packet ")]
+            put = [packet for file in archive.files for kind, what, _, _ in file.commands if kind == "put" for _, packet in what]
+            assert sorted(found) == sorted(put), (len(found), len(put))
+
+
+def odd(program):
+    rng = random.Random(65)
+    for _ in range(40):
+        with tempfile.TemporaryDirectory() as folder:
+            files = recorded(rng, folder, 60)
+            archive = Archive(program, folder, files)
+            file = rng.choice(files)
+            path = f"{folder}/{file.name()}"
+            kind = rng.randrange(6)
+            if kind == 0:
+                # No times: the whole file has the time at which the next one was begun.
+                os.remove(path + ".times")
+                file.lines = []
+            elif kind == 1:
+                # A torn line, and one that doesn't rise.
+                keep = rng.randrange(len(file.lines) + 1)
+                text = "".join(file.times().splitlines(True)[:keep])
+                file.lines = file.lines[:keep]
+                with open(path + ".times", "w") as out:
+                    out.write(text + rng.choice(["12", "x\n", "0 0 - -\n" if keep else "1 2 3\n", "99999999999 1 - -\n", "\n"]))
+            elif kind == 2:
+                # Another name.
+                open(f"{folder}/{rng.choice(['lock', 'note.txt', 'x.ogg', '1-20261128T140000Z.ogg'])}", "w").close()
+            elif kind == 3:
+                # Gone.
+                os.remove(path + ".ogg")
+                files.remove(file)
+            elif kind == 4 and len(file.data) > 60:
+                # Damaged in a head: the file is left out.
+                at = rng.randrange(4)
+                with open(path + ".ogg", "r+b") as out:
+                    out.seek(at)
+                    out.write(b"x")
+                file.commands = []
+            if not files or kind == 3 and not files:
+                continue
+            for _ in range(5):
+                since, until = sorted([a_time(rng, files), a_time(rng, files)])
+                want = archive.want(since, until)
+                ran = archive.run(since, until, "--raw")
+                assert (ran.returncode, links_in(ran.stdout)) == (0 if want else 1, want), (kind, ran.stderr, links_in(ran.stdout), want)
+
+
+def main():
+    try:
+        if sys.argv[1] == "cuts":
+            cuts(sys.argv[2], int(sys.argv[3]))
+        elif sys.argv[1] == "parts":
+            parts(sys.argv[2], int(sys.argv[3]))
+        else:
+            odd(sys.argv[2])
+    except AssertionError as fault:
+        print(fault)
+        raise
+
+
+if __name__ == "__main__":
+    main()

@@ -1,0 +1,22 @@
+#!/usr/bin/env bash
+# What `cut` gives of an archive between two times is what the tests' own plain program says, over archives that it makes.
+. "$(dirname "$0")/../helpers/common.bash"
+
+cutting() {
+    local files=$1
+    shift
+    timeout 600 python3 "$here/cutting.py" "$files" "$program" "$@"
+}
+
+check "2000 random pairs of times" cutting cuts 2000
+check "200 random divisions of time" cutting parts 200
+check "times that are missing or wrong, files that are damaged or gone" cutting odd
+
+# Nothing is written of nothing.
+mkdir "$work/empty"
+run cut "$work/empty"
+came "an empty folder" 1 '' 'fault cut 1 Nothing\n'
+run cut "$work/none"
+came "no folder" 1 '' 'fault file\n'
+
+finish
