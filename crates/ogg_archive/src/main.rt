@@ -49,6 +49,19 @@ impl Program for Archives {
                 };
                 stream_actions::feed(rt, mend, changes)
             }
+            Action::List {
+                folder,
+                since,
+                until,
+                links,
+            } => file_actions::list(rt, folder, since, until, links),
+            Action::Cut {
+                folder,
+                since,
+                until,
+                raw,
+            } => file_actions::cut(rt, folder, since, until, raw),
+            Action::Verify { path } => file_actions::verify(rt, path),
             Action::Links { file } => file_actions::links(rt, file),
             Action::Split { file, link, serial } => file_actions::split(rt, file, link, serial),
             Action::Finish { file, link } => file_actions::finish(rt, file, link),
