@@ -1,4 +1,5 @@
 //! What stands beside the files of an archive, and what is told of them.
+ghost use Rattle.std.specs.Prelude.{◌≤◌, ◌+◌, length};
 
 use archive_names::Kind;
 use archive_record::{Beside, Damage, FileName, name_of, text_of};
@@ -49,22 +50,6 @@ impl<'a> Keeper<'a> {
         joined(alloc, self.folder, name.as_str())
     }
 
-    /// Tells `file NUMBER WORD NAME`, and then this.
-    fn tell_file(&mut self, file: FileName, word: &[u8], rest: Option<u64>) {
-        let mut line = Text::new();
-        if let Some(bytes) = rest {
-            line.put_number(bytes);
-            line.put_text(b" ");
-        }
-        put_name(&mut line, file);
-        line.put_text(b" ");
-        line.put_text(&word[..word.len().min(10)]);
-        line.put_text(b" ");
-        line.put_number(file.number);
-        line.put_text(b"file ");
-        self.told.tell(line.as_slice());
-    }
-
     /// Tells that a file has no times from here on.
     fn lose_times(&mut self) {
         if self.times.is_some() {
@@ -98,11 +83,71 @@ impl<'a> Keeper<'a> {
     }
 }
 
-/// Puts a file's name in front of a line.
-fn put_name(line: &mut Text, file: FileName) {
-    let text = name_of(file).text(Kind::Pages);
-    let text = text.as_slice();
-    line.put_text(&text[..text.len().min(50)]);
+/// Puts a file's name in front of a line. A name has 44 bytes at most.
+fn put_name(line: &mut Text, file: FileName)
+    requires { 50 ≤ line.old.room }
+    ensures { line.old.room ≤ line.new.room + 50 }
+{
+    let name = name_of(file).text(Kind::Pages);
+    let text = name.as_slice();
+    if text.len() <= 50 {
+        line.put_text(text);
+    }
+}
+
+/// Puts `file NUMBER WORD NAME` in front of a line.
+fn put_file(line: &mut Text, file: FileName, word: &[u8])
+    requires word { length word.now ≤ 10 }
+    requires room { 90 ≤ line.old.room }
+{
+    put_name(line, file);
+    line.put_text(b" ");
+    line.put_text(word);
+    line.put_text(b" ");
+    line.put_number(file.number);
+    line.put_text(b"file ");
+}
+
+/// The line that says this of a file.
+fn file_line(file: FileName, word: &[u8]) -> Text
+    requires { length word.now ≤ 10 }
+{
+    let mut line = Text::new();
+    put_file(&mut line, file, word);
+    line
+}
+
+/// The line that a file has ended.
+fn ended_line(file: FileName, bytes: u64) -> Text {
+    let mut line = Text::new();
+    line.put_number(bytes);
+    line.put_text(b" ");
+    put_file(&mut line, file, b"ends");
+    line
+}
+
+/// The line that two files have this number.
+fn twice_line(number: u64) -> Text {
+    let mut line = Text::new();
+    line.put_number(number);
+    line.put_text(b"twice ");
+    line
+}
+
+/// What a line says of a file that is left as it is, before the reason.
+fn damaged_front(file: FileName) -> Text {
+    let mut line = Text::new();
+    put_name(&mut line, file);
+    line.put_text(b"damaged ");
+    line
+}
+
+/// The reason, if bytes follow the pages that no stop leaves.
+fn tail_line(offset: u64) -> Text {
+    let mut line = Text::new();
+    line.put_number(offset);
+    line.put_text(b" tail ");
+    line
 }
 
 /// One text behind the other.
@@ -125,7 +170,7 @@ impl Beside for Keeper<'_> {
     fn begun(&mut self, file: FileName) {
         self.times = None;
         let _ = self.open_times(file, 0);
-        self.tell_file(file, b"begins", None);
+        self.told.tell(file_line(file, b"begins").as_slice());
     }
 
     fn timed(&mut self, line: Line) {
@@ -145,18 +190,15 @@ impl Beside for Keeper<'_> {
             let _ = OpenFile::sync_data(&times.file);
         }
         self.times = None;
-        self.tell_file(file, b"ends", Some(bytes));
+        self.told.tell(ended_line(file, bytes).as_slice());
     }
 
     fn removed(&mut self, file: FileName) {
-        self.tell_file(file, b"removed", None);
+        self.told.tell(file_line(file, b"removed").as_slice());
     }
 
     fn stands_twice(&mut self, number: u64) {
-        let mut line = Text::new();
-        line.put_number(number);
-        line.put_text(b"twice ");
-        self.told.tell(line.as_slice());
+        self.told.tell(twice_line(number).as_slice());
     }
 
     fn damaged(&mut self, file: FileName, why: Damage) {
@@ -175,20 +217,17 @@ fn damaged_line(
     file: FileName,
     why: Damage,
 ) -> Result<(), std::alloc::AllocError> {
-    let mut front = Text::new();
-    put_name(&mut front, file);
-    front.put_text(b"damaged ");
-    let front = front.as_slice();
-    text.extend_from_slice(&front[..front.len().saturating_sub(1)])?;
+    let front = damaged_front(file);
+    // The line feed comes with the reason.
+    if let [front @ .., _] = front.as_slice() {
+        text.extend_from_slice(front)?;
+    }
     let fault = match why {
         Damage::Unreadable => Fault::File,
         Damage::Foreign => Fault::Foreign,
         Damage::Open(fault) => Fault::Open(fault),
         Damage::Tail(offset) => {
-            let mut rest = Text::new();
-            rest.put_number(offset);
-            rest.put_text(b" tail ");
-            return text.extend_from_slice(rest.as_slice());
+            return text.extend_from_slice(tail_line(offset).as_slice());
         }
     };
     let mut line = Vec::new(*text.allocator());
