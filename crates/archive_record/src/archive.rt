@@ -1,10 +1,13 @@
 //! The machine of an archive: an input is recorded into the files of a folder, one after the other.
+ghost use Rattle.std.specs.Prelude.{◌≡◌, IfOk, IfSome};
 ghost use Rattle.archive_record.specs.Files.{AllKept};
+ghost use Rattle.archive_record.specs.Resting.{IsAtRest};
 
 use crate::beside::Beside;
 use crate::damage::Damage;
 use crate::ending::{Unended, end_open};
 use crate::files::{BeginFault, Files};
+use crate::filing::{end_file, ended, first_recorder};
 use crate::naming::name_of;
 use crate::newest::Newest;
 use crate::opening::open_sound;
@@ -91,7 +94,10 @@ fn open_newest<D: Disk + Drop, F: Folder<File = D>, B: Beside>(
     files: &mut Files<F>,
     most: u32,
     beside: &mut B,
-) -> Result<Option<Newest<D>>, ArchiveFault> {
+) -> Result<Option<Newest<D>>, ArchiveFault>
+    // Only what rests is recorded into.
+    ensures rests { IfOk result (λ newest. IfSome newest (λ newest. IsAtRest newest.recorder)) }
+{
     if !files.is_free() {
         return Ok(None);
     }
@@ -134,22 +140,22 @@ fn open_ended<D: Disk + Drop, F: Folder<File = D>, B: Beside>(
     recorder: Recorder<D>,
     most: u32,
     beside: &mut B,
-) -> Result<Option<Newest<D>>, ArchiveFault> {
-    let mut recorder = recorder;
+) -> Result<Option<Newest<D>>, ArchiveFault>
+    requires { recorder.held ≡ 0 }
+    ensures rests { IfOk result (λ newest. IfSome newest (λ newest. IsAtRest newest.recorder)) }
+    ensures named { IfOk result (λ newest. IfSome newest (λ newest. newest.name ≡ name)) }
+{
     if recorder.end() == 0 && name.goes_on {
         give_back(files, name, recorder.give_back());
         return Ok(None);
     }
-    if recorder.held() == 0 {
-        recorder.group(most.clamp(1, 1024));
-    }
-    match end_open(&mut recorder) {
-        Ok(()) => Ok(Some(Newest {
+    match ended(recorder, most) {
+        Ok(recorder) => Ok(Some(Newest {
             name,
             recorder,
             join: None,
         })),
-        Err(_) => {
+        Err(recorder) => {
             give_back(files, name, recorder.give_back());
             beside.damaged(name, Damage::Open(OpenFault::Disk));
             Ok(None)
@@ -341,14 +347,12 @@ impl<D: Disk + Drop, F: Folder<File = D> + Drop> Archive<D, F> {
         }
         let begun = i64::try_from(now / 1000).unwrap_or(i64::MAX);
         let (name, disk) = self.files.begin(begun, goes_on)?;
-        let recorder = match Recorder::open(self.alloc, disk) {
-            Ok(recorder) => recorder,
-            Err((fault, disk)) => {
-                give_back(&mut self.files, name, disk);
-                return Err(fault_of(fault));
-            }
-        };
-        self.newest = Some(newest_on(name, recorder, self.rules.most));
+        let recorder = first_recorder(self.alloc, &mut self.files, name, disk, self.rules.most)?;
+        self.newest = Some(Newest {
+            name,
+            recorder,
+            join: None,
+        });
         self.last = None;
         self.written = None;
         beside.begun(name);
@@ -425,27 +429,17 @@ impl<D: Disk + Drop, F: Folder<File = D> + Drop> Archive<D, F> {
         }
     }
 
-    /// Cuts the file to its pages, unless a command waits or its disk has failed, and gives it back.
+    /// Ends the file: it is cut to its pages and given back. Returns whether it is cut.
     fn seal<B: Beside>(&mut self, newest: Newest<D>, beside: &mut B) -> bool {
         let Newest { name, recorder, .. } = newest;
         let end = recorder.end();
         self.before = self.before.saturating_add(end);
-        if recorder.is_failed() || recorder.held() > 0 {
-            give_back(&mut self.files, name, recorder.give_back());
+        if self.files.is_out(name.number) && end_file(&mut self.files, name, recorder) {
+            beside.ended(name, end);
+            true
+        } else {
             beside.damaged(name, Damage::Open(OpenFault::Disk));
-            return false;
-        }
-        match recorder.seal() {
-            Ok(disk) => {
-                give_back(&mut self.files, name, disk);
-                beside.ended(name, end);
-                true
-            }
-            Err((DiskFault, disk)) => {
-                give_back(&mut self.files, name, disk);
-                beside.damaged(name, Damage::Open(OpenFault::Disk));
-                false
-            }
+            false
         }
     }
 
@@ -607,13 +601,5 @@ fn newest_on<D: Disk>(name: FileName, recorder: Recorder<D>, most: u32) -> Newes
         name,
         recorder,
         join: None,
-    }
-}
-
-/// The fault of an archive whose new file can't be opened.
-fn fault_of(fault: OpenFault) -> ArchiveFault {
-    match fault {
-        OpenFault::Memory => ArchiveFault::Memory,
-        _ => ArchiveFault::Folder,
     }
 }

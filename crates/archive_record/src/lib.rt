@@ -13,6 +13,7 @@ mod beside;
 mod damage;
 mod ending;
 mod files;
+mod filing;
 mod naming;
 mod newest;
 mod opening;
