@@ -1,3 +1,4 @@
 pub mod Checks
 pub mod Lines
 pub mod CutLines
+pub mod Times

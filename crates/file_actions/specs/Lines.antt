@@ -17,7 +17,8 @@ told_then told rest = codes " " ++ (told ++ rest)
 
 -- a file's number, its times and its bytes, and then this
 abbrev pub file_front : ℕ → List ℕ → List ℕ → ℕ → List ℕ → List ℕ
-file_front number begin end bytes rest = codes "file" ++ number_then number (told_then begin (told_then end (number_then bytes (codes " " ++ rest))))
+file_front number begin end bytes rest =
+    codes "file" ++ number_then number (told_then begin (told_then end (number_then bytes (codes " " ++ rest))))
 
 -- file NUMBER BEGIN END BYTES NAME
 pub record IsFileLine (number : ℕ) (span : Span) (bytes : ℕ) (name text : List ℕ) : Type 0 where
@@ -61,7 +62,8 @@ twice_line number = codes "twice" ++ number_then number line_end
 
 -- verified FILES LINKS BYTES FAULTS
 abbrev pub verified_line : ℕ → ℕ → ℕ → ℕ → List ℕ
-verified_line files links bytes faults = codes "verified" ++ number_then files (number_then links (number_then bytes (number_then faults line_end)))
+verified_line files links bytes faults =
+    codes "verified" ++ number_then files (number_then links (number_then bytes (number_then faults line_end)))
 
 -- how far it has come, at a terminal
 abbrev pub progress_line : ℕ → ℕ → ℕ → List ℕ

@@ -1,7 +1,9 @@
 //! What `verify` decides of a file.
-ghost use Rattle.std.specs.Prelude.{◌≡◌, ◌↔◌, IsTrue};
+ghost use Rattle.std.specs.Prelude.{◌≡◌, ◌↔◌, ◌+◌, ◌∷◌, ◌++◌, [], ℕ, List, None, IsTrue, drop, length, min};
 ghost use Rattle.file_actions.specs.Checks.{IsReached, IsSoundTail, LacksBefore, fault_after, is_excused, last_fault, seconds_left};
-ghost use Rattle.archive_times.specs.Times.{has_no_line_feed};
+ghost use Rattle.archive_times.specs.Times.{AreLinesOf, has_no_line_feed, last_of, times_text};
+ghost use Rattle.archive_times.specs.declared.line.Line.{Line as LineOf};
+ghost use Rattle.file_actions.specs.Times.{AreBelow, HavePassed, IsFirstFault, first_of, first_text, most};
 
 use archive_names::Name;
 use archive_reading::Listed;
@@ -115,6 +117,18 @@ fn last_fault(
     }
 }
 
+/// The line at the front of a text that may follow the last one, and how many bytes come after it. If there is none,
+/// that is the whole text.
+fn line_on(text: &[u8], last: Option<Line>) -> (Option<Line>, usize)
+    ensures { (left : List LineOf) (rest : List ℕ) → AreLinesOf most last text.now left rest
+        → (result.0 ≡ first_of left) × (result.1 + length (times_text (first_text left)) ≡ length text.now) }
+{
+    match next_line(text, last, u64::MAX) {
+        Some((line, after)) => (Some(line), after.len()),
+        None => (None, text.len()),
+    }
+}
+
 /// Lines of times, compared with the places between pages as these pass.
 #[derive(Debug, Drop)]
 pub(crate) struct Places {
@@ -130,7 +144,10 @@ pub(crate) struct Places {
 
 impl Places {
     /// No place has passed.
-    pub(crate) fn of(text: Vec<u8>) -> Places {
+    pub(crate) fn of(text: Vec<u8>) -> Places
+        ensures { (lines : List LineOf) (rest : List ℕ) → AreLinesOf most None text.items lines rest
+            → HavePassed [] lines rest result }
+    {
         let mut places = Places {
             text,
             next: None,
@@ -143,26 +160,33 @@ impl Places {
     }
 
     /// What follows the line.
-    fn rest(&self) -> &[u8] {
+    fn rest(&self) -> &[u8]
+        ensures { result.now ≡ drop (min self.now.end (length self.now.text.items)) self.now.text.items }
+    {
         let text = self.text.as_slice();
         let (_, rest) = text.split_at(self.end.min(text.len()));
         rest
     }
 
     /// Goes on to the next line.
-    fn step(&mut self) {
-        let rest = self.rest();
-        let (next, left) = match next_line(rest, self.next, u64::MAX) {
-            Some((line, after)) => (Some(line), after.len()),
-            None => (None, rest.len()),
-        };
+    fn step(&mut self)
+        ensures line { (front left : List LineOf) (rest : List ℕ) → AreLinesOf most None self.old.text.items (front ++ left) rest
+            → self.old.next ≡ last_of None front → self.old.end ≡ length (times_text front)
+            → (self.new.next ≡ first_of left) × (self.new.end ≡ length (times_text (front ++ first_text left))) }
+        ensures at { self.new.at ≡ self.old.end }
+        ensures same { (self.new.text.items ≡ self.old.text.items) × (self.new.fault ≡ self.old.fault) }
+    {
+        let (next, left) = line_on(self.rest(), self.next);
         self.at = self.end;
         self.end = self.text.len().saturating_sub(left);
         self.next = next;
     }
 
-    /// A page begins at this place, or the last one ends there. Places rise.
-    pub(crate) fn pass(&mut self, place: u64) {
+    /// A page begins at this place, or the last one ends there.
+    pub(crate) fn pass(&mut self, place: u64)
+        ensures { (places : List ℕ) (lines : List LineOf) (rest : List ℕ) → HavePassed places lines rest self.old
+            → AreBelow place places → HavePassed (places ++ place ∷ []) lines rest self.new }
+    {
         self.fault = fault_after(self.fault, self.next, self.at as u64, place);
         if is_reached(self.next, place) {
             self.step();
@@ -170,7 +194,10 @@ impl Places {
     }
 
     /// The first fault, after all places. The last line of a file that is written now may be torn.
-    pub(crate) fn fault(&self, is_written: bool) -> Option<TimesFault> {
+    pub(crate) fn fault(&self, is_written: bool) -> Option<TimesFault>
+        ensures { (places : List ℕ) (lines : List LineOf) (rest : List ℕ) → HavePassed places lines rest self.now
+            → IsFirstFault is_written places lines rest result }
+    {
         last_fault(
             is_written,
             self.fault,

@@ -4,7 +4,8 @@
 //! Each of these functions opens what it needs, calls the crates below, and returns the first fault that it met. It
 //! leaves the fault's line to its caller.
 //!
-//! Start at `src/files.rt`, which has the shortest of them, and for archives at `specs/Lines.antt`.
+//! Start at `src/files.rt`, which has the shortest of them, and for archives at `specs/Lines.antt` and
+//! `specs/Times.antt`.
 #![tactic(auto)]
 
 mod checks;
