@@ -10,3 +10,4 @@ pub mod Finished
 pub mod CutFault
 pub mod Heads
 pub mod Starting
+pub mod Placing

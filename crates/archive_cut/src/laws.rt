@@ -1,6 +1,6 @@
 //! What always holds of cuts.
-ghost use Rattle.std.specs.Prelude.{◌≡◌, ◌≢◌, ◌≤◌, ◌<◌, ◌^◌, ◌++◌, [], ◌∷◌, ℕ, List, bit_xor, false, length, map, take, true};
-ghost use Rattle.std.specs.List.{AllByRecursion, AllZip, flat_map};
+ghost use Rattle.std.specs.Prelude.{◌≡◌, ◌≢◌, ◌≤◌, ◌<◌, ◌^◌, ◌++◌, [], ◌∷◌, ℕ, List, None, bit_xor, false, length, map, nat_eq, take, true};
+ghost use Rattle.std.specs.List.{AllByRecursion, AllZip, flat_map, list_any};
 ghost use Rattle.byteorder.specs.Endian.{little_bytes};
 ghost use Rattle.ogg_page.specs.Head.{checksum_in};
 ghost use Rattle.ogg_page.specs.Page.{Page, IsPage, bytes_of_pages, page_bytes};
@@ -24,12 +24,15 @@ ghost use Rattle.archive_cut.specs.Finished.{EndWell, finished_bytes};
 ghost use Rattle.archive_cut.specs.Joined.{AreNextFiles, CanGoOn, FileRecording, GoesOn, HoldsFile, NextFile, continued, joined_link, joined_streams, names_in_order, with_files, with_recordings};
 ghost use Rattle.archive_cut.specs.Packets.{IsCutBetween, IsCutMidway, all_ended, begun_by, cut_recording, ended_with, packets_for};
 ghost use Rattle.archive_cut.specs.Parts.{IsCutOf, all_of, cut_at, joined_cut, joined_cuts, nothing, place_after, start_of};
-ghost use Rattle.archive_times.specs.Asked.{RiseFrom};
+ghost use Rattle.archive_times.specs.Asked.{RiseFrom, offset_of};
+ghost use Rattle.archive_times.specs.Times.{AreTimes};
+ghost use Rattle.archive_cut.specs.Placing.{stood_at};
+ghost use Rattle.archive_cut.specs.declared.placing.Recorded.{Recorded as RecordedOf};
 ghost use Rattle.archive_times.specs.declared.line.Line.{Line as LineOf};
 ghost use Rattle.archive_cut.specs.Times.{AddUp, AreBoundaries, NeverFall};
 ghost use Rattle.archive_cut.specs.Retold.{HasSameRest, fields_change, fields_of, head_of, names_of, page_change, retold};
 
-use archive_times::the_place_of_a_time;
+use archive_times::{lines_are_known_by_their_text, the_place_of_a_time};
 use chain_rules::{command_adds_pages, commands_add_their_packets};
 use ogg_finish::finished_links_hold_the_same;
 use serve_live::{commands_are_heard, sessions_hear_what_is_committed, what_is_heard_is_a_chain};
@@ -120,6 +123,18 @@ pub fn cuts_of_times_add_up()
     what_is_heard_is_a_chain();
     sessions_hear_what_is_committed();
     the_place_of_a_time();
+}
+
+/// A file stands no earlier at a later time, and always at its beginning, at a line, or at the end of what is committed. So
+/// any rising times divide what is committed of it.
+pub fn files_stand_in_order()
+    ensures rises { (file : RecordedOf) (lines : List LineOf) (earlier later : ℕ) → AreTimes file.committed None lines
+        → earlier ≤ later → (stood_at file lines earlier).offset ≤ (stood_at file lines later).offset }
+    ensures known { (file : RecordedOf) (lines : List LineOf) (time : ℕ)
+        → list_any (nat_eq (stood_at file lines time).offset) (0 ∷ file.committed ∷ map offset_of lines) ≡ true }
+{
+    the_place_of_a_time();
+    lines_are_known_by_their_text();
 }
 
 /// Cuts of several files, one after the other, are a chain of links, which holds what they hold, one after the other.

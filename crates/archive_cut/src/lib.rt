@@ -20,7 +20,8 @@ pub use fault::CutFault;
 pub use finishing::{Mark, StreamEnds, Way, mark_last};
 pub use laws::{
     commands_are_cut, cuts_add_up, cuts_are_a_chain, cuts_are_given, cuts_can_be_finished,
-    cuts_hold_what_was_put, cuts_of_times_add_up, files_go_on, links_go_on, retelling_is_exact,
+    cuts_hold_what_was_put, cuts_of_times_add_up, files_go_on, files_stand_in_order, links_go_on,
+    retelling_is_exact,
 };
 pub use paging::Paged;
 pub use placing::{Recorded, Stand, is_before, stood_at, time_of};

@@ -1,6 +1,10 @@
 //! Where a file stood at a time.
+ghost use Rattle.std.specs.Prelude.{◌≡◌, ◌+◌, ℕ, List, None, nat_le};
+ghost use Rattle.archive_times.specs.Times.{AreLinesOf, last_of};
+ghost use Rattle.archive_times.specs.declared.line.Line.{Line as LineOf};
+ghost use Rattle.archive_cut.specs.Placing.{at_begin, at_end, at_line, end_of, stood_at};
 
-use archive_times::{Join, Line, last_line, line_at, next_line};
+use archive_times::{Join, Line, last_line, line_at, lines_are_known_by_their_text, next_line};
 
 /// By how much the next file's beginning may lie after the time in its name, in milliseconds: names tell seconds.
 const NAMED_WITHIN: u64 = 1000;
@@ -25,34 +29,29 @@ pub struct Stand {
     pub join: Option<Join>,
 }
 
-/// Whether all of the file was committed by then, whatever its lines say.
-pub fn is_before(later: u64, time: u64) -> bool {
-    time >= later.saturating_add(NAMED_WITHIN)
+/// Whether all of the file was committed by then, whatever its lines say: the next one was begun a second ago.
+pub fn is_before(later: u64, time: u64) -> bool
+    ensures { result ≡ nat_le (later + 1000) time }
+{
+    match later.checked_add(NAMED_WITHIN) {
+        Some(sure) => sure <= time,
+        None => false,
+    }
 }
 
-/// Where the file stood at the time, by the text of its lines. What follows the last line has the time at which the next
-/// file was begun.
-pub fn stood_at(times: &[u8], file: Recorded, time: u64) -> Stand {
-    if is_before(file.later, time) {
-        return Stand {
-            offset: file.committed,
-            join: None,
-        };
+fn at_end(file: Recorded) -> Stand
+    ensures { result ≡ at_end file }
+{
+    Stand {
+        offset: file.committed,
+        join: None,
     }
-    if time < file.begin {
-        return Stand {
-            offset: 0,
-            join: None,
-        };
-    }
-    let (last, _) = last_line(times, None, file.committed);
-    if time >= end_of(file, last) {
-        return Stand {
-            offset: file.committed,
-            join: None,
-        };
-    }
-    match line_at(times, file.committed, time) {
+}
+
+fn at_line(line: Option<Line>) -> Stand
+    ensures { result ≡ at_line line }
+{
+    match line {
         Some(line) => Stand {
             offset: line.offset,
             join: line.join,
@@ -65,11 +64,42 @@ pub fn stood_at(times: &[u8], file: Recorded, time: u64) -> Stand {
 }
 
 /// The time of what follows the last line.
-fn end_of(file: Recorded, last: Option<Line>) -> u64 {
+fn end_of(file: Recorded, last: Option<Line>) -> u64
+    ensures { result ≡ end_of file last }
+{
     match last {
         Some(last) => last.time.max(file.later),
         None => file.later.max(file.begin),
     }
+}
+
+/// The last of the lines at the front of the text.
+fn last_of(times: &[u8], committed: u64) -> Option<Line>
+    ensures { (lines : List LineOf) (rest : List ℕ) → AreLinesOf committed None times.now lines rest
+        → result ≡ last_of None lines }
+{
+    lines_are_known_by_their_text();
+    let (last, _) = last_line(times, None, committed);
+    last
+}
+
+/// Where the file stood at the time, by the text of its lines. What follows the last line has the time at which the next
+/// file was begun.
+pub fn stood_at(times: &[u8], file: Recorded, time: u64) -> Stand
+    ensures { (lines : List LineOf) (rest : List ℕ) → AreLinesOf file.committed None times.now lines rest
+        → result ≡ stood_at file lines time }
+{
+    if is_before(file.later, time) {
+        return at_end(file);
+    }
+    if time < file.begin {
+        return at_line(None);
+    }
+    let last = last_of(times, file.committed);
+    if end_of(file, last) <= time {
+        return at_end(file);
+    }
+    at_line(line_at(times, file.committed, time))
 }
 
 /// The time of the first of the lines at the front of the text that tells of this many bytes or more.
@@ -88,9 +118,8 @@ fn time_from(times: &[u8], committed: u64, offset: u64) -> Option<u64> {
 
 /// When the first `offset` bytes of the file were committed.
 pub fn time_of(times: &[u8], file: Recorded, offset: u64) -> u64 {
-    let (last, _) = last_line(times, None, file.committed);
     match time_from(times, file.committed, offset) {
         Some(time) => time.max(file.begin),
-        None => end_of(file, last),
+        None => end_of(file, last_of(times, file.committed)),
     }
 }
