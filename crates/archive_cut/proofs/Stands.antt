@@ -2,7 +2,7 @@
 use Rattle.std.proofs.Common.{◌≡◌, ℕ, ◌+◌, ◌<◌, ◌≤◌, Bool, true, false, cond, List, [], ◌∷◌, map, refl, sym, ◌∙◌, ap, subst, arith, inl, inr, None, Option, Some}
 use Rattle.std.specs.Prelude.{nat_eq, nat_le, nat_lt, ◌||◌}
 use Rattle.std.specs.List.{list_any}
-use Rattle.std.proofs.lemmas.Bool.{cases_Bool, cond-true, cond-false, cond_both, eq-eqb, le-leb, leb-false, leb-true, ltb-false, ltb-true, or_left, or_right}
+use Rattle.std.proofs.lemmas.Bool.{cases_Bool, cond-true, cond-false, cond_both, eq-eqb, le-leb, leb-true, ltb-false, ltb-true, or_left, or_right}
 use Rattle.archive_times.specs.declared.line.Line.{Line}
 use Rattle.archive_times.specs.Asked.{RiseFrom, line_at, offset_at, offset_of, place_of}
 use Rattle.archive_times.specs.Times.{AreTimes, last_of}

@@ -11,3 +11,4 @@ pub mod CutFault
 pub mod Heads
 pub mod Starting
 pub mod Placing
+pub mod Ways

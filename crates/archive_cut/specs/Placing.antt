@@ -1,5 +1,5 @@
 -- Where a file stood at a time, by its lines of times. Ours.
-use Rattle.std.specs.Prelude.{ℕ, ◌+◌, nat_le, nat_lt, max, if◌then◌else◌, List, [], Option, Some, None}
+use Rattle.std.specs.Prelude.{ℕ, ◌+◌, nat_le, nat_lt, max, if◌then◌else◌, List, Option, Some, None}
 use Rattle.archive_times.specs.declared.line.Line.{Line}
 use Rattle.archive_times.specs.Asked.{line_at}
 use Rattle.archive_times.specs.Times.{last_of}

@@ -1,8 +1,14 @@
 //! Cuts in which players find each stream's end on a page with a packet.
-ghost use Rattle.std.specs.Prelude.{IsSome, OnOk};
+ghost use Rattle.std.specs.Prelude.{◌≡◌, IsSome, OnOk, Some, false};
+ghost use Rattle.ogg_finish.specs.Finishing.{finished_page, is_full, kept_at, mark_after, marked_last};
+ghost use Rattle.ogg_page.specs.Head.{header_of};
+ghost use Rattle.ogg_page.specs.LogicalStream.{is_first, is_last};
+ghost use Rattle.ogg_page.specs.Page.{Page, IsPage, page_bytes};
+ghost use Rattle.archive_cut.specs.Ways.{pages_by, plain};
 
 use ogg_page::{
-    FIRST, LAST, Memory, PageBuffer, PageFault, PageHead, PageHeader, read_header, read_page,
+    FIRST, LAST, Memory, Page as PageRead, PageBuffer, PageFault, PageHead, PageHeader,
+    read_header, read_page,
 };
 use std::alloc::Global;
 
@@ -45,21 +51,29 @@ pub enum Way {
     Goes,
 }
 
-fn is_first(header: &PageHeader) -> bool {
+fn is_first(header: &PageHeader) -> bool
+    ensures { (page : Page) → header.now ≡ header_of page → result ≡ is_first page }
+{
     header.head.flags / FIRST % 2 == 1
 }
 
-fn is_last(header: &PageHeader) -> bool {
+fn is_last(header: &PageHeader) -> bool
+    ensures { (page : Page) → header.now ≡ header_of page → result ≡ is_last page }
+{
     header.head.flags / LAST % 2 == 1
 }
 
 /// Whether the page can carry the mark.
-fn is_full(header: &PageHeader) -> bool {
+fn is_full(header: &PageHeader) -> bool
+    ensures { (page : Page) → header.now ≡ header_of page → result ≡ is_full page }
+{
     header.values > 0 && !is_first(header)
 }
 
 /// Where the mark is to stand after the page.
-fn mark_after(found: Option<Mark>, header: &PageHeader, size: u64) -> Option<Mark> {
+fn mark_after(found: Option<Mark>, header: &PageHeader, size: u64) -> Option<Mark>
+    ensures { (page : Page) → header.now ≡ header_of page → plain result ≡ mark_after (plain found) page }
+{
     if is_full(header) {
         return Some(Mark {
             sequence: header.head.sequence,
@@ -67,7 +81,16 @@ fn mark_after(found: Option<Mark>, header: &PageHeader, size: u64) -> Option<Mar
             behind: 0,
         });
     }
-    let mark = found?;
+    match found {
+        Some(mark) => kept_at(mark, header, size),
+        None => None,
+    }
+}
+
+/// The same mark, unless the later page, which can't carry it, has another position.
+fn kept_at(mark: Mark, header: &PageHeader, size: u64) -> Option<Mark>
+    ensures { (page : Page) → header.now ≡ header_of page → plain result ≡ kept_at page (plain (Some mark)) }
+{
     if header.head.position == mark.position || header.head.position == u64::MAX {
         Some(Mark {
             behind: mark.behind.saturating_add(size),
@@ -188,7 +211,11 @@ impl StreamEnds {
     }
 }
 
-fn way_by(mark: Mark, header: &PageHeader) -> Way {
+/// What becomes of a page that isn't its stream's first.
+fn way_by(mark: Mark, header: &PageHeader) -> Way
+    ensures { (page : Page) → header.now ≡ header_of page → is_first page ≡ false
+        → pages_by result page ≡ finished_page (plain (Some mark)) page }
+{
     if header.head.sequence < mark.sequence {
         Way::Stays
     } else if header.head.sequence == mark.sequence {
@@ -213,14 +240,27 @@ fn behind(streams: &[StreamEnd]) -> u64 {
     sum
 }
 
-/// Makes the page in the buffer, with the mark of the last page, which it lacks.
+/// Makes the page in the buffer, with the mark of the last page, which it lacks. It is none if no page stands there.
 pub fn mark_last(page: &[u8], buffer: &mut PageBuffer) -> Result<(), PageFault>
-    ensures { OnOk result (IsSome buffer.new.finished) }
+    ensures made { OnOk result ((whole : Page) → IsPage whole → page.now ≡ page_bytes whole
+        → buffer.new.finished ≡ Some (marked_last whole)) }
+    ensures some { OnOk result (IsSome buffer.new.finished) }
 {
-    let page = read_page(page)?;
-    if page.is_last() {
-        return Err(PageFault::Pattern);
+    match read_page(page) {
+        Ok(page) => if page.is_last() {
+            Err(PageFault::Pattern)
+        } else {
+            make_marked(&page, buffer);
+            Ok(())
+        },
+        Err(fault) => Err(fault),
     }
+}
+
+fn make_marked(page: &PageRead<'_>, buffer: &mut PageBuffer)
+    requires { is_last page.now ≡ false }
+    ensures { buffer.new.finished ≡ Some (marked_last page.now) }
+{
     // Since it is a page, its lacing values, its body and its flags are bounded.
     // For the proof alone.
     let _whole = page.whole();
@@ -232,5 +272,4 @@ pub fn mark_last(page: &[u8], buffer: &mut PageBuffer) -> Result<(), PageFault>
         serial: page.serial(),
         sequence: page.sequence(),
     });
-    Ok(())
 }
