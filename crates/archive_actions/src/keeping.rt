@@ -193,6 +193,10 @@ impl Beside for Keeper<'_> {
         self.told.tell(ended_line(file, bytes).as_slice());
     }
 
+    fn lost(&mut self, offset: u64, committed: u64) {
+        self.told.lost(offset, committed);
+    }
+
     fn removed(&mut self, file: FileName) {
         self.told.tell(file_line(file, b"removed").as_slice());
     }

@@ -404,6 +404,8 @@ impl<D: Disk + Drop, F: Folder<File = D> + Drop> Archive<D, F> {
             if let Some(line) = newest.line(self.last, now) {
                 beside.timed(line);
             }
+        } else {
+            beside.lost(import.offset(), newest.recorder.end());
         }
         let sealed = self.seal(newest, beside);
         self.begins_again(import, serials)?;

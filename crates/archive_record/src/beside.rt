@@ -20,6 +20,10 @@ pub trait Beside {
     /// The file has ended, with so many bytes: nothing writes it again. Its times are synced.
     fn ended(&mut self, file: FileName, bytes: u64);
 
+    /// What waited in the newest file is lost, as its disk has failed when the input was read up to this offset, and this
+    /// many bytes are committed.
+    fn lost(&mut self, offset: u64, committed: u64);
+
     /// The file was thrown away, with its times.
     fn removed(&mut self, file: FileName);
 
