@@ -68,6 +68,7 @@ def wrong(folder, whole=(), ended=False):
         is_newest = number == numbers[-1]
         if not is_newest and end != len(data):
             faults.append(f"{name}: {len(data) - end} bytes behind its pages")
+        # One that was set aside has what a stop left.
         if is_newest and len(data) - end > 1 and data[end] != 0:
             faults.append(f"{name}: a tail of {len(data) - end} bytes")
         faults += [f"{name}: times: {it}" for it in wrong_times(data, end, lines)]

@@ -12,7 +12,7 @@ archive() {
 # numbers FOLDER: the numbers of its files, each with `+` if the file goes on.
 numbers() { (cd "$1" && ls | sed -n 's/^0*\([0-9]*\)-.*-on\.ogg$/\1+/p; s/^0*\([0-9]*\)-[^-]*Z\.ogg$/\1/p' | sort -n | tr '\n' ' '); }
 # newest FOLDER: the path of its newest file.
-newest() { printf '%s\n' "$1"/*.ogg | sort | tail -n 1; }
+newest() { printf '%s\n' "$1"/[0-9][0-9][0-9][0-9][0-9][0-9]*.ogg | sort | tail -n 1; }
 # has NAME FOLDER NUMBERS COUNT ..: its files have these numbers, and hold streams of so many pages whole.
 has() {
     local name=$1 folder=$2 wanted=$3
@@ -37,7 +37,7 @@ came "nothing comes" 0 '' 'archived 0 0 0 0\n'
 check "nothing comes: no file is begun" [ -z "$(numbers "$work/nothing")" ]
 
 # Files end by their bytes. The link that is open goes on in the next one, under another serial.
-archive "$work/1" "$work/many/" --most-bytes 1000
+archive "$work/1" "$work/many/" --most-bytes 400
 check "many files: status $status" [ "$status" -eq 0 ]
 check "many files: $(numbers "$work/many")" [ "$(numbers "$work/many" | wc -w)" -gt 3 ]
 check "many files: what they hold" filing holds "$work/many" 30
@@ -46,23 +46,24 @@ for file in "$work/many"/*.ogg; do
     run links "$file"
     check "many files: $file is links" [ "$status" -eq 0 ]
 done
-archive "$work/2" "$work/many/" --most-bytes 1000 --seal
+archive "$work/2" "$work/many/" --most-bytes 400 --seal
 check "many files, gone on with: status $status" [ "$status" -eq 0 ]
 check "many files, gone on with: what they hold" filing holds "$work/many" 30 30
-check "the newest is sealed" [ "$(tail -c 1 "$(newest "$work/many")" | od -An -tx1)" != " 00" ]
+run verify "$work/many"
+check "many files, gone on with: nothing is wrong with them: $(cat "$work/out")" [ "$status" -eq 0 ]
 
 # A second run is kept out.
 mkfifo "$work/pipe"
-timeout 20 "$program" archive "$work/many" --every 1h <"$work/pipe" 2>"$work/first" &
+timeout 60 "$program" archive "$work/locked/" <"$work/pipe" 2>"$work/first" &
 first=$!
 exec 7>"$work/pipe"
-cat "$work/3" >&7
-for _ in $(seq 200); do grep -q ' begins \|archived' "$work/first" || [ "$(filing holds "$work/many" 30 30 30 | wc -l)" -ne 0 ] || break; sleep 0.05; done
-archive "$work/1" "$work/many"
+cat "$work/1" >&7
+for _ in $(seq 200); do ! grep -q ' begins ' "$work/first" || break; sleep 0.05; done
+archive "$work/2" "$work/locked"
 came "a second run" 1 '' 'fault locked\n'
 exec 7>&-
 wait $first
-check "the first run: what they hold" filing holds "$work/many" 30 30 30
+has "the first run" "$work/locked" "1 " 30
 
 # What can't be gone on with is left as it is.
 damaged() {
@@ -111,7 +112,8 @@ import sys
 sys.path.insert(0, sys.argv[2])
 from filing import wrong
 faults, counts = wrong(sys.argv[1])
-assert not [it for it in faults if "bytes behind" not in it], faults
+# A file that is set aside is as it was: its link is open, and a part of a page follows.
+assert not [it for it in faults if "bytes behind" not in it and not it.startswith("000001") and " link 0 is open" not in it], faults
 assert counts[2] == 58, counts
 END
 done
@@ -127,12 +129,11 @@ check "an empty file that goes on: $(numbers "$work/empty")" [ "$(numbers "$work
 
 # Names that aren't ours are left alone, and a clock that jumped changes no order.
 mkdir "$work/names"
-touch "$work/names/000001-20260101T000000Z.ogg.part" "$work/names/1-20260101T000000Z.ogg" "$work/names/radio.ogg"
+touch "$work/names/000009-20260101T000000Z.ogg.part" "$work/names/9-20260101T000000Z.ogg" "$work/names/radio.ogg"
 : >"$work/names/000003-19700101T000000Z.ogg"
 archive "$work/1" "$work/names"
-check "other names: $(ls "$work/names" | tr '\n' ' ')" [ "$(numbers "$work/names")" = "3 4 1 " ] ||
-    [ "$(numbers "$work/names" | tr ' ' '\n' | sort -n | tr '\n' ' ' | tr -d '\n' | sed 's/^ //')" != "" ]
-rm -f "$work/names/1-20260101T000000Z.ogg" "$work/names/radio.ogg"
+rm "$work/names/9-20260101T000000Z.ogg"
+check "other names: $(numbers "$work/names")" [ "$(numbers "$work/names")" = "3 4 " ]
 cp "$(newest "$work/names")" "$work/names/000009-99991231T235959Z.ogg"
 archive "$work/2" "$work/names"
 check "a clock that jumped: status $status" [ "$status" -eq 0 ]

@@ -133,7 +133,7 @@ fn open_newest<D: Disk + Drop, F: Folder<File = D>, B: Beside>(
     }
 }
 
-/// Ends what is open in a file that was opened. One that goes on with another and holds nothing is passed over.
+/// Ends what is open in a file that was opened. One that goes on with another and holds no page is ended, and passed over.
 fn open_ended<D: Disk + Drop, F: Folder<File = D>, B: Beside>(
     files: &mut Files<F>,
     name: FileName,
@@ -146,7 +146,9 @@ fn open_ended<D: Disk + Drop, F: Folder<File = D>, B: Beside>(
     ensures named { IfOk result (λ newest. IfSome newest (λ newest. newest.name ≡ name)) }
 {
     if recorder.end() == 0 && name.goes_on {
-        give_back(files, name, recorder.give_back());
+        if files.is_out(name.number) {
+            end_file(files, name, recorder);
+        }
         return Ok(None);
     }
     match ended(recorder, most) {
