@@ -20,8 +20,10 @@ const TAIL: usize = 4 * LONGEST_LINE;
 /// The files of the folder. Names that aren't ours are passed over.
 pub fn folder(rt: &HostRuntime, path: &str) -> Result<Seen, ReadingFault> {
     let mut entries = Vec::new(rt.alloc());
-    let Ok(found) = fs::read_dir(rt, path) else {
-        return Err(ReadingFault::File);
+    let found = match fs::read_dir(rt, path) {
+        Ok(found) => found,
+        Err(error) if error.kind() == ErrorKind::OutOfMemory => return Err(ReadingFault::Memory),
+        Err(_) => return Err(ReadingFault::File),
     };
     for entry in found {
         match entry {

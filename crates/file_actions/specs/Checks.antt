@@ -4,6 +4,10 @@ use Rattle.archive_names.specs.declared.name.Name.{Name}
 use Rattle.archive_reading.specs.declared.listed.Listed.{Listed}
 use Rattle.archive_times.specs.Times.{has_no_line_feed}
 use Rattle.archive_times.specs.declared.line.Line.{Line}
+use Rattle.fault_lines.specs.declared.fault.Fault.{Fault}
+use Rattle.fault_lines.specs.declared.fault.Fault.TheVariants.{Index, Memory, Open}
+use Rattle.gate_file.specs.declared.fault.OpenFault.TheVariants.{Memory as OpenMemory}
+use Rattle.link_index.specs.declared.fault.IndexFault.TheVariants.{Memory as IndexMemory}
 use Rattle.file_actions.specs.declared.checks.TimesFault.{TimesFault}
 use Rattle.file_actions.specs.declared.checks.TimesFault.TheVariants.{Line as LineFault, Page}
 
@@ -29,6 +33,13 @@ LacksBefore (Some before) name = (name.goes_on ≡ true) × (before.is_kept ≡ 
 -- the seconds that are left, if what is done took this many milliseconds, as far as a product has room
 abbrev pub seconds_left : ℕ → ℕ → ℕ → ℕ
 seconds_left passed done total = min (passed * (total - done)) (2 ^ 64 - 1) / max done 1 / 1000
+
+-- want of memory is no damage
+abbrev pub is_memory : Fault → Bool
+is_memory Memory = true
+is_memory (Open OpenMemory) = true
+is_memory (Index IndexMemory) = true
+is_memory _ = false
 
 -- ---- Lines of times, compared with the places between pages as these pass in turn.
 

@@ -3,7 +3,7 @@
 use crate::files::open;
 use crate::indexing::find_index;
 use crate::lines::{gap_line, put_damaged, put_file, twice_line};
-use crate::telling::{fault_of, now, or_memory, what_of, write_all, write_many};
+use crate::telling::{fault_of, is_memory, now, or_memory, what_of, write_all, write_many};
 use archive_names::{Kind, Name};
 use archive_reading::{
     Listed, ReadingFault, Seen, Span, committed, folder, goes_on_with, is_gap, last_line_of,
@@ -147,7 +147,7 @@ impl<'a> Asked<'a> {
         };
         match fault {
             Ok(()) => Ok(()),
-            Err(Fault::Memory) => Err(Fault::Memory),
+            Err(fault) if is_memory(&fault) => Err(Fault::Memory),
             Err(fault) => {
                 let what = or_memory(what_of(self.rt.alloc(), &fault))?;
                 let text = name.text(Kind::Pages);

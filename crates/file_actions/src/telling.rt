@@ -1,7 +1,11 @@
 //! Faults and lines that are told of an archive's files.
+ghost use Rattle.std.specs.Prelude.{◌≡◌};
+ghost use Rattle.file_actions.specs.Checks.{is_memory};
 
 use archive_reading::ReadingFault;
 use fault_lines::{Fault, write_fault};
+use gate_file::OpenFault;
+use link_index::IndexFault;
 use ogg_page::{Memory, write_whole};
 use std::alloc::Global;
 use std::time::SystemTime;
@@ -15,6 +19,16 @@ pub(crate) fn fault_of(fault: ReadingFault) -> Fault {
         ReadingFault::File => Fault::File,
         ReadingFault::Memory => Fault::Memory,
         ReadingFault::Open(fault) => Fault::Open(fault),
+    }
+}
+
+/// Whether memory was refused. That is no damage.
+pub(crate) fn is_memory(fault: &Fault) -> bool
+    ensures { result ≡ is_memory fault.now }
+{
+    match fault {
+        Fault::Memory | Fault::Open(OpenFault::Memory) | Fault::Index(IndexFault::Memory) => true,
+        _ => false,
     }
 }
 

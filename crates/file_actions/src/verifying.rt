@@ -6,7 +6,7 @@ use crate::lines::{
     Counts, line_what, page_what, put_damaged, tail_what, twice_line, verified_line, without_what,
 };
 use crate::progress::Progress;
-use crate::telling::{fault_of, or_memory, what_of, write_all};
+use crate::telling::{fault_of, is_memory, or_memory, what_of, write_all};
 use archive_names::Kind;
 use archive_reading::{Listed, Seen, folder, length_of, path_of};
 use disk_model::Disk;
@@ -160,7 +160,11 @@ impl<'a> Verifying<'a> {
         write_all(self.rt, &mut lines)
     }
 
+    /// Tells the fault of a file, unless memory was refused.
     fn damaged_by(&mut self, name: &[u8], fault: &Fault) -> Result<(), Fault> {
+        if is_memory(fault) {
+            return Err(Fault::Memory);
+        }
         let what = or_memory(what_of(self.rt.alloc(), fault))?;
         self.damaged(name, what.as_slice())
     }
@@ -236,7 +240,6 @@ impl<'a> Verifying<'a> {
         };
         match passed {
             Ok(passed) => self.told(file, passed),
-            Err(Fault::Memory) => Err(Fault::Memory),
             Err(fault) => {
                 if is_gone(self.rt, file.path) {
                     return Ok(());
