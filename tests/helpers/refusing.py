@@ -4,7 +4,8 @@
 The program runs with its first request for memory refused, then with the second, up to a run in which none is refused,
 and the same again with every request refused from that one on.
 
-Feeds go through `mux` and `record`, in groups; files are made into feeds, listed, split, finished, salvaged and served.
+Feeds go through `mux` and `record`, in groups; files are made into feeds, listed, split, finished, salvaged and served;
+an archive is listed and verified.
 A run may end by a fault, whose status is 1, or by a text in place of the work, whose status is 2. What it wrote is what
 a run that is refused nothing writes over the commands that it said it took, or the front of that. Prints a line for
 each run that differs; the status is 1 if there was one.
@@ -192,6 +193,30 @@ def check_served(refusals, program, path, target):
         refusals.say("serve %r: another answer" % target)
 
 
+def check_archive(refusals, program, words, path):
+    """Of an archive, whose newest file is open, all is told that there is, and no damage that isn't there."""
+    words = [program, words[0], path] + words[1:]
+    whole = run(words)
+    for refusing, call in refusals.each(" ".join(words[1:])):
+        ran = run(words, **refusing)
+        done = ran.returncode == 0 and ran.stdout == whole.stdout
+        told = refusals.tells(ran) and whole.stdout.startswith(ran.stdout)
+        if not (done or told):
+            refusals.say("%s, request %d: status %d, %r, %r" % (" ".join(words[1:]), call, ran.returncode, ran.stdout[-200:], ran.stderr[-200:]))
+    if whole.returncode:
+        refusals.say("%s: status %d, %r" % (" ".join(words[1:]), whole.returncode, whole.stdout[-200:]))
+
+
+def make_archive(path, file):
+    os.mkdir(path)
+    pages = open(file, "rb").read()
+    for name, tail in (("000001-20261128T130000Z", b""), ("000002-20261128T140000Z-on", b"\0")):
+        with open("%s/%s.ogg" % (path, name), "wb") as one:
+            one.write(pages + tail)
+        with open("%s/%s.times" % (path, name), "w", encoding="ascii") as one:
+            one.write("31 1795870800500 0 31\n%d 1795870801500 - -\n" % len(pages))
+
+
 def main():
     program, library, work = sys.argv[1:]
     refusals = Refusals(library, work)
@@ -202,6 +227,10 @@ def main():
     for words in (["links"], ["split", "0"], ["split", "0", "1"], ["finish"], ["finish", "0"], ["salvage"]):
         check_file(refusals, program, words, path)
     check_made(refusals, program, path)
+    radio = os.path.join(work, "radio")
+    make_archive(radio, path)
+    for words in (["list"], ["list", "--links"], ["verify"]):
+        check_archive(refusals, program, words, radio)
     for target in (b"/", b"/all", b"/link/0", b"/link/0/2"):
         check_served(refusals, program, path, target)
     print("%d runs, %d wrong" % (refusals.runs, refusals.wrong))
