@@ -76,12 +76,28 @@ for _ in $(seq 20); do
     [ "$(code "http://127.0.0.1:$port/")" = 503 ] && refused=$((refused + 1))
 done
 check "too many connections: $refused of 20 got 503" [ "$refused" -eq 20 ]
-exec 5<>"/dev/tcp/127.0.0.1/$port"
+# Beyond them four are asked first what they want: an encoder is never kept out by those who say nothing, and neither is
+# who asks for the numbers.
+check "a source beside idle connections" [ "$(code -u source:secret -T "$work/whole" "http://127.0.0.1:$port/x")" = 200 ]
+check "its wrong password" [ "$(code -u source:secret2 -T "$work/whole" "http://127.0.0.1:$port/x")" = 401 ]
+check "the numbers beside idle connections" [ "$(code "http://127.0.0.1:$port/status")" = 200 ]
+check "their head alone" [ "$(code -I "http://127.0.0.1:$port/status")" = 200 ]
+check "a listener beside idle connections" [ "$(code "http://127.0.0.1:$port/live")" = 503 ]
+check "a player beside idle connections" [ "$(code "http://127.0.0.1:$port/player")" = 503 ]
+check "a file beside idle connections" [ "$(code "http://127.0.0.1:$port/all")" = 503 ]
+exec 5<>"/dev/tcp/127.0.0.1/$port" 6<>"/dev/tcp/127.0.0.1/$port" 7<>"/dev/tcp/127.0.0.1/$port" 8<>"/dev/tcp/127.0.0.1/$port"
 sleep 0.3
-check "its answer comes before it asks" [ "$(timeout 5 head -n 1 <&5 | tr -d '\r')" = "HTTP/1.1 503 Service Unavailable" ]
+exec 9<>"/dev/tcp/127.0.0.1/$port"
+check "its answer comes before it asks" [ "$(timeout 5 head -n 1 <&9 | tr -d '\r')" = "HTTP/1.1 503 Service Unavailable" ]
+exec 9>&-
+printf 'PUT /x HTTP/1.1\r\nHost: x\r\n' >&5
+exec 6>&- 7>&- 8>&-
+sleep 0.3
+check "a source while another one says who it is" [ "$(code -u source:secret -T "$work/whole" "http://127.0.0.1:$port/x")" = 200 ]
 exec 5>&-
 exec 3>&- 4>&-
 sleep 0.2
+check "four links" until_listed 'link 3 .*'
 check "places again" [ "$(code "http://127.0.0.1:$port/")" = 200 ]
 check "what is live has a head alone" [ "$(code -I "http://127.0.0.1:$port/live")" = 200 ]
 down

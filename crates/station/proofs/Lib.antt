@@ -9,3 +9,4 @@ mod Succeeding
 mod Turned
 mod Unread
 mod Waited
+mod Spared

@@ -12,3 +12,4 @@ pub mod Found
 pub mod Passing
 pub mod PassingLaws
 pub mod Asked
+pub mod Spare

@@ -14,6 +14,7 @@
 #![tactic(auto)]
 
 mod offering;
+mod sparing;
 mod station;
 mod stepping;
 mod telling;

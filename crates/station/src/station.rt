@@ -1,5 +1,5 @@
 //! A station, by what happens to it.
-ghost use Rattle.std.specs.Prelude.{◌≡◌, ◌≢◌, ◌↔◌, ◌≤◌, ◌<◌, ◌-◌, ◌⊎◌, ℕ, List, [], None, Some, Result, Err, IfOk, IfErr, OnOk, false, is_some, length, min, take, true};
+ghost use Rattle.std.specs.Prelude.{◌≡◌, ◌≢◌, ◌↔◌, ◌≤◌, ◌<◌, ◌-◌, ◌⊎◌, ℕ, List, [], ◌∷◌, ◌++◌, None, Some, Result, Err, IfOk, IfErr, OnOk, false, is_some, length, min, take, true};
 ghost use Rattle.slab.specs.Slab.{get, slab_len};
 ghost use Rattle.serve_machine.specs.Calls.{Steps};
 ghost use Rattle.serve_machine.specs.Hub.{Receive};
@@ -22,6 +22,8 @@ ghost use Rattle.station.specs.Beginning.{BeginsBeside, options_for, run_in};
 ghost use Rattle.station.specs.Keeping.{IsEndedBy, IsFedMore, IsLostBy, OthersAirStays};
 ghost use Rattle.serve_hub.specs.Listening.{KeepsMachine};
 ghost use Rattle.station.specs.Asked.{EndsSession, IsAnswered, IsAsked, Joins};
+ghost use Rattle.station.specs.Spare.{IsAskedIn, is_another, is_spare};
+ghost use Rattle.std.specs.List.{filter};
 ghost use Rattle.station.specs.Ending.{is_over};
 ghost use Rattle.station.specs.Passing.{GoesOnAsSource, IsLike, OffersOn, Stays, expects_nothing, is_source, session_in};
 ghost use Rattle.station.specs.Turning.{IsTurnedAway};
@@ -41,6 +43,9 @@ use std::alloc::Global;
 /// How many connections too many are told so at once.
 const TURNED_AWAY: usize = 64;
 
+/// How many of these are asked first what they want: a source gets the air, and the station's numbers are told.
+pub(crate) const SPARE: usize = 4;
+
 /// Why a connection isn't taken.
 #[derive(Clone, Copy, Debug, PartialEq, Eq)]
 pub enum Unaccepted {
@@ -48,6 +53,13 @@ pub enum Unaccepted {
     Full,
     /// Memory was refused.
     Memory,
+}
+
+/// The spare place of this connection is free, if it had one.
+fn leave(spare: &mut Vec<usize>, key: usize)
+    ensures { spare.new.items ≡ filter (is_another key) spare.old.items }
+{
+    spare.retain(|other| *other != key);
 }
 
 /// How a station is run.
@@ -88,6 +100,8 @@ pub struct Station<D: Disk> {
     pub(crate) ending: Option<u64>,
     // what those who hear what is recorded were woken for
     pub(crate) waking: Waking,
+    // the keys of the connections that have a spare place
+    pub(crate) spare: Vec<usize>,
 }
 
 impl<D: Disk + Drop> Station<D> {
@@ -119,6 +133,7 @@ impl<D: Disk + Drop> Station<D> {
             commits_a_second: 0,
             ending: None,
             waking: Waking::at(0),
+            spare: Vec::new(alloc),
         }
     }
 
@@ -154,9 +169,10 @@ impl<D: Disk + Drop> Station<D> {
         self.clients.slots.len()
     }
 
-    /// A connection was made. It gets the key that is returned. If there are as many as may be it is told so, and gets
-    /// nothing more; that is done for `TURNED_AWAY` at once, and none is taken after these, nor while the station comes to
-    /// its end.
+    /// A connection was made. It gets the key that is returned. If there are as many as may be it gets a spare place, of
+    /// which there are `SPARE`: it may be a source, or ask for the station's numbers. Without one it is told that there
+    /// are too many, and gets nothing more. No more than `TURNED_AWAY` beyond those that may be are taken, and none while
+    /// the station comes to its end.
     pub fn accepted(&mut self, now: u64) -> Result<usize, Unaccepted>
         ensures full { (result ≡ Err Unaccepted.Full) ↔ ((64 ≤ slab_len self.old.clients.slots - self.old.options.most) ⊎ (self.old.ending ≢ None)) }
         ensures refused { result ≡ Err Unaccepted.Full
@@ -164,7 +180,16 @@ impl<D: Disk + Drop> Station<D> {
         ensures none { IfOk result (λ key. get self.old.clients.slots key ≡ None) }
         ensures some { slab_len self.old.clients.slots < self.old.options.most → IfOk result (λ key. get self.new.clients.slots key ≡ Some (fresh now)) }
         ensures uncounted { slab_len self.old.clients.slots < self.old.options.most → IfOk result (λ key. self.new.counts ≡ self.old.counts) }
-        ensures turned_away { self.old.options.most ≤ slab_len self.old.clients.slots → IfOk result (λ key. (client : ClientState)
+        // It is asked first what it wants then, or is turned away.
+        ensures too_many { self.old.options.most ≤ slab_len self.old.clients.slots → IfOk result (λ key.
+            (get self.new.clients.slots key ≡ Some (fresh now))
+            ⊎ ((client : ClientState) × (get self.new.clients.slots key ≡ Some client) × IsTurnedAway now client)) }
+        ensures spare { self.old.options.most ≤ slab_len self.old.clients.slots → length self.old.spare.items < 4
+            → IfOk result (λ key. (get self.new.clients.slots key ≡ Some (fresh now)) × (self.new.spare.items ≡ self.old.spare.items ++ key ∷ [])
+            × (self.new.counts ≡ self.old.counts)) }
+        ensures ordinary { slab_len self.old.clients.slots < self.old.options.most → self.new.spare ≡ self.old.spare }
+        ensures turned_away { self.old.options.most ≤ slab_len self.old.clients.slots → 4 ≤ length self.old.spare.items
+            → IfOk result (λ key. (client : ClientState)
             × (get self.new.clients.slots key ≡ Some client) × IsTurnedAway now client
             × (self.new.counts ≡ record self.old.counts { connections_refused = counted self.old.counts.connections_refused 1 })) }
         ensures others { IfOk result (λ key. OthersStay key self.old.clients self.new.clients) }
@@ -176,6 +201,9 @@ impl<D: Disk + Drop> Station<D> {
         if count.saturating_sub(self.options.most) >= TURNED_AWAY || self.ending.is_some() {
             self.counts.connections_refused = counted(self.counts.connections_refused, 1);
             return Err(Unaccepted::Full);
+        }
+        if count >= self.options.most && self.spare.len() < SPARE {
+            return self.take_spare(now);
         }
         let mut client = Client::new(self.alloc, now, self.visit());
         if count >= self.options.most {
@@ -189,7 +217,7 @@ impl<D: Disk + Drop> Station<D> {
     }
 
     /// What is to be remembered of a new connection.
-    fn visit(&self) -> Option<Visit> {
+    pub(crate) fn visit(&self) -> Option<Visit> {
         if self.options.log {
             Some(Visit::new(self.alloc))
         } else {
@@ -207,6 +235,7 @@ impl<D: Disk + Drop> Station<D> {
         ensures air { get self.old.clients.slots key ≢ None → IsLostBy (Feeder.Peer key) self.old.air self.new.air }
         ensures none { get self.old.clients.slots key ≡ None → self.new.air ≡ self.old.air }
         ensures session { EndsSession D.Disk (session_in (get self.old.clients.slots key)) self.old.live.hub self.new.live.hub }
+        ensures spare { get self.old.clients.slots key ≢ None → self.new.spare.items ≡ filter (is_another key) self.old.spare.items }
     {
         let client = self.clients.slots.try_remove(key)?;
         if let Some(id) = client.session {
@@ -233,10 +262,10 @@ impl<D: Disk + Drop> Station<D> {
             → (progress : Result ProgressOf HubFaultOf)
             × Steps (Shows D.Disk) self.old.live.hub self.new.live.hub (λ machine. Receive id bytes.now progress)
             × (get self.new.clients.slots key ≡ Some (with_stage (stage_after progress) (with_line (moved_on client.line) client))) }
-        // What its head asks for, with these bytes, says what becomes of it.
+        // What its head asks for, with these bytes, and whether its place is a spare one, say what becomes of it.
         ensures asks { (client : ClientState) → get self.old.clients.slots key ≡ Some client → client.stage ≡ AskingOf
             → (after : ClientState) × (get self.new.clients.slots key ≡ Some after)
-            × IsAsked D.Disk self.old.options.password self.old.live.places bytes.now self.old.live.hub self.new.live.hub client after }
+            × IsAskedIn D.Disk (is_spare key self.old.spare.items) self.old.options.password self.old.live.places bytes.now self.old.live.hub self.new.live.hub client after }
         ensures offers { (client : ClientState) → get self.old.clients.slots key ≡ Some client → is_source client.stage ≡ true → (after : ClientState)
             × (get self.new.clients.slots key ≡ Some after) × GoesOnAsSource client after × (self.new.live.hub ≡ self.old.live.hub) }
         ensures ignores { (client : ClientState) → get self.old.clients.slots key ≡ Some client → expects_nothing client.stage ≡ true
@@ -259,13 +288,31 @@ impl<D: Disk + Drop> Station<D> {
             return;
         };
         match client.stage {
-            Stage::Asking => self.ask_on(key, bytes, now),
+            Stage::Asking => self.ask_any(key, bytes, now),
             Stage::Reading => self.read_on(key, bytes),
             _ => self.take_in(key, bytes, now),
         }
     }
 
     /// Bytes of a connection have come that hasn't said yet what it asks for.
+    fn ask_any(&mut self, key: usize, bytes: &[u8], now: u64)
+        ensures asks { (client : ClientState) → get self.old.clients.slots key ≡ Some client
+            → (after : ClientState) × (get self.new.clients.slots key ≡ Some after)
+            × IsAskedIn D.Disk (is_spare key self.old.spare.items) self.old.options.password self.old.live.places bytes.now self.old.live.hub self.new.live.hub client after }
+        ensures disk { (self.new.live.hub.file ≡ self.old.live.hub.file) ⊎ IfFile (Reads D.Disk) self.old.live.hub.file self.new.live.hub.file }
+        ensures recorded { StaysLive D.Disk self.old.live self.new.live }
+        ensures air { OthersAirStays (Feeder.Peer key) self.old.air self.new.air }
+        ensures begins { self.old.air ≡ None → BeginsBeside (serials_in self.old.live.hub.file) self.old.options.skeletons (run_in self.new.air) }
+        ensures others { OthersStay key self.old.clients self.new.clients }
+    {
+        if self.is_spare(key) {
+            self.ask_in_spare(key, bytes, now);
+        } else {
+            self.ask_on(key, bytes, now);
+        }
+    }
+
+    /// The same of a connection that has a place as others have.
     fn ask_on(&mut self, key: usize, bytes: &[u8], now: u64)
         ensures asks { (client : ClientState) → get self.old.clients.slots key ≡ Some client
             → (after : ClientState) × (get self.new.clients.slots key ≡ Some after)
@@ -515,8 +562,10 @@ impl<D: Disk + Drop> Station<D> {
         }
     }
 
-    /// No further byte comes of the source, if this connection was its feeder. Its key may be another's soon.
+    /// No further byte comes of the source, if this connection was its feeder, and its spare place is free, if it had one.
+    /// Its key may be another's soon.
     fn lose_feeder(&mut self, key: usize)
+        ensures spare { self.new.spare.items ≡ filter (is_another key) self.old.spare.items }
         ensures lost { IsLostBy (Feeder.Peer key) self.old.air self.new.air }
         ensures clients { self.new.clients ≡ self.old.clients }
         ensures live { self.new.live ≡ self.old.live }
@@ -527,6 +576,7 @@ impl<D: Disk + Drop> Station<D> {
                 air.lose_feeder();
             }
         }
+        leave(&mut self.spare, key);
     }
 
     /// No further byte of the source can be kept, if it is this one.

@@ -12,12 +12,13 @@ use Rattle.station_hub.specs.Asking.{stage_after}
 use Rattle.serve_sources.specs.Asking.{IsOwn, is_source as is_source_head}
 use Rattle.serve_sources.specs.declared.own.OwnResource.{OwnResource}
 use Rattle.station_hub.specs.Places.{PlacesState}
-use Rattle.station.specs.Asked.{IsAnswered, heard, moved}
+use Rattle.serve_sources.specs.declared.answers.TheConstants.{FULL}
+use Rattle.station.specs.Asked.{HasLast, IsAnswered, heard, moved}
 use Rattle.station_laws.specs.Calling.{Call, Received}
 use Rattle.station.specs.Passing.{IsLike, Stays, expects_nothing, is_source}
 use Rattle.station_laws.specs.Written.{IsTold, given_after, received_by, written, written_by}
 use Rattle.station.specs.PassingLaws.{given_session, stays_session, stays_then}
-use Rattle.station_laws.proofs.Seen.{Again, Answered, Awaited, Connected, Gave, Heard, Ignored, JoinsHere, Kept, Nothing, Offered, Parted, Pulled, Read, SamePhase, Seen, Shut, Told, WasCut, needs_none, own_key}
+use Rattle.station_laws.proofs.Seen.{Again, Answered, Awaited, Connected, Declined, Gave, Heard, Ignored, JoinsHere, Kept, Nothing, Offered, Parted, Pulled, Read, SamePhase, Seen, Shut, Told, WasCut, needs_none, own_key}
 use Rattle.station_laws.proofs.Sights.{written_session}
 use Rattle.station_laws.proofs.Owing.{IsOwed, given_like, shuts_at, to_stage}
 
@@ -114,6 +115,8 @@ pub data Early (key : ℕ) (call : Call) (places : PlacesState) (before after : 
   Replies : (bytes : List ℕ) (now : ℕ) (resource : OwnResource) (head : Bool) → call ≡ Received key bytes now → old.stage ≡ Asking
       → IsOwn resource head (old.head ++ bytes) → IsAnswered resource head (heard bytes old) new → JoinsHere resource head places before new
       → after ≡ before → Early key call places before after old new given
+  Declines : (bytes : List ℕ) (now : ℕ) → call ≡ Received key bytes now → old.stage ≡ Asking → HasLast FULL.now (heard bytes old) new
+      → Early key call places before after old new given
   Awaits : (bytes : List ℕ) (now : ℕ) → call ≡ Received key bytes now → old.stage ≡ Asking → new ≡ heard bytes old → Early key call places before after old new given
   Connects : (bytes : List ℕ) (now id : ℕ) (progress : Result Progress HubFault) (between : HubState) → call ≡ Received key bytes now → old.stage ≡ Asking
       → hub_step before (Connect (Ok id)) between → hub_step between (Receive id (old.head ++ bytes) progress) after
@@ -140,6 +143,7 @@ early key call places before after old new given is none nothing connected told 
     Offers bytes now call_is asks source session needs
 early key call places before after old new given is none nothing connected told (Answered bytes now resource head call_is asks own answered joins same) =
     Replies bytes now resource head call_is asks own answered joins same
+early key call places before after old new given is none nothing connected told (Declined bytes now call_is asks last) = Declines bytes now call_is asks last
 early key call places before after old new given is none nothing connected told (Parted source session needs) =
     absurd (early_not is_source old.stage refl refl is source)
 early key call places before after old new given is none nothing connected told (Shut shuts same phases aside) =
@@ -209,6 +213,7 @@ apart_seen key call places before after old new none needs (Ignored why same pha
 apart_seen key call places before after old new none needs (Parted source session none_needed) = (session ∙ none, none_needed)
 apart_seen key call places before after old new none needs (Offered bytes now is asks source session none_needed) = (session ∙ none, none_needed)
 apart_seen key call places before after old new none needs (Answered bytes now resource head is asks own answered joins same) = absurd (never old.stage needs (inl asks))
+apart_seen key call places before after old new none needs (Declined bytes now is asks last) = absurd (never old.stage needs (inl asks))
 apart_seen key call places before after old new none needs (Shut shuts same phases aside) = (same.1 ∙ none, ap needs_none same.0)
 apart_seen key call places before after old new none needs (Awaited bytes now is asks becomes) = absurd (never old.stage needs (inl asks))
 apart_seen key call places before after old new none needs (Connected bytes now id progress between is asks connects receives becomes) = absurd (never old.stage needs (inl asks))

@@ -20,7 +20,7 @@ use Rattle.station_laws.specs.Calling.{After, AreCalls, Call, Next, left_by}
 use Rattle.station.specs.Passing.{IsLike, Stays, is_source}
 use Rattle.station_laws.specs.Written.{AreApart, AreTold, IsTold, given_after, written, written_by}
 use Rattle.station.specs.declared.station.Station.{Station}
-use Rattle.station_laws.proofs.Seen.{Again, Answered, Awaited, Connected, Gave, GaveBy, Heard, Ignored, Kept, Nothing, Offered, Parted, Pulled, Read, Seen, Shut, Told, WasCut, own_key}
+use Rattle.station_laws.proofs.Seen.{Again, Answered, Awaited, Connected, Declined, Gave, GaveBy, Heard, Ignored, Kept, Nothing, Offered, Parted, Pulled, Read, Seen, Shut, Told, WasCut, own_key}
 use Rattle.station_laws.proofs.Owing.{OwnLaws, WaitsFor, closed_not, no_unsent, none_given, nothing_given, some_unsent}
 use Rattle.station_laws.proofs.Sights.{sees}
 
@@ -293,6 +293,8 @@ heard_seen front moment key call places before after old new given done (Parted 
 heard_seen front moment key call places before after old new given done (Offered bytes now is asks source session needs) grown told hears =
     absurd (not_here is_asking old hears.listener hears.rest refl refl refl refl hears.stands (ap is_asking asks))
 heard_seen front moment key call places before after old new given done (Answered bytes now resource head is asks own answered joins same) grown told hears =
+    absurd (not_here is_asking old hears.listener hears.rest refl refl refl refl hears.stands (ap is_asking asks))
+heard_seen front moment key call places before after old new given done (Declined bytes now is asks last) grown told hears =
     absurd (not_here is_asking old hears.listener hears.rest refl refl refl refl hears.stands (ap is_asking asks))
 heard_seen front moment key call places before after old new given done (Shut shuts same phases aside) grown told hears =
     goes_on front moment before after old new given (given_after key given call) done (written_by key call) hears grown same.3 (aside.given given) aside.written (inr (ap is_over same.0))

@@ -19,7 +19,7 @@ use Rattle.station_laws.specs.Calling.{After, AreCalls, Call, Closed}
 use Rattle.station.specs.Passing.{IsLike, Stays, is_source}
 use Rattle.station_laws.specs.Written.{AreApart, AreTold, IsTold, given_after, written, written_by}
 use Rattle.station.specs.declared.station.Station.{Station}
-use Rattle.station_laws.proofs.Seen.{Again, Answered, Awaited, Connected, Gave, GaveBy, Heard, Ignored, Kept, Nothing, Offered, Parted, Pulled, Read, SamePhase, Seen, Shut, Told, WasCut, own_key}
+use Rattle.station_laws.proofs.Seen.{Again, Answered, Awaited, Connected, Declined, Gave, GaveBy, Heard, Ignored, Kept, Nothing, Offered, Parted, Pulled, Read, SamePhase, Seen, Shut, Told, WasCut, own_key}
 use Rattle.station_laws.proofs.Sides.{Laws}
 use Rattle.station_laws.proofs.Sights.{sees, written_session}
 
@@ -323,6 +323,8 @@ owed_seen laws key call places before after old new given owed (Ignored why same
 owed_seen laws key call places before after old new given owed (Offered bytes now is asks source session none) told owes =
     absurd (asks_not old.stage before old.session owes.rest owes.rests asks)
 owed_seen laws key call places before after old new given owed (Answered bytes now resource head is asks own answered joins same) told owes =
+    absurd (asks_not old.stage before old.session owes.rest owes.rests asks)
+owed_seen laws key call places before after old new given owed (Declined bytes now is asks last) told owes =
     absurd (asks_not old.stage before old.session owes.rest owes.rests asks)
 owed_seen laws key call places before after old new given owed (Parted source session none) told owes =
     absurd (no_source old.stage before old.session owes.rest owes.rests source)

@@ -30,7 +30,8 @@ use Rattle.station_hub.specs.Places.{PlacesState}
 use Rattle.station_hub.specs.Tracking.{JoinsAt, Tracks, TracksOn}
 use Rattle.station_hub.specs.Asking.{stage_after}
 use Rattle.station_hub.specs.Giving.{HasHeard, HasPulled}
-use Rattle.station.specs.Asked.{IsAnswered, heard, moved}
+use Rattle.serve_sources.specs.declared.answers.TheConstants.{FULL}
+use Rattle.station.specs.Asked.{HasLast, IsAnswered, heard, moved}
 use Rattle.station_laws.specs.Calling.{Call, Closed, Next, Received, WriteFailed, Wrote}
 use Rattle.station.specs.Passing.{ArePassed, IsLike, IsPassed, Stays, expects_nothing, has_offered, is_source, session_in}
 use Rattle.station_laws.specs.Written.{AreApart, IsTold, given_after, received_by, written_by}
@@ -111,6 +112,8 @@ pub data Seen (key : ℕ) (call : Call) (places : PlacesState) (before after : H
   Answered : (bytes : List ℕ) (now : ℕ) (resource : OwnResource) (head : Bool) → call ≡ Received key bytes now → old.stage ≡ Asking
       → IsOwn resource head (old.head ++ bytes) → IsAnswered resource head (heard bytes old) new → JoinsHere resource head places before new
       → after ≡ before → Seen key call places before after old new
+  Declined : (bytes : List ℕ) (now : ℕ) → call ≡ Received key bytes now → old.stage ≡ Asking → HasLast FULL.now (heard bytes old) new
+      → Seen key call places before after old new
   Shut : after_of old ≡ Shuts → IsLike (with_stage Closing old) new → SamePhase old before after → IsAside key call → Seen key call places before after old new
   Awaited : (bytes : List ℕ) (now : ℕ) → call ≡ Received key bytes now → old.stage ≡ Asking → new ≡ heard bytes old → Seen key call places before after old new
   Connected : (bytes : List ℕ) (now id : ℕ) (progress : Result Progress HubFault) (between : HubState) → call ≡ Received key bytes now → old.stage ≡ Asking

@@ -23,9 +23,10 @@ use Rattle.station_laws.specs.Written.{AreApart, AreTold, Completes, GetsRespons
 use Rattle.station.specs.declared.station.Station.{Station}
 use Rattle.station.specs.Found.{same_client}
 use Rattle.station_laws.proofs.Seen.{needs_none, own_key}
-use Rattle.station_laws.proofs.Sights.{answered_session, sees}
+use Rattle.station_laws.proofs.Sights.{answered_session, last_session, sees}
 use Rattle.station_laws.proofs.Owing.{IsOwed, OwnLaws, closed_not, owed_all, owes_nothing, with_given}
-use Rattle.station_laws.proofs.Early.{Awaits, Connects, Early, Gone, IsReadingOn, Offers, Reads, Replies, Same, apart_seen, asks_and_reads, early, no_one, owed_whole, reads_on, same_number}
+use Rattle.serve_sources.specs.declared.answers.TheConstants.{FULL}
+use Rattle.station_laws.proofs.Early.{Awaits, Connects, Declines, Early, Gone, IsReadingOn, Offers, Reads, Replies, Same, apart_seen, asks_and_reads, early, no_one, owed_whole, reads_on, same_number}
 
 module _ {D : Type 0} (model : DiskModel D) (laws : OwnLaws) where
   -- ---- a connection whose head comes
@@ -146,6 +147,8 @@ module _ {D : Type 0} (model : DiskModel D) (laws : OwnLaws) where
       absurd (asks_and_reads client.stage asks reads)
   reads_step key old one later machine after client new given before shown found nothing (reads, none, reading) (Replies bytes now resource head is asks own answered joins same) owes next =
       absurd (asks_and_reads client.stage asks reads)
+  reads_step key old one later machine after client new given before shown found nothing (reads, none, reading) (Declines bytes now is asks last) owes next =
+      absurd (asks_and_reads client.stage asks reads)
   reads_step key old one later machine after client new given before shown found nothing (reads, none, reading) (Awaits bytes now is asks becomes) owes next =
       absurd (asks_and_reads client.stage asks reads)
   reads_step key old one later machine after client new given before shown found nothing (reads, none, reading) (Connects bytes now id progress between is asks connects receives becomes) owes next =
@@ -192,6 +195,9 @@ module _ {D : Type 0} (model : DiskModel D) (laws : OwnLaws) where
       absurd (other (session ∙ none) needs)
   asks_step key old one later machine after client new given before shown apart found nothing (asks, none, unsent, head_is) (Replies bytes now resource head is too own answered joins same) owes reads next other =
       let (session, needs) = answered_session resource head (heard bytes client) new answered in
+      absurd (other (session ∙ none) needs)
+  asks_step key old one later machine after client new given before shown apart found nothing (asks, none, unsent, head) (Declines bytes now is too last) owes reads next other =
+      let (session, needs) = last_session FULL.now (heard bytes client) new last in
       absurd (other (session ∙ none) needs)
   asks_step key old one later machine after client new given before shown apart found nothing (asks, none, unsent, head) (Awaits bytes now is too becomes) owes reads next other =
       one_before key old one later before (before ++ bytes) (ap (written_by key) is) (ap (λ (l : List ℕ). before ++ l) (sym (received_is key one.call bytes now is)))
@@ -248,13 +254,19 @@ module _ {D : Type 0} (model : DiskModel D) (laws : OwnLaws) where
       let call : IsAccepted model now key old accepted.after = subst (λ (one : Call). IsCall model one old accepted.after) is are.0 in
       let (after, shows, still) = kept old accepted.after accepted.call machine are.0 shown apart in
       elim (leb_tells old.options.most (slab_len old.clients.slots)) [
-        | inl full ↦
-            let (one, stands, away) = call.turned_away full.1 in
-            let (none, needs) = turned_away now one away in
-            absurd (no_one id client.session (stays_apart key later accepted.after after one client [] are.1 told shows still stands none needs found) of)
-        | inr place ↦
-            asks_all key later accepted.after after (fresh now) client id [] [] are.1 told shows still (call.some place.1) refl (refl, refl, refl, refl) found of
+        | inl full ↦ elim (call.too_many full.1) [
+          | inl spare ↦ asks after shows still spare
+          | inr (one, stands, away) ↦
+              let (none, needs) = turned_away now one away in
+              absurd (no_one id client.session (stays_apart key later accepted.after after one client [] are.1 told shows still stands none needs found) of)
+        ]
+        | inr place ↦ asks after shows still (call.some place.1)
       ]
+    where
+      asks : (after : HubState) → Shows model accepted.after.live.hub after → AreApart after accepted.after.clients.slots
+          → get accepted.after.clients.slots key ≡ Some (fresh now) → (written key later ≡ []) ⊎ GetsResponse model key accepted.after later []
+      asks after shows still stands =
+          asks_all key later accepted.after after (fresh now) client id [] [] are.1 told shows still stands refl (refl, refl, refl, refl) found of
 
 none_is : (id : ℕ) → None ≡ Some id → ⊥
 none_is id e = cc

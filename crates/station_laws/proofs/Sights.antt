@@ -21,7 +21,11 @@ use Rattle.station_hub.specs.Asking.{Listens, stage_after}
 use Rattle.station_hub.specs.LiveLaws.{tracks_same, tracks_then}
 use Rattle.station_hub.specs.Places.{PlacesState}
 use Rattle.station_hub.specs.Tracking.{TracksOn}
-use Rattle.station.specs.Asked.{EndsSession, HasLast, IsAnswered, Joins, heard, moved}
+use Rattle.serve_hub.specs.Parts.{HubParts}
+use Rattle.serve_sources.specs.declared.answers.TheConstants.{FULL}
+use Rattle.serve_sources.specs.declared.password.Password.{Password}
+use Rattle.station.specs.Asked.{EndsSession, HasLast, IsAnswered, IsAsked, Joins, heard, moved}
+use Rattle.station.specs.Spare.{IsAskedIn, is_spare}
 use Rattle.station_laws.specs.Calling.{Accepted, Aside, Call, Closed, EndedOpen, HasGiven, HasReceived, IsAccepted, IsCall, IsClosed, Looked, Next, NextTurn, PeerEnded, ReadFailed, Received, Stepped, Turned, Woken, WriteFailed, Wrote}
 use Rattle.station.specs.Ending.{is_over}
 use Rattle.station.specs.Passing.{Stays, expects_nothing, is_source, session_in}
@@ -29,7 +33,7 @@ use Rattle.station.specs.Turning.{IsTurnedAway}
 use Rattle.station_laws.specs.Written.{AreApart}
 use Rattle.station.specs.declared.station.Station.{Station}
 use Rattle.station.specs.PassingLaws.{all_stay, given_session, has_turn, like, looked, stays_session}
-use Rattle.station_laws.proofs.Seen.{Again, Awaited, Connected, Gave, Heard, Answered, Ignored, IsAside, JoinsHere, Kept, Nothing, Offered, Parted, Pulled, Read, Seen, Sees, Shut, Told, WasCut, all_passed, aside_next, aside_received, aside_write_failed, aside_wrote, had, had_own, keyed, keyed_none, keyed_quiet, needs_none, no_session, none_is_some, offered_needs_none, own_key, stays_shown}
+use Rattle.station_laws.proofs.Seen.{Again, Awaited, Connected, Declined, Gave, Heard, Answered, Ignored, IsAside, JoinsHere, Kept, Nothing, Offered, Parted, Pulled, Read, Seen, Sees, Shut, Told, WasCut, all_passed, aside_next, aside_received, aside_write_failed, aside_wrote, had, had_own, keyed, keyed_none, keyed_quiet, needs_none, no_session, none_is_some, offered_needs_none, own_key, stays_shown}
 use Rattle.station_laws.proofs.Sides.{Laws, Leaves, leaves_all, leaves_step, leaves_then, one_more_apart, own_step, side_records, still_apart}
 
 -- ---- what is known of a call's own connection
@@ -109,7 +113,7 @@ listens_session true old new (inr is) = (ap (λ (one : ClientState). one.session
 listens_session false old new (inl (listener, is)) = (ap (λ (one : ClientState). one.session) is, ap (λ (one : ClientState). needs_none one.stage) is)
 listens_session false old new (inr is) = (ap (λ (one : ClientState). one.session) is, ap (λ (one : ClientState). needs_none one.stage) is)
 
-last_session : (text : List ℕ) (old new : ClientState) → HasLast text old new → (new.session ≡ old.session) × (needs_none new.stage ≡ true)
+pub last_session : (text : List ℕ) (old new : ClientState) → HasLast text old new → (new.session ≡ old.session) × (needs_none new.stage ≡ true)
 last_session text old new (inl is) = (ap (λ (one : ClientState). one.session) is, ap (λ (one : ClientState). needs_none one.stage) is)
 last_session text old new (inr is) = (ap (λ (one : ClientState). one.session) is, ap (λ (one : ClientState). needs_none one.stage) is)
 
@@ -126,6 +130,19 @@ module _ {D : Type 0} (model : DiskModel D) (laws : Laws) where
       → (places now : PlacesState) → now ≡ places → TracksOn before places after now
   moves before after event id step of places now same = tracks_same before after places now (laws.file before after event id step of) same
 
+  -- what a head asks for is taken as that of any connection, or the connection is told that there are too many
+  asked_any : (spare : Bool) (password : Option Password) (places : PlacesState) (bytes : List ℕ) (old new : HubParts D) (client after : ClientState)
+      → IsAskedIn model spare password places bytes old new client after
+      → IsAsked model password places bytes old new client after ⊎ ((new ≡ old) × HasLast FULL.now (heard bytes client) after)
+  asked_any false password places bytes old new client after asked = inl asked
+  asked_any true password places bytes old new client after (same, inl awaits) = inl (inl (same, awaits))
+  asked_any true password places bytes old new client after (same, inr (inl (source, set, goes))) = inl (inr (inl (same, source, set, goes)))
+  asked_any true password places bytes old new client after (same, inr (inr (inl (Status, head, own, answered)))) =
+      inl (inr (inr (inl (Status, head, own, (λ machine shows. subst (λ (hub : HubParts D). Shows model hub machine) (sym same) shows), answered, tt))))
+  asked_any true password places bytes old new client after (same, inr (inr (inl (Live, head, own, last)))) = inr (same, last)
+  asked_any true password places bytes old new client after (same, inr (inr (inl (Player, head, own, last)))) = inr (same, last)
+  asked_any true password places bytes old new client after (same, inr (inr (inr (cause, last)))) = inr (same, last)
+
   received_own : (key other : ℕ) (bytes : List ℕ) (now : ℕ) (old new : Station D) (before : HubState) (client : ClientState)
       → HasReceived model other bytes old new → get old.clients.slots other ≡ Some client
       → Shows model old.live.hub before → AreApart before old.clients.slots → Sees model key (Received other bytes now) old new before
@@ -134,47 +151,52 @@ module _ {D : Type 0} (model : DiskModel D) (laws : Laws) where
       let aside = aside_received key other bytes now in
       elim (receiving client.stage) [
         | inl asks ↦
-            let (after, left, asked) = is.asks client found asks in
-            elim asked [
-              | inl (same, inl (may, becomes)) ↦
-                  keyed_quiet model key other call old new before client after is.others found left same is.recorded.1 (ap (λ (one : ClientState). one.session) becomes) shown are aside
-                  (Awaited bytes now refl asks becomes)
-              | inl (same, inr becomes) ↦
-                  keyed_quiet model key other call old new before client after is.others found left same is.recorded.1 (ap (λ (one : ClientState). one.session) becomes) shown are aside
-                  (WasCut (ap (λ (one : ClientState). one.stage) becomes) (ap (λ (one : ClientState). one.session) becomes) (ap (λ (one : ClientState). one.unsent) becomes) refl (λ given. refl))
-              | inr (inl (same, source, some, goes)) ↦
-                  keyed_quiet model key other call old new before client after is.others found left same is.recorded.1 goes.1 shown are aside
-                  (Offered bytes now refl asks source goes.1 (offered_needs_none after.stage goes.0))
-              | inr (inr (inl (resource, head, own, keeps, answered, joins))) ↦
-                  let (session, none) = answered_session resource head (heard bytes client) after answered in
-                  keyed model key other call old new before before None client after is.others found left (keeps before shown)
-                  (tracks_same before before old.live.places new.live.places refl is.recorded.1) (leaves_all None before)
-                  (λ id e. absurd (no_session id e)) are
-                  (still_apart None before before old.clients.slots new.clients.slots are (leaves_all None before)
-                  (had model old.clients.slots new.clients.slots other is.others (had_own model old.clients.slots new.clients.slots other client after found left session)))
-                  aside (Answered bytes now resource head refl asks own answered (joins_here resource head after joins) refl)
-              | inr (inr (inr (why, inr (same, becomes)))) ↦
-                  keyed_quiet model key other call old new before client after is.others found left same is.recorded.1 (ap (λ (one : ClientState). one.session) becomes) shown are aside
-                  (WasCut (ap (λ (one : ClientState). one.stage) becomes) (ap (λ (one : ClientState). one.session) becomes) (ap (λ (one : ClientState). one.unsent) becomes) refl (λ given. refl))
-              | inr (inr (inr (why, inl connected))) ↦
-                  let id = connected.id in
-                  let (between, shows_between, connects) = connected.connects before shown in
-                  let (machine, shows_machine, receives) = connected.receives between shows_between in
-                  let number : id ≡ before.next_id = connects.1 in
-                  let first = leaves_step laws (Some id) before between (Connect (Ok id)) connects (λ one apart below same. apart same) in
-                  let second = own_step laws id between machine (Receive id (client.head ++ bytes) connected.progress) receives refl in
-                  let leaves = leaves_then (Some id) before between machine first second in
-                  let more : before.next_id < machine.next_id =
-                  omega (arith, second.rise, ap (λ (one : HubState). one.next_id) connects.2) in
-                  keyed model key other call old new before machine (Some id) client after is.others found left shows_machine
-                  (tracks_then before between machine old.live.places old.live.places new.live.places
-                  (moves before between (Connect (Ok id)) id connects refl old.live.places old.live.places refl)
-                  (moves between machine (Receive id (client.head ++ bytes) connected.progress) id receives refl old.live.places new.live.places is.recorded.1)) leaves
-                  (λ one e. inr (omega (arith, number, same_some id one e))) are
-                  (one_more_apart (Some id) before machine old.clients.slots new.clients.slots other are leaves more
-                  (ap session_in left ∙ ap (λ (one : ClientState). one.session) connected.client ∙ ap Some number)
-                  (λ one number apart of. sym (ap session_in (is.others one apart)) ∙ of))
-                  aside (Connected bytes now id connected.progress between refl asks connects receives connected.client)
+            let (after, left, asked_in) = is.asks client found asks in
+            elim (asked_any (is_spare other old.spare.items) old.options.password old.live.places bytes old.live.hub new.live.hub client after asked_in) [
+              | inr (same, last) ↦
+                  keyed_quiet model key other call old new before client after is.others found left same is.recorded.1 (last_session FULL.now (heard bytes client) after last).0 shown are aside
+                  (Declined bytes now refl asks last)
+              | inl asked ↦ elim asked [
+                | inl (same, inl (may, becomes)) ↦
+                    keyed_quiet model key other call old new before client after is.others found left same is.recorded.1 (ap (λ (one : ClientState). one.session) becomes) shown are aside
+                    (Awaited bytes now refl asks becomes)
+                | inl (same, inr becomes) ↦
+                    keyed_quiet model key other call old new before client after is.others found left same is.recorded.1 (ap (λ (one : ClientState). one.session) becomes) shown are aside
+                    (WasCut (ap (λ (one : ClientState). one.stage) becomes) (ap (λ (one : ClientState). one.session) becomes) (ap (λ (one : ClientState). one.unsent) becomes) refl (λ given. refl))
+                | inr (inl (same, source, some, goes)) ↦
+                    keyed_quiet model key other call old new before client after is.others found left same is.recorded.1 goes.1 shown are aside
+                    (Offered bytes now refl asks source goes.1 (offered_needs_none after.stage goes.0))
+                | inr (inr (inl (resource, head, own, keeps, answered, joins))) ↦
+                    let (session, none) = answered_session resource head (heard bytes client) after answered in
+                    keyed model key other call old new before before None client after is.others found left (keeps before shown)
+                    (tracks_same before before old.live.places new.live.places refl is.recorded.1) (leaves_all None before)
+                    (λ id e. absurd (no_session id e)) are
+                    (still_apart None before before old.clients.slots new.clients.slots are (leaves_all None before)
+                    (had model old.clients.slots new.clients.slots other is.others (had_own model old.clients.slots new.clients.slots other client after found left session)))
+                    aside (Answered bytes now resource head refl asks own answered (joins_here resource head after joins) refl)
+                | inr (inr (inr (why, inr (same, becomes)))) ↦
+                    keyed_quiet model key other call old new before client after is.others found left same is.recorded.1 (ap (λ (one : ClientState). one.session) becomes) shown are aside
+                    (WasCut (ap (λ (one : ClientState). one.stage) becomes) (ap (λ (one : ClientState). one.session) becomes) (ap (λ (one : ClientState). one.unsent) becomes) refl (λ given. refl))
+                | inr (inr (inr (why, inl connected))) ↦
+                    let id = connected.id in
+                    let (between, shows_between, connects) = connected.connects before shown in
+                    let (machine, shows_machine, receives) = connected.receives between shows_between in
+                    let number : id ≡ before.next_id = connects.1 in
+                    let first = leaves_step laws (Some id) before between (Connect (Ok id)) connects (λ one apart below same. apart same) in
+                    let second = own_step laws id between machine (Receive id (client.head ++ bytes) connected.progress) receives refl in
+                    let leaves = leaves_then (Some id) before between machine first second in
+                    let more : before.next_id < machine.next_id =
+                    omega (arith, second.rise, ap (λ (one : HubState). one.next_id) connects.2) in
+                    keyed model key other call old new before machine (Some id) client after is.others found left shows_machine
+                    (tracks_then before between machine old.live.places old.live.places new.live.places
+                    (moves before between (Connect (Ok id)) id connects refl old.live.places old.live.places refl)
+                    (moves between machine (Receive id (client.head ++ bytes) connected.progress) id receives refl old.live.places new.live.places is.recorded.1)) leaves
+                    (λ one e. inr (omega (arith, number, same_some id one e))) are
+                    (one_more_apart (Some id) before machine old.clients.slots new.clients.slots other are leaves more
+                    (ap session_in left ∙ ap (λ (one : ClientState). one.session) connected.client ∙ ap Some number)
+                    (λ one number apart of. sym (ap session_in (is.others one apart)) ∙ of))
+                    aside (Connected bytes now id connected.progress between refl asks connects receives connected.client)
+              ]
             ]
         | inr (inl reads) ↦ elim (of_session client.session) [
           | inl none ↦
@@ -326,8 +348,10 @@ module _ {D : Type 0} (model : DiskModel D) (laws : Laws) where
       none : ℕ → session_in (get new.clients.slots other) ≡ None
       none most = elim (leb_tells old.options.most (slab_len old.clients.slots)) [
         | inl full ↦
-            let (client, left, told) = is.turned_away full.1 in
-            ap session_in left ∙ away client told
+            elim (is.too_many full.1) [
+              | inl left ↦ ap session_in left
+              | inr (client, left, told) ↦ ap session_in left ∙ away client told
+            ]
         | inr place ↦ ap session_in (is.some place.1)
       ]
 

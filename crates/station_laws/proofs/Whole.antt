@@ -32,7 +32,7 @@ use Rattle.station_laws.specs.Serving.{AsksOwn, AsksSource, AtCall, HasHeardOf, 
 use Rattle.station.specs.Turning.{IsTurnedAway}
 use Rattle.station_laws.specs.Written.{AreApart, AreTold, given_after, received_by, written, written_by}
 use Rattle.station.specs.declared.station.Station.{Station}
-use Rattle.station_laws.proofs.Early.{Awaits, Connects, Early, Gone, IsReadingOn, Offers, Reads, Replies, Same, asks_and_reads, early}
+use Rattle.station_laws.proofs.Early.{Awaits, Connects, Declines, Early, Gone, IsReadingOn, Offers, Reads, Replies, Same, asks_and_reads, early}
 use Rattle.station_laws.proofs.Listened.{HearsOn, hears_all}
 use Rattle.station_laws.proofs.Owing.{IsOwed, OwnLaws, RestsIn, WaitsFor, closed_not, nothing_given, owed_all, owes_nothing, with_given}
 use Rattle.station_laws.proofs.Seen.{JoinsHere}
@@ -208,30 +208,55 @@ module _ {D : Type 0} (model : DiskModel D) (laws : OwnLaws)
       (last (status_response numbers head) client new answered) kept_none owes
 
   -- ---- over all calls, of a connection that has asked for nothing yet
+  -- it is served, or told that there are too many
+  abbrev IsAnyhow : ℕ → Station D → List (After D) → List ℕ → Type 0
+  IsAnyhow key old calls before = IsServed model first begun key old calls before ⊎ ((left : List ℕ) × (FULL.now ≡ written key calls ++ left))
+
+  one_more_anyhow : (key : ℕ) (old : Station D) (one : After D) (later : List (After D)) (before next : List ℕ) → written_by key one.call ≡ []
+      → next ≡ before ++ received_by key one.call → IsAnyhow key one.after later next → IsAnyhow key old (one ∷ later) before
+  one_more_anyhow key old one later before next none is (inl serves) = inl (one_more key old one later before next none is serves)
+  one_more_anyhow key old one later before next none is (inr (left, front)) = inr (left, also_written key one later FULL.now left none front)
+
+  -- it is told that there are too many
+  declined : (key : ℕ) (old : Station D) (one : After D) (later : List (After D)) (after : HubState) (client new : ClientState) (given before : List ℕ)
+      → written_by key one.call ≡ [] → client.unsent ≡ [] → (new ≡ with_stage Ending (told FULL.now client)) ⊎ ((new.stage ≡ Cut) × (new.unsent ≡ client.unsent))
+      → given_after key given one.call ≡ [] → OwesLater model laws key later after new (given_after key given one.call) → IsAnyhow key old (one ∷ later) before
+  declined key old one later after client new given before unwritten none (inr (cuts, unsent)) kept_none owes =
+      inl (embed key old (one ∷ later) before
+      (gone_now model laws key old one later before after new (given_after key given one.call) cuts (unsent ∙ none) kept_none unwritten owes))
+  declined key old one later after client new given before unwritten none (inl told_it) kept_none owes =
+      let unsent = told_text client new FULL.now none (ap (λ (c : ClientState). c.unsent) told_it) in
+      let owed = owes_text after new FULL.now (ap (λ (c : ClientState). c.stage) told_it) unsent in
+      let (left, front) = owes FULL.now (with_given after new [] (given_after key given one.call) FULL.now kept_none owed) in
+      inr (left, also_written key one later FULL.now left unwritten front)
+
   step : (key : ℕ) (old : Station D) (one : After D) (later : List (After D)) (machine after : HubState) (client new : ClientState) (given before : List ℕ)
       → Shows model old.live.hub machine → TracksOn first begun machine old.live.places → AreApart machine old.clients.slots → get one.after.clients.slots key ≡ Some new → given ≡ [] → IsAskingOn model laws client before
       → Early key one.call old.live.places machine after client new given → OwesLater model laws key later after new (given_after key given one.call)
       → ((bytes : List ℕ) → given_after key given one.call ≡ [] → IsReadingOn after new bytes → Gets model laws key one.after later bytes)
-      → ((bytes : List ℕ) → given_after key given one.call ≡ [] → IsAskingOn model laws new bytes → IsServed model first begun key one.after later bytes)
+      → ((bytes : List ℕ) → given_after key given one.call ≡ [] → IsAskingOn model laws new bytes → IsAnyhow key one.after later bytes)
       → ((moment : Moment) → HearsOn LIVE.now moment after new (given_after key given one.call) [] → HasHeardOf model LIVE.now moment (left_by one.after later) ([] ++ written key later))
-      → IsServed model first begun key old (one ∷ later) before
+      → IsAnyhow key old (one ∷ later) before
   step key old one later machine after client new given before shown tracks apart found nothing (asks, none, unsent, head) (Same same phases unwritten unread kept_none) owes reads next hears =
-      one_more key old one later before before unwritten (sym (append-nil before) ∙ ap (λ (l : List ℕ). before ++ l) (sym unread))
+      one_more_anyhow key old one later before before unwritten (sym (append-nil before) ∙ ap (λ (l : List ℕ). before ++ l) (sym unread))
       (next before kept_none (same.0 ∙ asks, same.1 ∙ none, same.3 ∙ unsent, same.2 ∙ head))
   step key old one later machine after client new given before shown tracks apart found nothing asking (Gone cuts unsent unwritten kept_none) owes reads next hears =
-      embed key old (one ∷ later) before (gone_now model laws key old one later before after new (given_after key given one.call) cuts unsent kept_none unwritten owes)
+      inl (embed key old (one ∷ later) before (gone_now model laws key old one later before after new (given_after key given one.call) cuts unsent kept_none unwritten owes))
   step key old one later machine after client new given before shown tracks apart found nothing (asks, none, unsent, head) (Offers bytes now is too source session needs) owes reads next hears =
-      inr (inr (inr (inr (inl (record {
+      inl (inr (inr (inr (inr (inl (record {
         bytes = bytes;
         now = now;
         call = is;
         source = ap (λ (l : List ℕ). is_source_head (l ++ bytes)) (sym head) ∙ source;
-      })))))
+      }))))))
   step key old one later machine after client new given before shown tracks apart found nothing (asks, none, unsent, head_is) (Replies bytes now resource head is too own answered joins stays) owes reads next hears =
-      replies resource head key old one later machine after (heard bytes client) new given before bytes now is
-      (subst (λ (l : List ℕ). IsOwn resource head (l ++ bytes)) head_is own) answered joins stays unsent shown tracks (ap (given_after key given) is ∙ nothing) owes hears
+      inl (replies resource head key old one later machine after (heard bytes client) new given before bytes now is
+      (subst (λ (l : List ℕ). IsOwn resource head (l ++ bytes)) head_is own) answered joins stays unsent shown tracks (ap (given_after key given) is ∙ nothing) owes hears)
+  step key old one later machine after client new given before shown tracks apart found nothing (asks, none, unsent, head) (Declines bytes now is too saying) owes reads next hears =
+      declined key old one later after (heard bytes client) new given before (ap (written_by key) is) unsent (last FULL.now (heard bytes client) new saying)
+      (ap (given_after key given) is ∙ nothing) owes
   step key old one later machine after client new given before shown tracks apart found nothing (asks, none, unsent, head) (Awaits bytes now is too becomes) owes reads next hears =
-      one_more key old one later before (before ++ bytes) (ap (written_by key) is) (ap (λ (l : List ℕ). before ++ l) (sym (received_is model laws key one.call bytes now is)))
+      one_more_anyhow key old one later before (before ++ bytes) (ap (written_by key) is) (ap (λ (l : List ℕ). before ++ l) (sym (received_is model laws key one.call bytes now is)))
       (next (before ++ bytes) (ap (given_after key given) is ∙ nothing) (
         ap (λ (c : ClientState). c.stage) becomes ∙ asks,
         ap (λ (c : ClientState). c.session) becomes ∙ none,
@@ -241,17 +266,17 @@ module _ {D : Type 0} (model : DiskModel D) (laws : OwnLaws)
   step key old one later machine after client new given before shown tracks apart found nothing (asks, none, unsent, head) (Connects bytes now id progress between is too connects receives becomes) owes reads next hears =
       let kept_none : given_after key given one.call ≡ [] = ap (given_after key given) is ∙ nothing in
       let free : phase_of machine id ≡ None = ap (λ (k : ℕ). phase_of machine k) connects.1 ∙ laws.unused machine apart.given in
-      embed key old (one ∷ later) before
+      inl (embed key old (one ∷ later) before
       (taken model laws progress key old one later before bytes [] (client.head ++ bytes) now id machine between after new (given_after key given one.call) is shown
       (ap (λ (hub : HubState). hub.committed) connects.2) (laws.connect machine between id connects free) receives (ap (λ (l : List ℕ). l ++ bytes) head) found
-      (ap (λ (c : ClientState). c.stage) becomes) (ap (λ (c : ClientState). c.session) becomes) (ap (λ (c : ClientState). c.unsent) becomes ∙ unsent) kept_none owes (reads (before ++ bytes) kept_none))
+      (ap (λ (c : ClientState). c.stage) becomes) (ap (λ (c : ClientState). c.session) becomes) (ap (λ (c : ClientState). c.unsent) becomes ∙ unsent) kept_none owes (reads (before ++ bytes) kept_none)))
   step key old one later machine after client new given before shown tracks apart found nothing (asks, none, unsent, head) (Reads bytes now id progress is reading of receives becomes) owes reads next hears =
       absurd (asks_and_reads client.stage asks reading)
 
   whole_all : (key : ℕ) (calls : List (After D)) (old : Station D) (machine : HubState) (client : ClientState) (given before : List ℕ)
       → AreCalls model old calls → AreTold key given calls → Shows model old.live.hub machine → TracksOn first begun machine old.live.places → AreApart machine old.clients.slots
-      → get old.clients.slots key ≡ Some client → given ≡ [] → IsAskingOn model laws client before → IsServed model first begun key old calls before
-  whole_all key [] old machine client given before are told shown tracks apart found nothing asking = inl refl
+      → get old.clients.slots key ≡ Some client → given ≡ [] → IsAskingOn model laws client before → IsAnyhow key old calls before
+  whole_all key [] old machine client given before are told shown tracks apart found nothing asking = inl (inl refl)
   whole_all key (one ∷ later) old machine client given before are told shown tracks apart found nothing asking =
       let sight = sees model laws.any key one.call old one.after machine are.0 shown apart in
       elim (sight.seen client found) [
@@ -276,13 +301,19 @@ module _ {D : Type 0} (model : DiskModel D) (laws : OwnLaws)
       let sight = sees model laws.any key accepted.call old accepted.after machine are.0 shown apart in
       let on = tracks_then first machine sight.machine begun old.live.places accepted.after.live.places tracks sight.tracked in
       elim (leb_tells old.options.most (slab_len old.clients.slots)) [
-        | inl full ↦
-            let (one, stands, away) = call.turned_away full.1 in
-            turned_away sight.machine one sight.shown sight.apart stands away
-        | inr place ↦
-            inl (whole_all key later accepted.after sight.machine (fresh now) [] [] are.1 tells sight.shown on sight.apart (call.some place.1) refl (refl, refl, refl, refl))
+        | inl full ↦ elim (call.too_many full.1) [
+          | inl spare ↦ asks sight.machine sight.shown on sight.apart spare
+          | inr (one, stands, away) ↦ turned_away sight.machine one sight.shown sight.apart stands away
+        ]
+        | inr place ↦ asks sight.machine sight.shown on sight.apart (call.some place.1)
       ]
     where
+      asks : (after : HubState) → Shows model accepted.after.live.hub after → TracksOn first begun after accepted.after.live.places
+          → AreApart after accepted.after.clients.slots → get accepted.after.clients.slots key ≡ Some (fresh now)
+          → IsServed model first begun key accepted.after later [] ⊎ ((left : List ℕ) × (FULL.now ≡ written key later ++ left))
+      asks after shows on still stands =
+          whole_all key later accepted.after after (fresh now) [] [] are.1 tells shows on still stands refl (refl, refl, refl, refl)
+
       turned_away : (after : HubState) (one : ClientState) → Shows model accepted.after.live.hub after → AreApart after accepted.after.clients.slots
           → get accepted.after.clients.slots key ≡ Some one → IsTurnedAway now one
           → IsServed model first begun key accepted.after later [] ⊎ ((left : List ℕ) × (FULL.now ≡ written key later ++ left))

@@ -16,7 +16,8 @@ use Rattle.slab.specs.Slab.{get, slab_len}
 use Rattle.station_hub.specs.Asking.{stage_after}
 use Rattle.station_hub.specs.Giving.{Gives}
 use Rattle.station_hub.specs.Live.{RecordsLive, StaysLive}
-use Rattle.station.specs.Asked.{EndsSession, IsAsked}
+use Rattle.station.specs.Asked.{EndsSession}
+use Rattle.station.specs.Spare.{IsAskedIn, is_spare}
 use Rattle.station.specs.Ending.{is_over}
 use Rattle.station.specs.Passing.{ArePassed, GoesOnAsSource, IsLike, Stays, expects_nothing, is_source, session_in}
 use Rattle.station.specs.Turning.{IsTurnedAway}
@@ -53,8 +54,10 @@ module _ {D : Type 0} (model : DiskModel D) where
   pub record IsAccepted (now key : ℕ) (old new : Station D) : Type 0 where
     pub none : get old.clients.slots key ≡ None
     pub some : slab_len old.clients.slots < old.options.most → get new.clients.slots key ≡ Some (fresh now)
-    pub turned_away : old.options.most ≤ slab_len old.clients.slots
-        → (client : ClientState) × (get new.clients.slots key ≡ Some client) × IsTurnedAway now client
+    -- it has a spare place then, or is turned away
+    pub too_many : old.options.most ≤ slab_len old.clients.slots
+        → (get new.clients.slots key ≡ Some (fresh now))
+        ⊎ ((client : ClientState) × (get new.clients.slots key ≡ Some client) × IsTurnedAway now client)
     pub others : OthersStay key old.clients new.clients
     pub live : new.live ≡ old.live
 
@@ -70,7 +73,7 @@ module _ {D : Type 0} (model : DiskModel D) where
         × Steps (Shows model) old.live.hub new.live.hub (λ machine. Receive id bytes progress)
         × (get new.clients.slots key ≡ Some (with_stage (stage_after progress) (with_line (moved_on client.line) client)))
     pub asks : (client : ClientState) → get old.clients.slots key ≡ Some client → client.stage ≡ Asking → (after : ClientState)
-        × (get new.clients.slots key ≡ Some after) × IsAsked model old.options.password old.live.places bytes old.live.hub new.live.hub client after
+        × (get new.clients.slots key ≡ Some after) × IsAskedIn model (is_spare key old.spare.items) old.options.password old.live.places bytes old.live.hub new.live.hub client after
     pub offers : (client : ClientState) → get old.clients.slots key ≡ Some client → is_source client.stage ≡ true → (after : ClientState)
         × (get new.clients.slots key ≡ Some after) × GoesOnAsSource client after × (new.live.hub ≡ old.live.hub)
     pub ignores : (client : ClientState) → get old.clients.slots key ≡ Some client → expects_nothing client.stage ≡ true → (after : ClientState)
