@@ -7,7 +7,8 @@ into `archive` again and again over one growing file, each time killing the enco
 after each run what the file holds. `archiving.py fails PROGRAM LIBRARY FOLDER` has each device call fail in turn, and
 `archiving.py refuses PROGRAM LIBRARY FOLDER` each request for memory, by the libraries of failing.c and refusing.c.
 `archiving.py resumes PROGRAM LIBRARY FOLDER` has each device call fail once while two links come, one after the other:
-all but one group of their commands is kept then.
+all but one group of their commands is kept then. `archiving.py skeletons PROGRAM LIBRARY FOLDER` has each fail once while a
+link with a Skeleton comes: wherever the link begins again, it has its Skeleton again.
 """
 import os
 import random
@@ -272,6 +273,69 @@ def resumes(program, library, folder):
     return wrong or runs < 100 or not {3, 4} <= begun_again
 
 
+SKELETON = [b"fishead\0" + bytes(56), b"fisbone\0" + bytes(44), b""]
+
+
+def with_skeleton(seed, count):
+    """The pages of a link of a stream and of a Skeleton, which ends before the stream's data."""
+    pages = list(stream(seed, count))
+    return [
+        page(2, 0, 99, 0, [64], SKELETON[0]),
+        pages[0],
+        page(0, 0, 99, 1, [52], SKELETON[1]),
+        page(4, 0, 99, 2, [0], SKELETON[2]),
+        *pages[1:],
+    ]
+
+
+def links_of(data):
+    """The links of a file: of each stream its packets, and whether it ends."""
+    links, where, after_first = [], 0, True
+    while data[where : where + 4] == b"OggS":
+        flags, serial = data[where + 5], struct.unpack_from("<I", data, where + 14)[0]
+        lacing = data[where + 27 : where + 27 + data[where + 26]]
+        at = where + 27 + len(lacing)
+        if flags & 2:
+            if after_first:
+                links.append({})
+            links[-1][serial] = [[], False]
+        after_first = not flags & 2
+        for value in lacing:
+            links[-1][serial][0].append(data[at : at + value])
+            at += value
+        links[-1][serial][1] |= bool(flags & 4)
+        where = at
+    return links
+
+
+def skeletons(program, library, folder):
+    path, mark = os.path.join(folder, "skeletons.ogg"), os.path.join(folder, "met")
+    given = b"".join(with_skeleton(9, 12))
+    runs = wrong = again = 0
+    for most in (1, 3, 4, 6):
+        for call, failing in met_in_turn(mark, lambda call: {"LD_PRELOAD": library, "FAILING_CALL": str(call), "FAILING_HOW": "io",
+                                                             "FAILING_MET": mark}, 400):
+            if os.path.exists(path):
+                os.remove(path)
+            ran = archived(program, path, given, most, failing)
+            if not os.path.exists(mark) or b"refused 21 Disk" not in ran.stderr:
+                continue
+            runs += 1
+            with open(path, "rb") as file:
+                links = links_of(file.read())
+            for one in links:
+                streams = list(one.values())
+                # The end of a stream has a page to itself, with an empty packet or none.
+                packets = [packet for packet in streams[0][0] if packet]
+                if len(streams) != 2 or packets != SKELETON[:2] or not streams[0][1]:
+                    wrong += 1
+                    print(f"call {call}, groups of {most}: a link of {len(streams)} streams, the first with {len(packets)} packets")
+            # It began again if the first packets after the headers were lost.
+            again += any(list(one.values())[-1][0][1:2] != [packet(9, 1)] for one in links)
+    print(f"{runs} runs, {wrong} wrong, {again} times the link began again")
+    return wrong or runs < 60 or again < 5
+
+
 def refuses(program, library, folder):
     path, mark = os.path.join(folder, "refuses.ogg"), os.path.join(folder, "refused")
     given = b"".join(stream(9, 12))
@@ -308,6 +372,8 @@ if __name__ == "__main__":
         sys.exit(fails(*sys.argv[2:]))
     elif sys.argv[1] == "resumes":
         sys.exit(resumes(*sys.argv[2:]))
+    elif sys.argv[1] == "skeletons":
+        sys.exit(skeletons(*sys.argv[2:]))
     elif sys.argv[1] == "refuses":
         sys.exit(refuses(*sys.argv[2:]))
     else:

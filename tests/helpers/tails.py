@@ -82,7 +82,7 @@ def left(ran, path, data):
 def turned(program, folder, count):
     path = os.path.join(folder, "turned.ogg")
     clear(path)
-    archived(program, path, b"".join(stream(3, 88)))
+    archived(program, path, b"".join(stream(3, 89)))
     whole = read(path)
     places, end = offsets(whole)
     given = b"".join(link(4, 3))

@@ -142,7 +142,7 @@ check "a full device, then room: status $status" [ "$status" -eq 0 ]
 for name in failing refusing; do
     cc -O2 -shared -fPIC -D_GNU_SOURCE -o "$work/$name.so" "$here/$name.c" || exit 1
 done
-for name in fails:failing resumes:failing refuses:refusing; do
+for name in fails:failing resumes:failing skeletons:failing refuses:refusing; do
     timeout 250 python3 "$here/archiving.py" "${name%:*}" "$program" "$work/${name#*:}.so" "$work" >"$work/runs"
     status=$?
     tail -n 1 "$work/runs"

@@ -27,7 +27,7 @@ came "a page's first byte" 0 '' "tail 31 92 $ogg.tail-31\narchived 1 2 180 0\n"
 check "a page's first byte: the copy" cmp "$ogg.tail-31" "$work/tail"
 check "a page's first byte: what stands before it" cmp -n 31 "$ogg" "$work/sound"
 run salvage "$ogg.tail-31"
-came "a page's first byte: the pages of the copy" 0 '33 31\n' ''
+came "a page's first byte: the pages of the copy" 0 '33 31\n64 27\n' ''
 archive "$ogg" <"$work/whole"
 came "a page's first byte, and another run" 0 '' 'archived 1 2 302 0\n'
 
