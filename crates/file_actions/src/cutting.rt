@@ -2,6 +2,7 @@
 
 use crate::cut_lines::{Told, nothing_line, put_cut};
 use crate::files::{flushed, output};
+use crate::serials::{Serials, rename};
 use crate::telling::{now, or_memory};
 use archive_cut::{
     Cut, CutFault, Paged, Recorded, Stand, StreamEnds, Way, is_before, mark_last, stood_at, time_of,
@@ -14,7 +15,8 @@ use archive_reading::{
 use archive_times::{Join, Line, last_line, next_line};
 use disk_model::FileDisk;
 use fault_lines::Fault;
-use ogg_page::{PageBuffer, PageSource, write_whole};
+use ogg_page::{PageBuffer, PageSource, read_header, read_page, write_whole};
+use std::alloc::{AllocError as Memory, Global};
 use std::io::Write;
 
 /// How many bytes are written at once.
@@ -368,19 +370,19 @@ impl<'a> Asked<'a> {
     /// Writes all parts.
     fn write<W: Write>(&self, finds: &Finds, raw: bool, out: &mut W) -> Result<(), Fault> {
         let mut passed = StreamEnds::new(self.rt.alloc());
-        let mut room = or_memory(PageBuffer::new(self.rt.alloc()))?;
+        let mut pages = or_memory(Pages::new(self.rt.alloc()))?;
         for part in finds.parts.as_slice() {
             let mut source = self.open_again(*part)?;
             let mut paged = self.paged(&mut source, *part)?;
             if raw {
-                write_raw(&mut paged, &mut source, out)?;
+                write_raw(&mut paged, &mut source, &mut pages, out)?;
             } else {
                 write_finished(
                     &mut paged,
                     &mut source,
                     &finds.ends,
                     &mut passed,
-                    &mut room,
+                    &mut pages,
                     out,
                 )?;
             }
@@ -422,6 +424,7 @@ fn count(paged: Paged, source: &mut Prefix<FileDisk>, ends: &mut StreamEnds) -> 
 fn write_raw<W: Write>(
     paged: &mut Paged,
     source: &mut Prefix<FileDisk>,
+    pages: &mut Pages,
     out: &mut W,
 ) -> Result<(), Fault> {
     for _ in 0..MOST_PAGES {
@@ -431,7 +434,7 @@ fn write_raw<W: Write>(
         if size == 0 {
             return Ok(());
         }
-        write_bytes(paged.page(size), out)?;
+        write_page(paged.page(size), Way::Stays, pages, out)?;
         paged.pass(size);
     }
     Err(Fault::File)
@@ -450,7 +453,7 @@ fn write_finished<W: Write>(
     source: &mut Prefix<FileDisk>,
     ends: &StreamEnds,
     passed: &mut StreamEnds,
-    room: &mut PageBuffer,
+    pages: &mut Pages,
     out: &mut W,
 ) -> Result<(), Fault> {
     for _ in 0..MOST_PAGES {
@@ -462,14 +465,56 @@ fn write_finished<W: Write>(
         }
         let page = paged.page(size);
         or_memory(passed.note(page))?;
-        write_page(page, ends.way(passed.links(), page), room, out)?;
+        write_page(page, ends.way(passed.links(), page), pages, out)?;
         paged.pass(size);
     }
     Err(Fault::File)
 }
 
-/// Writes a page as it is in the finished cut.
+/// What the pages of a cut are written by: the serials that stand in it, and the room for pages that change.
+#[derive(Drop)]
+struct Pages {
+    serials: Serials,
+    renamed: PageBuffer,
+    marked: PageBuffer,
+}
+
+impl Pages {
+    /// No page was written yet.
+    fn new(alloc: Global) -> Result<Pages, Memory> {
+        Ok(Pages {
+            serials: Serials::new(alloc),
+            renamed: PageBuffer::new(alloc)?,
+            marked: PageBuffer::new(alloc)?,
+        })
+    }
+}
+
+/// Writes a page as it is in the cut: a stream whose serial stands in a link before has another one.
 fn write_page<W: Write>(
+    page: &[u8],
+    way: Way,
+    pages: &mut Pages,
+    out: &mut W,
+) -> Result<(), Fault> {
+    let Ok(header) = read_header(page) else {
+        return Err(Fault::File);
+    };
+    let serial = or_memory(pages.serials.next(&header, page))?;
+    if serial == header.head.serial {
+        return write_by(page, way, &mut pages.marked, out);
+    }
+    match read_page(page) {
+        Ok(page) => {
+            rename(&page, serial, &mut pages.renamed);
+            write_by(pages.renamed.bytes(), way, &mut pages.marked, out)
+        }
+        Err(_) => Err(Fault::File),
+    }
+}
+
+/// Writes a page, unless the finished cut leaves it out.
+fn write_by<W: Write>(
     page: &[u8],
     way: Way,
     room: &mut PageBuffer,

@@ -18,6 +18,7 @@ mod lines;
 mod listing;
 mod progress;
 mod salvaging;
+mod serials;
 mod telling;
 mod verifying;
 
