@@ -82,8 +82,6 @@ run archive "$work/back2.ogg" --strict <"$work/back"
 came "a position that goes back, strictly" 1 '' 'refused 15 PositionBack 64\narchived 1 1 91 0\nfault refused\n'
 
 # Files that can't be recorded into.
-archive "$work" <"$work/whole"
-came "a folder" 1 '' 'fault file\n'
 archive /dev/full <"$work/whole"
 came "no regular file" 1 '' 'fault open 1 Disk\n'
 # A file of another kind stays as it is; one of ours that a stop left with nothing committed doesn't.
