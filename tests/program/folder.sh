@@ -36,6 +36,18 @@ archive /dev/null "$work/nothing/"
 came "nothing comes" 0 '' 'archived 0 0 0 0\n'
 check "nothing comes: no file is begun" [ -z "$(numbers "$work/nothing")" ]
 
+# What is of no page is told, also if it is all that comes.
+printf hello >"$work/hello"
+archive "$work/hello" "$work/hello.d/"
+check "junk alone: status $status" [ "$status" -eq 0 ]
+check "junk alone: it is told" grep -qx 'mended 1 Junk 0 5' "$work/err"
+archive "$work/hello" "$work/hello.d/" --strict
+check "junk alone, strictly: status $status" [ "$status" -eq 1 ]
+check "junk alone, strictly: it is told" [ "$(tail -n 1 "$work/err")" = "fault mended" ]
+head -c 20 "$work/1" >"$work/torn"
+archive "$work/torn" "$work/torn.d/"
+check "a torn first page is told" grep -qx 'mended 1 Junk 0 20' "$work/err"
+
 # Files end by their bytes. The link that is open goes on in the next one, under another serial.
 archive "$work/1" "$work/many/" --most-bytes 400
 check "many files: status $status" [ "$status" -eq 0 ]
@@ -126,6 +138,16 @@ has "an empty file" "$work/empty" "5 " 30
 : >"$work/empty/000006-$(date -u +%Y%m%dT%H0000Z)-on.ogg"
 archive "$work/2" "$work/empty"
 check "an empty file that goes on: $(numbers "$work/empty")" [ "$(numbers "$work/empty")" = "5 6+ 7 " ]
+
+# Times that can't be written are told once, and stop nothing.
+mkdir "$work/untimed"
+name=000005-$(date -u +%Y%m%dT%H0000Z)
+: >"$work/untimed/$name.ogg"
+mkdir "$work/untimed/$name.times"
+archive "$work/1" "$work/untimed"
+check "no times: status $status" [ "$status" -eq 0 ]
+check "no times: it is told once" [ "$(grep -c '^no times: ' "$work/err")" -eq 1 ]
+check "no times: the stream is there" cmp -n 60 -i 27 "$work/untimed/$name.ogg" "$work/1"
 
 # Names that aren't ours are left alone, and a clock that jumped changes no order.
 mkdir "$work/names"

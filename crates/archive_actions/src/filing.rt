@@ -198,14 +198,23 @@ fn record_steps<D: Disk + Drop, F: Folder<File = D> + Drop>(
     keeper: &mut Keeper<'_>,
 ) -> Result<(), Fault> {
     let mut more = true;
+    // Bytes have come for which no file was looked for yet: they are recorded, or told, also if the stream ends with them.
+    let mut came = false;
     for _ in 0..u64::MAX {
         if keeper.told.has_enough() {
             return Ok(());
         }
         if more && import.waits() {
-            more = wait(rt, archive, import, keeper)?;
-        } else if take(rt, archive, import, keeper, more)? {
-            return Ok(());
+            match wait(rt, archive, import, keeper)? {
+                Waited::Kept => {}
+                Waited::Came => came = true,
+                Waited::Ended => more = false,
+            }
+        } else {
+            if take(rt, archive, import, keeper, more || came)? {
+                return Ok(());
+            }
+            came = false;
         }
         recover(rt, archive, import, keeper)?;
         keeper
@@ -215,38 +224,50 @@ fn record_steps<D: Disk + Drop, F: Folder<File = D> + Drop>(
     Ok(())
 }
 
-/// Keeps what waits, or else waits for more of the stream. Returns whether the stream may have more.
+/// What came of waiting for more of the stream.
+#[derive(Clone, Copy, Debug, PartialEq, Eq)]
+enum Waited {
+    /// Commands waited for their group, and are kept. Nothing was read.
+    Kept,
+    /// More has come.
+    Came,
+    /// The stream has ended.
+    Ended,
+}
+
+/// Keeps what waits, or else waits for more of the stream.
 fn wait<D: Disk + Drop, F: Folder<File = D> + Drop>(
     rt: &HostRuntime,
     archive: &mut Archive<D, F>,
     import: &mut ImportRun,
     keeper: &mut Keeper<'_>,
-) -> Result<bool, Fault> {
+) -> Result<Waited, Fault> {
     if archive.held() > 0 {
         archive.flush(now(rt), keeper);
-        return Ok(true);
+        return Ok(Waited::Kept);
     }
     if !import.waits() {
-        return Ok(true);
+        return Ok(Waited::Came);
     }
     match import.read_once(&mut rt.stdin()) {
-        Ok(count) => Ok(count > 0),
+        Ok(0) => Ok(Waited::Ended),
+        Ok(_) => Ok(Waited::Came),
         Err(fault) => Err(Fault::Archive(fault)),
     }
 }
 
-/// Takes one step over what has come, and returns whether it was the last. The next file is begun before it, if the
-/// newest is over, but not at the end of the stream.
+/// Takes one step over what has come, and returns whether it was the last. If it may begin a file, the next one is begun
+/// before it, unless the newest can be gone on with.
 fn take<D: Disk + Drop, F: Folder<File = D> + Drop>(
     rt: &HostRuntime,
     archive: &mut Archive<D, F>,
     import: &mut ImportRun,
     keeper: &mut Keeper<'_>,
-    more: bool,
+    begins: bool,
 ) -> Result<bool, Fault> {
     let now = now(rt);
     let offset = import.offset();
-    if more {
+    if begins {
         match archive.begin_if_due(import, now, keeper) {
             Ok(answered) => keeper.told.answered(offset, &answered),
             Err(fault) => return Err(fault_of(fault)),

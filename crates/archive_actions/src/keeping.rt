@@ -28,6 +28,8 @@ pub(crate) struct Keeper<'a> {
     folder: &'a str,
     pub(crate) told: Told<'a>,
     times: Option<Times>,
+    // it was told that the file has no times
+    has_told: bool,
 }
 
 impl<'a> Keeper<'a> {
@@ -38,6 +40,7 @@ impl<'a> Keeper<'a> {
             folder,
             told,
             times: None,
+            has_told: false,
         }
     }
 
@@ -52,8 +55,9 @@ impl<'a> Keeper<'a> {
 
     /// Tells that a file has no times from here on.
     fn lose_times(&mut self) {
-        if self.times.is_some() {
-            self.times = None;
+        self.times = None;
+        if !self.has_told {
+            self.has_told = true;
             self.told
                 .tell(b"no times: they can't be written for this file\n");
         }
@@ -164,11 +168,13 @@ fn joined(alloc: std::alloc::Global, front: &str, rest: &str) -> Option<String> 
 impl Beside for Keeper<'_> {
     fn opened(&mut self, file: FileName, committed: u64) -> Option<Line> {
         self.times = None;
+        self.has_told = false;
         self.open_times(file, committed)
     }
 
     fn begun(&mut self, file: FileName) {
         self.times = None;
+        self.has_told = false;
         let _ = self.open_times(file, 0);
         self.told.tell(file_line(file, b"begins").as_slice());
     }
