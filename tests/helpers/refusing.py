@@ -4,14 +4,16 @@
 The program runs with its first request for memory refused, then with the second, up to a run in which none is refused,
 and the same again with every request refused from that one on.
 
-Feeds go through `mux` and `record`, in groups; files are made into feeds, listed, split, finished, salvaged and served;
-an archive is listed and verified.
+Feeds go through `mux` and `record`, in groups; lines are recorded, and written again; files are made into feeds, listed,
+split, finished, salvaged and served; an archive is listed and verified.
 A run may end by a fault, whose status is 1, or by a text in place of the work, whose status is 2. What it wrote is what
 a run that is refused nothing writes over the commands that it said it took, or the front of that. Prints a line for
 each run that differs; the status is 1 if there was one.
 """
+import functools
 import os
 import re
+import shutil
 import socket
 import struct
 import subprocess
@@ -98,13 +100,14 @@ def check_feed(refusals, program, work, name, records, most):
         os.remove(path)
     whole = run(words, feed)
     ordinary = answers(whole.stderr if most == 0 else whole.stdout)
+    muxed = functools.cache(lambda commands: run([program, "mux"], commands).stdout)
     for refusing, call in refusals.each(name):
         if os.path.exists(path):
             os.remove(path)
         ran = run(words, feed, **refusing)
         replies = answers(ran.stderr if most == 0 else ran.stdout)
         given, kept = taken(records, replies)
-        pages = run([program, "mux"], b"".join(given[:kept])).stdout
+        pages = muxed(b"".join(given[:kept]))
         if most == 0:
             written = ran.stdout
         else:
@@ -135,6 +138,30 @@ def check_file(refusals, program, words, path):
         if not (done or told) or open(path, "rb").read() != before:
             refusals.say("%s, request %d: status %d, %d bytes of %d, %r"
                          % (words[1], call, ran.returncode, len(ran.stdout), len(whole), ran.stderr[-200:]))
+
+
+def check_lines(refusals, program, path):
+    """What was told as kept is there, in order, and nothing else but lines that came after it."""
+    text = b"".join(b"line %d\n" % at for at in range(20))
+    for refusing, call in refusals.each("lines"):
+        clear(path)
+        ran = run([program, "lines", path, "--group", "7", "--acks"], text, **refusing)
+        kept = max((int(line.split()[1]) for line in ran.stdout.splitlines()), default=0)
+        given = run([program, "packets", path.rstrip("/")]).stdout
+        done = ran.returncode == 0 and given == text and kept == 20
+        told = refusals.tells(ran) and text.startswith(given) and given.count(b"\n") >= kept
+        if not (done or told):
+            refusals.say("lines %s, request %d: status %d, %d kept, %d there, %r"
+                         % (path, call, ran.returncode, kept, given.count(b"\n"), ran.stderr[-200:]))
+    if run([program, "packets", path.rstrip("/")]).stdout != text:
+        refusals.say("lines %s: not all is there" % path)
+
+
+def clear(path):
+    if path.endswith("/"):
+        shutil.rmtree(path, ignore_errors=True)
+    elif os.path.exists(path):
+        os.remove(path)
 
 
 def check_made(refusals, program, path):
@@ -224,6 +251,11 @@ def main():
         for most in (0, 3):
             check_feed(refusals, program, work, name, records, most)
     path = os.path.join(work, "row.ogg")
+    lines = os.path.join(work, "lines")
+    check_lines(refusals, program, lines + ".ogg")
+    check_lines(refusals, program, lines + "/")
+    for words in (["packets"], ["packets", "--json"]):
+        check_file(refusals, program, words, lines + ".ogg")
     for words in (["links"], ["split", "0"], ["split", "0", "1"], ["finish"], ["finish", "0"], ["salvage"]):
         check_file(refusals, program, words, path)
     check_made(refusals, program, path)

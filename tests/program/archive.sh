@@ -141,7 +141,7 @@ for name in failing refusing; do
     cc -O2 -shared -fPIC -D_GNU_SOURCE -o "$work/$name.so" "$here/$name.c" || exit 1
 done
 for name in fails:failing resumes:failing skeletons:failing refuses:refusing; do
-    timeout 250 python3 "$here/archiving.py" "${name%:*}" "$program" "$work/${name#*:}.so" "$work" >"$work/runs"
+    timeout 1000 python3 "$here/archiving.py" "${name%:*}" "$program" "$work/${name#*:}.so" "$work" >"$work/runs"
     status=$?
     tail -n 1 "$work/runs"
     check "${name%:*}: $(head -n 5 "$work/runs")" [ "$status" -eq 0 ]

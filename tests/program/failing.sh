@@ -3,7 +3,7 @@
 . "$(dirname "$0")/../helpers/common.bash"
 
 cc -O2 -shared -fPIC -D_GNU_SOURCE -o "$work/failing.so" "$here/failing.c" || exit 1
-check "each device call" timeout 250 python3 "$here/failing.py" "$program" "$work/failing.so" "$work"
+check "each device call" timeout 1000 python3 "$here/failing.py" "$program" "$work/failing.so" "$work"
 
 # Standard output fails once and then takes bytes again: the fault is that of standard output, whatever waited.
 for most in 1 3 16; do

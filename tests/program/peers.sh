@@ -3,6 +3,6 @@
 . "$(dirname "$0")/../helpers/common.bash"
 
 cc -O2 -shared -fPIC -D_GNU_SOURCE -o "$work/peers.so" "$here/peers.c" || exit 1
-check "each call on a socket" timeout 250 python3 "$here/peering.py" "$program" "$work/peers.so" "$work"
+check "each call on a socket" timeout 1000 python3 "$here/peering.py" "$program" "$work/peers.so" "$work"
 
 finish
