@@ -4,6 +4,7 @@ pub mod Renumbers
 pub mod Lists
 pub mod Links
 pub mod Begins
+pub mod Dated
 pub mod Steps
 pub mod Own
 pub mod Low

@@ -246,13 +246,13 @@ is_before (Made first) streams from left stay earlier serials skeleton e made =
     by true f = absurd (none f)
     by false f = value f
 
-made_changed : (taken : List ℕ) (old state new : ChangeState) (begin : Begin) (now : Command) (commands given : List Command) (from : ℕ)
+made_changed : (taken : List ℕ) (old state new : ChangeState) (begin : Begin) (now : Command) (commands given : List Command) (from : ℕ) (utc : List ℕ)
     → is_none old.options ≡ false → begin.skeleton ≡ None
     → HasChangedBeside taken old commands given → Names old state (staying old.options.skeletons begin.streams)
     → made_for old.options.skeletons (staying old.options.skeletons begin.streams) ≡ Some from
-    → BeginsDescribed from (said_in old.options.skeletons begin.streams) state new (staying old.options.skeletons begin.streams) now
+    → BeginsDescribed from utc (said_in old.options.skeletons begin.streams) state new (staying old.options.skeletons begin.streams) now
     → HasChangedBeside taken new (commands ++ BeginOf begin ∷ []) (given ++ now ∷ [])
-made_changed taken old state new begin now commands given from is plain h by some b =
+made_changed taken old state new begin now commands given from utc is plain h by some b =
     let skeletons : Skeletons = old.options.skeletons in
     let followed : IsFollowed taken old (after [] commands) (after [] given) = by_of taken old commands given is h in
     let earlier : List ℕ = taken ++ flat_map serials (after [] given) in
@@ -270,6 +270,7 @@ made_changed taken old state new begin now commands given from is plain h by som
     let says : IsSaidBy said stay begin_now = record {
       head = b.head;
       skeleton = refl;
+      utc = utc;
       head_said = b.head_said;
       described = described_only state.names said stay more b.each;
     } in
@@ -305,18 +306,18 @@ made_changed taken old state new begin now commands given from is plain h by som
           (record { said = said; streams = stay; is = says }),
     ))
 
-pub begin_changed : (taken : List ℕ) (old new : ChangeState) (begin : Begin) (now : Command) (commands given : List Command) → is_none old.options ≡ false
+pub begin_changed : (taken : List ℕ) (utc : List ℕ) (old new : ChangeState) (begin : Begin) (now : Command) (commands given : List Command) → is_none old.options ≡ false
     → begin.skeleton ≡ None
-    → Begins old new begin now → HasChangedBeside taken old commands given → HasChangedBeside taken new (commands ++ BeginOf begin ∷ []) (given ++ now ∷ [])
-begin_changed taken old new begin now commands given is plain b h =
+    → Begins utc old new begin now → HasChangedBeside taken old commands given → HasChangedBeside taken new (commands ++ BeginOf begin ∷ []) (given ++ now ∷ [])
+begin_changed taken utc old new begin now commands given is plain b h =
     by (made_for old.options.skeletons (staying old.options.skeletons begin.streams)) refl b.begins
   where
     by : (o : Option ℕ) → made_for old.options.skeletons (staying old.options.skeletons begin.streams) ≡ o
-        → BeginsAs o (said_in old.options.skeletons begin.streams) b.state new begin.skeleton
+        → BeginsAs o utc (said_in old.options.skeletons begin.streams) b.state new begin.skeleton
         (staying old.options.skeletons begin.streams) now
         → HasChangedBeside taken new (commands ++ BeginOf begin ∷ []) (given ++ now ∷ [])
     by None e begins = plain_changed taken old b.state new begin now commands given is plain h b.named e begins
-    by (Some from) e begins = made_changed taken old b.state new begin now commands given from is plain h b.named e begins
+    by (Some from) e begins = made_changed taken old b.state new begin now commands given from utc is plain h b.named e begins
 
 -- ---- packets
 put_list : (given : List Command) (entries : List Entry) → after [] (given ++ option_list (put_of entries)) ≡ change_last

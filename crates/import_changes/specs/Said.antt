@@ -1,7 +1,7 @@
 -- What the Skeletons that are left out say of their link and its streams, and what one that is made says of them (Ogg
 -- Skeleton 3.0). Ours, but for what packets hold.
 use Rattle.std.specs.Prelude.{◌≡◌, ℕ, pos, Bool, true, false, not, ◌&&◌, nat_eq, nat_le, if◌then◌else◌, Option, Some, None, is_some}
-use Rattle.std.specs.Prelude.{List, [], ◌∷◌, ◌++◌, length, replicate, drop, filter}
+use Rattle.std.specs.Prelude.{List, [], ◌∷◌, ◌++◌, length, drop, filter}
 use Rattle.std.specs.Borrow.{Bor}
 use Rattle.std.specs.Option.{unwrap_or}
 use Rattle.std.specs.List.{AllByRecursion, AllZip, list_all}
@@ -32,17 +32,27 @@ abbrev pub IsHeadIn : List ℕ → Option Fishead → Type 0
 IsHeadIn packet None = (fishead : Fishead) → IsFishead fishead → HoldsFishead packet fishead → is_head fishead ≡ false
 IsHeadIn packet (Some fishead) = HoldsFishead packet fishead × (is_head fishead ≡ true)
 
--- The head says what the fishead says. Without one it presents its link from 0 seconds on, and knows no time of day.
-abbrev pub head_of : ℕ → Option Fishead → SkeletonHead
-head_of serial None = record { serial = serial; presentation = (pos 0, pos 1000); base = (pos 0, pos 1000); utc = replicate 20 0 }
-head_of serial (Some fishead) =
-    record { serial = serial; presentation = fishead.presentation; base = fishead.base; utc = fishead.utc }
+-- twenty bytes 00 say that the time of day isn't known (Skeleton 3.0, fishead)
+abbrev pub is_unknown : List ℕ → Bool
+is_unknown utc = list_all (nat_eq 0) utc
 
--- the head of a Skeleton that is made in place of those that have these packets
-pub record IsHeadSaid (said : List (List ℕ)) (head : SkeletonHead) : Type 0 where
+-- The head says what the fishead says. Without one it presents its link from 0 seconds on. If no time of day is said,
+-- it is this one.
+abbrev pub head_of : ℕ → List ℕ → Option Fishead → SkeletonHead
+head_of serial utc None = record { serial = serial; presentation = (pos 0, pos 1000); base = (pos 0, pos 1000); utc = utc }
+head_of serial utc (Some fishead) =
+    record {
+      serial = serial;
+      presentation = fishead.presentation;
+      base = fishead.base;
+      utc = if is_unknown fishead.utc then utc else fishead.utc;
+    }
+
+-- the head of a Skeleton that is made at this time of day, in place of those that have these packets
+pub record IsHeadSaid (utc : List ℕ) (said : List (List ℕ)) (head : SkeletonHead) : Type 0 where
   pub found : Option Fishead
   pub finds : IsHeadIn (first_of said) found
-  pub is : head ≡ head_of head.serial found
+  pub is : head ≡ head_of head.serial utc found
 
 -- ---- of a stream
 -- the fisbone is of the stream with this serial, and a `Begin` may have its media type and its rate
@@ -130,5 +140,6 @@ pub record IsDescribedBy (said : List (List ℕ)) (stream now : NewStream) : Typ
 pub record IsSaidBy (said : List (List ℕ)) (streams : List NewStream) (now : Begin) : Type 0 where
   pub head : SkeletonHead
   pub skeleton : now.skeleton ≡ Some head
-  pub head_said : IsHeadSaid said head
+  pub utc : List ℕ
+  pub head_said : IsHeadSaid utc said head
   pub described : AllZip (IsDescribedBy said) streams now.streams

@@ -1,5 +1,5 @@
 -- What each command becomes. Ours.
-use Rattle.std.specs.Prelude.{slice_set, ◌≡◌, ℕ, Option, Some, None, List, [], ◌∷◌, ◌++◌, map, nat_eq}
+use Rattle.std.specs.Prelude.{slice_set, ◌≡◌, ⊤, ℕ, Option, Some, None, List, [], ◌∷◌, ◌++◌, map, nat_eq}
 use Rattle.std.specs.List.{AllZip, IsDistinct}
 use Rattle.std.specs.Map.{keys_of, values_of}
 use Rattle.ogg_command.specs.declared.command.Command.{Command}
@@ -8,11 +8,12 @@ use Rattle.ogg_command.specs.declared.command.Begin.{Begin}
 use Rattle.ogg_command.specs.declared.command.Entry.{Entry}
 use Rattle.ogg_command.specs.declared.command.NewStream.{NewStream}
 use Rattle.ogg_command.specs.declared.command.SkeletonHead.{SkeletonHead}
+use Rattle.import_changes.specs.declared.options.ChangeOptions.{ChangeOptions}
 use Rattle.import_changes.specs.Changed.{ChangeState}
 use Rattle.import_changes.specs.Naming.{AreNamed, AreNames, AreOnlyOf, IsFirstFree, IsLow, named, serials_of, stream_named}
 use Rattle.import_changes.specs.Renumbered.{avoided}
 use Rattle.import_changes.specs.Said.{IsDescribedBy, IsHeadSaid}
-use Rattle.import_changes.specs.Skeletons.{made_for, said_in, staying}
+use Rattle.import_changes.specs.Skeletons.{begins_of, made_for, said_in, staying}
 
 abbrev pub option_list : Option Command → List Command
 option_list None = []
@@ -59,25 +60,39 @@ pub record IsDescribedUnder (names : List (ℕ × ℕ)) (said : List (List ℕ))
   pub described : IsDescribedBy said stream now
   pub named : now.serial ≡ named names stream.serial
 
-pub record BeginsDescribed (from : ℕ) (said : List (List ℕ)) (old new : ChangeState) (stay : List NewStream) (now : Command) : Type 0 where
+pub record BeginsDescribed (from : ℕ) (utc : List ℕ) (said : List (List ℕ)) (old new : ChangeState) (stay : List NewStream) (now : Command) : Type 0 where
   pub options : new.options ≡ old.options
   pub names : new.names ≡ old.names
   pub head : SkeletonHead
   pub first : IsFirstFree from old.given (values_of old.names) head.serial
-  pub head_said : IsHeadSaid said head
+  pub head_said : IsHeadSaid utc said head
   pub described : List NewStream
   pub each : AllZip (IsDescribedUnder old.names said) stay described
   pub given : new.given ≡ old.given ++ head.serial ∷ serials_of described
   pub now_is : now ≡ BeginOf (record { skeleton = Some head; streams = described })
 
-abbrev pub BeginsAs : Option ℕ → List (List ℕ) → ChangeState → ChangeState → Option SkeletonHead → List NewStream → Command → Type 0
-BeginsAs None said old new skeleton streams now = BeginsPlain old new skeleton streams now
-BeginsAs (Some from) said old new skeleton streams now = BeginsDescribed from said old new streams now
+abbrev pub BeginsAs : Option ℕ → List ℕ → List (List ℕ) → ChangeState → ChangeState → Option SkeletonHead → List NewStream → Command → Type 0
+BeginsAs None utc said old new skeleton streams now = BeginsPlain old new skeleton streams now
+BeginsAs (Some from) utc said old new skeleton streams now = BeginsDescribed from utc said old new streams now
 
--- the link's streams that stay are named, and begin under their names
-pub record Begins (old new : ChangeState) (begin : Begin) (now : Command) : Type 0 where
+-- At this time of day the link's streams that stay are named, and begin under their names.
+pub record Begins (utc : List ℕ) (old new : ChangeState) (begin : Begin) (now : Command) : Type 0 where
   pub state : ChangeState
   pub named : Names old state (staying old.options.skeletons begin.streams)
   pub begins :
-      BeginsAs (made_for old.options.skeletons (staying old.options.skeletons begin.streams))
+      BeginsAs (made_for old.options.skeletons (staying old.options.skeletons begin.streams)) utc
       (said_in old.options.skeletons begin.streams) state new begin.skeleton (staying old.options.skeletons begin.streams) now
+
+-- ---- the time of day
+-- the Skeleton that is made for a link at this time of day says it, unless one that is left out says another
+abbrev pub SaysTime : Option ℕ → List ℕ → List (List ℕ) → Begin → Type 0
+SaysTime None utc said now = ⊤
+SaysTime (Some from) utc said now = (head : SkeletonHead) × (now.skeleton ≡ Some head) × IsHeadSaid utc said head
+
+pub record BeginsAt (utc : List ℕ) (options : ChangeOptions) (begin now : Begin) : Type 0 where
+  pub says :
+      SaysTime (made_for options.skeletons (staying options.skeletons begin.streams)) utc (said_in options.skeletons begin.streams) now
+
+-- each link that these commands begin was changed at this time of day
+abbrev pub BeginAt : List ℕ → ChangeOptions → List Command → List Command → Type 0
+BeginAt utc options commands given = AllZip (BeginsAt utc options) (begins_of commands) (begins_of given)

@@ -5,7 +5,7 @@ ghost use Rattle.ogg_command.specs.declared.command.Command.{Command as CommandO
 ghost use Rattle.import_changes.specs.Changed.{HasChanged, HasChangedBeside, IsPlain, begins};
 ghost use Rattle.import_changes.specs.Naming.{entries_named, name_of};
 ghost use Rattle.import_changes.specs.Options.{is_none};
-ghost use Rattle.import_changes.specs.Steps.{option_list, put_at};
+ghost use Rattle.import_changes.specs.Steps.{BeginAt, option_list, put_at};
 
 use crate::describing::{all_described, head_said};
 use crate::naming::{free_serial, name_all, name_of};
@@ -17,6 +17,9 @@ use ogg_command::{Begin, Command, Listed, Memory, NewStream, Put, SkeletonHead};
 use std::alloc::Global;
 use std::marker::Model;
 use std::mem;
+
+/// The time of day in a fishead, if it isn't known.
+pub const NO_UTC: [u8; 20] = [0; 20];
 
 /// What is changed, and what must be known for that of the streams so far.
 #[derive(Debug, Drop)]
@@ -116,17 +119,19 @@ impl Changes {
         }))
     }
 
-    /// Begins these streams with a Skeleton that says what the Skeletons with these packets say. The new Skeleton's
-    /// serial is the first free one from `from` on. The streams are named, and the serials below `low` are taken.
+    /// Begins these streams at this time of day, with a Skeleton that says what the Skeletons with these packets say. The
+    /// new Skeleton's serial is the first free one from `from` on. The streams are named, and the serials below `low` are
+    /// taken.
     fn begin_described(
         &mut self,
         from: u32,
+        utc: [u8; 20],
         said: &[Listed<u8>],
         stay: Vec<NewStream>,
         low: u32,
     ) -> Result<Command, Memory>
         requires { AreNamedFor self.old stay.items low }
-        ensures begins { IfOk result (λ now. BeginsDescribed from said.now self.old self.new stay.items now) }
+        ensures begins { IfOk result (λ now. BeginsDescribed from utc said.now self.old self.new stay.items now) }
         ensures options { self.new.options ≡ self.old.options }
     {
         let serial = match free_serial(&self.given, self.names.as_slice(), from) {
@@ -143,14 +148,14 @@ impl Changes {
         }
         self.low = low;
         Ok(Command::Begin(Begin {
-            skeleton: Some(head_said(said, serial)),
+            skeleton: Some(head_said(said, serial, utc)),
             streams: Listed::of(streams),
         }))
     }
 
-    /// A link's streams begin: those that stay, under other serials if theirs are to be changed.
-    fn begin(&mut self, begin: Begin) -> Result<Command, Memory>
-        ensures begins { IfOk result (λ now. Begins self.old self.new begin now) }
+    /// A link's streams begin at this time of day: those that stay, under other serials if theirs are to be changed.
+    fn begin(&mut self, begin: Begin, utc: [u8; 20]) -> Result<Command, Memory>
+        ensures begins { IfOk result (λ now. Begins utc self.old self.new begin now) }
         ensures options { self.new.options ≡ self.old.options }
     {
         let skeletons = self.options.skeletons;
@@ -160,7 +165,7 @@ impl Changes {
             Err(refused) => return Err(refused),
         };
         match made_for(skeletons, stay.as_slice()) {
-            Some(from) => self.begin_described(from, said.as_slice(), stay, low),
+            Some(from) => self.begin_described(from, utc, said.as_slice(), stay, low),
             None => self.begin_plain(begin.skeleton, stay, low),
         }
     }
@@ -188,34 +193,42 @@ impl Changes {
         }
     }
 
-    /// The command that this one becomes, if it isn't left out. Only a link's begin takes memory, and only if something
-    /// is changed. After `Memory` change no further command.
-    pub fn change(&mut self, command: Command) -> Result<Option<Command>, Memory>
+    /// The command that this one becomes, if it isn't left out. A Skeleton that is made says this time of day, as
+    /// Skeleton 3.0 writes it in its fishead, unless one that is left out says another; `NO_UTC` says that it isn't
+    /// known. Only a link's begin takes memory, and only if something is changed. After `Memory` change no further
+    /// command.
+    pub fn change(&mut self, command: Command, utc: [u8; 20]) -> Result<Option<Command>, Memory>
         ensures changed { IfOk result (λ now. (taken : List ℕ) (commands given : List CommandOf)
             → HasChangedBeside taken self.old commands given → IsPlain command
             → HasChangedBeside taken self.new (commands ++ command ∷ []) (given ++ option_list now)) }
         ensures options { self.new.options ≡ self.old.options }
         ensures same { is_none self.old.options ≡ true → result ≡ Ok (Some command) }
+        ensures times { IfOk result (λ now. BeginAt utc self.old.options (command ∷ []) (option_list now)) }
         ensures full { OnErr result ((is_none self.old.options ≡ false) × (begins command ≡ true)) }
     {
         if self.options.is_none() {
             return Ok(Some(command));
         }
         match command {
-            Command::Begin(begin) => self.begin(begin).map(Some),
+            Command::Begin(begin) => self.begin(begin, utc).map(Some),
             Command::Put(put) => Ok(self.put(put)),
             Command::End(serial) => Ok(self.end(serial)),
         }
     }
 
-    /// The commands that these become, in the same memory. After `Memory`, which comes only if something is changed and
-    /// a link begins among them, change no further command.
-    pub fn apply(&mut self, mut commands: Vec<Command>) -> Result<Vec<Command>, Memory>
+    /// The commands that these become at this time of day, in the same memory. After `Memory`, which comes only if
+    /// something is changed and a link begins among them, change no further command.
+    pub fn apply(
+        &mut self,
+        mut commands: Vec<Command>,
+        utc: [u8; 20],
+    ) -> Result<Vec<Command>, Memory>
         ensures changed { IfOk result (λ now. (taken : List ℕ) (before given : List CommandOf)
             → HasChangedBeside taken self.old before given → AllByRecursion IsPlain commands.items
             → HasChangedBeside taken self.new (before ++ commands.items) (given ++ now.items)) }
         ensures options { self.new.options ≡ self.old.options }
         ensures same { is_none self.old.options ≡ true → IfOk result (λ now. now.items ≡ commands.items) }
+        ensures times { IfOk result (λ now. BeginAt utc self.old.options commands.items now.items) }
         ensures full { OnErr result ((is_none self.old.options ≡ false) × (list_any begins commands.items ≡ true)) }
     {
         if self.options.is_none() {
@@ -225,7 +238,7 @@ impl Changes {
         for place in 0..commands.len() {
             // What takes its place is never seen: no command becomes more than one.
             let command = mem::replace(&mut commands[place], Command::End(0));
-            match self.change(command) {
+            match self.change(command, utc) {
                 Ok(changed) => kept = put_back(&mut commands, kept, changed),
                 Err(refused) => return Err(refused),
             }

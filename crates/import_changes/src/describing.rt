@@ -1,8 +1,8 @@
 //! What a Skeleton says of its link and of the link's streams.
-ghost use Rattle.std.specs.Prelude.{◌≡◌, IfOk, Some};
-ghost use Rattle.std.specs.List.{AllZip};
+ghost use Rattle.std.specs.Prelude.{◌≡◌, IfOk, Some, if◌then◌else◌, nat_eq};
+ghost use Rattle.std.specs.List.{AllZip, list_all};
 ghost use Rattle.skeleton3.specs.Fisbone.{fisbone_of};
-ghost use Rattle.import_changes.specs.Said.{IsDescribedBy, IsHeadSaid, described, described_as};
+ghost use Rattle.import_changes.specs.Said.{IsDescribedBy, IsHeadSaid, described, described_as, is_unknown};
 ghost use Rattle.import_changes.specs.Steps.{IsDescribedUnder};
 
 use crate::renaming::stream_named;
@@ -13,15 +13,29 @@ use ogg_command::{Listed, Memory, NewStream, SkeletonHead};
 use skeleton3::Fisbone;
 use std::alloc::Global;
 
+/// Whether twenty bytes say that the time of day isn't known.
+fn is_unknown(utc: &[u8; 20]) -> bool
+    ensures { result ≡ is_unknown utc.now }
+{
+    utc.iter().all(|byte| 0 == *byte)
+}
+
+/// The time of day that a Skeleton says, or this one if it says none.
+fn utc_said(said: [u8; 20], utc: [u8; 20]) -> [u8; 20]
+    ensures { result ≡ (if is_unknown said then utc else said) }
+{
+    if is_unknown(&said) { utc } else { said }
+}
+
 /// The head of a Skeleton with this serial, with the times that the Skeletons with these packets say. If they say
-/// none, its link is presented from 0 seconds on, and no time of day is known.
-pub fn head_said(said: &[Listed<u8>], serial: u32) -> SkeletonHead
-    ensures said { IsHeadSaid said.now result }
+/// none, its link is presented from 0 seconds on, at this time of day.
+pub fn head_said(said: &[Listed<u8>], serial: u32, utc: [u8; 20]) -> SkeletonHead
+    ensures said { IsHeadSaid utc said.now result }
     ensures serial { result.serial ≡ serial }
 {
     match head_in(first_header(said)) {
         Some(fishead) => {
-            let utc = fishead.utc;
+            let utc = utc_said(fishead.utc, utc);
             SkeletonHead {
                 serial,
                 presentation: fishead.presentation,
@@ -33,7 +47,7 @@ pub fn head_said(said: &[Listed<u8>], serial: u32) -> SkeletonHead
             serial,
             presentation: (0, 1000),
             base: (0, 1000),
-            utc: [0; 20],
+            utc,
         },
     }
 }

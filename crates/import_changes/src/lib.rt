@@ -17,7 +17,7 @@ mod renaming;
 mod saying;
 mod skeletons;
 
-pub use changes::Changes;
+pub use changes::{Changes, NO_UTC};
 pub use laws::renumbered_streams_have_their_own_serials;
 pub use naming::{free_serial, name_all, name_of};
 pub use ogg_command::Memory;

@@ -9,7 +9,7 @@ use crate::fault::MakingFault;
 use crate::giving::give;
 use crate::made::Made;
 use crate::telling::{Mends, tell_end, tell_step};
-use import_changes::{ChangeOptions, Changes};
+use import_changes::{ChangeOptions, Changes, NO_UTC};
 use import_mend::{
     Import, ImportFault, Step, commands_begin_links_without_a_skeleton, commands_hold_sound_links,
 };
@@ -68,7 +68,7 @@ impl Mending {
         ensures ok { OnOk result (GivesMended self.old self.new commands.items (W.contents writer.old) (W.contents writer.new)) }
         ensures err { IfErr result (GivesNoMore self.old commands.items (W.contents writer.old) (W.contents writer.new)) }
     {
-        let now = match self.changes.apply(commands) {
+        let now = match self.changes.apply(commands, NO_UTC) {
             Ok(now) => now,
             Err(_) => return Err(MakingFault::Memory),
         };

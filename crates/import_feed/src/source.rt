@@ -7,7 +7,7 @@ ghost use Rattle.import_feed.specs.Turn.{RefusesPage};
 ghost use Rattle.import_feed.specs.Source.{Gathers, GathersRest, GoesFurther, HasSourced, TakesIn, gathered_of};
 
 use crate::fault::MakingFault;
-use import_changes::{ChangeOptions, Changes};
+use import_changes::{ChangeOptions, Changes, NO_UTC};
 use import_gather::{GatherFault, Gatherer, links_are_begun_without_a_skeleton};
 use ogg_command::Command;
 use ogg_page::Page;
@@ -61,7 +61,7 @@ impl Source {
             Ok(()) => {}
             Err(fault) => return Err(fault),
         }
-        let now = match self.changes.apply(commands) {
+        let now = match self.changes.apply(commands, NO_UTC) {
             Ok(now) => now,
             Err(_) => return Err(MakingFault::Memory),
         };
@@ -79,7 +79,7 @@ impl Source {
             Ok(()) => {}
             Err(_) => return Err(MakingFault::Memory),
         }
-        let now = match self.changes.apply(commands) {
+        let now = match self.changes.apply(commands, NO_UTC) {
             Ok(now) => now,
             Err(_) => return Err(MakingFault::Memory),
         };

@@ -1,6 +1,7 @@
 //! Commands that the input's pages complete: they are changed as asked, and run.
 ghost use Rattle.std.specs.Prelude.{◌≡◌, ◌≢◌, Err, IfOk, IfErr, List};
 ghost use Rattle.ogg_command.specs.declared.command.Command.{Command as CommandOf};
+ghost use Rattle.import_changes.specs.Steps.{BeginAt};
 ghost use Rattle.import_record.specs.Begun.{begun_after, begun_of};
 ghost use Rattle.import_record.specs.Running.{HasRun};
 ghost use Rattle.import_record.specs.Steps.{Become, BeginsLink, StopsBy};
@@ -24,9 +25,11 @@ pub struct Taken {
     pub answered: Answered,
 }
 
-/// Has commands run, changed as asked. After `Memory` none of them was; after `Write` a prefix of them was.
+/// Has commands run, changed as asked at this time of day. After `Memory` none of them was; after `Write` a prefix of
+/// them was.
 pub(crate) fn run<T: Runner, P: Write>(
     alloc: Global,
+    utc: [u8; 20],
     changes: &mut Changes,
     begun: &mut Begun,
     runner: &mut T,
@@ -37,7 +40,8 @@ pub(crate) fn run<T: Runner, P: Write>(
     ensures ran { (before : T.State) → T.is_in before runner.old → IfOk result (λ answered. (after : T.State) × T.is_in after runner.new
         × (given : List CommandOf) × Become changes.old changes.new commands.items given
         × (begun_of begun.new ≡ begun_after (begun_of begun.old) commands.items given)
-        × HasRun T.answers given answered before after (P.contents pages.old) (P.contents pages.new)) }
+        × HasRun T.answers given answered before after (P.contents pages.old) (P.contents pages.new)
+        × BeginAt utc changes.old.options commands.items given) }
     ensures stops { (before : T.State) → T.is_in before runner.old → IfErr result (λ fault. (after : T.State) × T.is_in after runner.new
         × StopsBy T.answers fault before after (P.contents pages.old) (P.contents pages.new)) }
     ensures unread { result ≢ Err RecordFault.Read }
@@ -48,7 +52,7 @@ pub(crate) fn run<T: Runner, P: Write>(
         Ok(()) => {}
         Err(_) => return Err(RecordFault::Memory),
     }
-    let given = match changes.apply(commands) {
+    let given = match changes.apply(commands, utc) {
         Ok(given) => given,
         Err(_) => return Err(RecordFault::Memory),
     };

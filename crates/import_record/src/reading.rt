@@ -16,7 +16,7 @@ use crate::fault::RecordFault;
 use crate::intake::{Taken, run};
 use feed_replies::Reply;
 use feed_runner::Runner;
-use import_changes::{ChangeOptions, Changes};
+use import_changes::{ChangeOptions, Changes, NO_UTC};
 use import_mend::{Import, Mend};
 use ogg_page::PageFault;
 use std::alloc::Global;
@@ -48,6 +48,8 @@ pub struct ImportRun {
     pub(crate) input: Import,
     pub(crate) alloc: Global,
     pub(crate) options: ChangeOptions,
+    // what a Skeleton says that is made now
+    pub(crate) utc: [u8; 20],
     pub(crate) changes: Changes,
     pub(crate) begun: Begun,
 }
@@ -75,9 +77,18 @@ impl ImportRun {
             input,
             alloc,
             options,
+            utc: NO_UTC,
             changes,
             begun: Begun::new(alloc),
         })
+    }
+
+    /// Tells the time of day, as Skeleton 3.0 writes it in its fishead (`20261128T140500.310Z`). It stands in each
+    /// Skeleton that is made from now on, unless one that is left out says another. Before the first call none is known.
+    pub fn tell_time(&mut self, utc: [u8; 20])
+        ensures told { self.new ≡ record self.old { utc = utc } }
+    {
+        self.utc = utc;
     }
 
     /// The offset in the input of the first byte that is of no page taken so far.
@@ -176,6 +187,7 @@ impl ImportRun {
         }
         match run(
             self.alloc,
+            self.utc,
             &mut self.changes,
             &mut self.begun,
             runner,
@@ -216,6 +228,7 @@ impl ImportRun {
         };
         match run(
             self.alloc,
+            self.utc,
             &mut self.changes,
             &mut self.begun,
             runner,

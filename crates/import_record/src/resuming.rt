@@ -2,6 +2,7 @@
 ghost use Rattle.std.specs.Prelude.{◌≡◌, ◌++◌, [], map, nat_eq, IfOk, OnOk, OnErr};
 ghost use Rattle.std.specs.List.{filter, list_any};
 ghost use Rattle.import_changes.specs.Changed.{HasChangedBeside};
+ghost use Rattle.import_changes.specs.Steps.{BeginAt};
 ghost use Rattle.import_record.specs.Begun.{open_after};
 ghost use Rattle.import_record.specs.Resuming.{Resumes, end_again, ends_of, has_open, holds_open, is_left, is_over, link_again};
 ghost use Rattle.import_record.specs.Steps.{state_of};
@@ -51,6 +52,7 @@ impl ImportRun {
         } = begin_again(
             self.alloc,
             self.options,
+            self.utc,
             serials,
             self.begun.streams.as_slice(),
         )?;
@@ -61,21 +63,23 @@ impl ImportRun {
     }
 }
 
-/// Begins a link of these streams again, in a file that has these serials.
+/// Begins a link of these streams again, at this time of day in a file that has these serials.
 fn begin_again(
     alloc: Global,
     options: ChangeOptions,
+    utc: [u8; 20],
     serials: &[u32],
     streams: &[BegunStream],
 ) -> Result<Again, Memory>
     ensures changed { IfOk result (λ again. HasChangedBeside serials.now again.changes (link_again streams.now) again.given.items) }
+    ensures times { IfOk result (λ again. BeginAt utc options (link_again streams.now) again.given.items) }
     ensures options { IfOk result (λ again. again.changes.options ≡ options) }
     ensures ours { IfOk result (λ again. again.ours.items ≡ open_after [] again.given.items) }
 {
     let mut changes = Changes::new(alloc, options);
     changes.avoid(serials)?;
     let commands = link_again(alloc, streams)?;
-    let given = changes.apply(commands)?;
+    let given = changes.apply(commands, utc)?;
     let mut ours = Vec::new(alloc);
     keep_all_open(alloc, &mut ours, given.as_slice())?;
     Ok(Again {

@@ -3,7 +3,8 @@ use Rattle.std.specs.List.{AllByRecursion}
 use Rattle.ogg_command.specs.declared.command.Command.{Command}
 use Rattle.import_changes.specs.Changed.{ChangeState, HasChangedBeside, IsPlain, begins}
 use Rattle.import_changes.specs.Options.{is_none}
-use Rattle.import_changes.specs.Steps.{option_list}
+use Rattle.import_changes.specs.Steps.{BeginAt, option_list}
+use Rattle.import_changes.proofs.Dated.{both_at, same_at}
 use Rattle.import_changes.proofs.Moved.{Moved, as_moved, has_begin, itself, met, one_changed, stands}
 use Rattle.import_changes.proofs.Steps.{all_front, all_last, apply_step, same_commands}
 use Rattle.import_changes.proofs.changes.Changes.apply.Goals as goal
@@ -49,4 +50,12 @@ loop-place-preserved c =
           after.front);
       moved = itself was _ _ (place + 1) _ after;
       options = c.change.ensures.options ∙ inv.options;
+      times = subst (λ l. BeginAt c.args.utc c.args.self.now.options l (take c.put_back-kept.result c.put_back-kept.new.commands.items)) (sym more)
+          (subst (BeginAt c.args.utc c.args.self.now.options (take place was ++ command ∷ [])) (sym after.front)
+          (both_at c.args.utc c.args.self.now.options (take place was) (command ∷ []) (take kept now) (option_list c.in-Ok.changed) inv.times
+          (subst (λ o. BeginAt c.args.utc o (command ∷ []) (option_list c.in-Ok.changed)) inv.options c.in-Ok.ensures.times)));
     }
+
+pub returns-then-is_none-clause-times : goal.returns-then-is_none-clause-times
+returns-then-is_none-clause-times c = same_at c.args.utc c.args.self.now.options c.args.commands.items
+    (ap (λ (s : ChangeState). is_none s.options) (sym c.self.view_is) ∙ sym c.is_none.ensures ∙ c.if-is_none.true)

@@ -20,7 +20,7 @@ pub returns-in-Ok-run-clause-takes : goal.returns-in-Ok-run-clause-takes
 returns-in-Ok-run-clause-takes g c before is =
     let (more, appended, step) = c.in-Ok.ensures.steps in
     let (offset, page, is_page, lent, takes) = step.0 (is_a_page c.in-Ok.found.is_page c.if-not-found.false) in
-    let (after, here, given, changed, begun, ran) = c.in-Ok-run.ensures.ran before is in
+    let (after, here, given, changed, begun, ran, times) = c.in-Ok-run.ensures.ran before is in
     let all : c.take.new.commands.items ≡ more = appended ∙ ap (λ (l : List Command). l ++ more) c.new-commands.ensures.items in
     let was : c.args.self.now.input.pages.lent ≡ Some (offset, page) = ap (λ (s : ReaderState). s.lent) (sym c.in-Ok.ensures.same) ∙ lent in
     let same : c.in-Ok.found.offset ≡ offset = c.in-Ok.ensures.offset ∙ ap (λ l. offset_found l c.args.self.now.input.pages.offset) was in (
