@@ -4,11 +4,16 @@
     cutting.py cuts PROGRAM COUNT       COUNT random pairs of times, over archives that are made by hand
     cutting.py parts PROGRAM COUNT      COUNT random divisions of time: the parts together have each packet once
     cutting.py odd PROGRAM              times that are missing, torn or wrong, files that are damaged or gone, clocks
+    cutting.py meeting PROGRAM          two files of which the second goes on with the first, or doesn't for one reason
 
 An archive is a list of files, and a file one of commands, each with when it was committed. A line of times is written
 after a commit that comes a second or more after the line before, and after one that ends a link, or the file. A command
 has the time of the first line that tells of it, or else that of the next file's beginning. What `cut` writes are pages;
 their links, streams and packets are compared with what the commands put.
+
+A file named `-on` goes on with the link before, if that was cut up to its file's end, where its last commands end what
+was open, in order, as many streams as go on, and if these began with the same packets, in order. Streams that end with
+the Begin, or by the commands after it, go on with none. Lines of times must tell where both links' Begins end.
 """
 import os
 import random
@@ -37,6 +42,7 @@ class File:
         self.number, self.begin, self.goes_on = number, begin // 1000 * 1000, goes_on
         self.data, self.commands, self.lines = b"", [], []
         self.streams, self.skeleton, self.join, self.written = {}, None, None, None
+        self.tail = b""
 
     def name(self):
         stamp = time.strftime("%Y%m%dT%H%M%SZ", time.gmtime(self.begin // 1000))
@@ -83,6 +89,13 @@ class File:
             self.join = None
         self.note("end", serial, when)
 
+    def end_those(self, when, rng):
+        """Ends the streams that end at once: their Begin may have been committed before."""
+        for serial, headers in self.commands[-1][1]:
+            later = when + rng.choice([0, 0, 1100])
+            if headers[0] == b"ends at once" and rng.random() < 0.9 and later // 2000 == self.begin // 2000:
+                self.end(later, serial)
+
     def is_open(self):
         return not all(ended for _, _, ended in self.streams.values())
 
@@ -103,9 +116,15 @@ class File:
     def times(self):
         return "".join(f"{offset} {when} " + ("%d %d\n" % join if join else "- -\n") for offset, when, join in self.lines)
 
-    def save(self, folder, tail=b""):
+    def cut_short(self):
+        """The last command is gone."""
+        self.commands.pop()
+        self.data = self.data[: self.commands[-1][2]]
+        self.lines = [line for line in self.lines if line[0] <= len(self.data)]
+
+    def save(self, folder):
         with open(f"{folder}/{self.name()}.ogg", "wb") as out:
-            out.write(self.data + tail)
+            out.write(self.data + self.tail)
         with open(f"{folder}/{self.name()}.times", "w") as out:
             out.write(self.times())
 
@@ -146,6 +165,66 @@ def held(file, when, since, until):
     return links
 
 
+# ---- files that go on with one another
+class Chosen:
+    """What is cut of a file: the number of its first command, and of the first that isn't."""
+
+    def __init__(self, file, when, since, until):
+        chosen = [at for at, moment in enumerate(when) if (since is None or moment > since) and (until is None or moment <= until)]
+        self.file = file
+        self.first, self.behind = (chosen[0], chosen[-1] + 1) if chosen else (0, 0)
+
+    def begins(self):
+        """The places of the Begins before the end."""
+        return [at for at, (kind, _, _, _) in enumerate(self.file.commands[: self.behind]) if kind == "begin"]
+
+    def end(self):
+        return self.file.commands[self.behind - 1][2]
+
+    def joins(self):
+        """The links of which lines tell, up to the end."""
+        return [join for offset, _, join in self.file.lines if join and offset <= self.end()]
+
+    def open_at(self, begin, behind):
+        """The streams of this Begin that are open before the command, in order, with what they began with."""
+        ended = {what for kind, what, _, _ in self.file.commands[begin + 1 : behind] if kind == "end"}
+        return [(serial, packets[0]) for serial, packets in self.file.commands[begin][1] if packets[0] != b"fishead" and serial not in ended]
+
+    def going_on(self):
+        """The streams with which the file goes on, and which command comes after those that belong to its Begin."""
+        joins = self.joins()
+        if self.first != 0 or self.behind == 0 or not joins or joins[0][0] != 0:
+            return [], 0
+        behind = 1
+        while behind < self.behind and self.file.commands[behind][0] == "end":
+            behind += 1
+        return self.open_at(0, behind), behind
+
+    def stays_open(self, count):
+        """The streams that the last commands end, if they are as many."""
+        joins, begins = self.joins(), self.begins()
+        if self.behind < len(self.file.commands) or not begins or self.file.tail:
+            return None
+        begin, behind = begins[-1], self.behind - count
+        begun = self.file.commands[begin - 1][2] if begin else 0
+        if (joins[-1][0] if joins else 0) != begun or behind <= begin or behind < self.first:
+            return None
+        found = self.open_at(begin, behind)
+        ends = [what for kind, what, _, _ in self.file.commands[behind:] if kind == "end"]
+        return found if ends == [serial for serial, _ in found] else None
+
+
+def goes_on(before, after):
+    """The serials of the streams that go on with one another, and the number of the first command that goes on."""
+    if not after.file.goes_on or after.file.number != before.file.number + 1:
+        return None
+    going, behind = after.going_on()
+    found = before.stays_open(len(going)) if going else None
+    if not found or [first for _, first in found] != [first for _, first in going]:
+        return None
+    return {new: old for (new, _), (old, _) in zip(going, found)}, behind
+
+
 def packets_of(own):
     """The packets of a stream's pages, whose numbers and flags are looked at."""
     packets, rest = [], b""
@@ -174,6 +253,8 @@ def links_in(data):
 class Archive:
     def __init__(self, program, folder, files):
         self.program, self.folder, self.files = program, folder, files
+        # How many times a file went on with the one before.
+        self.joined = 0
 
     def laters(self):
         return [file.begin for file in self.files[1:]] + [int(time.time() * 1000)]
@@ -188,7 +269,28 @@ class Archive:
         return subprocess.run(words, capture_output=True, timeout=60)
 
     def want(self, since, until):
-        return [link for file, when in zip(self.files, self.times()) for link in held(file, when, since, until)]
+        links, before, names = [], None, {}
+        for file, when in zip(self.files, self.times()):
+            found = held(file, when, since, until)
+            if not found:
+                continue
+            after = Chosen(file, when, since, until)
+            on = goes_on(before, after) if before else None
+            if on:
+                # Under which serials the streams are in the cut.
+                names = {new: names.get(old, old) for new, old in on[0].items()}
+                begun = {serial: len(packets) for serial, packets in file.commands[0][1]}
+                for serial, packets in found[0]:
+                    if serial in names:
+                        [own] = [stream for stream in links[-1] if stream[0] == names[serial]]
+                        own[1] += packets[begun[serial] :]
+                found = found[1:]
+                self.joined += 1
+            if found or not on:
+                names = {}
+            links += found
+            before = after
+        return links
 
     def compare(self, since, until):
         """Whether the cut between two times has the right links, and is told."""
@@ -227,6 +329,21 @@ def headers_of(rng, serial):
     return [b"head %d" % serial] + [rng.randbytes(rng.choice([3, 254, 255, 700])) for _ in range(rng.randrange(3))]
 
 
+def begun_again(rng, file, streams, serial):
+    """The streams of the next file's Begin: mostly those that are open, in order, and such as end at once."""
+    going = [headers for one, headers in streams if one in file.open_serials() or headers[0] == b"ends at once" and rng.random() < 0.7]
+    kind = rng.randrange(20)
+    if kind == 0:
+        going = [headers for _, headers in streams]
+    elif kind == 1:
+        rng.shuffle(going)
+    elif kind == 2:
+        going[0] = [b"another", *going[0][1:]]
+    elif kind == 3:
+        going.append([b"one more"])
+    return [(serial + at, headers) for at, headers in enumerate(going)]
+
+
 def recorded(rng, folder, count=None):
     """An archive of files of two seconds and some links; it is saved."""
     when, number, serial = START + rng.randrange(1000), 1, 100
@@ -236,7 +353,9 @@ def recorded(rng, folder, count=None):
         when += rng.choice([0, 0, 30, 200, 400, 1100, 1100, 12000 if rng.random() < 0.1 else 90])
         if when // 2000 != file.begin // 2000:
             # The next file, which goes on with the link if one is open.
-            goes_on = file.is_open() and rng.random() < 0.8
+            goes_on = file.is_open() and rng.random() < 0.9
+            serial += 10
+            again = begun_again(rng, file, streams, serial) if goes_on else []
             if file.is_open():
                 for one in file.open_serials():
                     file.end(when, one)
@@ -245,16 +364,20 @@ def recorded(rng, folder, count=None):
             file = File(number, when, goes_on)
             files.append(file)
             if goes_on:
-                streams = [(serial + at, headers) for at, (_, headers) in enumerate(streams)]
-                serial += 10
-                skeleton = None if skeleton is None else serial - 1
+                streams = again
+                skeleton = None if skeleton is None else serial + 9
                 file.begun(when, streams, skeleton)
+                file.end_those(when, rng)
                 continue
         if not file.is_open():
-            streams = [(serial + at, headers_of(rng, serial + at)) for at in range(rng.choice([1, 1, 2, 3]))]
             serial += 10
-            skeleton = serial - 1 if rng.random() < 0.3 else None
+            streams = [(serial + at, headers_of(rng, serial + at)) for at in range(rng.choice([1, 1, 2, 3]))]
+            # What an importer takes of a Skeleton of its input: it ends after the Begin.
+            if rng.random() < 0.2:
+                streams.insert(rng.randrange(len(streams) + 1), (serial + 8, [b"ends at once", b"bone"]))
+            skeleton = serial + 9 if rng.random() < 0.3 else None
             file.begun(when, streams, skeleton)
+            file.end_those(when, rng)
             continue
         open_serials = file.open_serials()
         if rng.random() < 0.08:
@@ -271,11 +394,11 @@ def recorded(rng, folder, count=None):
         for one in file.open_serials():
             file.end(when, one)
     file.line(when)
-    for file in files:
-        file.save(folder)
     # The newest may have what isn't committed yet.
     if rng.random() < 0.7:
-        files[-1].save(folder, b"\0" + rng.randbytes(rng.choice([0, 5, 300])))
+        files[-1].tail = b"\0" + rng.randbytes(rng.choice([0, 5, 300]))
+    for file in files:
+        file.save(folder)
     return files
 
 
@@ -324,7 +447,7 @@ def odd(program):
             archive = Archive(program, folder, files)
             file = rng.choice(files)
             path = f"{folder}/{file.name()}"
-            kind = rng.randrange(6)
+            kind = rng.randrange(7)
             if kind == 0:
                 # No times: the whole file has the time at which the next one was begun.
                 os.remove(path + ".times")
@@ -343,6 +466,10 @@ def odd(program):
                 # Gone.
                 os.remove(path + ".ogg")
                 files.remove(file)
+            elif kind == 6 and len(file.commands) > 1:
+                # Cut short: the file after it doesn't go on with it.
+                file.cut_short()
+                file.save(folder)
             elif kind == 4 and len(file.data) > 60:
                 # Damaged in a head: the file is left out.
                 at = rng.randrange(4)
@@ -359,10 +486,88 @@ def odd(program):
                 assert (ran.returncode, links_in(ran.stdout)) == (0 if want else 1, want), (kind, ran.stderr, links_in(ran.stdout), want)
 
 
+def meeting(program):
+    """The whole of two files, a link a line of which says what keeps them apart."""
+    one, two, three = (7, [b"first of one", b"more"]), (8, [b"first of two"]), (9, [b"first of three"])
+
+    def files(streams=(one, two), again=((17, one[1]), (18, two[1])), ends=None, skeleton=None, again_skeleton=None, goes_on=True, number=2):
+        old, new = File(1, START), File(number, START + 2000, goes_on)
+        old.begun(START, streams, skeleton)
+        old.put(START + 1200, [(serial, 960, b"packet %d" % serial) for serial, _ in streams])
+        for serial in ends if ends is not None else [serial for serial, _ in streams]:
+            old.end(START + 2000, serial)
+        old.line(START + 2000)
+        new.begun(START + 2000, again, again_skeleton)
+        new.put(START + 3300, [(serial, 1920, b"packet %d" % serial) for serial, _ in again])
+        new.line(START + 4000)
+        return [old, new]
+
+    def without_line(files, which):
+        files[which].lines = [(offset, when, None) for offset, when, _ in files[which].lines]
+        return files
+
+    def with_tail(files):
+        files[0].tail = b"\0"
+        return files
+
+    def short(files):
+        files[0].cut_short()
+        return files
+
+    def other_streams(files):
+        """A page after the end pages, of a link that begins and ends at once."""
+        files[0].begun(START + 2000, [three])
+        files[0].end(START + 2000, 9)
+        return files
+
+    def far_on(files):
+        """The numbers of the file before are nearly used up."""
+        files[0].streams[7][0] = 2**32 - 3
+        files[0].data, files[0].commands, files[0].lines, files[0].written = b"", [], [], None
+        files[0].data += page(2, 0, 7, 2**32 - 4, [len(one[1][0])], one[1][0])
+        files[0].join = (0, len(files[0].data))
+        files[0].note("begin", [[7, [one[1][0]]]], START)
+        files[0].end(START + 2000, 7)
+        return files
+
+    cases = {
+        "they go on": (files(), 1),
+        "in order": (files(again=((18, two[1]), (17, one[1]))), 2),
+        "a Skeleton in both": (files(skeleton=70, again_skeleton=71), 1),
+        "a Skeleton in the second alone": (files(again_skeleton=71), 1),
+        "a Skeleton in the first alone": (files(skeleton=70), 1),
+        "one stream less": (files(again=((17, one[1]),)), 2),
+        "one stream more": (files(again=((17, one[1]), (18, two[1]), (19, three[1]))), 2),
+        "another first packet": (files(again=((17, one[1]), (18, [b"other"]))), 2),
+        "ended in another order": (files(ends=[8, 7]), 2),
+        "no mark in the name": (files(goes_on=False), 2),
+        "a number between": (files(number=3), 2),
+        "cut short": (short(files()), 2),
+        "a byte after the pages": (with_tail(files()), 2),
+        "a link after the pages": (other_streams(files()), 3),
+        "no line tells of the first Begin": (without_line(files(), 0), 1),
+        "no line tells of the second Begin": (without_line(files(), 1), 2),
+        "one stream": (files(streams=(one,), again=((17, one[1]),)), 1),
+        "numbers are used up": (far_on(files(streams=(one,), again=((17, one[1]),))), 2),
+    }
+    for name, (made, count) in cases.items():
+        with tempfile.TemporaryDirectory() as folder:
+            for file in made:
+                file.save(folder)
+            archive = Archive(program, folder, made)
+            ran = archive.run(None, None, "--raw")
+            links = links_of(pages_of(ran.stdout))
+            assert len(links) == count, (name, count, len(links), ran.stderr)
+            if name != "numbers are used up":
+                assert links_in(ran.stdout) == archive.want(None, None), (name, links_in(ran.stdout), archive.want(None, None))
+
+
 def main():
     try:
         if sys.argv[1] == "cuts":
             cuts(sys.argv[2], int(sys.argv[3]))
+        elif sys.argv[1] == "meeting":
+            meeting(sys.argv[2])
         elif sys.argv[1] == "parts":
             parts(sys.argv[2], int(sys.argv[3]))
         else:

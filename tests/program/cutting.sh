@@ -8,6 +8,7 @@ cutting() {
     timeout 600 python3 "$here/cutting.py" "$files" "$program" "$@"
 }
 
+check "files that go on with one another, and those that don't" cutting meeting
 check "2000 random pairs of times" cutting cuts 2000
 check "200 random divisions of time" cutting parts 200
 check "times that are missing or wrong, files that are damaged or gone" cutting odd

@@ -56,11 +56,11 @@ streams_taken [] start links h = ap (λ (l : List (List Page)). (chain_state_of 
 streams_taken (page ∷ pages) start links h =
     ap (λ s. streams_after s pages) (sym (step start page h.0)) ∙ streams_taken pages (links_with start page) links h.1
 
-after_both : (a b : List Page) (s : List StreamState) → streams_after s (a ++ b) ≡ streams_after (streams_after s a) b
+pub after_both : (a b : List Page) (s : List StreamState) → streams_after s (a ++ b) ≡ streams_after (streams_after s a) b
 after_both [] b s = refl
 after_both (page ∷ a) b s = after_both a b (streams_by (said_of page) s)
 
-streams_of : (bytes : List ℕ) (links : List (List Page)) → AreLinks bytes links → streams_after [] (flattened links) ≡ (chain_state_of links).streams
+pub streams_of : (bytes : List ℕ) (links : List (List Page)) → AreLinks bytes links → streams_after [] (flattened links) ≡ (chain_state_of links).streams
 streams_of bytes links l = streams_taken (flattened links) [] links (only bytes links l)
 
 -- ---- a link begins with a first page

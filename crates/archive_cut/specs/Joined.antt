@@ -1,5 +1,5 @@
 -- Links of two files as one: what begins a file goes on where the file before stopped. Ours.
-use Rattle.std.specs.Prelude.{◌≡◌, ℕ, ◌+◌, ◌-◌, Bool, true, false, not, ◌||◌, nat_eq, if◌then◌else◌, ◌≤◌, List, [], ◌∷◌, ◌++◌, length, map, drop, ⊤}
+use Rattle.std.specs.Prelude.{◌≡◌, ℕ, ◌+◌, ◌-◌, Bool, true, false, not, ◌||◌, ◌&&◌, nat_eq, if◌then◌else◌, ◌≤◌, List, [], ◌∷◌, ◌++◌, length, map, drop, ⊤}
 use Rattle.std.specs.List.{AllByRecursion, filter, fold}
 use Rattle.ogg_page.specs.Page.{Page, IsPage}
 use Rattle.ogg_page.specs.LogicalStream.{number_behind}
@@ -18,17 +18,19 @@ abbrev pub name_in : List (ℕ × ℕ) → ℕ → ℕ
 name_in [] serial = serial
 name_in (pair ∷ names) serial = if nat_eq pair.0 serial then pair.1 else name_in names serial
 
--- Each stream of the second link goes on with a stream of the first that is open; no two go on with one, and each that
--- is open goes on. No packet is unfinished, and no stream of the second had ended when it began.
+-- it is a stream of these pages that hasn't ended
+abbrev pub IsOpen : List Page → ℕ → Type 0
+IsOpen pages serial = (has_stream pages serial ≡ true) × (has_ended pages serial ≡ false)
+
+-- Each stream of the second link that hadn't ended when it began goes on with a stream of the first that is open; no two
+-- go on with one, and each that is open goes on. Streams of the second that had ended, as a Skeleton's, go on with none.
+-- No packet is unfinished.
 pub record GoesOn (first begin : List Page) (names : List (ℕ × ℕ)) : Type 0 where
-  pub with_open : (serial : ℕ) → has_stream begin serial ≡ true
-      → (has_stream first (name_in names serial) ≡ true) × (has_ended first (name_in names serial) ≡ false)
-  pub apart : (one other : ℕ) → has_stream begin one ≡ true → has_stream begin other ≡ true → name_in names one ≡ name_in names other → one ≡ other
-  pub each : (serial : ℕ) → has_stream first serial ≡ true → has_ended first serial ≡ false
-      → (new : ℕ) × (has_stream begin new ≡ true) × (name_in names new ≡ serial)
+  pub with_open : (serial : ℕ) → IsOpen begin serial → IsOpen first (name_in names serial)
+  pub apart : (one other : ℕ) → IsOpen begin one → IsOpen begin other → name_in names one ≡ name_in names other → one ≡ other
+  pub each : (serial : ℕ) → IsOpen first serial → (new : ℕ) × IsOpen begin new × (name_in names new ≡ serial)
   pub first_whole : AreWhole first
   pub begin_whole : AreWhole begin
-  pub begin_open : (serial : ℕ) → has_stream begin serial ≡ true → has_ended begin serial ≡ false
 
 -- ---- pages
 -- A page of the second link has its stream's serial in the first, and goes on in its numbers: the pages of the Begin
@@ -45,22 +47,26 @@ abbrev pub joined_link : List Page → List Page → List (ℕ × ℕ) → List 
 joined_link first begin names later = first ++ map (continued first begin names) later
 
 -- ---- what it holds
+-- a stream of the second link, which began as this, goes on with the stream that has this serial
+abbrev pub is_on : List (ℕ × ℕ) → Stream → ℕ → Bool
+is_on names begun serial = not begun.ended && nat_eq (name_in names begun.serial) serial
+
 -- the packets that the second link has after its Begin, in the stream that goes on with this one
 abbrev pub since_in : List (ℕ × ℕ) → List Stream → List Stream → ℕ → List (List ℕ)
 since_in names (begun ∷ more_begun) (now ∷ more) serial =
-    if nat_eq (name_in names now.serial) serial then drop (length begun.packets) now.packets else since_in names more_begun more serial
+    if is_on names begun serial then drop (length begun.packets) now.packets else since_in names more_begun more serial
 since_in names begun now serial = []
 
-abbrev pub ends_in : List (ℕ × ℕ) → List Stream → ℕ → Bool
-ends_in names [] serial = false
-ends_in names (now ∷ more) serial = if nat_eq (name_in names now.serial) serial then now.ended else ends_in names more serial
+abbrev pub ends_in : List (ℕ × ℕ) → List Stream → List Stream → ℕ → Bool
+ends_in names (begun ∷ more_begun) (now ∷ more) serial = if is_on names begun serial then now.ended else ends_in names more_begun more serial
+ends_in names begun now serial = false
 
 abbrev pub joined_stream : List (ℕ × ℕ) → List Stream → List Stream → Stream → Stream
 joined_stream names begun now stream =
     record {
       serial = stream.serial;
       packets = stream.packets ++ since_in names begun now stream.serial;
-      ended = stream.ended || ends_in names now stream.serial;
+      ended = stream.ended || ends_in names begun now stream.serial;
     }
 
 abbrev pub joined_streams : List (ℕ × ℕ) → List Stream → List Stream → List Stream → List Stream
@@ -75,16 +81,15 @@ abbrev pub pairs_of : List ℕ → List ℕ → List (ℕ × ℕ)
 pairs_of (new ∷ more_new) (old ∷ more_old) = (new, old) ∷ pairs_of more_new more_old
 pairs_of new old = []
 
--- the streams of the Begin go on with those that are open, in order
+-- the streams of the Begin that haven't ended go on with those that are open, in order
 abbrev pub names_in_order : List Page → List Page → List (ℕ × ℕ)
-names_in_order first begin = pairs_of (serials_of begin) (open_in first)
+names_in_order first begin = pairs_of (open_in begin) (open_in first)
 
--- The Begin has as many streams as are open. No packet is unfinished, and none of its streams has ended.
+-- As many streams of the Begin haven't ended as are open. No packet is unfinished.
 pub record CanGoOn (first begin : List Page) : Type 0 where
-  pub as_many : length (serials_of begin) ≡ length (open_in first)
+  pub as_many : length (open_in begin) ≡ length (open_in first)
   pub first_whole : AreWhole first
   pub begin_whole : AreWhole begin
-  pub begin_open : (serial : ℕ) → has_stream begin serial ≡ true → has_ended begin serial ≡ false
 
 -- ---- any number of files
 -- a file that goes on with the last link: the pages of its Begin, the further pages of that link, the links after it,

@@ -12,3 +12,4 @@ pub mod Heads
 pub mod Starting
 pub mod Placing
 pub mod Ways
+pub mod Continuing

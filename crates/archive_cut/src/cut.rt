@@ -6,6 +6,7 @@ ghost use Rattle.ogg_page.specs.Window.{KeepsSource};
 ghost use Rattle.link_chain.specs.ChainState.{chain_state_of};
 ghost use Rattle.link_chain.specs.Links.{AreLinks};
 ghost use Rattle.serve_live.specs.Hearing.{IsHearing};
+ghost use Rattle.serve_live.specs.Joined.{IsNew};
 ghost use Rattle.serve_live.specs.Listening.{HasFailed};
 ghost use Rattle.serve_live.specs.Live.{Moment};
 ghost use Rattle.serve_live.specs.Places.{IsPlaceIn};
@@ -213,6 +214,46 @@ impl Cut {
         match join {
             Some(link) => joined(alloc, source, link, start, end),
             None => waiting(alloc, source, start, end),
+        }
+    }
+
+    /// The cut of a file from a place where no link is open up to another, without the pages that end what is open there.
+    pub fn open_from(alloc: Global, start: u64, end: u64) -> Cut
+        ensures listener { IsNew start 0 start [] result.listener }
+        ensures rest { (result.end ≡ end) × (result.text ≡ []) }
+    {
+        Cut {
+            listener: Listener::wait(alloc, start),
+            end,
+            text: Vec::new(alloc),
+            sent: 0,
+        }
+    }
+
+    /// The pages that end what is open where the cut ends, as far as they aren't given.
+    pub fn ends(&self) -> &[u8]
+        ensures { result.now ≡ self.now.text }
+    {
+        let (_, text) = self.text.as_slice().split_at(self.sent);
+        text
+    }
+
+    /// The cut without the pages that end what is open where it ends.
+    pub fn left_open(self) -> Cut
+        ensures { result ≡ record self { text = [] } }
+    {
+        let Cut {
+            listener,
+            end,
+            mut text,
+            ..
+        } = self;
+        text.clear();
+        Cut {
+            listener,
+            end,
+            text,
+            sent: 0,
         }
     }
 

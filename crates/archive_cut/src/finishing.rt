@@ -164,12 +164,11 @@ impl StreamEnds {
         }
     }
 
-    /// Notes a page more.
-    pub fn note(&mut self, page: &[u8]) -> Result<(), Memory> {
+    /// Notes a page more, of this size. Its head is enough.
+    pub fn note(&mut self, page: &[u8], size: u64) -> Result<(), Memory> {
         let Ok(header) = read_header(page) else {
             return Ok(());
         };
-        let size = page.len() as u64;
         self.bytes = self.bytes.saturating_add(size);
         if is_first(&header) {
             if !is_open(self.streams.as_slice(), self.links) {

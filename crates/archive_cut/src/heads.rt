@@ -2,7 +2,7 @@
 ghost use Rattle.std.specs.Prelude.{◌≡◌, ◌≢◌, ◌≤◌, ◌<◌, ◌+◌, ◌^◌, ℕ, List, Err, Some, length, drop, IfOk, IsErr, OnOk, OnErr};
 ghost use Rattle.ogg_page.specs.Head.{Stands};
 ghost use Rattle.ogg_page.specs.Lacing.{ends_open};
-ghost use Rattle.ogg_page.specs.Page.{Page, bytes_of_pages, page_size};
+ghost use Rattle.ogg_page.specs.Page.{Page, IsPage, bytes_of_pages, page_bytes, page_size};
 ghost use Rattle.ogg_page.specs.Window.{KeepsSource};
 ghost use Rattle.link_chain.specs.Progress.{change_at};
 ghost use Rattle.page_heads.specs.Fronts.{IsFrontOf};
@@ -11,7 +11,7 @@ ghost use Rattle.archive_cut.specs.Heads.{StandUpTo, begun_by, continued_by, ent
 
 use crate::fault::CutFault;
 use link_chain::{POSITIONS, StreamState, is_open};
-use ogg_page::{FIXED_SIZE, FULL_VALUE, PageSource, SourceFault, read_header};
+use ogg_page::{FIRST, FIXED_SIZE, FULL_VALUE, LAST, PageSource, SourceFault, read_header};
 use page_heads::{PageFront, read_front};
 
 /// What a page's head says of its stream.
@@ -51,6 +51,28 @@ fn said_by(front: &PageFront) -> Option<Said>
                 ends: front.facts.ends,
                 serial: front.facts.serial,
                 number: front.facts.number,
+                position: header.head.position,
+                is_empty: header.values == 0,
+                goes_on: ends_open(lacing),
+            })
+        }
+        Err(_) => None,
+    }
+}
+
+/// What the head of a page says, which is whole.
+pub fn said_of(page: &[u8]) -> Option<Said>
+    ensures { (whole : Page) → IsPage whole → page.now ≡ page_bytes whole → result ≡ Some (said_of whole) }
+{
+    match read_header(page) {
+        Ok(header) => {
+            let (head, _) = page.split_at(FIXED_SIZE + header.values);
+            let (_, lacing) = head.split_at(FIXED_SIZE);
+            Some(Said {
+                begins: header.head.flags / FIRST % 2 == 1,
+                ends: header.head.flags / LAST % 2 == 1,
+                serial: header.head.serial,
+                number: header.head.sequence,
                 position: header.head.position,
                 is_empty: header.values == 0,
                 goes_on: ends_open(lacing),
@@ -128,7 +150,7 @@ fn begin(said: &Said, streams: &mut Vec<StreamState>) -> Result<(), CutFault>
 }
 
 /// The streams of the last link after a page.
-fn take_page(said: &Said, streams: &mut Vec<StreamState>) -> Result<(), CutFault>
+pub fn take_page(said: &Said, streams: &mut Vec<StreamState>) -> Result<(), CutFault>
     ensures streams { OnOk result (streams.new.items ≡ streams_by said.now streams.old.items) }
     ensures fault { OnErr result (result ≡ Err CutFault.Memory) }
 {
@@ -140,7 +162,7 @@ fn take_page(said: &Said, streams: &mut Vec<StreamState>) -> Result<(), CutFault
 }
 
 /// What the head of the page at the place says, and the size of the page.
-fn read_said<S: PageSource>(source: &mut S, place: u64) -> Result<(Said, u64), SourceFault>
+pub fn read_said<S: PageSource>(source: &mut S, place: u64) -> Result<(Said, u64), SourceFault>
     ensures read { (page : Page) → S.is_honest source.old → Stands (drop place (S.bytes source.old)) page
         → IfOk result (λ (said, size). (said ≡ said_of page) × (size ≡ page_size page)) }
     ensures cause { (page : Page) → S.is_honest source.old → Stands (drop place (S.bytes source.old)) page → IsErr result

@@ -19,9 +19,11 @@ ghost use Rattle.serve_live.specs.Renumbering.{back_of};
 ghost use Rattle.serve_live.specs.Live.{IsMomentOf, Moment};
 ghost use Rattle.archive_cut.specs.Cutting.{CutState, GivesOf, IsCutting};
 ghost use Rattle.archive_cut.specs.Files.{AreCuts, CutsHold, HasEnded, Part, bytes_of_cuts, recording_of_cuts};
+ghost use Rattle.archive_cut.specs.Continuing.{named_page, names_on, open_states, open_streams};
 ghost use Rattle.archive_cut.specs.Cut.{HasNumbers, ended_bytes};
+ghost use Rattle.archive_cut.specs.Heads.{streams_after};
 ghost use Rattle.archive_cut.specs.Finished.{EndWell, finished_bytes};
-ghost use Rattle.archive_cut.specs.Joined.{AreNextFiles, CanGoOn, FileRecording, GoesOn, HoldsFile, NextFile, continued, joined_link, joined_streams, names_in_order, with_files, with_recordings};
+ghost use Rattle.archive_cut.specs.Joined.{AreNextFiles, CanGoOn, FileRecording, GoesOn, HoldsFile, NextFile, continued, joined_link, joined_streams, names_in_order, open_in, with_files, with_recordings};
 ghost use Rattle.archive_cut.specs.Packets.{IsCutBetween, IsCutMidway, all_ended, begun_by, cut_recording, ended_with, packets_for};
 ghost use Rattle.archive_cut.specs.Parts.{IsCutOf, all_of, cut_at, joined_cut, joined_cuts, nothing, place_after, start_of};
 ghost use Rattle.archive_times.specs.Asked.{RiseFrom, offset_of};
@@ -180,9 +182,17 @@ pub fn links_go_on()
         → HoldsLinks (before ++ first ∷ []) (old ++ one ∷ []) → length old ≡ length before
         → HoldsLink begin begun → HoldsLinks ((begin ++ later) ∷ further) (now ∷ more)
         → HoldsLinks (before ++ joined_link first begin names later ∷ further) (old ++ joined_streams names begun now one ∷ more) }
-    // The streams of a Begin may go on with those that are open, in order, if they are as many.
+    // The streams of a Begin that haven't ended may go on with those that are open, in order, if they are as many.
     ensures order { (first begin : List Page) → IsLink first → IsLink begin → CanGoOn first begin
         → GoesOn first begin (names_in_order first begin) }
+    // What the heads of a link's pages leave of its streams is what `names_on` is given, and then `named_page` gives each
+    // page of such a stream as it is in the joined link.
+    ensures states { (pages : List Page) → AllByRecursion IsPage pages → IsLink pages
+        → open_streams (streams_after [] pages) ≡ open_states pages }
+    ensures names { (first begin : List Page) (page : Page) → length (open_in begin) ≡ length (open_in first)
+        → list_any (nat_eq page.serial) (open_in begin) ≡ true
+        → named_page (names_on (open_states begin) (open_states first)) page
+        ≡ continued first begin (names_in_order first begin) page }
 {}
 
 /// Any number of files, each of which goes on with the last link of what came before, are together a chain of links,

@@ -5,6 +5,7 @@
 //! say what it holds, and that cuts side by side hold each packet once.
 #![tactic(auto)]
 
+mod continuing;
 mod cut;
 mod endings;
 mod fault;
@@ -15,14 +16,17 @@ mod paging;
 mod placing;
 mod retelling;
 
+pub use continuing::{Meeting, Named, meeting_of, name_page, names_on, open_streams};
 pub use cut::Cut;
 pub use fault::CutFault;
 pub use finishing::{Mark, StreamEnds, Way, mark_last};
+pub use heads::{Said, said_of, take_page, take_pages};
 pub use laws::{
     commands_are_cut, cuts_add_up, cuts_are_a_chain, cuts_are_given, cuts_can_be_finished,
     cuts_hold_what_was_put, cuts_of_times_add_up, files_go_on, files_stand_in_order, links_go_on,
     retelling_is_exact,
 };
+pub use page_heads::{LONGEST_HEAD, read_front};
 pub use paging::Paged;
-pub use placing::{Recorded, Stand, is_before, stood_at, time_of};
-pub use retelling::retold_head;
+pub use placing::{Recorded, Stand, first_link, is_before, last_link, stood_at, time_of};
+pub use retelling::retell;

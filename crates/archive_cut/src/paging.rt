@@ -105,6 +105,16 @@ impl Paged {
         between(self.held(), 0, size)
     }
 
+    /// The same, to be changed.
+    pub fn page_mut(&mut self, size: usize) -> &mut [u8] {
+        let to = self.to.min(self.room.len());
+        let (front, _) = self.room.as_mut_slice().split_at_mut(to);
+        let (_, held) = front.split_at_mut(self.from.min(to));
+        let size = size.min(held.len());
+        let (page, _) = held.split_at_mut(size);
+        page
+    }
+
     /// Passes the next page, of this size.
     pub fn pass(&mut self, size: usize) {
         self.from = self.from.saturating_add(size).min(self.to);

@@ -116,6 +116,36 @@ fn time_from(times: &[u8], committed: u64, offset: u64) -> Option<u64> {
     None
 }
 
+/// The link that begins where the file does, by the lines at the front of the text. There is none if they don't speak of
+/// it.
+pub fn first_link(times: &[u8], committed: u64) -> Option<Join> {
+    let mut last = None;
+    let mut rest = times;
+    while let Some((line, after)) = next_line(rest, last, committed) {
+        if let Some(link) = line.join {
+            return if link.begin == 0 { Some(link) } else { None };
+        }
+        last = Some(line);
+        rest = after;
+    }
+    None
+}
+
+/// The last link of which the lines at the front of the text speak.
+pub fn last_link(times: &[u8], committed: u64) -> Option<Join> {
+    let mut found = None;
+    let mut last = None;
+    let mut rest = times;
+    while let Some((line, after)) = next_line(rest, last, committed) {
+        if line.join.is_some() {
+            found = line.join;
+        }
+        last = Some(line);
+        rest = after;
+    }
+    found
+}
+
 /// When the first `offset` bytes of the file were committed.
 pub fn time_of(times: &[u8], file: Recorded, offset: u64) -> u64 {
     match time_from(times, file.committed, offset) {

@@ -1,13 +1,10 @@
-//! The head of a page under another serial, with another number.
+//! A page under another serial, with another number.
 ghost use Rattle.std.specs.Prelude.{◌≡◌, ◌≤◌, ◌++◌, length, take, drop};
 ghost use Rattle.byteorder.specs.Endian.{little_bytes};
-ghost use Rattle.ogg_page.specs.Head.{head_size};
-ghost use Rattle.ogg_page.specs.Page.{Page, page_bytes};
-ghost use Rattle.page_heads.specs.Fronts.{IsFrontOf};
+ghost use Rattle.ogg_page.specs.Page.{Page, IsPage, page_bytes};
 ghost use Rattle.archive_cut.specs.Retold.{names_change, names_of, retold};
 
-use ogg_page::{SEQUENCE_END, checksum_on};
-use page_heads::{LONGEST_HEAD, PageFront};
+use ogg_page::{SEQUENCE_END, checksum_on, read_header};
 use serve_live::with_zeros;
 
 /// What the checksum of a page of this size changes by under another serial and with another number. No byte of the
@@ -46,16 +43,20 @@ fn put_names(header: &mut [u8], serial: u32, number: u32, checksum: u32)
     own.copy_from_slice(&[a0, a1, a2, a3, b0, b1, b2, b3, c0, c1, c2, c3]);
 }
 
-/// The head of the page under this serial and with this number, with the checksum that the page has then. Its lacing
-/// values and its body stay, and no byte of them is read for it.
-pub fn retold_head(front: PageFront, serial: u32, number: u32) -> [u8; LONGEST_HEAD]
-    requires { (27 ≤ front.facts.len) × (front.facts.len ≤ front.facts.size) × (front.facts.len ≤ 282) }
-    ensures { (page : Page) → IsFrontOf page front
-        → take (head_size page) result ≡ take (head_size page) (page_bytes (retold serial number page)) }
+/// Puts a serial and a number into the bytes of a page, with the checksum that the page has then. No byte of its lacing
+/// values or its body is read for it.
+pub fn retell(page: &mut [u8], serial: u32, number: u32)
+    ensures { (whole : Page) → IsPage whole → page.old ≡ page_bytes whole → page.new ≡ page_bytes (retold serial number whole) }
 {
-    let facts = front.facts;
-    let mut bytes = front.bytes;
-    let change = names_change(facts.serial, facts.number, serial, number, facts.size);
-    put_names(&mut bytes, serial, number, facts.checksum ^ change);
-    bytes
+    let size = page.len() as u64;
+    if let Ok(header) = read_header(page) {
+        let change = names_change(
+            header.head.serial,
+            header.head.sequence,
+            serial,
+            number,
+            size,
+        );
+        put_names(page, serial, number, header.checksum ^ change);
+    }
 }

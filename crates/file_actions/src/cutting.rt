@@ -2,10 +2,11 @@
 
 use crate::cut_lines::{Told, nothing_line, put_cut};
 use crate::files::{flushed, output};
-use crate::serials::{Serials, rename};
+use crate::serials::{NoPlace, Serials};
 use crate::telling::{now, or_memory};
 use archive_cut::{
-    Cut, CutFault, Paged, Recorded, Stand, StreamEnds, Way, is_before, mark_last, stood_at, time_of,
+    Cut, CutFault, LONGEST_HEAD, Meeting, Paged, Recorded, Stand, StreamEnds, Way, first_link,
+    is_before, last_link, mark_last, meeting_of, read_front, stood_at, take_pages, time_of,
 };
 use archive_names::Name;
 use archive_reading::{
@@ -15,7 +16,7 @@ use archive_reading::{
 use archive_times::{Join, Line, last_line, next_line};
 use disk_model::FileDisk;
 use fault_lines::Fault;
-use ogg_page::{PageBuffer, PageSource, read_header, read_page, write_whole};
+use ogg_page::{FIXED_SIZE, PageBuffer, PageSource, write_whole};
 use std::alloc::{AllocError as Memory, Global};
 use std::io::Write;
 
@@ -44,12 +45,32 @@ struct Part {
     start: u64,
     join: Option<Join>,
     end: u64,
+    // where the pages begin that go on with the part before, if it goes on
+    begun: Option<u64>,
+    // the next part goes on with what is open at the end
+    stays_open: bool,
+}
+
+/// A part of which the pages aren't counted yet: the next one may go on with it.
+#[derive(Drop)]
+struct Waits {
+    part: Part,
+    cut: Cut,
+    source: Prefix<FileDisk>,
+    // where the file's last link began, if all of the file up to its end is in the part, and where the Begin of its first
+    // link ends, if the part begins with it
+    last: Option<Join>,
+    first: Option<u64>,
+    // no number of the link that is open at the end is higher
+    number: u64,
 }
 
 /// What is found before anything is written.
 #[derive(Drop)]
 struct Finds {
     parts: Vec<Part>,
+    waits: Option<Waits>,
+    serials: Serials,
     ends: StreamEnds,
     // the time of the first commands and that of the last
     from: u64,
@@ -77,6 +98,8 @@ struct Seen {
     times: Vec<u8>,
     line: Option<Line>,
     facts: Recorded,
+    // how many bytes the file has
+    length: u64,
     source: Prefix<FileDisk>,
 }
 
@@ -133,6 +156,8 @@ impl<'a> Asked<'a> {
         };
         let mut finds = Finds {
             parts: Vec::new(self.rt.alloc()),
+            waits: None,
+            serials: Serials::new(self.rt.alloc()),
             ends: StreamEnds::new(self.rt.alloc()),
             from: 0,
             to: 0,
@@ -149,6 +174,7 @@ impl<'a> Asked<'a> {
             self.find_in(file, others.first(), &mut finds)?;
             rest = others;
         }
+        self.count_waiting(&mut finds)?;
         self.end_air(&mut finds)?;
         Ok(finds)
     }
@@ -217,6 +243,7 @@ impl<'a> Asked<'a> {
                     later,
                     committed: source.end(),
                 },
+                length,
                 source,
             })),
             Err(ReadingFault::Memory) => Err(Fault::Memory),
@@ -249,38 +276,177 @@ impl<'a> Asked<'a> {
         if stand.offset >= end {
             return Ok(());
         }
+        let times = seen.times.as_slice();
+        let from = time_of(times, seen.facts, stand.offset.saturating_add(1));
+        let to = time_of(times, seen.facts, end);
+        let first = if stand.offset == 0 {
+            first_link(times, end).map(|link| link.begun)
+        } else {
+            None
+        };
+        let last = if end == seen.length {
+            // If no line tells of a link, it may be one that began where the file does.
+            last_link(times, end).or(Some(Join { begin: 0, begun: 0 }))
+        } else {
+            None
+        };
         let part = Part {
             name: seen.name,
             line: seen.line,
             start: stand.offset,
             join: stand.join,
             end,
+            begun: None,
+            stays_open: false,
         };
-        let times = seen.times.as_slice();
-        let from = time_of(times, seen.facts, part.start.saturating_add(1));
-        let to = time_of(times, seen.facts, end);
         let mut source = seen.source;
-        let paged = match self.paged(&mut source, part) {
-            Ok(paged) => paged,
-            Err(Fault::Memory) => return Err(Fault::Memory),
+        match self.cut_of(&mut source, part) {
+            Ok(cut) => {
+                let waits = Waits {
+                    part,
+                    cut,
+                    source,
+                    last,
+                    first,
+                    number: 0,
+                };
+                self.add(waits, from, to, finds)
+            }
+            Err(Fault::Memory) => Err(Fault::Memory),
             // The pages are damaged.
-            Err(_) => return Ok(()),
-        };
-        count(paged, &mut source, &mut finds.ends)?;
-        if finds.parts.is_empty() {
+            Err(_) => Ok(()),
+        }
+    }
+
+    /// Adds a part.
+    fn add(&self, waits: Waits, from: u64, to: u64, finds: &mut Finds) -> Result<(), Fault> {
+        let mut waits = waits;
+        if let Some(before) = finds.waits.take() {
+            let (before, after) = self.meet(before, waits)?;
+            finds.waits = Some(before);
+            self.count_waiting(finds)?;
+            waits = after;
+        } else {
             finds.from = from;
         }
         finds.to = to;
+        finds.waits = Some(waits);
+        Ok(())
+    }
+
+    /// Two parts, the second of which goes on with the first, if they meet.
+    fn meet(&self, before: Waits, after: Waits) -> Result<(Waits, Waits), Fault> {
+        let mut before = before;
+        let mut after = after;
+        if let Some(meeting) = self.meeting(&mut before, &mut after)? {
+            before.part.end = meeting.end;
+            before.part.stays_open = true;
+            after.part.begun = Some(meeting.begun);
+            after.number = before.number.saturating_add(meeting.number);
+        }
+        Ok((before, after))
+    }
+
+    /// Where two parts meet, if the second goes on with the first.
+    fn meeting(&self, before: &mut Waits, after: &mut Waits) -> Result<Option<Meeting>, Fault> {
+        let (Some(last), Some(begun)) = (before.last, after.first) else {
+            return Ok(None);
+        };
+        if !goes_on_with(before.part.name, after.part.name) {
+            return Ok(None);
+        }
+        let ends = before.part.end;
+        let found = meeting_of(
+            self.rt.alloc(),
+            &mut before.source,
+            last,
+            ends,
+            &mut after.source,
+            begun,
+            after.part.end,
+        );
+        match found {
+            Ok(Some(found)) if is_within(found, before, after) => Ok(Some(found)),
+            Err(CutFault::Memory) => Err(Fault::Memory),
+            _ => Ok(None),
+        }
+    }
+
+    /// Counts the pages of the part that waits.
+    fn count_waiting(&self, finds: &mut Finds) -> Result<(), Fault> {
+        let Some(waits) = finds.waits.take() else {
+            return Ok(());
+        };
+        let Waits {
+            part,
+            cut,
+            source,
+            ..
+        } = waits;
+        if part.join.is_some() {
+            let mut pages = self.pages(source, part, &mut finds.serials)?;
+            count(&mut pages, &mut finds.serials, &mut finds.ends)?;
+        } else {
+            let mut source = source;
+            self.go_on(&mut source, part, &mut finds.serials)?;
+            // The pages are those of the file: their heads are enough.
+            count_heads(&mut source, part, &mut finds.serials, &mut finds.ends)?;
+            if !part.stays_open {
+                count_ends(cut.ends(), &mut finds.serials, &mut finds.ends)?;
+            }
+        }
         push(&mut finds.parts, part)
     }
 
-    /// The cut of a part, page by page.
-    fn paged(&self, source: &mut Prefix<FileDisk>, part: Part) -> Result<Paged, Fault> {
+    /// The cut of a part.
+    fn cut_of(&self, source: &mut Prefix<FileDisk>, part: Part) -> Result<Cut, Fault> {
+        if part.stays_open && part.join.is_none() {
+            return Ok(Cut::open_from(self.rt.alloc(), part.start, part.end));
+        }
         match Cut::between(self.rt.alloc(), source, part.start, part.join, part.end) {
-            Ok(cut) => or_memory(Paged::new(self.rt.alloc(), cut)),
+            Ok(cut) => if part.stays_open {
+                Ok(cut.left_open())
+            } else {
+                Ok(cut)
+            },
             Err(CutFault::Memory) => Err(Fault::Memory),
             Err(_) => Err(Fault::File),
         }
+    }
+
+    /// A part that goes on with the one before has the serials and numbers of what is open.
+    fn go_on(
+        &self,
+        source: &mut Prefix<FileDisk>,
+        part: Part,
+        serials: &mut Serials,
+    ) -> Result<(), Fault> {
+        let Some(begun) = part.begun else {
+            return Ok(());
+        };
+        let mut streams = Vec::new(self.rt.alloc());
+        match take_pages(source, 0, begun, &mut streams) {
+            Ok(()) => or_memory(serials.go_on(streams.as_slice())),
+            Err(CutFault::Memory) => Err(Fault::Memory),
+            Err(_) => Err(Fault::File),
+        }
+    }
+
+    /// The pages of a part, as they are in the cut after those of the parts before.
+    fn pages(
+        &self,
+        source: Prefix<FileDisk>,
+        part: Part,
+        serials: &mut Serials,
+    ) -> Result<PartPages, Fault> {
+        let mut source = source;
+        let cut = self.cut_of(&mut source, part)?;
+        self.go_on(&mut source, part, serials)?;
+        Ok(PartPages {
+            paged: or_memory(Paged::new(self.rt.alloc(), cut))?,
+            source,
+            left_out: part.begun.unwrap_or(0),
+        })
     }
 
     /// Notes when links were open, by the lines of the file.
@@ -370,19 +536,20 @@ impl<'a> Asked<'a> {
     /// Writes all parts.
     fn write<W: Write>(&self, finds: &Finds, raw: bool, out: &mut W) -> Result<(), Fault> {
         let mut passed = StreamEnds::new(self.rt.alloc());
-        let mut pages = or_memory(Pages::new(self.rt.alloc()))?;
+        let mut serials = Serials::new(self.rt.alloc());
+        let mut marked = or_memory(PageBuffer::new(self.rt.alloc()))?;
         for part in finds.parts.as_slice() {
-            let mut source = self.open_again(*part)?;
-            let mut paged = self.paged(&mut source, *part)?;
+            let source = self.open_again(*part)?;
+            let mut pages = self.pages(source, *part, &mut serials)?;
             if raw {
-                write_raw(&mut paged, &mut source, &mut pages, out)?;
+                write_raw(&mut pages, &mut serials, out)?;
             } else {
                 write_finished(
-                    &mut paged,
-                    &mut source,
+                    &mut pages,
+                    &mut serials,
                     &finds.ends,
                     &mut passed,
-                    &mut pages,
+                    &mut marked,
                     out,
                 )?;
             }
@@ -404,38 +571,122 @@ impl<'a> Asked<'a> {
     }
 }
 
-/// Counts the pages of a cut.
-fn count(paged: Paged, source: &mut Prefix<FileDisk>, ends: &mut StreamEnds) -> Result<(), Fault> {
-    let mut paged = paged;
+/// Whether the part before has pages up to the meeting, and no number that follows can be too high.
+fn is_within(meeting: Meeting, before: &Waits, after: &Waits) -> bool {
+    let pages = after.part.end.saturating_sub(meeting.begun) / FIXED_SIZE as u64;
+    let number = before.number.saturating_add(meeting.number);
+    before.part.start <= meeting.end && number.saturating_add(pages) <= u64::from(u32::MAX)
+}
+
+/// The pages of a part, as they are in the cut.
+#[derive(Drop)]
+struct PartPages {
+    paged: Paged,
+    source: Prefix<FileDisk>,
+    // how many bytes of its first pages are left out
+    left_out: u64,
+}
+
+impl PartPages {
+    /// The size of the next page, or 0 at the end.
+    fn next(&mut self, serials: &mut Serials) -> Result<usize, Fault> {
+        for _ in 0..MOST_PAGES {
+            let Ok(size) = self.paged.next(&mut self.source) else {
+                return Err(Fault::File);
+            };
+            if size == 0 {
+                return Ok(0);
+            }
+            if self.left_out == 0 {
+                placed(serials, self.paged.page_mut(size))?;
+                return Ok(size);
+            }
+            self.left_out = self.left_out.saturating_sub(size as u64);
+            self.paged.pass(size);
+        }
+        Err(Fault::File)
+    }
+}
+
+/// Changes the next page, of which the head is enough, into that of the cut.
+fn placed(serials: &mut Serials, page: &mut [u8]) -> Result<(), Fault> {
+    match serials.place(page) {
+        Ok(()) => Ok(()),
+        Err(NoPlace::Memory) => Err(Fault::Memory),
+        Err(NoPlace::Page) => Err(Fault::File),
+    }
+}
+
+/// Counts a page by its head.
+fn count_head(
+    head: &[u8],
+    size: u64,
+    serials: &mut Serials,
+    ends: &mut StreamEnds,
+) -> Result<(), Fault> {
+    let mut bytes = [0; LONGEST_HEAD];
+    let count = head.len().min(LONGEST_HEAD);
+    let (room, _) = bytes.split_at_mut(count);
+    let (head, _) = head.split_at(count);
+    room.copy_from_slice(head);
+    placed(serials, room)?;
+    or_memory(ends.note(room, size))
+}
+
+/// Counts the pages of a part in which no link was open where it begins, by their heads.
+fn count_heads(
+    source: &mut Prefix<FileDisk>,
+    part: Part,
+    serials: &mut Serials,
+    ends: &mut StreamEnds,
+) -> Result<(), Fault> {
+    let mut place = part.begun.unwrap_or(part.start);
+    while place < part.end {
+        match read_front(source, place) {
+            Ok(front) => {
+                count_head(&front.bytes, front.facts.size, serials, ends)?;
+                place += front.facts.size;
+            }
+            Err(_) => return Err(Fault::File),
+        }
+    }
+    Ok(())
+}
+
+/// Counts the pages that end what is open where a cut ends.
+fn count_ends(text: &[u8], serials: &mut Serials, ends: &mut StreamEnds) -> Result<(), Fault> {
+    for page in text.chunks(FIXED_SIZE) {
+        count_head(page, FIXED_SIZE as u64, serials, ends)?;
+    }
+    Ok(())
+}
+
+/// Counts the pages of a part.
+fn count(pages: &mut PartPages, serials: &mut Serials, ends: &mut StreamEnds) -> Result<(), Fault> {
     for _ in 0..MOST_PAGES {
-        let Ok(size) = paged.next(source) else {
-            return Err(Fault::File);
-        };
+        let size = pages.next(serials)?;
         if size == 0 {
             return Ok(());
         }
-        or_memory(ends.note(paged.page(size)))?;
-        paged.pass(size);
+        or_memory(ends.note(pages.paged.page(size), size as u64))?;
+        pages.paged.pass(size);
     }
     Err(Fault::File)
 }
 
-/// Writes the pages of a cut.
+/// Writes the pages of a part.
 fn write_raw<W: Write>(
-    paged: &mut Paged,
-    source: &mut Prefix<FileDisk>,
-    pages: &mut Pages,
+    pages: &mut PartPages,
+    serials: &mut Serials,
     out: &mut W,
 ) -> Result<(), Fault> {
     for _ in 0..MOST_PAGES {
-        let Ok(size) = paged.next(source) else {
-            return Err(Fault::File);
-        };
+        let size = pages.next(serials)?;
         if size == 0 {
             return Ok(());
         }
-        write_page(paged.page(size), Way::Stays, pages, out)?;
-        paged.pass(size);
+        write_bytes(pages.paged.page(size), out)?;
+        pages.paged.pass(size);
     }
     Err(Fault::File)
 }
@@ -447,70 +698,26 @@ fn write_bytes<W: Write>(bytes: &[u8], out: &mut W) -> Result<(), Fault> {
     }
 }
 
-/// Writes the pages of a cut, finished. What has become of the links before is known by `passed`.
+/// Writes the pages of a part, finished. What has become of the links before is known by `passed`.
 fn write_finished<W: Write>(
-    paged: &mut Paged,
-    source: &mut Prefix<FileDisk>,
+    pages: &mut PartPages,
+    serials: &mut Serials,
     ends: &StreamEnds,
     passed: &mut StreamEnds,
-    pages: &mut Pages,
+    marked: &mut PageBuffer,
     out: &mut W,
 ) -> Result<(), Fault> {
     for _ in 0..MOST_PAGES {
-        let Ok(size) = paged.next(source) else {
-            return Err(Fault::File);
-        };
+        let size = pages.next(serials)?;
         if size == 0 {
             return Ok(());
         }
-        let page = paged.page(size);
-        or_memory(passed.note(page))?;
-        write_page(page, ends.way(passed.links(), page), pages, out)?;
-        paged.pass(size);
+        let page = pages.paged.page(size);
+        or_memory(passed.note(page, size as u64))?;
+        write_by(page, ends.way(passed.links(), page), marked, out)?;
+        pages.paged.pass(size);
     }
     Err(Fault::File)
-}
-
-/// What the pages of a cut are written by: the serials that stand in it, and the room for pages that change.
-#[derive(Drop)]
-struct Pages {
-    serials: Serials,
-    renamed: PageBuffer,
-    marked: PageBuffer,
-}
-
-impl Pages {
-    /// No page was written yet.
-    fn new(alloc: Global) -> Result<Pages, Memory> {
-        Ok(Pages {
-            serials: Serials::new(alloc),
-            renamed: PageBuffer::new(alloc)?,
-            marked: PageBuffer::new(alloc)?,
-        })
-    }
-}
-
-/// Writes a page as it is in the cut: a stream whose serial stands in a link before has another one.
-fn write_page<W: Write>(
-    page: &[u8],
-    way: Way,
-    pages: &mut Pages,
-    out: &mut W,
-) -> Result<(), Fault> {
-    let Ok(header) = read_header(page) else {
-        return Err(Fault::File);
-    };
-    let serial = or_memory(pages.serials.next(&header, page))?;
-    if serial == header.head.serial {
-        return write_by(page, way, &mut pages.marked, out);
-    }
-    match read_page(page) {
-        Ok(page) => {
-            rename(&page, serial, &mut pages.renamed);
-            write_by(pages.renamed.bytes(), way, &mut pages.marked, out)
-        }
-        Err(_) => Err(Fault::File),
-    }
 }
 
 /// Writes a page, unless the finished cut leaves it out.

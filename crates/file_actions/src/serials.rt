@@ -1,25 +1,32 @@
-//! The serials of a cut: none stands in two of its links, if no Skeleton speaks of them.
-ghost use Rattle.std.specs.Prelude.{◌≡◌, Some};
+//! The serials of a cut: none stands in two of its links, if no Skeleton speaks of them. What goes on with a link has the
+//! serials of that link.
 
-use ogg_page::{FIRST, FIXED_SIZE, Memory, Page, PageBuffer, PageHead, PageHeader};
+use archive_cut::{Named, name_page, names_on, open_streams, said_of, take_page};
+use link_chain::StreamState;
+use ogg_page::{FIXED_SIZE, Memory, read_header};
 use std::alloc::Global;
 
 /// What the packet begins with that is the first of a Skeleton (Ogg Skeleton 3.0).
 const SKELETON: &[u8] = b"fishead\0";
 
-/// A stream of the link that is written: its serial in its file, and in the cut.
+/// Why a page has no place in the cut.
 #[derive(Clone, Copy, Debug, PartialEq, Eq)]
-struct Named {
-    serial: u32,
-    name: u32,
+pub(crate) enum NoPlace {
+    /// Memory was refused.
+    Memory,
+    /// It is no page, or no number is left for it.
+    Page,
 }
 
 /// The serials of a cut that stand in it so far. A stream whose serial stands in a link before gets one that is free. A
 /// Skeleton speaks of the serials of its link, so they stay as they are.
 #[derive(Drop)]
 pub(crate) struct Serials {
+    alloc: Global,
     used: Vec<u32>,
-    streams: Vec<Named>,
+    names: Vec<Named>,
+    // the streams of the link as it is written
+    streams: Vec<StreamState>,
     // none below is free
     next: u32,
     // the page before was a stream's first
@@ -31,7 +38,9 @@ impl Serials {
     /// No page was written yet.
     pub(crate) fn new(alloc: Global) -> Serials {
         Serials {
+            alloc,
             used: Vec::new(alloc),
+            names: Vec::new(alloc),
             streams: Vec::new(alloc),
             next: 0,
             begins: false,
@@ -39,21 +48,33 @@ impl Serials {
         }
     }
 
-    /// The serial that the next page has in the cut. After `Memory` the page isn't counted.
-    pub(crate) fn next(&mut self, header: &PageHeader, page: &[u8]) -> Result<u32, Memory> {
-        let is_first = header.head.flags & FIRST != 0;
-        if is_first {
-            let (_, body) = page.split_at(FIXED_SIZE.saturating_add(header.values).min(page.len()));
-            self.begin(header.head.serial, body.starts_with(SKELETON))?;
+    /// The pages of the next file go on with the link. Its Begin, which is left out, left these streams.
+    pub(crate) fn go_on(&mut self, begun: &[StreamState]) -> Result<(), Memory> {
+        let begun = open_streams(self.alloc, begun)?;
+        let first = open_streams(self.alloc, self.streams.as_slice())?;
+        self.names = names_on(self.alloc, begun.as_slice(), first.as_slice())?;
+        Ok(())
+    }
+
+    /// Changes the next page into that of the cut.
+    pub(crate) fn place(&mut self, page: &mut [u8]) -> Result<(), NoPlace> {
+        let Some(said) = said_of(page) else {
+            return Err(NoPlace::Page);
+        };
+        if said.begins {
+            self.begin(said.serial, is_skeleton(page))?;
         }
-        self.begins = is_first;
-        Ok(self.name_of(header.head.serial))
+        self.begins = said.begins;
+        if name_page(self.names.as_slice(), page).is_none() {
+            return Err(NoPlace::Page);
+        }
+        self.note(page)
     }
 
     /// A stream begins.
-    fn begin(&mut self, serial: u32, is_skeleton: bool) -> Result<(), Memory> {
+    fn begin(&mut self, serial: u32, is_skeleton: bool) -> Result<(), NoPlace> {
         if !self.begins {
-            self.streams.clear();
+            self.names.clear();
             self.has_skeleton = false;
         }
         self.has_skeleton = self.has_skeleton || is_skeleton;
@@ -62,9 +83,16 @@ impl Serials {
         } else {
             self.free().unwrap_or(serial)
         };
-        self.used.push(name)?;
-        self.streams.push(Named { serial, name })?;
-        Ok(())
+        let named = Named {
+            serial,
+            name,
+            less: 0,
+            more: 0,
+        };
+        match (self.used.push(name), self.names.push(named)) {
+            (Ok(()), Ok(())) => Ok(()),
+            _ => Err(NoPlace::Memory),
+        }
     }
 
     /// A serial that doesn't stand in the cut, if one is left.
@@ -78,30 +106,25 @@ impl Serials {
         None
     }
 
-    /// The name of a stream of the link.
-    fn name_of(&self, serial: u32) -> u32 {
-        for stream in self.streams.as_slice() {
-            if stream.serial == serial {
-                return stream.name;
-            }
+    /// Notes a page of the cut.
+    fn note(&mut self, page: &[u8]) -> Result<(), NoPlace> {
+        match said_of(page) {
+            Some(said) => match take_page(&said, &mut self.streams) {
+                Ok(()) => Ok(()),
+                Err(_) => Err(NoPlace::Memory),
+            },
+            None => Err(NoPlace::Page),
         }
-        serial
     }
 }
 
-/// Makes the page in the buffer, with this serial.
-pub(crate) fn rename(page: &Page<'_>, serial: u32, buffer: &mut PageBuffer)
-    ensures { buffer.new.finished ≡ Some (record page.now { serial = serial }) }
-{
-    // Since it is a page, its lacing values, its body and its flags are bounded.
-    // For the proof alone.
-    let _whole = page.whole();
-    buffer.start(page.lacing());
-    buffer.put(page.body());
-    buffer.finish(&PageHead {
-        flags: page.flags(),
-        position: page.position(),
-        serial,
-        sequence: page.sequence(),
-    });
+/// Whether the page's packet is the first of a Skeleton.
+fn is_skeleton(page: &[u8]) -> bool {
+    match read_header(page) {
+        Ok(header) => {
+            let (_, body) = page.split_at(FIXED_SIZE.saturating_add(header.values).min(page.len()));
+            body.starts_with(SKELETON)
+        }
+        Err(_) => false,
+    }
 }
