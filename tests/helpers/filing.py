@@ -4,13 +4,14 @@
 `filing.py holds FOLDER COUNT ..` checks a folder that streams of so many pages were recorded into, one after the other, whole:
 each packet stands once, in order, over all files. `filing.py kills PROGRAM FOLDER COUNT` runs an encoder into `archive`
 again and again over one growing folder whose files have few pages, each time killing the encoder, the program or both,
-and checks after each run what the folder holds. `filing.py fails PROGRAM LIBRARY FOLDER` has each device call fail in turn,
-by the library of failing.c, and once or from then on.
+and checks after each run what the folder holds. `filing.py fills PROGRAM LIBRARY FOLDER` has the device run full at each of
+its calls in turn, by the library of filling.c, until one file or two were thrown away.
 """
 import os
 import random
 import re
 import select
+import shutil
 import struct
 import subprocess
 import sys
@@ -148,6 +149,118 @@ def kills(program, folder, count):
     print(f"{runs} runs, {bad} wrong")
 
 
+# How many commands share a commit while the device runs full, and how many pages come then.
+GROUP, COMING = 4, 16
+
+
+def filled(path, program, library, call, going, *words):
+    """Archives stream 2 into the folder while the device runs full from this call on until so many files went. Returns
+    whether a call has failed, the status, and what was told."""
+    met = path + ".met"
+    if os.path.exists(met):
+        os.remove(met)
+    ran = subprocess.run(
+        [program, "archive", path, "--every", "52w", "--most-bytes", "400", "--group", str(GROUP), *words],
+        input=b"".join(stream(2, COMING)),
+        stdout=subprocess.DEVNULL,
+        stderr=subprocess.PIPE,
+        timeout=20,
+        env={**os.environ, "LD_PRELOAD": library, "FILLING_CALL": str(call), "FILLING_GOING": str(going), "FILLING_MET": met},
+    )
+    return os.path.exists(met), ran.returncode, ran.stderr.decode().splitlines()
+
+
+def untrue(path, before, status, told, gone):
+    """What is wrong after the device ran full, and so many of the files that there were before had to go."""
+    files = files_of(path)
+    left = {name: data for _, name, _, data, _ in files}
+    removed = [line.split()[3] for line in told if " removed " in line]
+    # A line of times that can't be written is told, and needs no room.
+    is_advice = not removed and any(line.startswith("no times: ") for line in told)
+    if removed != [name for _, name, _, _, _ in before[:gone]] and not is_advice:
+        yield f"thrown away: {removed}"
+    for _, name, _, data, _ in before[gone:]:
+        if not left.get(name, b"").startswith(data):
+            yield f"{name} has changed"
+    lost = sum(line.startswith("refused 21 Disk ") for line in told)
+    if (status, told[-1]) not in [(0, told[-1]), (1, "fault refused")] or (status == 1) != (lost > 0):
+        yield f"status {status}, {lost} times lost, {told[-1]}"
+    numbers, serials = [], set()
+    for _, name, _, data, lines in files:
+        streams, end = found(data)
+        yield from (f"{name}: times: {it}" for it in wrong_times(data, end, lines))
+        for one in streams:
+            seed, _ = struct.unpack("<II", one["packets"][0][:8])
+            got = [struct.unpack("<II", it[:8])[1] for it in one["packets"][1:]]
+            if any(it != packet(seed, number) for it, number in zip(one["packets"][1:], got)):
+                yield f"{name}: a packet isn't what was sent"
+            if not one["ended"]:
+                yield f"{name}: a link is open"
+            if (name, one["serial"]) in serials:
+                yield f"{name}: a serial stands twice"
+            serials.add((name, one["serial"]))
+            numbers += got if seed == 2 else []
+    if numbers != sorted(set(numbers)):
+        yield f"packets {numbers}"
+    kept = [int(line.split()[2]) for line in told if line.startswith("archived ")]
+    missing = 2 * (COMING - 1) - len(numbers)
+    if not kept or kept[0] > len(numbers) or missing > 2 * GROUP * lost:
+        yield f"{len(numbers)} packets, archived {kept}, {missing} missing, {lost} times lost"
+
+
+def fills(program, library, folder):
+    old, path = os.path.join(folder, "filled"), os.path.join(folder, "full")
+    subprocess.run(
+        [program, "archive", old, "--every", "52w", "--most-bytes", "300", "--seal"],
+        input=b"".join(stream(1, 16)),
+        stderr=subprocess.DEVNULL,
+        timeout=20,
+    )
+    before = files_of(old)
+    runs = bad = losses = 0
+
+    def fresh():
+        shutil.rmtree(path, ignore_errors=True)
+        shutil.copytree(old, path)
+
+    for going in (1, 2):
+        # The first three sync the lock and the folder, before a file is looked at: the run ends there.
+        for call in range(4, 500):
+            fresh()
+            met, status, told = filled(path, program, library, call, going, "--keep-bytes", "100000")
+            if not met:
+                break
+            losses += status == 1
+            faults = list(untrue(path, before, status, told, going))
+            for fault in faults[:3]:
+                print(f"full at call {call}, until {going} went: {fault}")
+            bad += bool(faults)
+            runs += 1
+    # Nothing is thrown away unless a bound is set for the bytes.
+    fresh()
+    met, status, told = filled(path, program, library, 12, 1)
+    if not met or status != 1 or any(" removed " in it for it in told) or len(files_of(path)) < len(before):
+        print(f"with no bound: status {status}, {told}")
+        bad += 1
+    # Nor is what has a mark: the next one goes.
+    fresh()
+    open(os.path.join(path, before[0][1] + ".keep"), "w").close()
+    met, status, told = filled(path, program, library, 12, 1, "--keep-bytes", "100000")
+    if not met or [it.split()[1] for it in told if " removed " in it] != [str(before[1][0])]:
+        print(f"with a mark: status {status}, {told}")
+        bad += 1
+    # With nothing that may go the run ends.
+    fresh()
+    met, status, told = filled(path, program, library, 12, 100, "--keep-bytes", "100000")
+    if status != 1 or len([it for it in told if " removed " in it]) != len(before) - 1:
+        print(f"full for good: status {status}, {told}")
+        bad += 1
+    if runs < 60 or losses < 10:
+        print(f"only {runs} runs, {losses} with a loss")
+        bad += 1
+    print(f"{runs} runs, {bad} wrong")
+
+
 def main():
     match sys.argv[1:]:
         case ["stream", seed, count]:
@@ -160,6 +273,8 @@ def main():
             sys.exit(bool(faults))
         case ["kills", program, folder, count]:
             kills(program, folder, int(count))
+        case ["fills", program, library, folder]:
+            fills(program, library, folder)
         case _:
             sys.exit(__doc__)
 

@@ -30,6 +30,7 @@ has "a folder" "$work/one" "1 " 30
 archive "$work/2" "$work/one"
 check "it is gone on with: status $status" [ "$status" -eq 0 ]
 has "it is gone on with" "$work/one" "1 " 30 30
+check "a folder: the first commit has its time" grep -qxE '[1-9][0-9]* [0-9]+ 0 [0-9]+' <<<"$(head -n 1 "$work/one"/*.times)"
 archive "$work/1" "$work/deep/er/"
 came "two levels aren't made" 1 '' 'fault file\n'
 archive /dev/null "$work/nothing/"
@@ -39,7 +40,8 @@ check "nothing comes: no file is begun" [ -z "$(numbers "$work/nothing")" ]
 # What is of no page is told, also if it is all that comes.
 printf hello >"$work/hello"
 archive "$work/hello" "$work/hello.d/"
-check "junk alone: status $status" [ "$status" -eq 0 ]
+check "junk alone: status $status" [ "$status" -eq 1 ]
+check "junk alone: its fault" [ "$(tail -n 1 "$work/err")" = "fault archive 4 NoPage: no page of Ogg came on standard input" ]
 check "junk alone: it is told" grep -qx 'mended 1 Junk 0 5' "$work/err"
 archive "$work/hello" "$work/hello.d/" --strict
 check "junk alone, strictly: status $status" [ "$status" -eq 1 ]
@@ -76,6 +78,16 @@ came "a second run" 1 '' 'fault locked\n'
 exec 7>&-
 wait $first
 has "the first run" "$work/locked" "1 " 30
+
+# A file of the folder isn't recorded into it.
+own=$(newest "$work/locked")
+before=$(md5sum <"$own")
+archive "$own" "$work/locked"
+came "a file of the folder itself" 1 '' 'fault archive 1 Read\n'
+check "a file of the folder itself: nothing is done" [ "$(md5sum <"$own") $(numbers "$work/locked")" = "$before 1 " ]
+cp "$own" "$work/copy"
+archive "$work/copy" "$work/locked"
+check "a copy of it is recorded: status $status" [ "$status" -eq 0 ]
 
 # What can't be gone on with is left as it is.
 damaged() {
@@ -182,6 +194,18 @@ check "kept by age: at most four go at once: $(numbers "$work/aged")" [ "$(numbe
 check "kept by age: status $status" [ "$status" -eq 0 ]
 archive "$work/2" "$work/aged/" --keep 600w
 check "kept by age: what is young stays" [ "$(numbers "$work/aged" | wc -w)" -ge 1 ]
+
+# A file that can't be thrown away is told once, and the next one goes.
+mkdir -p "$work/stays/000001-20260101T000000Z.ogg"
+archive "$work/1" "$work/stays/" --most-bytes 500 --keep-bytes 1500
+check "a file that stays: status $status" [ "$status" -eq 0 ]
+check "a file that stays: it is told once" [ "$(grep -cx 'file 1 stays 000001-20260101T000000Z.ogg' "$work/err")" -eq 1 ]
+check "a file that stays: the next one goes" grep -q '^file 2 removed ' "$work/err"
+
+# The device runs full at each call: what is thrown away makes room, and the recording goes on.
+cc -O2 -shared -fPIC -D_GNU_SOURCE -o "$work/filling.so" "$here/filling.c" || exit 1
+told=$(filing fills "$program" "$work/filling.so" "$work")
+check "a full device: $told" grep -qxE '[0-9]+ runs, 0 wrong' <<<"${told##*$'\n'}"
 
 # Kills at any moment.
 told=$(filing kills "$program" "$work" "${KILLS:-30}")

@@ -126,6 +126,10 @@ pub trait Folder {
         ensures honest { is_honest self.old ↔ is_honest self.new }
         ensures cause { HasCause (failures self.old) (failures self.new) result };
 
+    /// Whether the last call of the folder, or of the file that was given back last, failed as no room is left. Nothing is
+    /// promised of it: it is for what is thrown away.
+    fn is_full(&self) -> bool;
+
     /// What stops may leave of an honest folder's names at each moment, whatever its calls.
     ghost laws: { (folder : Self) → is_honest folder
         → HasLeft (names folder) (moment folder) (left_since folder) };

@@ -227,4 +227,9 @@ impl<F: Folder> Folder for FuseFolder<F> {
         spend(self.first, self.last, &mut self.made, &mut self.failures)?;
         self.folder.sync()
     }
+
+    /// Whether the folder was full that it passes calls on to.
+    fn is_full(&self) -> bool {
+        self.folder.is_full()
+    }
 }

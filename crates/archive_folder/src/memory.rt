@@ -324,4 +324,9 @@ impl Folder for MemFolder {
             Err(Memory) => Err(fail(&mut self.failures)),
         }
     }
+
+    /// Memory alone is wanting here.
+    fn is_full(&self) -> bool {
+        false
+    }
 }

@@ -1,8 +1,9 @@
 //! A folder over any raw folder, whose list comes in any order.
-ghost use Rattle.std.specs.Prelude.{◌≡◌, ◌≢◌, ◌⊎◌, ◌↔◌, ◌-◌, ◌^◌, ◌<◌, ◌≤◌, ℕ, List, [], Some, None, IfOk, OnOk, OnErr, IsPermutation};
+ghost use Rattle.std.specs.Prelude.{◌≡◌, ◌≢◌, ◌⊎◌, ◌↔◌, ◌-◌, ◌^◌, ◌<◌, ◌≤◌, ℕ, List, [], Some, None, IfOk, OnOk, OnErr, IsPermutation, true};
 ghost use Rattle.std.specs.List.{Contains};
 ghost use Rattle.std.specs.List.Sorted.{IsNonDecreasingBy};
 ghost use Rattle.disk_model.specs.Image.{settled};
+ghost use Rattle.archive_folder.specs.declared.raw.FaultKind.{FaultKind as FaultKindOf};
 ghost use Rattle.archive_folder.specs.Names.{Name, Place, Out, Kept, IsKept, numbers_of, listed, made, removed, synced, AreBelow};
 ghost use Rattle.archive_folder.specs.Clock.{HasLeft, NamesPass, MayHaveMade, MayHaveRemoved};
 
@@ -88,7 +89,8 @@ pub trait RawFolder {
             (left_since self.old) (left_since self.new) (names self.old) }
         ensures honest { is_honest self.old ↔ is_honest self.new };
 
-    /// Takes a file back that was handed out under this number. What it returns is why the file failed last.
+    /// Takes a file back that was handed out under this number. What it returns is why the file failed last, unless that
+    /// was returned before.
     fn take_back(&mut self, number: u64, disk: Self::File) -> Option<FaultKind>
         requires { is_honest self.old → file self.old number ≡ Out }
         ensures kept { is_honest self.old → file self.new number ≡ Kept disk }
@@ -135,7 +137,7 @@ fn sort_by_number(files: &mut Vec<FileName>)
     files.sort_unstable_by_key(|file| file.number);
 }
 
-/// A folder over a raw one. It keeps why it failed last.
+/// A folder over a raw one. It keeps why its last call failed, or that of a file that was given back after it.
 #[derive(Drop)]
 pub struct FileFolder<R: RawFolder> {
     raw: R,
@@ -159,7 +161,7 @@ impl<R: RawFolder> FileFolder<R> {
         }
     }
 
-    /// Why a call of the folder failed last, or a file of it that was given back.
+    /// Why the last call of the folder failed, or of the file that was given back after it, if one did.
     pub fn last_fault(&self) -> Option<FaultKind>
         ensures { result ≡ last_of self.now }
     {
@@ -186,6 +188,8 @@ fn note(last: &mut Option<FaultKind>, failures: &mut u64, kind: FaultKind) -> Di
 }
 
 impl<R: RawFolder> Folder for FileFolder<R> {
+    ghost use Rattle.archive_folder.specs.FileFolder.{last_of};
+
     type File = R::File;
 
     ghost names = { λ f. R.names f.raw };
@@ -207,6 +211,7 @@ impl<R: RawFolder> Folder for FileFolder<R> {
             Ok(files) => {
                 let mut files = files;
                 sort_by_number(&mut files);
+                self.last = None;
                 Ok(files)
             }
             Err(kind) => Err(note(&mut self.last, &mut self.failures, kind)),
@@ -215,21 +220,30 @@ impl<R: RawFolder> Folder for FileFolder<R> {
 
     fn facts(&mut self, name: FileName) -> Result<FileFacts, DiskFault> {
         match self.raw.facts(name) {
-            Ok(facts) => Ok(facts),
+            Ok(facts) => {
+                self.last = None;
+                Ok(facts)
+            }
             Err(kind) => Err(note(&mut self.last, &mut self.failures, kind)),
         }
     }
 
     fn make(&mut self, name: FileName) -> Result<R::File, DiskFault> {
         match self.raw.create_new(name) {
-            Ok(disk) => Ok(disk),
+            Ok(disk) => {
+                self.last = None;
+                Ok(disk)
+            }
             Err(kind) => Err(note(&mut self.last, &mut self.failures, kind)),
         }
     }
 
     fn open(&mut self, name: FileName) -> Result<R::File, DiskFault> {
         match self.raw.open(name) {
-            Ok(disk) => Ok(disk),
+            Ok(disk) => {
+                self.last = None;
+                Ok(disk)
+            }
             Err(kind) => Err(note(&mut self.last, &mut self.failures, kind)),
         }
     }
@@ -242,15 +256,30 @@ impl<R: RawFolder> Folder for FileFolder<R> {
 
     fn remove(&mut self, name: FileName) -> Result<(), DiskFault> {
         match self.raw.remove_file(name) {
-            Ok(()) => Ok(()),
+            Ok(()) => {
+                self.last = None;
+                Ok(())
+            }
             Err(kind) => Err(note(&mut self.last, &mut self.failures, kind)),
         }
     }
 
     fn sync(&mut self) -> Result<(), DiskFault> {
         match self.raw.sync_all() {
-            Ok(()) => Ok(()),
+            Ok(()) => {
+                self.last = None;
+                Ok(())
+            }
             Err(kind) => Err(note(&mut self.last, &mut self.failures, kind)),
+        }
+    }
+
+    fn is_full(&self) -> bool
+        ensures full { (result ≡ true) ↔ (last_of self.now ≡ Some FaultKindOf.Full) }
+    {
+        match self.last {
+            Some(FaultKind::Full) => true,
+            _ => false,
         }
     }
 }

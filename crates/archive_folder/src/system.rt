@@ -1,5 +1,6 @@
 //! A folder of the system. That it is honest is a premise: no contract can give it.
-ghost use Rattle.std.specs.Prelude.{◌≡◌, [], None, IfOk};
+ghost use Rattle.std.specs.Prelude.{◌≡◌, ℕ, List, [], None, Some, IfOk, IfErr, IfSome, string_bytes};
+ghost use Rattle.archive_folder.specs.declared.names.FileName.{FileName as FileNameOf};
 ghost use Rattle.disk_model.specs.Image.{settled};
 ghost use Rattle.archive_folder.specs.Names.{Nowhere};
 
@@ -13,11 +14,21 @@ use std::rt::Files;
 
 /// How the names of files are spelt.
 pub trait Naming {
-    /// What a name says, if it is one of ours.
-    fn read(&self, text: &str) -> Option<FileName>;
+    /// The texts of a name.
+    ghost spells: { FileNameOf → List ℕ → Type 0 };
 
-    /// The name's text, which ends in `.ogg`.
-    fn write(&self, alloc: Global, name: FileName) -> Result<String, FaultKind>;
+    /// The names of which all that they say can be told.
+    ghost is_told: { FileNameOf → Type 0 };
+
+    /// What a name says, if it is one of ours.
+    fn read(&self, text: &str) -> Option<FileName>
+        ensures spelt { IfSome result (λ name. spells name text.now) }
+        ensures each { (name : FileNameOf) → is_told name → spells name text.now → result ≡ Some name };
+
+    /// The name's text, which ends in `.ogg`. After an error memory was refused.
+    fn write(&self, alloc: Global, name: FileName) -> Result<String, FaultKind>
+        ensures spelt { IfOk result (λ text. spells name (string_bytes text)) }
+        ensures memory { IfErr result (λ kind. kind ≡ FaultKind.Memory) };
 }
 
 /// A folder of the system: `R` opens its files, and `N` spells their names.
@@ -68,6 +79,14 @@ impl<
             path: whole,
             given_back: None,
         }))
+    }
+
+    /// Whether the file with this number is open still.
+    fn has_open(&self, number: u64) -> bool {
+        match &self.given_back {
+            Some((back, _)) => *back == number,
+            None => false,
+        }
     }
 
     /// The path of a file.
@@ -209,8 +228,8 @@ impl<
     }
 
     fn take_back(&mut self, number: u64, disk: FileDisk<SystemFile<F>>) -> Option<FaultKind> {
-        let file = disk.into_inner();
-        let last = file.last;
+        let mut file = disk.into_inner();
+        let last = file.last.take();
         self.given_back = Some((number, FileDisk::over(file)));
         last
     }
@@ -219,7 +238,9 @@ impl<
         let path = self.path_of(name)?;
         let times = times_beside(self.alloc, path.as_str())?;
         // While a file is open its bytes stay on the device.
-        self.given_back = None;
+        if self.has_open(name.number) {
+            self.given_back = None;
+        }
         match fs::remove_file(&self.rt, path.as_str()) {
             Ok(()) => remove_if_there(&self.rt, times.as_str()),
             Err(error) => Err(kind_of(&error)),

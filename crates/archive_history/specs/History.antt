@@ -2,11 +2,12 @@
 use Rattle.std.specs.Prelude.{◌≡◌, ◌≢◌, ◌⊎◌, ℕ, ◌≤◌, ◌==◌, if◌then◌else◌, List, [], ◌∷◌, ◌++◌, Option, None, Some, ⊤}
 use Rattle.std.specs.List.{AllByRecursion}
 use Rattle.disk_model.specs.declared.disk.Disk.{Ghosts as DiskModel}
-use Rattle.disk_model.specs.Image.{DiskState, IsImage}
+use Rattle.disk_model.specs.Image.{DiskState, IsImage, settled}
 use Rattle.archive_folder.specs.declared.names.Name.{Name}
 use Rattle.archive_folder.specs.declared.names.Fate.{Fate}
 use Rattle.archive_folder.specs.declared.names.Fate.TheVariants.{Stays}
-use Rattle.archive_folder.specs.Names.{IsLeft, AreBelow, restarted}
+use Rattle.archive_folder.specs.Names.{Place, Kept, IsLeft, AreBelow, restarted}
+use Rattle.archive_folder.specs.Clock.{MayHaveMade}
 use Rattle.history.specs.Showing.{StartsFrom}
 use Rattle.history.specs.World.{World, Step, Stopped, StoppedIn, happens, acknowledged_by}
 use Rattle.history.specs.History.{MayBegin, Leaves, IsStep}
@@ -98,6 +99,12 @@ IsAnswer step = ⊤
 pub record LeavesNames {F : Type 0} (moment : F → ℕ) (left_since : F → ℕ → List ℕ → Type 0) (bound : List Name) (old new : F) : Type 0 where
   pub later : moment old ≤ moment new
   pub each : (left : List ℕ) → left_since new (moment old) left → IsLeft bound left
+
+-- After a beginning that failed the names are as they were, or the new one is in doubt, and its empty file is with the
+-- folder.
+abbrev pub MayHaveBegun : {D : Type 0} → DiskModel D → ℕ → List Name → List Name → (ℕ → Place D) → Type 0
+MayHaveBegun {D} model n old new file = (new ≡ old)
+    ⊎ (MayHaveMade n old new × ((disk : D) × (file n ≡ Kept disk) × model.is_honest disk × (model.state disk ≡ settled [])))
 
 -- the account and the point that the events lead to
 abbrev pub account_after : {F D C : Type 0} → Archive C → List (Event C × Archive C × Point F D) → Archive C

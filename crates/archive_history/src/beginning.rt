@@ -5,7 +5,7 @@ ghost use Rattle.disk_model.specs.Image.{settled};
 ghost use Rattle.archive_folder.specs.Names.{AreBelow, Out, made, synced};
 ghost use Rattle.archive_history.specs.Archive.{Archive, Making, begun_by, with_new, Resolves};
 ghost use Rattle.archive_history.specs.Accounted.{StandsAs};
-ghost use Rattle.archive_history.specs.History.{Point, point, with_disk, LeavesNames};
+ghost use Rattle.archive_history.specs.History.{Point, point, with_disk, LeavesNames, MayHaveBegun};
 
 use crate::folders_stand_as_their_account;
 use archive_folder::{FileName, Folder};
@@ -13,8 +13,8 @@ use disk_model::{Disk, DiskFault};
 use history::Recordings;
 
 /// Makes an empty file, and syncs the folder: no stop takes away the file's name after that, so that what is written
-/// in it may be acknowledged. After a fault the folder has to be listed again, and this number isn't free.
-pub fn begin_file<D: Disk + Drop, F: Folder<File = D>, B: Recordings>(
+/// in it may be acknowledged. After a fault the file may be there, empty and with the folder, and this number isn't free.
+pub fn begin_file<D: Disk, F: Folder<File = D>, B: Recordings>(
     folder: &mut F,
     name: FileName,
 ) -> Result<D, DiskFault>
@@ -41,6 +41,9 @@ pub fn begin_file<D: Disk + Drop, F: Folder<File = D>, B: Recordings>(
         → (b : Archive B.Command) × (after : ℕ → D) × Resolves (begun_by a (Making name.number)) b
         × StandsAs F.names D.Disk B.shows B.next first b (point folder.new after)) }
 
+    ensures kept { OnErr result (F.is_honest folder.old
+        → MayHaveBegun D.Disk name.number (F.names folder.old) (F.names folder.new) (F.file folder.new)) }
+
     // A stop at any moment leaves what was there, without the new file or with it.
     ensures any_moment { F.is_honest folder.old
         → LeavesNames F.moment F.left_since (made name.number (F.names folder.old)) folder.old folder.new }
@@ -53,7 +56,10 @@ pub fn begin_file<D: Disk + Drop, F: Folder<File = D>, B: Recordings>(
     match folder.make(name) {
         Ok(disk) => match folder.sync() {
             Ok(()) => Ok(disk),
-            Err(fault) => Err(fault),
+            Err(fault) => {
+                folder.give_back(name.number, disk);
+                Err(fault)
+            }
         },
         Err(fault) => Err(fault),
     }

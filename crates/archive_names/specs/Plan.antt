@@ -38,3 +38,8 @@ all_but_newest files = take (length files - 1) files
 -- the oldest that goes
 abbrev pub next_to_go : List Held → Keeping → ℕ → ℕ → Option ℕ
 next_to_go files keeping now gone = position (goes keeping now gone (is_too_much keeping.bytes files)) (all_but_newest files)
+
+-- the oldest that goes if no room is left on the device: only if not all bytes are kept anyway
+abbrev pub next_for_room : List Held → Option ℕ → Option ℕ
+next_for_room files None = None
+next_for_room files (Some most) = position (λ (file : Held). not file.is_kept) (all_but_newest files)

@@ -17,4 +17,4 @@ mod reading;
 
 pub use among::{newest, next_number, stands_twice};
 pub use name::{Kind, LAST_SECOND, Name, NameText};
-pub use plan::{Going, Held, Keeping, Limits, is_over, next_to_go};
+pub use plan::{Going, Held, Keeping, Limits, is_over, next_for_room, next_to_go};

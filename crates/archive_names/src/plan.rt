@@ -1,6 +1,7 @@
 //! When a file is begun, and which are thrown away.
 ghost use Rattle.std.specs.Prelude.{◌≡◌, ◌+◌, ◌<◌, ◌↔◌, IsTrue, IfSome, length, not, option_map, position};
-ghost use Rattle.archive_names.specs.Plan.{IsFull, IsOver, goes, is_old, is_too_much, next_to_go};
+ghost use Rattle.archive_names.specs.declared.plan.Held.{Held as HeldOf};
+ghost use Rattle.archive_names.specs.Plan.{IsFull, IsOver, goes, is_old, is_too_much, next_for_room, next_to_go};
 
 /// How long and how great a file becomes.
 #[derive(Clone, Copy, Debug, PartialEq, Eq)]
@@ -123,4 +124,24 @@ pub fn next_to_go(files: &[Held], keeping: Keeping, now: u64, gone: usize) -> Op
         }),
         None => None,
     }
+}
+
+fn first_unkept(older: &[Held]) -> Option<usize>
+    ensures { result ≡ position (λ (file : HeldOf). not file.is_kept) older.now }
+{
+    older.iter().position(|file| !file.is_kept)
+}
+
+/// The oldest file that may be thrown away if no room is left on the device, if there is one, of files in the order of
+/// their numbers, of which the last is the newest. None goes unless a bound is set for their bytes.
+pub fn next_for_room(files: &[Held], keeping: Keeping) -> Option<usize>
+    ensures at { result ≡ next_for_room files.now keeping.bytes }
+
+    // The newest never goes.
+    ensures newest { IfSome result (λ at. at + 1 < length files.now) }
+{
+    let (Some(_), [older @ .., _]) = (keeping.bytes, files) else {
+        return None;
+    };
+    first_unkept(older)
 }

@@ -8,7 +8,8 @@ use Rattle.archive_folder.specs.declared.names.Fate.{Fate}
 use Rattle.archive_folder.specs.declared.names.Fate.TheVariants.{Stays, Comes, Goes}
 use Rattle.archive_folder.specs.Names.{Place, Out, Kept, IsKept, name, numbers_of, listed, made, listed_one, with_fate, removed, synced, AreBelow}
 use Rattle.archive_folder.specs.Clock.{MayHaveMade, MayHaveRemoved}
-use Rattle.archive_record.specs.Files.{Has, highest, NoneOrBelow, IsKnown, AllKept, MayHaveBegun, without}
+use Rattle.archive_record.specs.Files.{Has, highest, NoneOrBelow, IsKnown, AllKept, without}
+use Rattle.archive_history.specs.History.{MayHaveBegun}
 use Rattle.archive_record.proofs.Numbers.{contains, has_index, has_one, either, has_left, has_right, has_either, below_next, below_later, below_synced, below_fate, below_listed, listed_below, listed_synced, listed_more, has_beside, had_beside, has_without, numbers_append}
 
 -- a number or none

@@ -1,3 +1,4 @@
 mod Numbers
 mod Known
 mod Left
+mod Spelled

@@ -1,11 +1,8 @@
 -- What a writer of a folder knows of its files, beside the folder's own names. Ours.
 use Rattle.std.specs.Prelude.{◌≡◌, ◌≢◌, ◌⊎◌, ◌<◌, ◌==◌, Bool, not, ℕ, max, List, [], ◌∷◌, ◌++◌, filter, map, Option, None, Some, ⊤}
-use Rattle.disk_model.specs.declared.disk.Disk.{Ghosts as DiskModel}
-use Rattle.disk_model.specs.Image.{settled}
 use Rattle.archive_folder.specs.declared.names.FileName.{FileName}
 use Rattle.archive_folder.specs.declared.names.Name.{Name}
-use Rattle.archive_folder.specs.Names.{Place, Out, Kept, IsKept, listed, made, numbers_of, AreBelow}
-use Rattle.archive_folder.specs.Clock.{MayHaveMade}
+use Rattle.archive_folder.specs.Names.{Place, Out, IsKept, listed, AreBelow}
 
 -- the number is one of these
 abbrev pub Has : List ℕ → ℕ → Type 0
@@ -32,12 +29,6 @@ pub record IsKnown {D : Type 0} (names : List Name) (file : ℕ → Place D) (fi
 -- each file that is there is with the folder
 abbrev pub AllKept : {D : Type 0} → List Name → (ℕ → Place D) → Type 0
 AllKept names file = (n : ℕ) → Has (listed names) n → IsKept (file n)
-
--- After a beginning that failed the names are as they were, or the new one is in doubt, and its empty file is with the
--- folder.
-abbrev pub MayHaveBegun : {D : Type 0} → DiskModel D → ℕ → List Name → List Name → (ℕ → Place D) → Type 0
-MayHaveBegun {D} model n old new file = (new ≡ old)
-    ⊎ (MayHaveMade n old new × ((disk : D) × (file n ≡ Kept disk) × model.is_honest disk × (model.state disk ≡ settled [])))
 
 abbrev pub is_other : ℕ → FileName → Bool
 is_other n file = not (file.number == n)

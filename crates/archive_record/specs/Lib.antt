@@ -1,5 +1,7 @@
+pub mod Account
 pub mod Files
 pub mod FilesState
 pub mod Filing
 pub mod Opening
 pub mod Resting
+pub mod Spelling

@@ -1,5 +1,5 @@
 //! The machine of an archive: an input is recorded into the files of a folder, one after the other.
-ghost use Rattle.std.specs.Prelude.{◌≡◌, IfOk, IfSome};
+ghost use Rattle.std.specs.Prelude.{◌≡◌, IfOk, IfSome, None, Ok, false, true};
 ghost use Rattle.archive_record.specs.Files.{AllKept};
 ghost use Rattle.archive_record.specs.Resting.{IsAtRest};
 
@@ -64,22 +64,22 @@ impl From<BeginFault> for ArchiveFault {
 /// begun as soon as something comes.
 #[derive(Drop)]
 pub struct Archive<D: Disk, F: Folder<File = D>> {
-    alloc: Global,
+    pub(crate) alloc: Global,
     pub(crate) files: Files<F>,
-    newest: Option<Newest<D>>,
+    pub(crate) newest: Option<Newest<D>>,
     pub(crate) rules: Rules,
     // what stands under each name, in the order of the files, if something may have to be thrown away
     pub(crate) held: Vec<Held>,
     // the last line of the newest file's times, and what the clock said when it was written
-    last: Option<Line>,
+    pub(crate) last: Option<Line>,
     written: Option<u64>,
     // what begins the open link again, before anything else is run in the next file
     again: Vec<Command>,
     // the committed bytes of the files before the newest that were recorded into
-    before: u64,
+    pub(crate) before: u64,
     // how many bytes were committed when the disk failed last, and how often it has with so many
-    lost_at: u64,
-    losses: u8,
+    pub(crate) lost_at: u64,
+    pub(crate) losses: u8,
 }
 
 /// What a file's name says as seconds since 1970.
@@ -87,63 +87,75 @@ fn begin_of(file: FileName) -> u64 {
     name_of(file).begin
 }
 
+/// Why the newest file isn't gone on with.
+enum Left {
+    /// Memory was refused.
+    Memory,
+    /// Another file has this number, which is its own.
+    Twice(u64),
+    /// It is left exactly as it is.
+    Damaged(FileName, Damage),
+}
+
 /// Opens the newest file of a folder, if there is one that can be gone on with, and ends what is open in it. Every other
-/// is left as it is, and that is told.
-fn open_newest<D: Disk + Drop, F: Folder<File = D>, B: Beside>(
+/// is left as it is.
+fn open_newest<D: Disk + Drop, F: Folder<File = D>>(
     alloc: Global,
     files: &mut Files<F>,
     most: u32,
-    beside: &mut B,
-) -> Result<Option<Newest<D>>, ArchiveFault>
+) -> Result<Option<Newest<D>>, Left>
     // Only what rests is recorded into.
     ensures rests { IfOk result (λ newest. IfSome newest (λ newest. IsAtRest newest.recorder)) }
 {
-    if !files.is_free() {
-        return Ok(None);
-    }
     if let [.., other, newest] = files.names() {
         if other.number == newest.number {
-            beside.stands_twice(newest.number);
-            return Ok(None);
+            return Err(Left::Twice(newest.number));
         }
     }
-    let found = match files.open_newest() {
-        Ok(found) => found,
-        Err(DiskFault) => {
-            if let [.., name] = files.names() {
-                beside.damaged(*name, Damage::Unreadable);
+    let name = match files.names() {
+        [.., newest] => *newest,
+        [] => return Ok(None),
+    };
+    match open_last(alloc, files) {
+        Ok(recorder) => open_ended(files, name, recorder, most),
+        Err(Damage::Open(OpenFault::Memory)) => Err(Left::Memory),
+        Err(why) => Err(Left::Damaged(name, why)),
+    }
+}
+
+/// A recorder on the newest file, in which nothing waits. If there is none, it is with the folder.
+pub(crate) fn open_last<D: Disk + Drop, F: Folder<File = D>>(
+    alloc: Global,
+    files: &mut Files<F>,
+) -> Result<Recorder<D>, Damage>
+    ensures fresh { IfOk result (λ r. (r.file.failed ≡ false) × (r.held ≡ 0)) }
+{
+    if !files.is_free() {
+        return Err(Damage::Unreadable);
+    }
+    match files.open_newest() {
+        Ok(Some((name, disk))) => match open_sound(alloc, disk) {
+            Ok(recorder) => Ok(recorder),
+            Err((why, disk)) => {
+                give_back(files, name, disk);
+                Err(why)
             }
-            return Ok(None);
-        }
-    };
-    let Some((name, disk)) = found else {
-        return Ok(None);
-    };
-    match open_sound(alloc, disk) {
-        Ok(recorder) => open_ended(files, name, recorder, most, beside),
-        Err((Damage::Open(OpenFault::Memory), disk)) => {
-            give_back(files, name, disk);
-            Err(ArchiveFault::Memory)
-        }
-        Err((why, disk)) => {
-            give_back(files, name, disk);
-            beside.damaged(name, why);
-            Ok(None)
-        }
+        },
+        Ok(None) | Err(DiskFault) => Err(Damage::Unreadable),
     }
 }
 
 /// Ends what is open in a file that was opened. One that goes on with another and holds no page is ended, and passed over.
-fn open_ended<D: Disk + Drop, F: Folder<File = D>, B: Beside>(
+fn open_ended<D: Disk + Drop, F: Folder<File = D>>(
     files: &mut Files<F>,
     name: FileName,
     recorder: Recorder<D>,
     most: u32,
-    beside: &mut B,
-) -> Result<Option<Newest<D>>, ArchiveFault>
+) -> Result<Option<Newest<D>>, Left>
     requires { recorder.held ≡ 0 }
     ensures rests { IfOk result (λ newest. IfSome newest (λ newest. IsAtRest newest.recorder)) }
     ensures named { IfOk result (λ newest. IfSome newest (λ newest. newest.name ≡ name)) }
+    ensures passed { name.goes_on ≡ true → recorder.file.end ≡ 0 → result ≡ Ok None }
 {
     if recorder.end() == 0 && name.goes_on {
         if files.is_out(name.number) {
@@ -159,21 +171,27 @@ fn open_ended<D: Disk + Drop, F: Folder<File = D>, B: Beside>(
         })),
         Err(recorder) => {
             give_back(files, name, recorder.give_back());
-            beside.damaged(name, Damage::Open(OpenFault::Disk));
-            Ok(None)
+            Err(Left::Damaged(name, Damage::Open(OpenFault::Disk)))
         }
     }
 }
 
 /// Gives a file back that is handed out.
-fn give_back<D: Disk + Drop, F: Folder<File = D>>(files: &mut Files<F>, name: FileName, disk: D) {
+pub(crate) fn give_back<D: Disk + Drop, F: Folder<File = D>>(
+    files: &mut Files<F>,
+    name: FileName,
+    disk: D,
+) {
     if files.is_out(name.number) {
         files.give_back(name.number, disk);
     }
 }
 
 /// A copy of the serials that a file has.
-fn serials_of<D: Disk>(alloc: Global, recorder: &Recorder<D>) -> Result<Vec<u32>, Memory> {
+pub(crate) fn serials_of<D: Disk>(
+    alloc: Global,
+    recorder: &Recorder<D>,
+) -> Result<Vec<u32>, Memory> {
     recorder.serials().as_slice().to_vec(alloc)
 }
 
@@ -191,15 +209,14 @@ impl<D: Disk + Drop, F: Folder<File = D> + Drop> Archive<D, F> {
     ) -> Result<Archive<D, F>, ArchiveFault>
         requires { F.is_honest folder → AllKept (F.names folder) (F.file folder) }
     {
-        let mut files = match Files::open(alloc, folder) {
+        let files = match Files::open(alloc, folder) {
             Ok(files) => files,
             Err((DiskFault, _)) => return Err(ArchiveFault::Folder),
         };
-        let newest = open_newest(alloc, &mut files, rules.most, beside)?;
         let mut archive = Archive {
             alloc,
             files,
-            newest,
+            newest: None,
             rules,
             held: Vec::new(alloc),
             last: None,
@@ -209,10 +226,36 @@ impl<D: Disk + Drop, F: Folder<File = D> + Drop> Archive<D, F> {
             lost_at: 0,
             losses: 0,
         };
-        archive.opened(now, beside);
         archive.look_at_all(now)?;
+        archive.open_newest(beside)?;
+        archive.opened(now, beside);
         archive.throw_away(now, beside);
         Ok(archive)
+    }
+
+    /// Opens the newest file, if there is one that can be gone on with, and ends what is open in it. If no room is left for
+    /// that, the oldest files go. Every file that isn't gone on with is left as it is, and that is told.
+    fn open_newest<B: Beside>(&mut self, beside: &mut B) -> Result<(), ArchiveFault> {
+        for _ in 0..self.tries() {
+            match open_newest(self.alloc, &mut self.files, self.rules.most) {
+                Ok(newest) => {
+                    self.newest = newest;
+                    return Ok(());
+                }
+                Err(Left::Memory) => return Err(ArchiveFault::Memory),
+                Err(Left::Twice(number)) => {
+                    beside.stands_twice(number);
+                    return Ok(());
+                }
+                Err(Left::Damaged(name, why)) => {
+                    if !self.make_room(beside) {
+                        beside.damaged(name, why);
+                        return Ok(());
+                    }
+                }
+            }
+        }
+        Ok(())
     }
 
     /// The serials of the newest file.
@@ -336,20 +379,20 @@ impl<D: Disk + Drop, F: Folder<File = D> + Drop> Archive<D, F> {
     }
 
     /// Ends the newest file, if there is one, and begins the next: it is made, its folder is synced, and the link that is
-    /// open begins again.
-    fn begin_next<B: Beside>(
+    /// open begins again. If the disk fails before the newest has ended, it stays.
+    pub(crate) fn begin_next<B: Beside>(
         &mut self,
         import: &mut ImportRun,
         now: u64,
         beside: &mut B,
     ) -> Result<Answered, ArchiveFault> {
-        let goes_on = self.end_newest(import, now, beside)?;
-        if !self.files.is_free() {
-            return Err(ArchiveFault::Folder);
-        }
+        let Some(goes_on) = self.end_newest(import, now, beside)? else {
+            return Ok(Answered::nothing());
+        };
         let begun = i64::try_from(now / 1000).unwrap_or(i64::MAX);
-        let (name, disk) = self.files.begin(begun, goes_on)?;
-        let recorder = first_recorder(self.alloc, &mut self.files, name, disk, self.rules.most)?;
+        let (name, disk) = self.make_file(begun, goes_on, beside)?;
+        self.look_at_newest(now)?;
+        let recorder = self.first_recorder(name, disk, beside)?;
         self.newest = Some(Newest {
             name,
             recorder,
@@ -359,9 +402,71 @@ impl<D: Disk + Drop, F: Folder<File = D> + Drop> Archive<D, F> {
         self.written = None;
         beside.begun(name);
         let answered = self.begin_again()?;
-        self.look_at_newest(now)?;
         self.throw_away(now, beside);
         Ok(answered)
+    }
+
+    /// Makes the next file. If no room is left for it, the oldest files go.
+    fn make_file<B: Beside>(
+        &mut self,
+        begun: i64,
+        goes_on: bool,
+        beside: &mut B,
+    ) -> Result<(FileName, D), ArchiveFault> {
+        let mut goes_on = goes_on;
+        for _ in 0..self.tries() {
+            if !self.files.is_free() {
+                return Err(ArchiveFault::Folder);
+            }
+            match self.files.begin(begun, goes_on) {
+                Ok(begun) => return Ok(begun),
+                Err(BeginFault::Folder) => {
+                    if !self.make_room(beside) {
+                        return Err(ArchiveFault::Folder);
+                    }
+                    // The number was used, so the next file isn't the one after the last.
+                    goes_on = false;
+                }
+                Err(fault) => return Err(fault.into()),
+            }
+        }
+        Err(ArchiveFault::Folder)
+    }
+
+    /// A recorder on a file that was begun. If no room is left for its first byte, the oldest files go.
+    fn first_recorder<B: Beside>(
+        &mut self,
+        name: FileName,
+        disk: D,
+        beside: &mut B,
+    ) -> Result<Recorder<D>, ArchiveFault> {
+        if !self.files.is_out(name.number) {
+            return Err(ArchiveFault::Folder);
+        }
+        let most = self.rules.most;
+        match first_recorder(self.alloc, &mut self.files, name, disk, most) {
+            Ok(recorder) => Ok(recorder),
+            Err(fault) => {
+                if self.make_room(beside) {
+                    self.next_recorder(beside)
+                } else {
+                    Err(fault)
+                }
+            }
+        }
+    }
+
+    /// The same, on a file that was given back since there was no room.
+    fn next_recorder<B: Beside>(&mut self, beside: &mut B) -> Result<Recorder<D>, ArchiveFault> {
+        match self.open_last(beside) {
+            Ok(recorder) => {
+                let mut recorder = recorder;
+                recorder.group(self.rules.most.clamp(1, 1024));
+                Ok(recorder)
+            }
+            Err(Damage::Open(OpenFault::Memory)) => Err(ArchiveFault::Memory),
+            Err(_) => Err(ArchiveFault::Folder),
+        }
     }
 
     /// Begins the link again that was open, in a new file, and keeps that.
@@ -379,15 +484,16 @@ impl<D: Disk + Drop, F: Folder<File = D> + Drop> Archive<D, F> {
     }
 
     /// Ends the newest file, if there is one: what is open is ended, and the file is cut to its pages. Nothing writes it
-    /// again. Returns whether the next file goes on with it: if a link was open, and all of it was kept.
+    /// again. Returns whether the next file goes on with it: if a link was open, and all of it was kept. It is none if the
+    /// disk has failed: then the newest stays.
     fn end_newest<B: Beside>(
         &mut self,
         import: &mut ImportRun,
         now: u64,
         beside: &mut B,
-    ) -> Result<bool, ArchiveFault> {
+    ) -> Result<Option<bool>, ArchiveFault> {
         let Some(newest) = self.newest.take() else {
-            return Ok(false);
+            return Ok(Some(false));
         };
         let serials = serials_of(self.alloc, &newest.recorder);
         let goes_on = is_open(newest.recorder.streams());
@@ -402,20 +508,26 @@ impl<D: Disk + Drop, F: Folder<File = D> + Drop> Archive<D, F> {
             recorder,
             join,
         };
-        if ended.is_ok() {
-            if let Some(line) = newest.line(self.last, now) {
-                beside.timed(line);
+        if newest.recorder.is_failed() {
+            self.newest = Some(newest);
+            return Ok(None);
+        }
+        match ended {
+            Ok(()) => {
+                if let Some(line) = newest.line(self.last, now) {
+                    beside.timed(line);
+                }
             }
-        } else {
-            beside.lost(import.offset(), newest.recorder.end());
+            Err(Unended::Refused(refusal)) => beside.refused(import.offset(), refusal),
+            Err(_) => beside.lost(import.offset(), newest.recorder.end()),
         }
         let sealed = self.seal(newest, beside);
         self.begins_again(import, serials)?;
-        Ok(goes_on && ended.is_ok() && sealed)
+        Ok(Some(goes_on && ended.is_ok() && sealed))
     }
 
     /// What begins the link again that is open in the input, in a file that has none of these serials.
-    fn begins_again(
+    pub(crate) fn begins_again(
         &mut self,
         import: &mut ImportRun,
         serials: Result<Vec<u32>, Memory>,
@@ -433,12 +545,14 @@ impl<D: Disk + Drop, F: Folder<File = D> + Drop> Archive<D, F> {
         }
     }
 
-    /// Ends the file: it is cut to its pages and given back. Returns whether it is cut.
+    /// Ends the file: it is cut to its pages and given back. If no room is left for that, the oldest files go. Returns
+    /// whether it is cut.
     fn seal<B: Beside>(&mut self, newest: Newest<D>, beside: &mut B) -> bool {
         let Newest { name, recorder, .. } = newest;
         let end = recorder.end();
         self.before = self.before.saturating_add(end);
-        if self.files.is_out(name.number) && end_file(&mut self.files, name, recorder) {
+        let is_out = self.files.is_out(name.number);
+        if (is_out && end_file(&mut self.files, name, recorder)) || self.seal_again(name, beside) {
             beside.ended(name, end);
             true
         } else {
@@ -447,109 +561,20 @@ impl<D: Disk + Drop, F: Folder<File = D> + Drop> Archive<D, F> {
         }
     }
 
-    /// Goes on after the disk has failed: the newest file is opened again, and if nothing was kept since that was done, it
-    /// is left as it is, and the next one is begun. What waited is lost.
-    ///
-    /// It is `Disk` if the disk failed a third time with nothing kept between.
-    pub fn recover<B: Beside>(
-        &mut self,
-        import: &mut ImportRun,
-        now: u64,
-        beside: &mut B,
-    ) -> Result<Answered, ArchiveFault> {
-        let end = self.end();
-        self.losses = if self.losses > 0 && self.lost_at == end {
-            self.losses.saturating_add(1)
-        } else {
-            1
-        };
-        self.lost_at = end;
-        match self.losses {
-            1 => self.open_again(import, now, beside),
-            2 => self.set_aside(import, now, beside),
-            _ => Err(ArchiveFault::Disk),
-        }
-    }
-
-    /// Leaves the newest file as it is, and begins the next one.
-    fn set_aside<B: Beside>(
-        &mut self,
-        import: &mut ImportRun,
-        now: u64,
-        beside: &mut B,
-    ) -> Result<Answered, ArchiveFault> {
-        if let Some(Newest { name, recorder, .. }) = self.newest.take() {
-            let serials = serials_of(self.alloc, &recorder);
-            self.before = self.before.saturating_add(recorder.end());
-            give_back(&mut self.files, name, recorder.give_back());
-            beside.damaged(name, Damage::Open(OpenFault::Disk));
-            self.begins_again(import, serials)?;
-        }
-        self.begin_next(import, now, beside)
-    }
-
-    /// Opens the newest file again, and goes on with the link that is open, or begins it again.
-    fn open_again<B: Beside>(
-        &mut self,
-        import: &mut ImportRun,
-        now: u64,
-        beside: &mut B,
-    ) -> Result<Answered, ArchiveFault> {
-        let Some(
-            Newest {
-                name,
-                recorder,
-                join,
-            },
-        ) = self.newest.take()
-        else {
-            return Ok(Answered::nothing());
-        };
-        let serials = serials_of(self.alloc, &recorder);
-        let end = recorder.end();
-        match open_sound(self.alloc, recorder.give_back()) {
-            Ok(recorder) => {
-                let join = if is_open(recorder.streams()) {
-                    join
-                } else {
-                    None
-                };
-                let mut newest = newest_on(name, recorder, self.rules.most);
-                newest.join = join;
-                self.resume(import, newest)
+    /// Ends the file that wasn't ended, as long as that fails for want of room alone, and files are left that may go.
+    fn seal_again<B: Beside>(&mut self, name: FileName, beside: &mut B) -> bool {
+        for _ in 0..self.tries() {
+            if !self.make_room(beside) {
+                return false;
             }
-            Err((Damage::Open(OpenFault::Memory), disk)) => {
-                give_back(&mut self.files, name, disk);
-                Err(ArchiveFault::Memory)
-            }
-            Err((why, disk)) => {
-                give_back(&mut self.files, name, disk);
-                self.before = self.before.saturating_add(end);
-                beside.damaged(name, why);
-                self.begins_again(import, serials)?;
-                self.begin_next(import, now, beside)
+            let Ok(recorder) = open_last(self.alloc, &mut self.files) else {
+                continue;
+            };
+            if self.files.is_out(name.number) && end_file(&mut self.files, name, recorder) {
+                return true;
             }
         }
-    }
-
-    /// Goes on in a file that was opened again.
-    fn resume(
-        &mut self,
-        import: &mut ImportRun,
-        newest: Newest<D>,
-    ) -> Result<Answered, ArchiveFault> {
-        let serials = newest.recorder.serials().as_slice();
-        let commands = match import.resume(newest.recorder.streams(), serials) {
-            Ok(commands) => commands,
-            Err(_) => return Err(ArchiveFault::Memory),
-        };
-        let mut newest = newest;
-        let ran = run_all(&mut newest, commands.as_slice(), &mut io::sink());
-        self.newest = Some(newest);
-        match ran {
-            Ok(answered) => Ok(answered),
-            Err(_) => Err(ArchiveFault::Input(RecordFault::Write)),
-        }
+        false
     }
 
     /// Ends the input: what is open is ended and kept. The newest file stays, to be gone on with.
@@ -592,18 +617,5 @@ impl<D: Disk + Drop, F: Folder<File = D> + Drop> Archive<D, F> {
             Some(newest) => self.seal(newest, beside),
             None => true,
         }
-    }
-}
-
-/// A new file, or one that was opened again.
-fn newest_on<D: Disk>(name: FileName, recorder: Recorder<D>, most: u32) -> Newest<D> {
-    let mut recorder = recorder;
-    if recorder.held() == 0 {
-        recorder.group(most.clamp(1, 1024));
-    }
-    Newest {
-        name,
-        recorder,
-        join: None,
     }
 }

@@ -3,6 +3,7 @@
 use crate::damage::Damage;
 use archive_folder::FileName;
 use archive_times::Line;
+use ogg_command::Refusal;
 
 /// What a program does beside recording: it tells what becomes of files, and keeps their times. No fault of it stops the
 /// recording.
@@ -24,8 +25,15 @@ pub trait Beside {
     /// many bytes are committed.
     fn lost(&mut self, offset: u64, committed: u64);
 
+    /// The end of a stream was refused for this when the input was read up to this offset: its file ends without it.
+    fn refused(&mut self, offset: u64, refusal: Refusal);
+
     /// The file was thrown away, with its times.
     fn removed(&mut self, file: FileName);
+
+    /// The file was to be thrown away, and that failed: it is there still, or will be after a stop. It isn't tried again
+    /// until the archive is opened again.
+    fn stays(&mut self, file: FileName);
 
     /// Two files have this number. Both are left exactly as they are.
     fn stands_twice(&mut self, number: u64);

@@ -1,20 +1,25 @@
 //! What is open in a file is ended.
-ghost use Rattle.std.specs.Prelude.{◌≡◌, OnOk, Err, true};
+ghost use Rattle.std.specs.Prelude.{◌≡◌, OnOk, Err, None, ⊤, false, true};
 ghost use Rattle.link_chain.specs.ChainState.{is_open};
+ghost use Rattle.ogg_command.specs.declared.refusal.Refusal.{Refusal as RefusalOf};
 ghost use Rattle.archive_record.specs.Resting.{IsAtRest};
 
 use disk_model::Disk;
+use feed_replies::Reply;
+use feed_runner::Replies;
 use file_recorder::{Recorder, end_open_streams};
-use std::io;
+use ogg_command::Refusal;
+use ogg_page::WriteFault;
+use std::io::Write;
 
 /// Why a stream is open still, or its end isn't kept.
 #[derive(Clone, Copy, Debug, PartialEq, Eq)]
 pub enum Unended {
     /// The disk has failed.
     Failed,
-    /// An end was refused for something else.
-    Refused,
-    /// A reply wasn't told. It is never met, since nobody is told.
+    /// An end was refused for something else: this.
+    Refused(Refusal),
+    /// A reply wasn't told. It is never met, since each is taken.
     Untold,
 }
 
@@ -22,9 +27,10 @@ pub enum Unended {
 pub fn end_open<D: Disk>(recorder: &mut Recorder<D>) -> Result<(), Unended>
     ensures rests { OnOk result (IsAtRest recorder.new) }
     ensures failed { result ≡ Err Unended.Failed → recorder.new.file.failed ≡ true }
-    ensures refused { result ≡ Err Unended.Refused → is_open recorder.new.chain ≡ true }
+    ensures refused { (refusal : RefusalOf) → result ≡ Err (Unended.Refused refusal) → is_open recorder.new.chain ≡ true }
 {
-    let left = match end_open_streams(recorder, &mut io::sink()) {
+    let mut last = LastRefusal { refusal: None };
+    let left = match end_open_streams(recorder, &mut last) {
         Ok(left) => left,
         Err(_) => return Err(Unended::Untold),
     };
@@ -32,7 +38,39 @@ pub fn end_open<D: Disk>(recorder: &mut Recorder<D>) -> Result<(), Unended>
         return Err(Unended::Failed);
     }
     if left {
-        return Err(Unended::Refused);
+        return match last.refusal {
+            Some(refusal) => Err(Unended::Refused(refusal)),
+            None => Err(Unended::Untold),
+        };
     }
     Ok(())
+}
+
+/// Keeps why a command was refused last.
+#[derive(Drop)]
+struct LastRefusal {
+    refusal: Option<Refusal>,
+}
+
+impl Replies for LastRefusal {
+    ghost lines = { λ _. None };
+
+    ghost waits = { false };
+
+    ghost enough = { λ _. false };
+
+    ghost is_out = { λ _. ⊤ };
+
+    fn reply<P: Write>(&mut self, reply: &Reply, _: &mut P) -> Result<(), WriteFault> {
+        if let Reply::Refused(refusal) = reply {
+            self.refusal = Some(*refusal);
+        }
+        Ok(())
+    }
+
+    fn ready<P: Write>(&mut self, _: &mut P) {}
+
+    fn has_enough(&self) -> bool {
+        false
+    }
 }

@@ -4,10 +4,16 @@ ghost use Rattle.disk_model.specs.Image.{settled};
 ghost use Rattle.disk_model.specs.Fault.{HasCause, Rises};
 ghost use Rattle.archive_folder.specs.Names.{AreBelow, Kept, IsKept, Out, numbers_of, listed, made, removed, synced};
 ghost use Rattle.archive_folder.specs.Clock.{MayHaveRemoved};
-ghost use Rattle.archive_record.specs.Files.{highest, AllKept, IsKnown, MayHaveBegun, NoneOrBelow, without};
+ghost use Rattle.archive_record.specs.Account.{Stands};
+ghost use Rattle.archive_record.specs.Files.{highest, AllKept, IsKnown, NoneOrBelow, without};
+ghost use Rattle.ogg_command.specs.declared.command.Command.{Command as CommandOf};
+ghost use Rattle.archive_history.specs.Archive.{Archive as Account, Making, Throwing, begun_by, with_new, Resolves};
+ghost use Rattle.archive_history.specs.History.{IsNotNewest, LeavesNames, MayHaveBegun, with_disk};
 
 use archive_folder::{FileFacts, FileName, Folder};
+use archive_history::{begin_file, throw_away};
 use disk_model::{Disk, DiskFault, Memory};
+use file_recorder::{Recorded, images_show_one_recording};
 use std::alloc::Global;
 use std::marker::Model;
 
@@ -128,6 +134,20 @@ impl<F: Folder> Files<F> {
             → MayHaveBegun F.File.Disk n (F.names self.old.folder) (F.names self.new.folder) (F.file self.new.folder) }
         ensures others { F.is_honest self.old.folder → (n : ℕ) → self.old.next ≢ Some n
             → F.file self.new.folder n ≡ F.file self.old.folder n }
+        // The folder stands as the account that has the new file, and its name stays.
+        ensures begun { IfOk result (λ (name, disk). F.is_honest self.old.folder
+            → (a : Account CommandOf) (disks : ℕ → F.File) → a.newest ≡ None
+            → Stands F.names F.File.Disk a self.old.folder disks
+            → Stands F.names F.File.Disk (with_new name.number a) self.new.folder (with_disk name.number disk disks)) }
+        // After a fault the account may have it, empty.
+        ensures unbegun { result ≡ Err BeginFault.Folder → F.is_honest self.old.folder → (n : ℕ) → self.old.next ≡ Some n
+            → (a : Account CommandOf) (disks : ℕ → F.File) → a.newest ≡ None
+            → Stands F.names F.File.Disk a self.old.folder disks
+            → (b : Account CommandOf) × (after : ℕ → F.File) × Resolves (begun_by a (Making n)) b
+            × Stands F.names F.File.Disk b self.new.folder after }
+        // A stop at any moment leaves what was there, without the new file or with it.
+        ensures any_moment { F.is_honest self.old.folder → (n : ℕ) → self.old.next ≡ Some n → result ≢ Err BeginFault.Memory
+            → LeavesNames F.moment F.left_since (made n (F.names self.old.folder)) self.old.folder self.new.folder }
         ensures honest { F.is_honest self.old.folder ↔ F.is_honest self.new.folder }
         ensures cause { result ≡ Err BeginFault.Folder
             → Rises (F.failures self.old.folder) (F.failures self.new.folder) }
@@ -144,7 +164,9 @@ impl<F: Folder> Files<F> {
             goes_on,
         };
         self.next = number.checked_add(1);
-        match make_synced(&mut self.folder, name) {
+        // For the proof alone.
+        images_show_one_recording();
+        match begin_file::<F::File, F, Recorded>(&mut self.folder, name) {
             Ok(disk) => {
                 self.files.push_reserved(name);
                 self.out = Some(number);
@@ -198,6 +220,11 @@ impl<F: Folder> Files<F> {
         self.out = None;
     }
 
+    /// Whether the folder's last call failed, or the file that was given back after it, as no room is left.
+    pub fn is_full(&self) -> bool {
+        self.folder.is_full()
+    }
+
     /// What stands under a name. Nothing is promised of it.
     pub fn facts(&mut self, name: FileName) -> Result<FileFacts, DiskFault>
         ensures files { self.new.files ≡ self.old.files }
@@ -225,6 +252,20 @@ impl<F: Folder> Files<F> {
         ensures next { self.new.next ≡ self.old.next }
         ensures out { self.new.out ≡ self.old.out }
         ensures places { F.is_honest self.old.folder → F.file self.new.folder ≡ F.file self.old.folder }
+        // The folder stands as the account in which this file was thrown away.
+        ensures thrown { result ≡ Ok true → F.is_honest self.old.folder
+            → (a : Account CommandOf) (disks : ℕ → F.File) → IsNotNewest name.number a.newest
+            → Stands F.names F.File.Disk a self.old.folder disks
+            → Stands F.names F.File.Disk (begun_by a (Throwing name.number)) self.new.folder disks }
+        // After a fault it is there, or gone, or in doubt.
+        ensures unthrown { OnErr result (F.is_honest self.old.folder
+            → (a : Account CommandOf) (disks : ℕ → F.File) → IsNotNewest name.number a.newest
+            → Stands F.names F.File.Disk a self.old.folder disks
+            → (b : Account CommandOf) × Resolves (begun_by a (Throwing name.number)) b
+            × Stands F.names F.File.Disk b self.new.folder disks) }
+        // A stop at any moment leaves what was there, with this file or without it.
+        ensures any_moment { F.is_honest self.old.folder → self.old.out ≢ Some name.number
+            → LeavesNames F.moment F.left_since (removed name.number (F.names self.old.folder)) self.old.folder self.new.folder }
         ensures honest { F.is_honest self.old.folder ↔ F.is_honest self.new.folder }
         ensures cause { HasCause (F.failures self.old.folder) (F.failures self.new.folder) result }
     {
@@ -232,7 +273,9 @@ impl<F: Folder> Files<F> {
             return Ok(false);
         }
         forget(&mut self.files, name.number);
-        match self.folder.remove(name) {
+        // For the proof alone.
+        images_show_one_recording();
+        match throw_away::<F::File, F, Recorded>(&mut self.folder, name) {
             Ok(()) => Ok(true),
             Err(DiskFault) => Err(DiskFault),
         }
@@ -279,31 +322,4 @@ fn next_number(files: &[FileName]) -> Option<u64>
         highest = file.number.max(highest);
     }
     highest.checked_add(1)
-}
-
-/// Makes a file and syncs the folder. A file that was made is given back if the sync fails.
-fn make_synced<F: Folder>(folder: &mut F, name: FileName) -> Result<F::File, DiskFault>
-    requires { F.is_honest folder.old → AreBelow name.number (F.names folder.old) }
-    ensures names { OnOk result (F.is_honest folder.old
-        → F.names folder.new ≡ synced (made name.number (F.names folder.old))) }
-    ensures empty { IfOk result (λ disk. F.is_honest folder.old
-        → F.File.is_honest disk × (F.File.state disk ≡ settled [])) }
-    ensures out { OnOk result (F.is_honest folder.old → F.file folder.new name.number ≡ Out) }
-    ensures failed { OnErr result (F.is_honest folder.old
-        → MayHaveBegun F.File.Disk name.number (F.names folder.old) (F.names folder.new) (F.file folder.new)) }
-    ensures others { F.is_honest folder.old
-        → (n : ℕ) → n ≢ name.number → F.file folder.new n ≡ F.file folder.old n }
-    ensures honest { F.is_honest folder.old ↔ F.is_honest folder.new }
-    ensures cause { OnErr result (Rises (F.failures folder.old) (F.failures folder.new)) }
-{
-    match folder.make(name) {
-        Ok(disk) => match folder.sync() {
-            Ok(()) => Ok(disk),
-            Err(DiskFault) => {
-                folder.give_back(name.number, disk);
-                Err(DiskFault)
-            }
-        },
-        Err(DiskFault) => Err(DiskFault),
-    }
 }

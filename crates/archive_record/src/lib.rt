@@ -17,6 +17,7 @@ mod filing;
 mod naming;
 mod newest;
 mod opening;
+mod recovery;
 mod retention;
 
 pub use archive::{Archive, ArchiveFault, Rules};

@@ -1,5 +1,5 @@
 //! The newest file, which is recorded into.
-ghost use Rattle.std.specs.Prelude.{◌≡◌};
+ghost use Rattle.std.specs.Prelude.{◌≡◌, None};
 
 use archive_folder::FileName;
 use archive_times::{Join, Line};
@@ -38,8 +38,14 @@ impl<D: Disk> Newest<D> {
         self.recorder.links() >= MOST_LINKS && !is_open(self.recorder.streams())
     }
 
-    /// The line of times that is to be written after `last`, if what is committed says more.
-    pub(crate) fn line(&self, last: Option<Line>, now: u64) -> Option<Line> {
+    /// The line of times that is to be written after `last`, if what is committed says more. Of a file in which nothing is
+    /// committed none is written, so that the first commit's comes at once.
+    pub(crate) fn line(&self, last: Option<Line>, now: u64) -> Option<Line>
+        ensures nothing { self.now.recorder.file.end ≡ 0 → result ≡ None }
+    {
+        if self.recorder.end() == 0 {
+            return None;
+        }
         let join = if is_open(self.recorder.streams()) {
             self.join
         } else {

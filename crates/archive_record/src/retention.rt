@@ -1,13 +1,13 @@
 //! Which files are thrown away, and that they are.
 
-ghost use Rattle.std.specs.Prelude.{◌≡◌};
+ghost use Rattle.std.specs.Prelude.{◌≡◌, None, false};
 
 use crate::archive::{Archive, ArchiveFault};
 use crate::beside::Beside;
 use crate::files::Files;
 use crate::naming::name_of;
 use archive_folder::{FileName, Folder};
-use archive_names::{Going, Held, Keeping, next_to_go};
+use archive_names::{Going, Held, Keeping, next_for_room, next_to_go};
 use disk_model::{Disk, DiskFault};
 
 /// Whether a file may have to be thrown away at all.
@@ -118,16 +118,48 @@ impl<D: Disk + Drop, F: Folder<File = D> + Drop> Archive<D, F> {
         }
     }
 
+    /// How often a call is made that fails for want of room: each time but the last a file is thrown away.
+    pub(crate) fn tries(&self) -> usize {
+        self.held.len().saturating_add(1)
+    }
+
+    /// If a call has failed as no room is left, and only so many bytes are kept, the oldest file goes that may. Returns
+    /// whether one did.
+    pub(crate) fn make_room<B: Beside>(&mut self, beside: &mut B) -> bool
+        ensures bound { self.old.rules.keeping.bytes ≡ None → (result ≡ false) × (self.new ≡ self.old) × (beside.new ≡ beside.old) }
+    {
+        if self.rules.keeping.bytes.is_none() || !self.files.is_full() {
+            return false;
+        }
+        // Each time a file is thrown away, forgotten or marked.
+        for _ in 0..self.held.len() {
+            let Some(at) = next_for_room(self.held.as_slice(), self.rules.keeping) else {
+                return false;
+            };
+            if self.throw_one(Going { at, by_age: false }, beside) {
+                return true;
+            }
+        }
+        false
+    }
+
     /// Throws a file away, unless it has a mark by now, and returns whether it did.
     fn throw_one<B: Beside>(&mut self, going: Going, beside: &mut B) -> bool {
-        let (Some(name), Some(held)) = (self.files.names().get(going.at), self.held.get(going.at))
-        else {
+        let Some(name) = self.files.names().get(going.at) else {
             return false;
         };
-        let (name, last) = (*name, held.last);
-        if look(&mut self.files, name, last).is_kept {
-            self.keep(going.at);
-            return false;
+        let name = *name;
+        match self.files.facts(name) {
+            Ok(facts) if facts.is_held => {
+                self.keep(going.at);
+                return false;
+            }
+            Ok(_) => {}
+            Err(DiskFault) => {
+                self.keep(going.at);
+                beside.stays(name);
+                return false;
+            }
         }
         match self.files.throw_away(name) {
             Ok(true) => {
@@ -142,6 +174,7 @@ impl<D: Disk + Drop, F: Folder<File = D> + Drop> Archive<D, F> {
             // The file is forgotten until the archive is opened again.
             Err(DiskFault) => {
                 self.forget(going.at);
+                beside.stays(name);
                 false
             }
         }

@@ -93,22 +93,27 @@ impl RawFolder for FailingFolder {
 /// How many calls `answers` makes, a file that is given back among them.
 const CALLS: usize = 7;
 
-/// Whether each call was answered, one after the other. What has no answer counts as answered.
-fn answers(folder: &mut FileFolder<FailingFolder>, alloc: Global) -> [bool; CALLS] {
-    let listed = match folder.list(alloc) {
+/// Whether each call was answered, one after the other, and why it failed. What has no answer counts as answered.
+fn answers(
+    folder: &mut FileFolder<FailingFolder>,
+    alloc: Global,
+) -> [(bool, Option<FaultKind>); CALLS] {
+    let is_listed = match folder.list(alloc) {
         Ok(files) => files.as_slice() == [named(5), named(6), named(7)].as_slice(),
         Err(_) => false,
     };
-    let told = folder.facts(named(5)).is_ok();
-    let made = folder.make(named(8)).is_ok();
-    let opened = folder.open(named(7));
-    let is_opened = opened.is_ok();
-    if let Ok(disk) = opened {
+    let listed = (is_listed, folder.last_fault());
+    let told = (folder.facts(named(5)).is_ok(), folder.last_fault());
+    let made = (folder.make(named(8)).is_ok(), folder.last_fault());
+    let file = folder.open(named(7));
+    let opened = (file.is_ok(), folder.last_fault());
+    if let Ok(disk) = file {
         folder.give_back(7, disk);
     }
-    let removed = folder.remove(named(5)).is_ok();
-    let synced = folder.sync().is_ok();
-    [listed, told, made, is_opened, true, removed, synced]
+    let given_back = (true, folder.last_fault());
+    let removed = (folder.remove(named(5)).is_ok(), folder.last_fault());
+    let synced = (folder.sync().is_ok(), folder.last_fault());
+    [listed, told, made, opened, given_back, removed, synced]
 }
 
 #[test]
@@ -121,16 +126,14 @@ fn a_call_that_fails_is_told_with_its_kind(rt: HostRuntime) -> Result<(), Fail> 
         });
         let answered = answers(&mut folder, rt.alloc());
         for k in 0..CALLS {
-            // The fifth call takes a file back, and has no answer.
-            let wanted = k + 1 != bad || k == 4;
-            assert!(rt; answered[k] == wanted);
+            // The fifth call takes a file back, and has no answer. It isn't made if the file wasn't opened, and then the
+            // kind is that of the opening still.
+            let (is_answered, fault) = answered[k];
+            assert!(rt; is_answered == (k + 1 != bad || k == 4));
+            let fails = k + 1 == bad || k == 4 && bad == 4;
+            assert!(rt; (fault == Some(FaultKind::Full)) == fails);
+            assert!(rt; fault.is_none() != fails);
         }
-        let wanted = if bad == 0 {
-            None
-        } else {
-            Some(FaultKind::Full)
-        };
-        assert!(rt; folder.last_fault() == wanted);
     }
     Ok(())
 }

@@ -1,4 +1,4 @@
-use Rattle.std.proofs.Common.{inl, inr, ⊎_elim, List, subst}
+use Rattle.std.proofs.Common.{ℕ, inl, inr, ⊎_elim, List, subst, ◌∙◌}
 use Rattle.archive_folder.specs.declared.names.Name.{Name}
 use Rattle.archive_folder.specs.Names.{IsLeft, made}
 use Rattle.archive_folder.specs.NamesLaws.{left_of_made}
@@ -17,11 +17,16 @@ returns-in-Err-sync-clause-any_moment g c = λ honest.
     let f = g.F.Folder in
     let old = c.args.folder.now in
     let mid = c.make.new.self in
+    let after = c.sync.new.self in
     let bound = made c.args.name.number (f.names old) in
     let still = c.make.ensures.honest.0 honest in
-    leaves_both f.moment f.left_since bound (f.names mid) old mid c.sync.new.self
+    let again = c.sync.ensures.honest.0 still in
+    let in_mid : ((left : List ℕ) → IsLeft (f.names mid) left → IsLeft bound left) = λ left is. subst (λ (ns : List Name). IsLeft ns left) (c.in-Ok.ensures.made honest) is in
+    leaves_both f.moment f.left_since bound (f.names after) old after c.give_back.new.self
+    (leaves_both f.moment f.left_since bound (f.names mid) old mid after
     (leaves_names f.names f.moment f.left_since bound old mid (g.met.F.Folder.laws old honest) (c.make.ensures.time honest) (left_of_made (f.names old) c.args.name.number))
-    (c.sync.ensures.time still) (λ left is. subst (λ (ns : List Name). IsLeft ns left) (c.in-Ok.ensures.made honest) is)
+    (c.sync.ensures.time still) in_mid)
+    (c.give_back.ensures.time again) (λ left is. in_mid left (subst (λ (ns : List Name). IsLeft ns left) (c.in-Err-sync.ensures.failed still) is))
 
 pub returns-in-Ok-sync-clause-any_moment : goal.returns-in-Ok-sync-clause-any_moment
 returns-in-Ok-sync-clause-any_moment g c = λ honest.
@@ -64,7 +69,8 @@ returns-in-Err-sync-clause-failed g c = λ honest first a disks empty_shows none
     let b = g.B.Recordings in
     let old = c.args.folder.now in
     let still = c.make.ensures.honest.0 honest in
+    let again = c.sync.ensures.honest.0 still in
     not_synced f.names f.moment f.left_since g.D.Disk b.shows b.accepts b.next first
     (λ x y event o n s. c.folders_stand_as_their_account.ensures.event first x y event o n empty_shows s)
-    a c.args.name.number disks c.in-Ok.disk old c.make.new.self c.sync.new.self none (c.requires honest) stands (g.met.F.Folder.laws old honest)
-    (c.in-Ok.ensures.empty honest).1 (c.in-Ok.ensures.made honest) (c.in-Err-sync.ensures.failed still) (c.make.ensures.time honest)
+    a c.args.name.number disks c.in-Ok.disk old c.make.new.self c.give_back.new.self none (c.requires honest) stands (g.met.F.Folder.laws old honest)
+    (c.in-Ok.ensures.empty honest).1 (c.in-Ok.ensures.made honest) (c.give_back.ensures.same again ∙ c.in-Err-sync.ensures.failed still) (c.make.ensures.time honest)

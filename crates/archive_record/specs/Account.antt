@@ -1,0 +1,14 @@
+-- A folder of recordings, and the account that it stands as. Ours.
+use Rattle.std.specs.Prelude.{ℕ, List, []}
+use Rattle.disk_model.specs.declared.disk.Disk.{Ghosts as DiskModel}
+use Rattle.archive_folder.specs.declared.names.Name.{Name}
+use Rattle.ogg_command.specs.declared.command.Command.{Command}
+use Rattle.chain_rules.specs.Recording.{add}
+use Rattle.file_recorder.specs.Recovery.{Shows}
+use Rattle.archive_history.specs.Archive.{Archive}
+use Rattle.archive_history.specs.Accounted.{StandsAs}
+use Rattle.archive_history.specs.History.{point}
+
+-- The folder has the account's names, and under each number stands a disk whose images are as the account says.
+abbrev pub Stands : {F D : Type 0} → (F → List Name) → DiskModel D → Archive Command → F → (ℕ → D) → Type 0
+Stands names_in model a folder disks = StandsAs names_in model Shows add [] a (point folder disks)

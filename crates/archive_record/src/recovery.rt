@@ -1,0 +1,173 @@
+//! The recording goes on after the disk has failed.
+ghost use Rattle.std.specs.Prelude.{◌≡◌, IfOk, false};
+
+use crate::archive::{Archive, ArchiveFault, give_back, open_last, serials_of};
+use crate::beside::Beside;
+use crate::damage::Damage;
+use crate::newest::Newest;
+use archive_folder::{FileName, Folder};
+use archive_times::Join;
+use disk_model::{Disk, Memory};
+use file_recorder::Recorder;
+use gate_file::OpenFault;
+use import_record::{Answered, ImportRun, RecordFault, run_all};
+use link_chain::is_open;
+use std::io;
+
+/// A file whose disk has failed: it is with the folder.
+#[derive(Drop)]
+struct Failed {
+    name: FileName,
+    join: Option<Join>,
+    serials: Result<Vec<u32>, Memory>,
+    // how many bytes of it are committed
+    end: u64,
+}
+
+impl<D: Disk + Drop, F: Folder<File = D> + Drop> Archive<D, F> {
+    /// Goes on after the disk has failed. If no room is left, and only so many bytes are kept, the oldest file goes, and
+    /// the newest is opened again. If no file goes, it is opened again too, unless nothing was kept since that was done:
+    /// then it is left as it is, and the next one is begun. What waited is lost.
+    ///
+    /// It is `Disk` if the disk failed a third time with nothing kept and no file thrown away between.
+    pub fn recover<B: Beside>(
+        &mut self,
+        import: &mut ImportRun,
+        now: u64,
+        beside: &mut B,
+    ) -> Result<Answered, ArchiveFault> {
+        let committed = self.end();
+        let Some(failed) = self.give_back_newest() else {
+            return Ok(Answered::nothing());
+        };
+        if self.make_room(beside) {
+            return self.open_again(failed, import, now, beside);
+        }
+        match self.count_loss(committed) {
+            1 => self.open_again(failed, import, now, beside),
+            2 => self.set_aside(failed, Damage::Open(OpenFault::Disk), import, now, beside),
+            _ => Err(ArchiveFault::Disk),
+        }
+    }
+
+    /// The newest file is given back, if there is one.
+    fn give_back_newest(&mut self) -> Option<Failed> {
+        let Newest {
+            name,
+            recorder,
+            join,
+        } = self.newest.take()?;
+        let (serials, end) = (serials_of(self.alloc, &recorder), recorder.end());
+        give_back(&mut self.files, name, recorder.give_back());
+        Some(Failed {
+            name,
+            join,
+            serials,
+            end,
+        })
+    }
+
+    /// How often the disk has failed with so many bytes committed.
+    fn count_loss(&mut self, committed: u64) -> u8 {
+        self.losses = if self.losses > 0 && self.lost_at == committed {
+            self.losses.saturating_add(1)
+        } else {
+            1
+        };
+        self.lost_at = committed;
+        self.losses
+    }
+
+    /// Leaves the newest file as it is, and begins the next one.
+    fn set_aside<B: Beside>(
+        &mut self,
+        failed: Failed,
+        why: Damage,
+        import: &mut ImportRun,
+        now: u64,
+        beside: &mut B,
+    ) -> Result<Answered, ArchiveFault> {
+        let Failed {
+            name,
+            serials,
+            end,
+            ..
+        } = failed;
+        self.before = self.before.saturating_add(end);
+        beside.damaged(name, why);
+        self.begins_again(import, serials)?;
+        self.begin_next(import, now, beside)
+    }
+
+    /// Opens the newest file again, and goes on with the link that is open, or begins it again.
+    fn open_again<B: Beside>(
+        &mut self,
+        failed: Failed,
+        import: &mut ImportRun,
+        now: u64,
+        beside: &mut B,
+    ) -> Result<Answered, ArchiveFault> {
+        match self.open_last(beside) {
+            Ok(recorder) => {
+                let mut newest = newest_on(failed.name, recorder, self.rules.most);
+                if is_open(newest.recorder.streams()) {
+                    newest.join = failed.join;
+                }
+                self.last = beside.opened(newest.name, newest.recorder.end());
+                self.resume(import, newest)
+            }
+            Err(Damage::Open(OpenFault::Memory)) => Err(ArchiveFault::Memory),
+            Err(why) => self.set_aside(failed, why, import, now, beside),
+        }
+    }
+
+    /// A recorder on the newest file, which is with the folder. If no room is left to open it, the oldest files go.
+    pub(crate) fn open_last<B: Beside>(&mut self, beside: &mut B) -> Result<Recorder<D>, Damage>
+        ensures fresh { IfOk result (λ r. (r.file.failed ≡ false) × (r.held ≡ 0)) }
+    {
+        for _ in 0..self.tries() {
+            match open_last(self.alloc, &mut self.files) {
+                Ok(recorder) => return Ok(recorder),
+                Err(why) => {
+                    if !self.make_room(beside) {
+                        return Err(why);
+                    }
+                }
+            }
+        }
+        Err(Damage::Unreadable)
+    }
+
+    /// Goes on in a file that was opened again.
+    fn resume(
+        &mut self,
+        import: &mut ImportRun,
+        newest: Newest<D>,
+    ) -> Result<Answered, ArchiveFault> {
+        let serials = newest.recorder.serials().as_slice();
+        let commands = match import.resume(newest.recorder.streams(), serials) {
+            Ok(commands) => commands,
+            Err(_) => return Err(ArchiveFault::Memory),
+        };
+        let mut newest = newest;
+        let ran = run_all(&mut newest, commands.as_slice(), &mut io::sink());
+        self.newest = Some(newest);
+        match ran {
+            Ok(answered) => Ok(answered),
+            Err(_) => Err(ArchiveFault::Input(RecordFault::Write)),
+        }
+    }
+}
+
+/// A file that was opened again.
+fn newest_on<D: Disk>(name: FileName, recorder: Recorder<D>, most: u32) -> Newest<D> {
+    let mut recorder = recorder;
+    if recorder.held() == 0 {
+        recorder.group(most.clamp(1, 1024));
+    }
+    Newest {
+        name,
+        recorder,
+        join: None,
+    }
+}
