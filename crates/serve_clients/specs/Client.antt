@@ -23,9 +23,11 @@ pub record ClientState : Type 0 where
   pub idle : Bool
   -- how its socket stands
   pub line : Line
+  -- memory for what is kept of it was refused, since there was no room
+  pub refused : Bool
 
 abbrev pub fresh : ℕ → ClientState
-fresh now = record { stage = Asking; session = None; head = []; unsent = []; listener = None; since = now; idle = true; line = new_line }
+fresh now = record { stage = Asking; session = None; head = []; unsent = []; listener = None; since = now; idle = true; line = new_line; refused = false }
 
 abbrev pub with_stage : Stage → ClientState → ClientState
 with_stage stage client = record client { stage = stage }
@@ -37,6 +39,13 @@ told text client = record client { unsent = client.unsent ++ text }
 -- a client that is cut keeps what it had
 abbrev pub cut : ClientState → ClientState
 cut client = with_stage Cut client
+
+-- memory for what is kept of it was refused; or it is cut for that
+abbrev pub memory_refused : ClientState → ClientState
+memory_refused client = record client { refused = true }
+
+abbrev pub cut_for_memory : ClientState → ClientState
+cut_for_memory client = cut (memory_refused client)
 
 -- A client that is cut is closed. One that has got its last byte is told so, and what it still sends is passed over until it
 -- closes: a reset could cut off what was written (RFC 9112, section 9.6).
@@ -67,11 +76,12 @@ abbrev pub given : ℕ → Bool → ℕ → ClientState → ClientState
 given zero ending now client = ended_if (is_hearing client.stage && ending) (record client { idle = true })
 given (suc count) ending now client = if client.idle then record client { idle = false; since = now } else client
 
--- So many of these bytes were written, and the others are kept: of those that were kept before, or of these.
+-- So many of these bytes were written, and the others are kept: of those that were kept before, or of these. If memory for
+-- these is refused, it is cut.
 abbrev pub HasWritten : List ℕ → ℕ → ClientState → ClientState → Type 0
 HasWritten bytes count old new =
     ((old.unsent ≢ []) × (new ≡ record old { unsent = drop count old.unsent }))
-    ⊎ ((old.unsent ≡ []) × ((new ≡ record old { unsent = drop count bytes }) ⊎ (new ≡ cut old)))
+    ⊎ ((old.unsent ≡ []) × ((new ≡ record old { unsent = drop count bytes }) ⊎ (new ≡ cut_for_memory old)))
 
 -- a byte that was written shows that the peer takes bytes
 abbrev pub moved_if : ℕ → ℕ → ClientState → ClientState

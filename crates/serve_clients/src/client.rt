@@ -1,13 +1,16 @@
 //! A connection, and how far it has come.
-ghost use Rattle.std.specs.Prelude.{◌≡◌, ◌≢◌, ◌⊎◌, [], Some, drop, OnOk, OnErr};
+ghost use Rattle.std.specs.Prelude.{◌≡◌, ◌≢◌, ◌⊎◌, ◌++◌, [], Some, drop, OnOk, OnErr};
 ghost use Rattle.serve_clients.specs.Clients.{unwritten_by};
-ghost use Rattle.serve_clients.specs.Client.{ClientState, HasWritten, after_of, cut, fresh, given, moved_if, told, with_line, with_stage};
+ghost use Rattle.serve_clients.specs.Client.{ClientState, HasWritten, after_of, cut_for_memory, fresh, given, memory_refused, moved_if, told, with_line, with_stage};
+ghost use Rattle.serve_texts.specs.Player.{player_response};
+ghost use Rattle.serve_texts.specs.Status.{status_response};
 ghost use Rattle.serve_clients.specs.declared.client.Stage.TheVariants.{Ending as EndingOf};
 
 use crate::Memory;
+use crate::grower::Grower;
 use crate::line::{Line, Trouble};
 use serve_live::Listener;
-use serve_texts::Visit;
+use serve_texts::{Numbers, Visit, append_player, append_status};
 use std::alloc::Global;
 use std::marker::Model;
 
@@ -58,6 +61,8 @@ pub struct Client {
     // what was to be written, and how much of it was
     rest: Vec<u8>,
     sent: usize,
+    // whether memory for it was refused
+    grower: Grower,
     pub listener: Option<Listener>,
     // since when it has neither sent nor taken a byte, though it could: milliseconds of the caller's clock
     pub since: u64,
@@ -83,6 +88,7 @@ impl Model for Client {
       since = c.since;
       idle = c.idle;
       line = c.line;
+      refused = c.grower;
     } };
 
     ghost invariant = { λ c. c.sent ≤ length c.rest.items };
@@ -99,6 +105,7 @@ impl Client {
             head: Vec::new(alloc),
             rest: Vec::new(alloc),
             sent: 0,
+            grower: Grower::new(),
             listener: None,
             since: now,
             idle: true,
@@ -107,22 +114,58 @@ impl Client {
         }
     }
 
-    /// This text is the next that is written. After `Memory` nothing is changed.
-    pub fn tell(&mut self, text: &[u8]) -> Result<(), Memory>
-        ensures ok { OnOk result (self.new ≡ told text.now self.old) }
-        ensures err { OnErr result (self.new ≡ self.old) }
+    /// Further bytes of its head have come. After `Memory`, which is noted, none of them are kept.
+    pub fn hear(&mut self, bytes: &[u8]) -> Result<(), Memory>
+        ensures ok { OnOk result (self.new ≡ record self.old { head = self.old.head ++ bytes.now }) }
+        ensures err { OnErr result (self.new ≡ memory_refused self.old) }
     {
-        self.rest.extend_from_slice(text)
+        self.grower.append(&mut self.head, bytes)
     }
 
-    /// This text is the last that is written. Without memory for it the connection is cut.
+    /// This text is the next that is written. After `Memory`, which is noted, nothing of it is.
+    pub fn tell(&mut self, text: &[u8]) -> Result<(), Memory>
+        ensures ok { OnOk result (self.new ≡ told text.now self.old) }
+        ensures err { OnErr result (self.new ≡ memory_refused self.old) }
+    {
+        self.grower.append(&mut self.rest, text)
+    }
+
+    /// This text is the last that is written. If memory for it is refused, the connection is cut.
     pub fn tell_last(&mut self, text: &[u8])
-        ensures { (self.new ≡ with_stage EndingOf (told text.now self.old)) ⊎ (self.new ≡ cut self.old) }
+        ensures { (self.new ≡ with_stage EndingOf (told text.now self.old)) ⊎ (self.new ≡ cut_for_memory self.old) }
     {
         match self.tell(text) {
             Ok(()) => self.stage = Stage::Ending,
             Err(_) => self.stage = Stage::Cut,
         }
+    }
+
+    /// The player is the last that is written. If memory for it is refused, the connection is cut.
+    pub fn tell_player(&mut self, head: bool)
+        ensures { (self.new ≡ with_stage EndingOf (told (player_response head) self.old)) ⊎ (self.new ≡ cut_for_memory self.old) }
+    {
+        match append_player(&mut self.rest, head) {
+            Ok(()) => self.stage = Stage::Ending,
+            Err(_) => self.lack_memory(),
+        }
+    }
+
+    /// These numbers are the last that is written. If memory for them is refused, the connection is cut.
+    pub fn tell_status(&mut self, numbers: &Numbers, head: bool)
+        ensures { (self.new ≡ with_stage EndingOf (told (status_response numbers.now head) self.old)) ⊎ (self.new ≡ cut_for_memory self.old) }
+    {
+        match append_status(&mut self.rest, numbers, head) {
+            Ok(()) => self.stage = Stage::Ending,
+            Err(_) => self.lack_memory(),
+        }
+    }
+
+    /// Memory for what it is to get was refused: it is cut.
+    pub fn lack_memory(&mut self)
+        ensures { self.new ≡ cut_for_memory self.old }
+    {
+        self.grower.note();
+        self.stage = Stage::Cut;
     }
 
     /// It is in this stage from now on.
@@ -149,10 +192,10 @@ impl Client {
     }
 
     /// The first `count` of the bytes that were given were written: those that couldn't be written before, or these if
-    /// there were none. What is left is kept; without memory for it the connection is cut.
+    /// there were none. What is left is kept; if memory for it is refused, the connection is cut.
     pub fn wrote(&mut self, bytes: &[u8], count: usize)
         ensures again { self.old.unsent ≢ [] → self.new ≡ record self.old { unsent = drop count self.old.unsent } }
-        ensures anew { self.old.unsent ≡ [] → (self.new ≡ record self.old { unsent = drop count bytes.now }) ⊎ (self.new ≡ cut self.old) }
+        ensures anew { self.old.unsent ≡ [] → (self.new ≡ record self.old { unsent = drop count bytes.now }) ⊎ (self.new ≡ cut_for_memory self.old) }
         ensures written { HasWritten bytes.now count self.old self.new }
     {
         if !self.unsent().is_empty() {
@@ -162,7 +205,7 @@ impl Client {
         self.rest.clear();
         self.sent = 0;
         let (_, left) = bytes.split_at(count.min(bytes.len()));
-        if self.rest.extend_from_slice(left).is_err() {
+        if self.grower.append(&mut self.rest, left).is_err() {
             self.stage = Stage::Cut;
         }
     }

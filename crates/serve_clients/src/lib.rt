@@ -12,6 +12,7 @@
 
 mod client;
 mod clients;
+mod grower;
 mod line;
 mod patience;
 

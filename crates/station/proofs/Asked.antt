@@ -2,7 +2,7 @@
 use Rattle.std.proofs.Common.{◌≡◌, ◌≢◌, ◌⊎◌, ℕ, Bool, true, false, is_some, Option, Some, None, List, ◌++◌, refl, sym, ◌∙◌, ap, subst, inr, inl}
 use Rattle.disk_model.specs.declared.disk.Disk.{Ghosts as DiskModel}
 use Rattle.import_changes.specs.declared.options.Skeletons.{Skeletons}
-use Rattle.serve_clients.specs.Client.{ClientState, cut}
+use Rattle.serve_clients.specs.Client.{ClientState}
 use Rattle.serve_clients.specs.declared.client.Stage.TheVariants.{Feeding, Offering}
 use Rattle.serve_hub.specs.Listening.{KeepsMachine}
 use Rattle.serve_hub.specs.Parts.{HubParts}
@@ -12,11 +12,11 @@ use Rattle.serve_sources.specs.declared.asking.Asks.TheVariants as Asks
 use Rattle.serve_sources.specs.declared.own.OwnResource.{OwnResource}
 use Rattle.serve_sources.specs.declared.password.Password.{Password}
 use Rattle.slab.specs.Slab.{Slab, get, with_value}
-use Rattle.station_hub.specs.Asking.{HasAsked, IsConnected, with_head}
+use Rattle.station_hub.specs.Asking.{HasAsked, HasNoSession, IsConnected, with_head}
 use Rattle.station_hub.specs.Places.{PlacesState}
 use Rattle.station_sources.specs.declared.air.Feeder.{Feeder}
 use Rattle.station_sources.specs.declared.air.OnAir.{OnAir}
-use Rattle.station.specs.Asked.{Awaits, Connects, GetsOwn, IsAnswered, Joins, Offers, moved}
+use Rattle.station.specs.Asked.{Awaits, Connects, GetsOwn, HasCause, IsAnswered, Joins, Offers, moved}
 use Rattle.station.specs.Beginning.{BeginsBeside, run_in}
 use Rattle.station.specs.Found.{placed}
 use Rattle.station.specs.Keeping.{OthersAirStays}
@@ -72,26 +72,27 @@ module _ {D : Type 0} (model : DiskModel D) where
       (client one asked : ClientState) (found : Option ClientState) → one ≡ moved client → HasAsked (Asks.Own resource head) bytes one asked
       → KeepsMachine model old new
       → (after : ClientState) × (found ≡ Some after) × IsAnswered resource head asked after × Joins model resource head places old after
+      × HasCause model resource places old new after
       → (after : ClientState) × (found ≡ Some after) × GetsOwn model places bytes old new client after
-  gets_own places bytes old new resource head client one asked found was asks keeps (after, left, answered, joins) =
+  gets_own places bytes old new resource head client one asked found was asks keeps (after, left, answered, joins, cause) =
       let (own, becomes) = subst (λ (it : ClientState). HasAsked (Asks.Own resource head) bytes it asked) was asks in
-      (after, left, (resource, head, own, keeps, subst (λ (it : ClientState). IsAnswered resource head it after) becomes answered, joins))
+      (after, left, (resource, head, own, keeps, subst (λ (it : ClientState). IsAnswered resource head it after) becomes answered, joins, cause))
 
   connected : (password : Option Password) (bytes : List ℕ) (old new : HubParts D) (client asked after : ClientState)
       → IsOther (client.head ++ bytes) ⊎ ((asks_as_source (client.head ++ bytes) ≡ true) × (password ≡ None)) → asked ≡ with_head bytes (moved client)
-      → IsConnected (Shows model) old new asked after ⊎ ((new ≡ old) × (after ≡ cut asked)) → Connects model password bytes old new client after
+      → IsConnected (Shows model) old new asked after ⊎ HasNoSession old new asked after → Connects model password bytes old new client after
   connected password bytes old new client asked after cause becomes connects =
-      (cause, subst (λ (it : ClientState). IsConnected (Shows model) old new it after ⊎ ((new ≡ old) × (after ≡ cut it))) becomes connects)
+      (cause, subst (λ (it : ClientState). IsConnected (Shows model) old new it after ⊎ HasNoSession old new it after) becomes connects)
 
   pub connects_other : (password : Option Password) (bytes : List ℕ) (old new : HubParts D) (client one asked after : ClientState) → one ≡ moved client
-      → HasAsked Asks.File bytes one asked → IsConnected (Shows model) old new asked after ⊎ ((new ≡ old) × (after ≡ cut asked))
+      → HasAsked Asks.File bytes one asked → IsConnected (Shows model) old new asked after ⊎ HasNoSession old new asked after
       → Connects model password bytes old new client after
   connects_other password bytes old new client one asked after was asks connects =
       let (other, becomes) = subst (λ (it : ClientState). HasAsked Asks.File bytes it asked) was asks in
       connected password bytes old new client asked after (inl other) becomes connects
 
   pub connects_source : (password : Option Password) (bytes : List ℕ) (old new : HubParts D) (client one asked after : ClientState) → one ≡ moved client
-      → HasAsked Asks.Source bytes one asked → password ≡ None → IsConnected (Shows model) old new asked after ⊎ ((new ≡ old) × (after ≡ cut asked))
+      → HasAsked Asks.Source bytes one asked → password ≡ None → IsConnected (Shows model) old new asked after ⊎ HasNoSession old new asked after
       → Connects model password bytes old new client after
   connects_source password bytes old new client one asked after was asks unset connects =
       let (source, becomes) = subst (λ (it : ClientState). HasAsked Asks.Source bytes it asked) was asks in

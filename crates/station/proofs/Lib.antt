@@ -1,3 +1,4 @@
+mod Results
 mod Asked
 mod Hearing
 mod Leaving
@@ -10,3 +11,4 @@ mod Turned
 mod Unread
 mod Waited
 mod Spared
+mod Counted

@@ -1,11 +1,16 @@
 -- Whether another turn follows.
-use Rattle.std.proofs.Common.{◌≡◌, ◌⊎◌, ℕ, Bool, true, false, ◌||◌, Option, refl, ap, inl, inr}
+use Rattle.std.proofs.Common.{◌≡◌, ◌⊎◌, ℕ, Bool, true, false, ◌||◌, Option, refl, sym, ◌∙◌, ap, inl, inr}
 use Rattle.std.proofs.lemmas.Bool.{cases_Bool}
-use Rattle.serve_clients.specs.Client.{ClientState, after_of}
+use Rattle.serve_clients.specs.Client.{ClientState, after_of, with_line, with_stage}
+use Rattle.serve_clients.specs.Line.{read_failed_by}
+use Rattle.serve_clients.specs.declared.client.Stage.{Stage}
+use Rattle.serve_clients.specs.declared.client.Stage.TheVariants.{Asking, Offering, Waiting, Reading, Sending, Hearing, Ending, Closing, Cut}
+use Rattle.serve_clients.specs.declared.line.Line.{Line}
+use Rattle.serve_clients.specs.declared.line.Trouble.TheVariants.{Blocked}
 use Rattle.serve_clients.specs.Clients.{goes_again, is_shut}
 use Rattle.serve_clients.specs.declared.client.After.{After}
 use Rattle.serve_clients.specs.declared.client.After.TheVariants.{Goes, Shuts, Closes}
-use Rattle.station.specs.Turning.{GoesOn, IsRead}
+use Rattle.station.specs.Turning.{GoesOn, IsRead, half_closed, stage_at_half_close}
 use Rattle.station_sources.specs.declared.air.OnAir.{OnAir}
 
 false_true : false ≡ true → ⊥
@@ -46,3 +51,33 @@ rests key client air reads read over = elim (cases_Bool (goes_again reads client
   ]
   | inr rest ↦ rest
 ]
+
+-- ---- a peer that sends no more
+pub goes_at : (stage : Stage) → (stage ≡ Waiting) ⊎ ((stage ≡ Sending) ⊎ ((stage ≡ Ending) ⊎ (stage ≡ Cut))) → stage_at_half_close stage ≡ stage
+goes_at stage (inl is) = ap stage_at_half_close is ∙ sym is
+goes_at stage (inr (inl is)) = ap stage_at_half_close is ∙ sym is
+goes_at stage (inr (inr (inl is))) = ap stage_at_half_close is ∙ sym is
+goes_at stage (inr (inr (inr is))) = ap stage_at_half_close is ∙ sym is
+
+pub cuts_at : (stage : Stage) → (stage ≡ Asking) ⊎ ((stage ≡ Offering) ⊎ ((stage ≡ Reading) ⊎ ((stage ≡ Hearing) ⊎ (stage ≡ Closing))))
+    → stage_at_half_close stage ≡ Cut
+cuts_at stage (inl is) = ap stage_at_half_close is
+cuts_at stage (inr (inl is)) = ap stage_at_half_close is
+cuts_at stage (inr (inr (inl is))) = ap stage_at_half_close is
+cuts_at stage (inr (inr (inr (inl is)))) = ap stage_at_half_close is
+cuts_at stage (inr (inr (inr (inr is)))) = ap stage_at_half_close is
+
+unread : ClientState → ClientState
+unread client = with_line (read_failed_by Blocked client.line) client
+
+pub half_goes : (client new : ClientState) (line : Line) → line ≡ read_failed_by Blocked client.line → new ≡ with_line line client
+    → stage_at_half_close client.stage ≡ client.stage → new ≡ half_closed client
+unfolding unread
+half_goes client new line is becomes same =
+    becomes ∙ ap (λ (one : Line). with_line one client) is ∙ ap (λ (stage : Stage). with_stage stage (unread client)) (sym same)
+
+pub half_gone : (client mid new : ClientState) (line : Line) → line ≡ read_failed_by Blocked client.line → mid ≡ with_line line client
+    → new ≡ with_stage Cut mid → stage_at_half_close client.stage ≡ Cut → new ≡ half_closed client
+unfolding unread
+half_gone client mid new line is becomes cuts at =
+    cuts ∙ ap (with_stage Cut) (becomes ∙ ap (λ (one : Line). with_line one client) is) ∙ ap (λ (stage : Stage). with_stage stage (unread client)) (sym at)

@@ -1,5 +1,6 @@
 -- A source that waits, and is given its next bytes.
 use Rattle.std.proofs.Common.{◌≡◌, ◌≢◌, ◌⊎◌, ◌&&◌, ℕ, zero, suc, Bool, true, false, Option, Some, None, List, [], ◌∷◌, if◌then◌else◌, refl, sym, ◌∙◌, ap, inl, inr}
+use Rattle.disk_model.specs.declared.disk.Disk.{Ghosts as DiskModel}
 use Rattle.serve_clients.specs.Client.{ClientState, ended_if, given as given_to, is_hearing}
 use Rattle.serve_clients.specs.declared.client.Stage.{Stage}
 use Rattle.serve_clients.specs.declared.client.Stage.TheVariants.{Sending, Hearing}
@@ -24,9 +25,9 @@ some_or_none [] = inl refl
 some_or_none (byte ∷ bytes) = inr (λ e. cc)
 
 -- nothing is pulled for it
-pub offered_gets : {D : Type 0} (shows : HubParts D → HubState → Type 0) (old new : HubParts D) (size count : ℕ) (client after : ClientState) (buffer : List ℕ)
-    → Gives shows old new size client count buffer after → has_offered client.stage ≡ true → (new ≡ old) × (after ≡ client)
-offered_gets shows old new size count client after buffer gives is = elim (some_or_none client.unsent) [
+pub offered_gets : {D : Type 0} (model : DiskModel D) (old new : HubParts D) (size count : ℕ) (client after : ClientState) (buffer : List ℕ)
+    → Gives model old new size client count buffer after → has_offered client.stage ≡ true → (new ≡ old) × (after ≡ client)
+offered_gets model old new size count client after buffer gives is = elim (some_or_none client.unsent) [
   | inl none ↦
       let (nothing, hub, same) = gives.nothing none (not_sending client.stage is) (not_hearing client.stage is) in
       (hub, same)

@@ -1,7 +1,7 @@
 -- What becomes of a connection by what it asks for. Ours.
 use Rattle.std.specs.Prelude.{◌≡◌, ◌≢◌, ◌⊎◌, ⊤, ℕ, Bool, true, false, Option, Some, None, Result, List, ◌++◌}
 use Rattle.disk_model.specs.declared.disk.Disk.{Ghosts as DiskModel}
-use Rattle.serve_clients.specs.Client.{ClientState, cut, told, with_line, with_stage}
+use Rattle.serve_clients.specs.Client.{ClientState, cut_for_memory, told, with_line, with_stage}
 use Rattle.serve_clients.specs.Line.{moved_on}
 use Rattle.serve_clients.specs.declared.client.Stage.TheVariants.{Ending, Hearing}
 use Rattle.serve_hub.specs.Listening.{KeepsMachine}
@@ -19,7 +19,7 @@ use Rattle.serve_texts.specs.Status.{status_response}
 use Rattle.serve_texts.specs.declared.numbers.Numbers.{Numbers}
 use Rattle.serve_live.specs.Boundaries.{place_to_join}
 use Rattle.serve_live.specs.Listening.{ListenerState}
-use Rattle.station_hub.specs.Asking.{IsConnected, Listens}
+use Rattle.station_hub.specs.Asking.{HasNoSession, IsConnected, IsCutFor, Listens}
 use Rattle.station_hub.specs.Marking.{Start}
 use Rattle.station_hub.specs.Places.{PlacesState}
 use Rattle.station_hub.specs.Tracking.{JoinsAt, Tracks}
@@ -33,9 +33,9 @@ abbrev pub heard : List ℕ → ClientState → ClientState
 heard bytes client = record (moved client) { head = client.head ++ bytes }
 
 -- ---- what the station answers itself
--- the text is the last that it gets; without memory for it the connection is cut
+-- the text is the last that it gets; if memory for it is refused, the connection is cut
 abbrev pub HasLast : List ℕ → ClientState → ClientState → Type 0
-HasLast text old new = (new ≡ with_stage Ending (told text old)) ⊎ (new ≡ cut old)
+HasLast text old new = (new ≡ with_stage Ending (told text old)) ⊎ (new ≡ cut_for_memory old)
 
 abbrev pub IsAnswered : OwnResource → Bool → ClientState → ClientState → Type 0
 IsAnswered Live head old new = Listens head old new
@@ -44,10 +44,10 @@ IsAnswered Status head old new = (numbers : Numbers) × HasLast (status_response
 
 module _ {D : Type 0} (model : DiskModel D) where
   -- ---- what the head of a connection asks for, with these bytes that have come of it
-  -- More of it has to come. Or there was no memory for them.
+  -- More of it has to come. Or memory for them was refused.
   abbrev pub Awaits : List ℕ → HubParts D → HubParts D → ClientState → ClientState → Type 0
   Awaits bytes old new client after =
-      (new ≡ old) × ((MayCome (client.head ++ bytes) × (after ≡ heard bytes client)) ⊎ (after ≡ cut (moved client)))
+      (new ≡ old) × ((MayCome (client.head ++ bytes) × (after ≡ heard bytes client)) ⊎ (after ≡ cut_for_memory (moved client)))
 
   -- it is a source's, if a connection may send a stream
   abbrev pub Offers : Option Password → List ℕ → HubParts D → HubParts D → ClientState → ClientState → Type 0
@@ -61,17 +61,23 @@ module _ {D : Type 0} (model : DiskModel D) where
       → (listener : ListenerState) × (after.listener ≡ Some listener) × JoinsAt (place_to_join places.boundaries) machine.committed listener
   Joins resource head places hub after = ⊤
 
+  -- if a listener is cut, it is for want of memory, or since nothing can be heard
+  abbrev pub HasCause : OwnResource → PlacesState → HubParts D → HubParts D → ClientState → Type 0
+  HasCause Live places old new after = IsCutFor model places old new after
+  HasCause resource places old new after = ⊤
+
   -- the station answers it itself
   abbrev pub GetsOwn : PlacesState → List ℕ → HubParts D → HubParts D → ClientState → ClientState → Type 0
   GetsOwn places bytes old new client after =
       (resource : OwnResource) × (head : Bool) × IsOwn resource head (client.head ++ bytes)
       × KeepsMachine model old new × IsAnswered resource head (heard bytes client) after × Joins resource head places old after
+      × HasCause resource places old new after
 
   -- The hub answers it: a session is connected and takes what has come. If there is no place for one the connection is cut.
   abbrev pub Connects : Option Password → List ℕ → HubParts D → HubParts D → ClientState → ClientState → Type 0
   Connects password bytes old new client after =
       (IsOther (client.head ++ bytes) ⊎ ((is_source (client.head ++ bytes) ≡ true) × (password ≡ None)))
-      × (IsConnected (Shows model) old new (heard bytes client) after ⊎ ((new ≡ old) × (after ≡ cut (heard bytes client))))
+      × (IsConnected (Shows model) old new (heard bytes client) after ⊎ HasNoSession old new (heard bytes client) after)
 
   abbrev pub IsAsked : Option Password → PlacesState → List ℕ → HubParts D → HubParts D → ClientState → ClientState → Type 0
   IsAsked password places bytes old new client after =

@@ -5,6 +5,8 @@ pub mod Stepping
 pub mod Telling
 pub mod Turning
 pub mod Ending
+pub mod Opening
+pub mod Clocks
 pub mod Waiting
 pub mod Keeping
 pub mod Beginning

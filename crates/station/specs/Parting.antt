@@ -1,6 +1,6 @@
 -- A source that leaves the air. Ours.
 use Rattle.std.specs.Prelude.{◌≡◌, ◌⊎◌, ℕ, Option, Some, None}
-use Rattle.serve_clients.specs.Client.{ClientState, cut, told, with_stage}
+use Rattle.serve_clients.specs.Client.{ClientState, cut_for_memory, told, with_stage}
 use Rattle.serve_clients.specs.declared.client.Stage.TheVariants.{Ending, Feeding}
 use Rattle.serve_sources.specs.Answers.{answer_after}
 use Rattle.serve_sources.specs.declared.outcome.Outcome.{Outcome}
@@ -8,10 +8,10 @@ use Rattle.slab.specs.Slab.{Slab, get}
 use Rattle.station_sources.specs.declared.air.Feeder.TheVariants.{Peer}
 use Rattle.station_sources.specs.declared.air.OnAir.{OnAir}
 
--- Its connection gets its last bytes: the answer, if it waits for one. Without memory for it the connection is cut.
+-- Its connection gets its last bytes: the answer, if it waits for one. If memory for it is refused the connection is cut.
 abbrev pub HasParted : Option Outcome → ClientState → ClientState → Type 0
 HasParted None old new = new ≡ with_stage Ending old
-HasParted (Some outcome) old new = (new ≡ with_stage Ending (told (answer_after outcome) old)) ⊎ (new ≡ cut old)
+HasParted (Some outcome) old new = (new ≡ with_stage Ending (told (answer_after outcome) old)) ⊎ (new ≡ cut_for_memory old)
 
 -- the same of the connection among all of them, if it still sends
 abbrev pub FeederParts : Option Outcome → OnAir → Slab ClientState → Slab ClientState → Type 0

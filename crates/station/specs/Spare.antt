@@ -2,7 +2,7 @@
 use Rattle.std.specs.Prelude.{◌≡◌, ◌≢◌, ◌⊎◌, ℕ, Bool, true, false, not, nat_eq, Option, Some, None, List, ◌++◌}
 use Rattle.std.specs.List.{list_any}
 use Rattle.disk_model.specs.declared.disk.Disk.{Ghosts as DiskModel}
-use Rattle.serve_clients.specs.Client.{ClientState, cut}
+use Rattle.serve_clients.specs.Client.{ClientState, cut_for_memory}
 use Rattle.serve_hub.specs.Parts.{HubParts}
 use Rattle.serve_sources.specs.Asking.{IsOther, IsOwn, MayCome, is_source}
 use Rattle.serve_sources.specs.declared.answers.TheConstants.{FULL}
@@ -27,9 +27,9 @@ IsAnsweredInSpare Live head old new = HasLast FULL.now old new
 IsAnsweredInSpare Player head old new = HasLast FULL.now old new
 
 -- ---- what the head of such a connection asks for, with these bytes that have come of it
--- More of it has to come. Or there was no memory for them.
+-- More of it has to come. Or memory for them was refused.
 abbrev pub AwaitsMore : List ℕ → ClientState → ClientState → Type 0
-AwaitsMore bytes client after = (MayCome (client.head ++ bytes) × (after ≡ heard bytes client)) ⊎ (after ≡ cut (moved client))
+AwaitsMore bytes client after = (MayCome (client.head ++ bytes) × (after ≡ heard bytes client)) ⊎ (after ≡ cut_for_memory (moved client))
 
 -- it is a source's, if a connection may send a stream
 abbrev pub OffersStream : Option Password → List ℕ → ClientState → ClientState → Type 0

@@ -17,7 +17,7 @@ use Rattle.serve_hub.specs.Parts.{is_at_rest}
 use Rattle.serve_hub.specs.Running.{Answers, IsIn, Progress}
 use Rattle.slab.specs.Slab.{Slab}
 use Rattle.station_hub.specs.declared.live_hub.LiveHub.{LiveHub}
-use Rattle.station_sources.specs.Air.{GoesOn, HasAllTaken, KeepsBytes, noted, parting_answer}
+use Rattle.station_sources.specs.Air.{GoesOn, HasAllTaken, IsWaiting, KeepsBytes, noted, parting_answer}
 use Rattle.station_sources.specs.Counting.{counted, with_mend, with_step, with_taken}
 use Rattle.station_sources.specs.Taking.{TakesEnd, TakesStep}
 use Rattle.station_sources.specs.declared.air.OnAir.{OnAir}
@@ -27,6 +27,12 @@ use Rattle.station.specs.Parting.{FeederParts}
 use Rattle.station.specs.Succeeding.{IsSucceeded}
 use Rattle.station.specs.declared.stepping.Done.{Done}
 use Rattle.station.specs.declared.stepping.Done.TheVariants.{Bytes, Ended, Failed, Flushed, GivenUp, Lost, Reopened, Stepped}
+
+-- ---- nothing
+-- Nothing is pending of the source: only further bytes of it, or its end, can make it go on. Or there is no source.
+abbrev pub NothingPends : Option OnAir → Type 0
+NothingPends None = ⊤
+NothingPends (Some air) = IsWaiting air
 
 -- ---- in numbers
 abbrev pub with_done : Done → Counts → Counts

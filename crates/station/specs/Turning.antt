@@ -1,9 +1,11 @@
 -- What is done in a turn. Ours.
 use Rattle.std.specs.Prelude.{◌≡◌, ◌⊎◌, ⊤, ℕ, true, Option}
-use Rattle.serve_clients.specs.Client.{ClientState, after_of, cut, fresh, told, with_stage}
+use Rattle.serve_clients.specs.Client.{ClientState, after_of, cut_for_memory, fresh, told, with_line, with_stage}
 use Rattle.serve_clients.specs.declared.client.After.TheVariants.{Shuts}
 use Rattle.serve_clients.specs.declared.client.Stage.{Stage}
-use Rattle.serve_clients.specs.declared.client.Stage.TheVariants.{Waiting, Feeding, Ending, Cut}
+use Rattle.serve_clients.specs.Line.{read_failed_by}
+use Rattle.serve_clients.specs.declared.client.Stage.TheVariants.{Asking, Offering, Waiting, Feeding, Reading, Sending, Hearing, Ending, Closing, Cut}
+use Rattle.serve_clients.specs.declared.line.Trouble.TheVariants.{Blocked}
 use Rattle.station_sources.specs.Air.{IsFedBy}
 use Rattle.station_sources.specs.declared.air.Feeder.TheVariants.{Peer}
 use Rattle.station_sources.specs.declared.air.OnAir.{OnAir}
@@ -25,6 +27,25 @@ IsRead key client air = (client.line.readable ≡ true) × TakesIn client.stage 
 abbrev pub GoesOn : ℕ → ClientState → Option OnAir → Type 0
 GoesOn key client air = (client.line.moved ≡ true) ⊎ ((after_of client ≡ Shuts) ⊎ IsRead key client air)
 
--- A connection too many is told so, and gets nothing more. Without memory for that it is cut.
+-- A connection too many is told so, and gets nothing more. If memory for that is refused it is cut.
 abbrev pub IsTurnedAway : ℕ → ClientState → Type 0
-IsTurnedAway now client = (client ≡ with_stage Ending (told FULL.now (fresh now))) ⊎ (client ≡ cut (fresh now))
+IsTurnedAway now client = (client ≡ with_stage Ending (told FULL.now (fresh now))) ⊎ (client ≡ cut_for_memory (fresh now))
+
+-- ---- a peer that sends no more
+-- Whoever hasn't sent its whole head is gone, and so is who listens, or was told the end. The others get what they are still
+-- to get, and a source's stream has come to its end.
+abbrev pub stage_at_half_close : Stage → Stage
+stage_at_half_close Asking = Cut
+stage_at_half_close Offering = Cut
+stage_at_half_close Reading = Cut
+stage_at_half_close Hearing = Cut
+stage_at_half_close Closing = Cut
+stage_at_half_close Waiting = Waiting
+stage_at_half_close Feeding = Feeding
+stage_at_half_close Sending = Sending
+stage_at_half_close Ending = Ending
+stage_at_half_close Cut = Cut
+
+-- nothing more is read of it
+abbrev pub half_closed : ClientState → ClientState
+half_closed client = with_stage (stage_at_half_close client.stage) (with_line (read_failed_by Blocked client.line) client)

@@ -38,6 +38,7 @@ impl<D: Disk + Drop> Station<D> {
         ensures counts { self.new.counts ≡ self.old.counts }
         ensures live { self.new.live ≡ self.old.live }
         ensures air { self.new.air ≡ self.old.air }
+        ensures since { self.new.waiting_since ≡ self.old.waiting_since }
     {
         match self.spare.reserve(1) {
             Ok(()) => {}
@@ -62,6 +63,7 @@ impl<D: Disk + Drop> Station<D> {
         ensures air { OthersAirStays (Feeder.Peer key) self.old.air self.new.air }
         ensures begins { self.old.air ≡ None → BeginsBeside (serials_in self.old.live.hub.file) self.old.options.skeletons (run_in self.new.air) }
         ensures others { OthersStay key self.old.clients self.new.clients }
+        ensures since { self.new.waiting_since ≡ self.old.waiting_since }
     {
         let Some(client) = self.clients.slots.get_mut(key) else {
             return;
@@ -86,6 +88,7 @@ impl<D: Disk + Drop> Station<D> {
         ensures live { self.new.live ≡ self.old.live }
         ensures air { self.new.air ≡ self.old.air }
         ensures others { OthersStay key self.old.clients self.new.clients }
+        ensures since { self.new.waiting_since ≡ self.old.waiting_since }
     {
         match resource {
             OwnResource::Status => self.tell_numbers(key, head, now),
@@ -102,6 +105,7 @@ impl<D: Disk + Drop> Station<D> {
         ensures live { self.new.live ≡ self.old.live }
         ensures air { self.new.air ≡ self.old.air }
         ensures others { OthersStay key self.old.clients self.new.clients }
+        ensures since { self.new.waiting_since ≡ self.old.waiting_since }
     {
         self.counts.connections_refused = counted(self.counts.connections_refused, 1);
         if let Some(client) = self.clients.slots.get_mut(key) {

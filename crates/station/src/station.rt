@@ -21,12 +21,17 @@ ghost use Rattle.station_sources.specs.Beginning.{HasBegun};
 ghost use Rattle.station.specs.Beginning.{BeginsBeside, options_for, run_in};
 ghost use Rattle.station.specs.Keeping.{IsEndedBy, IsFedMore, IsLostBy, OthersAirStays};
 ghost use Rattle.serve_hub.specs.Listening.{KeepsMachine};
-ghost use Rattle.station.specs.Asked.{EndsSession, IsAnswered, IsAsked, Joins};
+ghost use Rattle.serve_sources.specs.Answers.{refusal};
+ghost use Rattle.serve_sources.specs.declared.refused.Refused.TheVariants.{OnTheAir};
+ghost use Rattle.serve_clients.specs.Patience.{is_refused};
+ghost use Rattle.station.specs.Asked.{EndsSession, HasCause, HasLast, IsAnswered, IsAsked, Joins};
 ghost use Rattle.station.specs.Spare.{IsAskedIn, is_another, is_spare};
 ghost use Rattle.std.specs.List.{filter};
+ghost use Rattle.station.specs.Clocks.{ended_with_input};
 ghost use Rattle.station.specs.Ending.{is_over};
-ghost use Rattle.station.specs.Passing.{GoesOnAsSource, IsLike, OffersOn, Stays, expects_nothing, is_source, session_in};
-ghost use Rattle.station.specs.Turning.{IsTurnedAway};
+ghost use Rattle.station.specs.Passing.{GoesOnAsSource, IsLike, OffersOn, expects_nothing, is_source, session_in};
+ghost use Rattle.station.specs.Opening.{IsBegun, IsIdle};
+ghost use Rattle.station.specs.Turning.{IsTurnedAway, half_closed};
 ghost use Rattle.serve_clients.specs.Clients.{OthersStay};
 
 use crate::Memory;
@@ -36,7 +41,7 @@ use serve_clients::{Client, Clients, Stage, Trouble, is_refused};
 use serve_hub::Hub;
 use serve_sources::{Asks, FULL, OwnResource, Password, Refused};
 use serve_texts::Visit;
-use station_hub::{LiveHub, Waking, ask, notice, tell_player};
+use station_hub::{LiveHub, Waking, ask, notice};
 use station_sources::{Counts, Feeder, OnAir, counted};
 use std::alloc::Global;
 
@@ -108,6 +113,7 @@ impl<D: Disk + Drop> Station<D> {
     /// A station over a hub, which has room for a session for each connection. It makes the room for all connections.
     pub fn new(alloc: Global, hub: Hub<D>, options: Options) -> Result<Station<D>, Memory>
         ensures live { IfOk result (λ station. BeginsOver hub station.live) }
+        ensures begun { IfOk result (λ station. IsBegun options station) }
     {
         let clients = Clients::new(alloc, options.most.saturating_add(TURNED_AWAY))?;
         let live = LiveHub::new(alloc, hub)?;
@@ -116,7 +122,9 @@ impl<D: Disk + Drop> Station<D> {
 
     /// Nobody has the air, and nothing was done yet.
     fn begun(alloc: Global, live: LiveHub<D>, clients: Clients, options: Options) -> Station<D>
-        ensures { result.live ≡ live }
+        ensures live { result.live ≡ live }
+        ensures clients { result.clients ≡ clients }
+        ensures begun { IsIdle options result }
     {
         Station {
             alloc,
@@ -196,6 +204,7 @@ impl<D: Disk + Drop> Station<D> {
         ensures err { IfErr result (λ fault. (key : ℕ) → get self.new.clients.slots key ≡ get self.old.clients.slots key) }
         ensures live { self.new.live ≡ self.old.live }
         ensures air { self.new.air ≡ self.old.air }
+        ensures since { self.new.waiting_since ≡ self.old.waiting_since }
     {
         let count = self.clients.slots.len();
         if count.saturating_sub(self.options.most) >= TURNED_AWAY || self.ending.is_some() {
@@ -236,6 +245,7 @@ impl<D: Disk + Drop> Station<D> {
         ensures none { get self.old.clients.slots key ≡ None → self.new.air ≡ self.old.air }
         ensures session { EndsSession D.Disk (session_in (get self.old.clients.slots key)) self.old.live.hub self.new.live.hub }
         ensures spare { get self.old.clients.slots key ≢ None → self.new.spare.items ≡ filter (is_another key) self.old.spare.items }
+        ensures since { self.new.waiting_since ≡ self.old.waiting_since }
     {
         let client = self.clients.slots.try_remove(key)?;
         if let Some(id) = client.session {
@@ -280,9 +290,12 @@ impl<D: Disk + Drop> Station<D> {
         // connection leave it as it is.
         ensures feeds { (client : ClientState) → get self.old.clients.slots key ≡ Some client → client.stage ≡ FeedingOf
             → IsFedMore (Feeder.Peer key) bytes.now self.old.air self.new.air × (self.new.live ≡ self.old.live) }
+        ensures heard { (client : ClientState) → get self.old.clients.slots key ≡ Some client → client.stage ≡ FeedingOf
+            → get self.new.clients.slots key ≡ Some (record client { since = now; line = moved_on client.line }) }
         ensures air { OthersAirStays (Feeder.Peer key) self.old.air self.new.air }
         ensures begins { self.old.air ≡ None → BeginsBeside (serials_in self.old.live.hub.file) self.old.options.skeletons (run_in self.new.air) }
         ensures others { OthersStay key self.old.clients self.new.clients }
+        ensures since { self.new.waiting_since ≡ self.old.waiting_since }
     {
         let Some(client) = self.clients.slots.get(key) else {
             return;
@@ -304,6 +317,7 @@ impl<D: Disk + Drop> Station<D> {
         ensures air { OthersAirStays (Feeder.Peer key) self.old.air self.new.air }
         ensures begins { self.old.air ≡ None → BeginsBeside (serials_in self.old.live.hub.file) self.old.options.skeletons (run_in self.new.air) }
         ensures others { OthersStay key self.old.clients self.new.clients }
+        ensures since { self.new.waiting_since ≡ self.old.waiting_since }
     {
         if self.is_spare(key) {
             self.ask_in_spare(key, bytes, now);
@@ -322,6 +336,7 @@ impl<D: Disk + Drop> Station<D> {
         ensures air { OthersAirStays (Feeder.Peer key) self.old.air self.new.air }
         ensures begins { self.old.air ≡ None → BeginsBeside (serials_in self.old.live.hub.file) self.old.options.skeletons (run_in self.new.air) }
         ensures others { OthersStay key self.old.clients self.new.clients }
+        ensures since { self.new.waiting_since ≡ self.old.waiting_since }
     {
         let Some(client) = self.clients.slots.get_mut(key) else {
             return;
@@ -351,6 +366,7 @@ impl<D: Disk + Drop> Station<D> {
         ensures recorded { StaysLive D.Disk self.old.live self.new.live }
         ensures air { self.new.air ≡ self.old.air }
         ensures others { OthersStay key self.old.clients self.new.clients }
+        ensures since { self.new.waiting_since ≡ self.old.waiting_since }
     {
         if let Some(client) = self.clients.slots.get_mut(key) {
             notice(client, bytes);
@@ -366,10 +382,13 @@ impl<D: Disk + Drop> Station<D> {
             → (after : ClientState) × (get self.new.clients.slots key ≡ Some after) × IsLike client after }
         ensures feeds { (client : ClientState) → get self.old.clients.slots key ≡ Some client → client.stage ≡ FeedingOf
             → IsFedMore (Feeder.Peer key) bytes.now self.old.air self.new.air }
+        ensures heard { (client : ClientState) → get self.old.clients.slots key ≡ Some client → client.stage ≡ FeedingOf
+            → get self.new.clients.slots key ≡ Some (record client { since = now; line = moved_on client.line }) }
         ensures air { OthersAirStays (Feeder.Peer key) self.old.air self.new.air }
         ensures begins { self.old.air ≡ None → BeginsBeside (serials_in self.old.live.hub.file) self.old.options.skeletons (run_in self.new.air) }
         ensures others { OthersStay key self.old.clients self.new.clients }
         ensures live { self.new.live ≡ self.old.live }
+        ensures since { self.new.waiting_since ≡ self.old.waiting_since }
     {
         let Some(client) = self.clients.slots.get_mut(key) else {
             return;
@@ -389,27 +408,30 @@ impl<D: Disk + Drop> Station<D> {
     fn answer(&mut self, key: usize, resource: OwnResource, head: bool, now: u64)
         ensures answers { (client : ClientState) → get self.old.clients.slots key ≡ Some client → (after : ClientState)
             × (get self.new.clients.slots key ≡ Some after) × IsAnswered resource head client after
-            × Joins D.Disk resource head self.old.live.places self.old.live.hub after }
+            × Joins D.Disk resource head self.old.live.places self.old.live.hub after
+            × HasCause D.Disk resource self.old.live.places self.old.live.hub self.new.live.hub after }
         ensures machine { KeepsMachine D.Disk self.old.live.hub self.new.live.hub }
         ensures disk { (self.new.live.hub.file ≡ self.old.live.hub.file) ⊎ IfFile (Reads D.Disk) self.old.live.hub.file self.new.live.hub.file }
         ensures recorded { StaysLive D.Disk self.old.live self.new.live }
         ensures air { self.new.air ≡ self.old.air }
         ensures others { OthersStay key self.old.clients self.new.clients }
+        ensures since { self.new.waiting_since ≡ self.old.waiting_since }
     {
         let Some(client) = self.clients.slots.get_mut(key) else {
             return;
         };
         match resource {
             OwnResource::Live => self.live.listen(client, head),
-            OwnResource::Player => tell_player(self.alloc, client, head),
+            OwnResource::Player => client.tell_player(head),
             OwnResource::Status => self.tell_numbers(key, head, now),
         }
     }
 
-    /// This connection will send no more. A listener that says so is gone.
+    /// This connection will send no more. A listener that says so is gone, and so is whoever hasn't sent its whole head. A
+    /// source's stream has come to its end, and a response goes on to be sent.
     pub fn peer_ended(&mut self, key: usize)
-        ensures client { (client : ClientState) → get self.old.clients.slots key ≡ Some client → (after : ClientState)
-            × (get self.new.clients.slots key ≡ Some after) × Stays client after }
+        ensures client { (client : ClientState) → get self.old.clients.slots key ≡ Some client
+            → get self.new.clients.slots key ≡ Some (half_closed client) }
         ensures none { get self.old.clients.slots key ≡ None → self.new ≡ self.old }
         ensures others { OthersStay key self.old.clients self.new.clients }
         ensures live { self.new.live ≡ self.old.live }
@@ -417,6 +439,7 @@ impl<D: Disk + Drop> Station<D> {
             → IsEndedBy (Feeder.Peer key) self.old.air self.new.air }
         ensures stays { (client : ClientState) → get self.old.clients.slots key ≡ Some client → client.stage ≢ FeedingOf
             → self.new.air ≡ self.old.air }
+        ensures since { self.new.waiting_since ≡ self.old.waiting_since }
     {
         let Some(client) = self.clients.slots.get_mut(key) else {
             return;
@@ -435,9 +458,14 @@ impl<D: Disk + Drop> Station<D> {
     /// taken. Say with `wrote` how many of them were written, before it is called again.
     pub fn next(&mut self, key: usize, buffer: &mut [u8], now: u64) -> usize
         ensures gives { (client : ClientState) → get self.old.clients.slots key ≡ Some client → client.stage ≢ WaitingOf → (after : ClientState)
-            × Gives (Shows D.Disk) self.old.live.hub self.new.live.hub (length buffer.old) client result buffer.new after
+            × Gives D.Disk self.old.live.hub self.new.live.hub (length buffer.old) client result buffer.new after
             × (get self.new.clients.slots key ≡ Some (given result (is_over self.old.air self.old.ending) now after)) }
-        // Of a source that waits nothing is pulled.
+        // A source that has waited for a second is refused; one that hasn't waits on. Nothing is pulled for it.
+        ensures refuses { (client : ClientState) → get self.old.clients.slots key ≡ Some client → client.stage ≡ WaitingOf → is_refused client now ≡ true
+            → (after : ClientState) × HasLast (refusal OnTheAir) client after
+            × (get self.new.clients.slots key ≡ Some (given result (is_over self.old.air self.old.ending) now after)) }
+        ensures goes_on { (client : ClientState) → get self.old.clients.slots key ≡ Some client → client.stage ≡ WaitingOf → is_refused client now ≡ false
+            → get self.new.clients.slots key ≡ Some (given result (is_over self.old.air self.old.ending) now client) }
         ensures waits { (client : ClientState) → get self.old.clients.slots key ≡ Some client → client.stage ≡ WaitingOf → (after : ClientState)
             × (get self.new.clients.slots key ≡ Some after) × GoesOnAsSource client after × (self.new.live.hub ≡ self.old.live.hub) }
         ensures none { get self.old.clients.slots key ≡ None → (get self.new.clients.slots key ≡ None) × (self.new.live.hub ≡ self.old.live.hub) }
@@ -446,6 +474,7 @@ impl<D: Disk + Drop> Station<D> {
         ensures others { OthersStay key self.old.clients self.new.clients }
         ensures air { self.new.air ≡ self.old.air }
         ensures within { result ≤ length buffer.new }
+        ensures since { self.new.waiting_since ≡ self.old.waiting_since }
     {
         self.refuse_if_waited(key, now);
         self.give(key, buffer, now)
@@ -454,10 +483,16 @@ impl<D: Disk + Drop> Station<D> {
     /// A source that has waited for the air long enough is refused.
     fn refuse_if_waited(&mut self, key: usize, now: u64)
         ensures same { (client : ClientState) → get self.old.clients.slots key ≡ Some client → client.stage ≢ WaitingOf → self.new ≡ self.old }
+        ensures refuses { (client : ClientState) → get self.old.clients.slots key ≡ Some client → is_refused client now ≡ true
+            → (after : ClientState) × (get self.new.clients.slots key ≡ Some after) × HasLast (refusal OnTheAir) client after }
+        ensures rest { (client : ClientState) → get self.old.clients.slots key ≡ Some client → is_refused client now ≡ false → self.new ≡ self.old }
+        ensures none { get self.old.clients.slots key ≡ None → self.new ≡ self.old }
+        ensures ending { self.new.ending ≡ self.old.ending }
         ensures offers { OffersOn (get self.old.clients.slots key) (get self.new.clients.slots key) }
         ensures others { OthersStay key self.old.clients self.new.clients }
         ensures live { self.new.live ≡ self.old.live }
         ensures air { self.new.air ≡ self.old.air }
+        ensures since { self.new.waiting_since ≡ self.old.waiting_since }
     {
         if let Some(client) = self.clients.slots.get(key) {
             if is_refused(client, now) {
@@ -470,13 +505,14 @@ impl<D: Disk + Drop> Station<D> {
     fn give(&mut self, key: usize, buffer: &mut [u8], now: u64) -> usize
         ensures none { get self.old.clients.slots key ≡ None → (get self.new.clients.slots key ≡ None) × (self.new.live.hub ≡ self.old.live.hub) }
         ensures gives { (client : ClientState) → get self.old.clients.slots key ≡ Some client → (after : ClientState)
-            × Gives (Shows D.Disk) self.old.live.hub self.new.live.hub (length buffer.old) client result buffer.new after
+            × Gives D.Disk self.old.live.hub self.new.live.hub (length buffer.old) client result buffer.new after
             × (get self.new.clients.slots key ≡ Some (given result (is_over self.old.air self.old.ending) now after)) }
         ensures disk { (self.new.live.hub.file ≡ self.old.live.hub.file) ⊎ IfFile (Reads D.Disk) self.old.live.hub.file self.new.live.hub.file }
         ensures recorded { StaysLive D.Disk self.old.live self.new.live }
         ensures others { OthersStay key self.old.clients self.new.clients }
         ensures air { self.new.air ≡ self.old.air }
         ensures within { result ≤ length buffer.new }
+        ensures since { self.new.waiting_since ≡ self.old.waiting_since }
     {
         let over = self.is_over();
         let Some(client) = self.clients.slots.get_mut(key) else {
@@ -498,6 +534,7 @@ impl<D: Disk + Drop> Station<D> {
         ensures others { OthersStay key self.old.clients self.new.clients }
         ensures live { self.new.live ≡ self.old.live }
         ensures air { self.new.air ≡ self.old.air }
+        ensures since { self.new.waiting_since ≡ self.old.waiting_since }
     {
         let Some(client) = self.clients.slots.get_mut(key) else {
             return;
@@ -526,6 +563,7 @@ impl<D: Disk + Drop> Station<D> {
         ensures begins { self.old.air ≡ None → OnOk result ((air : OnAirOf)
             × HasBegun Feeder.Input None (options_for self.old.options.skeletons) (serials_in self.old.live.hub.file) air
             × IsFedMore Feeder.Input bytes.now (Some air) self.new.air) }
+        ensures since { self.new.waiting_since ≡ self.old.waiting_since }
     {
         if self.air.is_none() {
             self.begin_air(Feeder::Input, None, now)?;
@@ -537,8 +575,10 @@ impl<D: Disk + Drop> Station<D> {
     /// The input has ended.
     pub fn input_ended(&mut self, now: u64)
         ensures air { IsEndedBy Feeder.Input self.old.air self.new.air }
+        ensures ending { self.new.ending ≡ ended_with_input self.old.options.ends_with_input self.old.ending now }
         ensures clients { self.new.clients ≡ self.old.clients }
         ensures live { self.new.live ≡ self.old.live }
+        ensures since { self.new.waiting_since ≡ self.old.waiting_since }
     {
         self.end_air(Feeder::Input);
         if self.options.ends_with_input {
@@ -554,6 +594,7 @@ impl<D: Disk + Drop> Station<D> {
         ensures clients { self.new.clients ≡ self.old.clients }
         ensures live { self.new.live ≡ self.old.live }
         ensures options { self.new.options ≡ self.old.options }
+        ensures since { self.new.waiting_since ≡ self.old.waiting_since }
     {
         if let Some(air) = &mut self.air {
             if air.feeder().is(feeder) {
@@ -570,6 +611,7 @@ impl<D: Disk + Drop> Station<D> {
         ensures clients { self.new.clients ≡ self.old.clients }
         ensures live { self.new.live ≡ self.old.live }
         ensures options { self.new.options ≡ self.old.options }
+        ensures since { self.new.waiting_since ≡ self.old.waiting_since }
     {
         if let Some(air) = &mut self.air {
             if air.feeder() == Feeder::Peer(key) {
@@ -579,27 +621,14 @@ impl<D: Disk + Drop> Station<D> {
         leave(&mut self.spare, key);
     }
 
-    /// No further byte of the source can be kept, if it is this one.
-    pub(crate) fn break_off(&mut self, feeder: Feeder)
-        ensures clients { self.new.clients ≡ self.old.clients }
-        ensures live { self.new.live ≡ self.old.live }
-        ensures options { self.new.options ≡ self.old.options }
-        ensures feeder { feeder_in self.new.air ≡ feeder_in self.old.air }
-        ensures run { run_in self.new.air ≡ run_in self.old.air }
-    {
-        if let Some(air) = &mut self.air {
-            if air.feeder() == feeder {
-                air.break_off();
-            }
-        }
-    }
-
     /// No further byte comes of the source, if it is this one.
     pub(crate) fn end_air(&mut self, feeder: Feeder)
         ensures ended { IsEndedBy feeder self.old.air self.new.air }
         ensures clients { self.new.clients ≡ self.old.clients }
         ensures live { self.new.live ≡ self.old.live }
         ensures options { self.new.options ≡ self.old.options }
+        ensures ending { self.new.ending ≡ self.old.ending }
+        ensures since { self.new.waiting_since ≡ self.old.waiting_since }
     {
         if let Some(air) = &mut self.air {
             if air.feeder() == feeder {

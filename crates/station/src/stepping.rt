@@ -12,6 +12,7 @@ ghost use Rattle.import_record.specs.declared.fault.RecordFault.{RecordFault as 
 ghost use Rattle.ogg_command.specs.declared.refusal.Refusal.{Refusal as RefusalOf};
 ghost use Rattle.serve_hub.specs.Parts.{failed_in, is_at_rest, serials_in};
 ghost use Rattle.serve_hub.specs.Running.{IsIn, Progress};
+ghost use Rattle.station.specs.Clocks.{HasReopenedAt, KeepsClocks, clocks_of, since_after, streams_in};
 ghost use Rattle.station.specs.Beginning.{BeginsBeside, GoesOnAgain, HasReopened, run_in};
 ghost use Rattle.station_sources.specs.Air.{parting_answer};
 ghost use Rattle.station.specs.Parting.{FeederParts, HasParted};
@@ -19,7 +20,7 @@ ghost use Rattle.station.specs.Passing.{ArePassed};
 ghost use Rattle.station_hub.specs.Live.{RecordsLive};
 ghost use Rattle.station_sources.specs.declared.air.OnAir.{OnAir as OnAirOf};
 ghost use Rattle.station_hub.specs.Patience.{is_due, until_due};
-ghost use Rattle.station.specs.Stepping.{BeginsBy, FreesBy, GoesOnWithLoss, HasFlushed, IsSucceededBy, PartsBy, RestsBy, RestsUnless, TakesFromSource, only_refused, reopens, with_done};
+ghost use Rattle.station.specs.Stepping.{BeginsBy, FreesBy, GoesOnWithLoss, HasFlushed, IsSucceededBy, NothingPends, PartsBy, RestsBy, RestsUnless, TakesFromSource, only_refused, reopens, with_done};
 ghost use Rattle.station.specs.Succeeding.{IsSucceeded, SameWait};
 ghost use Rattle.serve_hub.specs.Showing.{Shows};
 ghost use Rattle.serve_machine.specs.Hub.{HubState};
@@ -120,7 +121,26 @@ impl<D: Disk + Drop> Station<D> {
             → is_due machine.waiting self.old.waiting_since now ≡ true }
         ensures flushed { (reply : ReplyOf) → result ≡ Done.Flushed reply
             → (self.new.air ≡ self.old.air) × HasFlushed D.Disk result self.old.live self.new.live }
+        // It does nothing only if the disk works, nothing that waits is due, and nothing is pending of the source.
+        ensures idle { result ≡ Done.Nothing → NothingPends self.old.air × (failed_in self.old.live.hub.file ≡ false) }
+        ensures undue { (machine : HubState) → Shows D.Disk self.old.live.hub machine → result ≡ Done.Nothing
+            → is_due machine.waiting self.old.waiting_since now ≡ false }
         ensures nothing { result ≡ Done.Nothing → (self.new.live ≡ self.old.live) × (self.new.air ≡ self.old.air) }
+        // What waits has waited since the step that took the first of it.
+        ensures since { (machine : HubState) → Shows D.Disk self.old.live.hub machine → failed_in self.old.live.hub.file ≡ false
+            → is_due machine.waiting self.old.waiting_since now ≡ false → self.new.waiting_since ≡ since_after machine.waiting self.old.waiting_since now }
+        ensures due { (machine : HubState) → Shows D.Disk self.old.live.hub machine
+            → (failed_in self.old.live.hub.file ≡ true) ⊎ (is_due machine.waiting self.old.waiting_since now ≡ true)
+            → self.new.waiting_since ≡ self.old.waiting_since }
+        // After a fault of the disk the file is opened again, unless nothing more was committed since it was before.
+        ensures again { result ≡ Done.Failed → HasReopenedAt D.Disk self.old.live self.old.reopened }
+        ensures once { failed_in self.old.live.hub.file ≡ true → (result ≡ Done.Failed) ⊎ HasReopenedAt D.Disk self.old.live self.new.reopened }
+        ensures more { failed_in self.old.live.hub.file ≡ true → result ≢ Done.Failed → (machine : HubState) → Shows D.Disk self.old.live.hub machine
+            → self.old.reopened ≢ Some (length machine.committed) }
+        ensures works { failed_in self.old.live.hub.file ≡ false → self.new.reopened ≡ self.old.reopened }
+        // How it is run, and whether it comes to its end, stays; what was done is counted.
+        ensures rest { (self.new.options ≡ self.old.options) × (self.new.ending ≡ self.old.ending)
+            × (streams_in self.new.counts ≡ streams_in (with_done result self.old.counts)) }
         // If more is committed, listeners are woken now, or it is remembered that they are to be.
         ensures wakes { (before after : HubState) → Shows D.Disk self.old.live.hub before → Shows D.Disk self.new.live.hub after
             → length before.committed ≢ length after.committed → (self.new.waking ≡ woken_at now) ⊎ (self.new.waking.unheard ≡ true) }
@@ -175,8 +195,22 @@ impl<D: Disk + Drop> Station<D> {
             → is_due machine.waiting self.old.waiting_since now ≡ true }
         ensures flushed { (reply : ReplyOf) → result ≡ Done.Flushed reply
             → (self.new.air ≡ self.old.air) × HasFlushed D.Disk result self.old.live self.new.live }
+        ensures idle { result ≡ Done.Nothing → NothingPends self.old.air × (failed_in self.old.live.hub.file ≡ false) }
+        ensures undue { (machine : HubState) → Shows D.Disk self.old.live.hub machine → result ≡ Done.Nothing
+            → is_due machine.waiting self.old.waiting_since now ≡ false }
         ensures nothing { result ≡ Done.Nothing → (self.new.live ≡ self.old.live) × (self.new.air ≡ self.old.air) }
         ensures records { RecordsLive D.Disk self.old.live self.new.live }
+        ensures clocks { clocks_of self.new ≡ record (clocks_of self.old) { waiting_since = self.new.waiting_since; reopened = self.new.reopened } }
+        ensures since { (machine : HubState) → Shows D.Disk self.old.live.hub machine → failed_in self.old.live.hub.file ≡ false
+            → is_due machine.waiting self.old.waiting_since now ≡ false → self.new.waiting_since ≡ since_after machine.waiting self.old.waiting_since now }
+        ensures due { (machine : HubState) → Shows D.Disk self.old.live.hub machine
+            → (failed_in self.old.live.hub.file ≡ true) ⊎ (is_due machine.waiting self.old.waiting_since now ≡ true)
+            → self.new.waiting_since ≡ self.old.waiting_since }
+        ensures again { result ≡ Done.Failed → HasReopenedAt D.Disk self.old.live self.old.reopened }
+        ensures once { failed_in self.old.live.hub.file ≡ true → (result ≡ Done.Failed) ⊎ HasReopenedAt D.Disk self.old.live self.new.reopened }
+        ensures more { failed_in self.old.live.hub.file ≡ true → result ≢ Done.Failed → (machine : HubState) → Shows D.Disk self.old.live.hub machine
+            → self.old.reopened ≢ Some (length machine.committed) }
+        ensures works { failed_in self.old.live.hub.file ≡ false → self.new.reopened ≡ self.old.reopened }
         ensures passed { ArePassed self.old.clients.slots self.new.clients.slots }
     {
         if self.live.hub().is_failed() {
@@ -204,8 +238,11 @@ impl<D: Disk + Drop> Station<D> {
         ensures begins { BeginsBy result (serials_in self.new.live.hub.file) self.old.options.skeletons (run_in self.new.air) }
         ensures goes_on { (answered : AnsweredOf) → result ≢ Done.Reopened answered }
         ensures rests { (reply : ReplyOf) → result ≢ Done.Flushed reply }
+        ensures works { result ≢ Done.Failed }
+        ensures idle { result ≡ Done.Nothing → NothingPends self.old.air }
         ensures nothing { result ≡ Done.Nothing → (self.new.live ≡ self.old.live) × (self.new.air ≡ self.old.air) }
         ensures records { RecordsLive D.Disk self.old.live self.new.live }
+        ensures clocks { KeepsClocks self.old self.new }
         ensures passed { ArePassed self.old.clients.slots self.new.clients.slots }
     {
         let Some(air) = &mut self.air else {
@@ -244,6 +281,7 @@ impl<D: Disk + Drop> Station<D> {
         ensures succeeded { self.old.air ≢ None → IsSucceeded self.old.clients.slots self.new.clients.slots self.new.air }
         ensures begins { self.old.air ≢ None → BeginsBeside (serials_in self.new.live.hub.file) self.old.options.skeletons (run_in self.new.air) }
         ensures records { RecordsLive D.Disk self.old.live self.new.live }
+        ensures clocks { KeepsClocks self.old self.new }
         ensures passed { ArePassed self.old.clients.slots self.new.clients.slots }
     {
         match self.air.take() {
@@ -259,6 +297,7 @@ impl<D: Disk + Drop> Station<D> {
         ensures succeeded { self.old.air ≡ None → IsSucceeded self.old.clients.slots self.new.clients.slots self.new.air }
         ensures begins { self.old.air ≡ None → BeginsBeside (serials_in self.new.live.hub.file) self.old.options.skeletons (run_in self.new.air) }
         ensures records { RecordsLive D.Disk self.old.live self.new.live }
+        ensures clocks { KeepsClocks self.old self.new }
         ensures passed { ArePassed self.old.clients.slots self.new.clients.slots }
     {
         self.waking = self.waking.with_more();
@@ -341,6 +380,11 @@ impl<D: Disk + Drop> Station<D> {
         ensures lost { (fault : OpenFaultOf) → result ≡ Done.Lost fault → (self.new.air ≡ self.old.air) × (self.new.clients ≡ self.old.clients) }
         ensures reopens { reopens result ≡ true }
         ensures records { RecordsLive D.Disk self.old.live self.new.live }
+        ensures clocks { clocks_of self.new ≡ record (clocks_of self.old) { reopened = self.new.reopened } }
+        // It was opened again, unless nothing more was committed since it was before.
+        ensures again { result ≡ Done.Failed → HasReopenedAt D.Disk self.old.live self.old.reopened }
+        ensures once { (result ≡ Done.Failed) ⊎ HasReopenedAt D.Disk self.old.live self.new.reopened }
+        ensures more { result ≢ Done.Failed → (machine : HubState) → Shows D.Disk self.old.live.hub machine → self.old.reopened ≢ Some (length machine.committed) }
         ensures passed { ArePassed self.old.clients.slots self.new.clients.slots }
     {
         let end = self.live.hub().end();
@@ -372,6 +416,7 @@ impl<D: Disk + Drop> Station<D> {
         ensures becomes { ((answered : AnsweredOf) × (result ≡ Done.Reopened answered))
             ⊎ ((fault : RecordFaultOf) × (refused : Option RefusalOf) × (result ≡ Done.GivenUp fault refused)) }
         ensures records { RecordsLive D.Disk self.old.live self.new.live }
+        ensures clocks { KeepsClocks self.old self.new }
         ensures passed { ArePassed self.old.clients.slots self.new.clients.slots }
     {
         let Some(air) = &mut self.air else {
@@ -397,6 +442,7 @@ impl<D: Disk + Drop> Station<D> {
         ensures succeeded { self.old.air ≢ None → IsSucceeded self.old.clients.slots self.new.clients.slots self.new.air }
         ensures begins { self.old.air ≢ None → BeginsBeside (serials_in self.new.live.hub.file) self.old.options.skeletons (run_in self.new.air) }
         ensures records { RecordsLive D.Disk self.old.live self.new.live }
+        ensures clocks { KeepsClocks self.old self.new }
         ensures passed { ArePassed self.old.clients.slots self.new.clients.slots }
     {
         let refused = self.leave_the_air(true, now);

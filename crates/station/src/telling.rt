@@ -1,17 +1,20 @@
 //! What a station says of itself: its numbers.
-ghost use Rattle.std.specs.Prelude.{◌≡◌, None, Some};
+ghost use Rattle.std.specs.Prelude.{◌≡◌, None, Some, is_some, length};
 ghost use Rattle.slab.specs.Slab.{get};
 ghost use Rattle.serve_clients.specs.Client.{ClientState};
 ghost use Rattle.serve_clients.specs.Clients.{OthersStay};
 ghost use Rattle.serve_sources.specs.declared.own.OwnResource.TheVariants.{Status as StatusOf};
 ghost use Rattle.station_sources.specs.Counting.{counted};
 ghost use Rattle.station.specs.Asked.{IsAnswered};
-ghost use Rattle.station.specs.Telling.{mends_of};
+ghost use Rattle.serve_hub.specs.Showing.{Shows};
+ghost use Rattle.serve_machine.specs.Hub.{HubState};
+ghost use Rattle.station_hub.specs.Telling.{in_seconds};
+ghost use Rattle.station.specs.Telling.{IsCounted, mends_of, on_air_for};
 
 use crate::station::Station;
 use disk_model::Disk;
 use serve_texts::{Mends, Numbers};
-use station_hub::{in_seconds, kinds_of, tell_status};
+use station_hub::{in_seconds, kinds_of};
 use station_sources::{MendCounts, counted};
 
 fn mends_of(counts: MendCounts) -> Mends
@@ -32,7 +35,12 @@ fn mends_of(counts: MendCounts) -> Mends
 
 impl<D: Disk + Drop> Station<D> {
     /// How the station fares.
-    fn numbers(&self, now: u64) -> Numbers {
+    fn numbers(&self, now: u64) -> Numbers
+        ensures committed { (machine : HubState) → Shows D.Disk self.now.live.hub machine → result.committed_bytes ≡ length machine.committed }
+        ensures counts { IsCounted self.now.counts result }
+        ensures on_air { (result.on_air ≡ is_some self.now.air) × (result.on_air_seconds ≡ on_air_for self.now.air self.now.on_air_since now) }
+        ensures uptime { result.uptime_seconds ≡ in_seconds now }
+    {
         let kinds = kinds_of(&self.clients);
         let on_air = self.air.is_some();
         Numbers {
@@ -69,10 +77,11 @@ impl<D: Disk + Drop> Station<D> {
         ensures others { OthersStay key self.old.clients self.new.clients }
         ensures live { self.new.live ≡ self.old.live }
         ensures air { self.new.air ≡ self.old.air }
+        ensures since { self.new.waiting_since ≡ self.old.waiting_since }
     {
         let numbers = self.numbers(now);
         if let Some(client) = self.clients.slots.get_mut(key) {
-            tell_status(self.alloc, client, &numbers, head);
+            client.tell_status(&numbers, head);
         }
     }
 
@@ -82,6 +91,7 @@ impl<D: Disk + Drop> Station<D> {
         ensures live { self.new.live ≡ self.old.live }
         ensures clients { self.new.clients ≡ self.old.clients }
         ensures air { self.new.air ≡ self.old.air }
+        ensures since { self.new.waiting_since ≡ self.old.waiting_since }
     {
         let spent = self.counts.commit_microseconds;
         self.counts.commit_microseconds = counted(spent, microseconds);

@@ -11,6 +11,8 @@ ghost use Rattle.serve_clients.specs.declared.client.After.TheVariants.{Closes, 
 ghost use Rattle.serve_clients.specs.declared.client.Stage.TheVariants.{Closing as ClosingOf};
 ghost use Rattle.station_hub.specs.Patience.{until_due as until_commit};
 ghost use Rattle.station.specs.Telling.{listeners_in};
+ghost use Rattle.station_sources.specs.Air.{feeder_in};
+ghost use Rattle.station.specs.Clocks.{KeepsClocks, ended_from};
 ghost use Rattle.station.specs.Ending.{gathers, has_finished, is_over};
 ghost use Rattle.station.specs.Passing.{ArePassed, IsLike};
 ghost use Rattle.station.specs.Succeeding.{HaveTurns};
@@ -59,6 +61,7 @@ impl<D: Disk + Drop> Station<D> {
         ensures others { IfSome result (λ key. OthersStay key self.old.clients self.new.clients) }
         ensures live { self.new.live ≡ self.old.live }
         ensures air { self.new.air ≡ self.old.air }
+        ensures since { self.new.waiting_since ≡ self.old.waiting_since }
     {
         self.clients.next_turn()
     }
@@ -96,6 +99,7 @@ impl<D: Disk + Drop> Station<D> {
         ensures others { OthersStay key self.old.clients self.new.clients }
         ensures live { self.new.live ≡ self.old.live }
         ensures air { self.new.air ≡ self.old.air }
+        ensures since { self.new.waiting_since ≡ self.old.waiting_since }
     {
         self.clients.read_failed(key, trouble);
     }
@@ -108,6 +112,7 @@ impl<D: Disk + Drop> Station<D> {
         ensures others { OthersStay key self.old.clients self.new.clients }
         ensures live { self.new.live ≡ self.old.live }
         ensures air { self.new.air ≡ self.old.air }
+        ensures since { self.new.waiting_since ≡ self.old.waiting_since }
     {
         self.clients.write_failed(key, bytes, trouble);
     }
@@ -127,6 +132,7 @@ impl<D: Disk + Drop> Station<D> {
         ensures others { OthersStay key self.old.clients self.new.clients }
         ensures live { self.new.live ≡ self.old.live }
         ensures air { self.new.air ≡ self.old.air }
+        ensures since { self.new.waiting_since ≡ self.old.waiting_since }
     {
         let reads = self.reads(key);
         self.clients.turned(key, reads, now)
@@ -138,6 +144,7 @@ impl<D: Disk + Drop> Station<D> {
         ensures due { is_due (gathers self.old.air self.old.ending) self.old.waking now ≡ true
             → (self.new.waking ≡ woken_at now) × AreWoken self.old.clients self.new.clients }
         ensures waits { is_due (gathers self.old.air self.old.ending) self.old.waking now ≡ false → self.new ≡ self.old }
+        ensures clocks { KeepsClocks self.old self.new }
         ensures turns { HaveTurns self.old.clients.slots self.new.clients.slots }
         ensures passed { ArePassed self.old.clients.slots self.new.clients.slots }
         ensures live { self.new.live ≡ self.old.live }
@@ -166,6 +173,8 @@ impl<D: Disk + Drop> Station<D> {
     /// Bytes of the source are wanted again.
     pub(crate) fn wake_feeder(&mut self)
         ensures rest { self.new ≡ record self.old { clients = self.new.clients } }
+        ensures turn { (key : ℕ) (client : ClientState) → feeder_in self.old.air ≡ Some (Feeder.Peer key) → get self.old.clients.slots key ≡ Some client
+            → IsRead key client self.old.air → HasTurn key (told_by false false client) self.old.clients self.new.clients }
         ensures turns { HaveTurns self.old.clients.slots self.new.clients.slots }
         ensures passed { ArePassed self.old.clients.slots self.new.clients.slots }
     {
@@ -185,6 +194,7 @@ impl<D: Disk + Drop> Station<D> {
             × (self.new.commits_a_second ≡ self.old.counts.commits - self.old.commits) }
         ensures live { self.new.live ≡ self.old.live }
         ensures air { self.new.air ≡ self.old.air }
+        ensures since { self.new.waiting_since ≡ self.old.waiting_since }
     {
         if now.saturating_sub(self.looked) < LOOKS {
             return false;
@@ -245,7 +255,10 @@ impl<D: Disk + Drop> Station<D> {
     /// heard all.
     pub(crate) fn finish(&mut self, now: u64)
         ensures air { self.new.air ≡ self.old.air }
-        ensures ending { self.new.ending ≢ None }
+        ensures ending { self.new.ending ≡ ended_from self.old.ending now }
+        ensures options { self.new.options ≡ self.old.options }
+        ensures counts { self.new.counts ≡ self.old.counts }
+        ensures since { (self.new.waiting_since ≡ self.old.waiting_since) × (self.new.reopened ≡ self.old.reopened) }
         ensures clients { self.new.clients ≡ self.old.clients }
         ensures live { self.new.live ≡ self.old.live }
     {

@@ -1,12 +1,19 @@
 -- What a connection asks for, and how it is taken. Ours.
-use Rattle.std.specs.Prelude.{◌≡◌, ◌⊎◌, ℕ, Bool, true, false, Some, Result, Ok, Err, List, [], ◌++◌}
+use Rattle.std.specs.Prelude.{◌≡◌, ◌⊎◌, ℕ, Bool, true, false, Some, None, Result, Ok, Err, List, [], ◌++◌}
 use Rattle.serve_machine.specs.Calls.{Steps}
 use Rattle.serve_machine.specs.Hub.{HubState, Connect, Receive}
 use Rattle.serve_machine.specs.declared.answers.Progress.{Progress}
 use Rattle.serve_machine.specs.declared.answers.Progress.TheVariants.{More, Ready}
 use Rattle.serve_machine.specs.declared.fault.HubFault.{HubFault}
-use Rattle.serve_hub.specs.Parts.{HubParts}
-use Rattle.serve_clients.specs.Client.{ClientState, cut, told, with_stage}
+use Rattle.serve_machine.specs.declared.fault.HubFault.TheVariants.{Memory}
+use Rattle.disk_model.specs.declared.disk.Disk.{Ghosts as DiskModel}
+use Rattle.serve_hub.specs.Images.{Fails, IfFile}
+use Rattle.serve_hub.specs.Parts.{HasNoPlace, HubParts}
+use Rattle.serve_hub.specs.Showing.{Shows}
+use Rattle.station_hub.specs.Marking.{Start}
+use Rattle.station_hub.specs.Places.{PlacesState}
+use Rattle.station_hub.specs.Tracking.{Tracks}
+use Rattle.serve_clients.specs.Client.{ClientState, cut, cut_for_memory, told, with_stage}
 use Rattle.serve_live.specs.Listening.{ListenerState}
 use Rattle.serve_sources.specs.Asking.{IsOther, IsOwn, MayCome, is_source}
 use Rattle.serve_sources.specs.declared.answers.TheConstants.{LIVE}
@@ -19,9 +26,9 @@ use Rattle.serve_clients.specs.declared.client.Stage.TheVariants.{Reading, Sendi
 abbrev pub with_head : List ℕ → ClientState → ClientState
 with_head bytes client = record client { head = client.head ++ bytes }
 
--- The head asks for this, with these bytes that have come of it. Or there was no memory for them.
+-- The head asks for this, with these bytes that have come of it. Or memory for them was refused.
 abbrev pub HasAsked : Asks → List ℕ → ClientState → ClientState → Type 0
-HasAsked Asked.More bytes old new = (MayCome (old.head ++ bytes) × (new ≡ with_head bytes old)) ⊎ (new ≡ cut old)
+HasAsked Asked.More bytes old new = (MayCome (old.head ++ bytes) × (new ≡ with_head bytes old)) ⊎ (new ≡ cut_for_memory old)
 HasAsked Asked.Source bytes old new = (is_source (old.head ++ bytes) ≡ true) × (new ≡ with_head bytes old)
 HasAsked (Asked.Own resource head) bytes old new = IsOwn resource head (old.head ++ bytes) × (new ≡ with_head bytes old)
 HasAsked Asked.File bytes old new = IsOther (old.head ++ bytes) × (new ≡ with_head bytes old)
@@ -33,6 +40,11 @@ stage_after (Ok More) = Reading
 stage_after (Ok Ready) = Sending
 stage_after (Err fault) = Cut
 
+-- what becomes of a connection for which the hub has this fault
+abbrev pub cut_after : HubFault → ClientState → ClientState
+cut_after Memory client = cut_for_memory client
+cut_after fault client = cut client
+
 -- A session was connected, and took what had come of the head.
 pub record IsConnected {D : Type 0} (shows : HubParts D → HubState → Type 0) (old new : HubParts D) (before after : ClientState) : Type 0 where
   pub id : ℕ
@@ -42,14 +54,28 @@ pub record IsConnected {D : Type 0} (shows : HubParts D → HubState → Type 0)
   pub receives : Steps shows between new (λ machine. Receive id before.head progress)
   pub client : after ≡ record before { stage = stage_after progress; session = Some id; head = [] }
 
+-- There is no place for one more session, or no number left for it: the connection is cut.
+abbrev pub HasNoSession : {D : Type 0} → HubParts D → HubParts D → ClientState → ClientState → Type 0
+HasNoSession old new before after = HasNoPlace old × (new ≡ old) × (after ≡ cut before)
+
 -- what has come of the connection's head isn't kept any longer
 abbrev pub headless : ClientState → ClientState
 headless client = record client { head = [] }
 
 -- A connection listens: it gets the head of the answer, and hears what follows by a listener, unless the head alone was asked
--- for. Without memory, and after a fault of the file, it is cut.
+-- for. If memory is refused, and after a fault of the file, it is cut.
 abbrev pub Listens : Bool → ClientState → ClientState → Type 0
-Listens true old new = (new ≡ with_stage Ending (told LIVE.now (headless old))) ⊎ (new ≡ cut (headless old))
+Listens true old new = (new ≡ with_stage Ending (told LIVE.now (headless old))) ⊎ (new ≡ cut_for_memory (headless old))
 Listens false old new =
     ((listener : ListenerState) × (new ≡ record (told LIVE.now (headless old)) { stage = Hearing; listener = Some listener }))
-    ⊎ (new ≡ record (cut (headless old)) { listener = new.listener })
+    ⊎ (new ≡ record (cut (headless old)) { listener = new.listener; refused = new.refused })
+
+-- Nothing can be heard of what is committed: there is no file, or its disk has failed.
+abbrev pub CannotHear : {D : Type 0} → DiskModel D → PlacesState → HubParts D → HubParts D → Type 0
+CannotHear model places old new =
+    (old.file ≡ None)
+    ⊎ ((start : Start) (machine : HubState) → Shows model old machine → Tracks start machine places → IfFile (Fails model) old.file new.file)
+
+-- why a connection that listens is cut, if it is
+abbrev pub IsCutFor : {D : Type 0} → DiskModel D → PlacesState → HubParts D → HubParts D → ClientState → Type 0
+IsCutFor model places old new after = after.stage ≡ Cut → (after.refused ≡ true) ⊎ CannotHear model places old new

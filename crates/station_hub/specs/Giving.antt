@@ -8,7 +8,10 @@ use Rattle.serve_live.specs.Hearing.{IsHearing}
 use Rattle.serve_live.specs.Listening.{ListenerState}
 use Rattle.serve_live.specs.Live.{Moment}
 use Rattle.serve_hub.specs.Listening.{HearsMore}
+use Rattle.disk_model.specs.declared.disk.Disk.{Ghosts as DiskModel}
+use Rattle.serve_hub.specs.Images.{Fails, IfFile}
 use Rattle.serve_hub.specs.Parts.{HubParts}
+use Rattle.serve_hub.specs.Showing.{Shows}
 use Rattle.serve_clients.specs.declared.client.Stage.{Stage}
 use Rattle.serve_clients.specs.declared.client.Stage.TheVariants.{Sending as SendingOf, Hearing, Ending, Cut}
 
@@ -45,19 +48,27 @@ HasHeard moment committed given rest size old count buffer new =
     ((listener : ListenerState) × HearsMore moment committed given rest size count buffer listener × (new ≡ record old { listener = Some listener }))
     ⊎ ((count ≡ 0) × (new ≡ cut old))
 
+-- there is no file, or its disk has failed
+abbrev pub LosesFile : {D : Type 0} → DiskModel D → HubParts D → HubParts D → Type 0
+LosesFile model old new = (old.file ≡ None) ⊎ IfFile (Fails model) old.file new.file
+
 -- ---- what a call gives
 -- So many bytes of the buffer are the next ones for a connection, which is this one after that: those that couldn't be
 -- written before; if there are none, the next ones of its response, or of what it hears; and else there is nothing.
-pub record Gives {D : Type 0} (shows : HubParts D → HubState → Type 0) (old new : HubParts D) (size : ℕ) (client : ClientState) (count : ℕ) (buffer : List ℕ) (after : ClientState) : Type 0 where
+pub record Gives {D : Type 0} (model : DiskModel D) (old new : HubParts D) (size : ℕ) (client : ClientState) (count : ℕ) (buffer : List ℕ) (after : ClientState) : Type 0 where
   pub again : client.unsent ≢ [] → (new ≡ old) × (after ≡ client) × (take count buffer ≡ take size client.unsent)
   pub pulls : (id : ℕ) → client.unsent ≡ [] → client.stage ≡ SendingOf → client.session ≡ Some id
-      → (answer : Result Given HubFault) × Steps shows old new (λ machine. Pull id size answer) × HasPulled answer client count buffer after
+      → (answer : Result Given HubFault) × Steps (Shows model) old new (λ machine. Pull id size answer) × HasPulled answer client count buffer after
   pub hears : (machine : HubState) (moment : Moment) (heard : List ℕ) (listener : ListenerState) → client.unsent ≡ [] → client.stage ≡ Hearing
-      → shows old machine → client.listener ≡ Some listener → (hearing : IsHearing moment machine.committed listener heard)
+      → Shows model old machine → client.listener ≡ Some listener → (hearing : IsHearing moment machine.committed listener heard)
       → HasHeard moment machine.committed heard hearing.rest size client count buffer after
+  -- a listener is cut only if its file is lost
+  pub lost : (machine : HubState) (moment : Moment) (heard : List ℕ) (listener : ListenerState) → client.unsent ≡ [] → client.stage ≡ Hearing
+      → Shows model old machine → client.listener ≡ Some listener → IsHearing moment machine.committed listener heard
+      → after.stage ≡ Cut → LosesFile model old new
   pub nothing : client.unsent ≡ [] → client.stage ≢ SendingOf → client.stage ≢ Hearing → (count ≡ 0) × (new ≡ old) × (after ≡ client)
   pub unconnected : client.unsent ≡ [] → client.stage ≡ SendingOf → client.session ≡ None → (count ≡ 0) × (new ≡ old) × (after ≡ client)
   -- what a listener is given is no step of the machine
-  pub keeps : client.stage ≡ Hearing → (machine : HubState) → shows old machine → shows new machine
+  pub keeps : client.stage ≡ Hearing → (machine : HubState) → Shows model old machine → Shows model new machine
   pub goes_on : client.stage ≡ Hearing → (after.stage ≡ Hearing) ⊎ (after.stage ≡ Cut)
   pub rest : after ≡ record client { stage = after.stage; listener = after.listener }

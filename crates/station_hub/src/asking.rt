@@ -1,5 +1,5 @@
 //! What a connection asks for.
-ghost use Rattle.std.specs.Prelude.{◌≡◌, ◌⊎◌, ◌++◌, ℕ, None, Some, IfOk, Result};
+ghost use Rattle.std.specs.Prelude.{◌≡◌, ◌⊎◌, ◌++◌, ℕ, None, Some, IfOk, IfErr, Result};
 ghost use Rattle.serve_live.specs.Boundaries.{place_to_join};
 ghost use Rattle.serve_live.specs.Listening.{ListenerState};
 ghost use Rattle.serve_clients.specs.declared.client.Stage.TheVariants.{Hearing as HearingOf};
@@ -10,11 +10,11 @@ ghost use Rattle.serve_machine.specs.Calls.{Steps};
 ghost use Rattle.serve_machine.specs.Hub.{HubState, Receive};
 ghost use Rattle.serve_machine.specs.declared.answers.Progress.{Progress as ProgressOf};
 ghost use Rattle.serve_machine.specs.declared.fault.HubFault.{HubFault as HubFaultOf};
-ghost use Rattle.station_hub.specs.Asking.{HasAsked, IsConnected, Listens, stage_after};
+ghost use Rattle.station_hub.specs.Asking.{CannotHear, HasAsked, HasNoSession, IsConnected, IsCutFor, Listens, cut_after, stage_after};
 ghost use Rattle.station_hub.specs.Keeping.{KeepsRecorded};
 ghost use Rattle.station_hub.specs.Marking.{Start};
 ghost use Rattle.station_hub.specs.Tracking.{JoinsAt, Tracks};
-ghost use Rattle.serve_clients.specs.Client.{cut, with_line, with_stage};
+ghost use Rattle.serve_clients.specs.Client.{cut_for_memory, with_line, with_stage};
 ghost use Rattle.serve_clients.specs.Line.{moved_on};
 
 use crate::laws::listeners_join_committed_links;
@@ -33,12 +33,12 @@ pub fn notice(client: &mut Client, bytes: &[u8])
     client.note_heard(bytes);
 }
 
-/// Adds bytes to the head, and says what it asks for. Without memory for them the connection is cut.
+/// Adds bytes to the head, and says what it asks for. If memory for them is refused, the connection is cut.
 pub fn ask(client: &mut Client, bytes: &[u8]) -> Asks
-    ensures client { (client.new ≡ record client.old { head = client.old.head ++ bytes.now }) ⊎ (client.new ≡ cut client.old) }
+    ensures client { (client.new ≡ record client.old { head = client.old.head ++ bytes.now }) ⊎ (client.new ≡ cut_for_memory client.old) }
     ensures asks { HasAsked result bytes.now client.old client.new }
 {
-    match client.head.extend_from_slice(bytes) {
+    match client.hear(bytes) {
         Ok(()) => Asks::of(client.head.as_slice()),
         Err(_) => {
             client.stage = Stage::Cut;
@@ -52,7 +52,7 @@ impl<D: Disk + Drop> LiveHub<D> {
     /// connection is cut.
     pub fn connect(&mut self, client: &mut Client)
         ensures connects { IsConnected (Shows D.Disk) self.old.hub self.new.hub client.old client.new
-            ⊎ ((self.new.hub ≡ self.old.hub) × (client.new ≡ cut client.old)) }
+            ⊎ HasNoSession self.old.hub self.new.hub client.old client.new }
         ensures disk { (self.new.hub.file ≡ self.old.hub.file)
             ⊎ IfFile (Reads D.Disk) self.old.hub.file self.new.hub.file }
         ensures recorded { KeepsRecorded D.Disk self.old.hub self.new.hub }
@@ -102,12 +102,13 @@ impl<D: Disk + Drop> LiveHub<D> {
     }
 
     /// A listener: it joins what is recorded, or waits until a link begins. If only the head of the answer is asked for, it
-    /// gets that. Without memory it is cut, and after a fault of the file.
+    /// gets that. If memory is refused it is cut, and after a fault of the file.
     pub fn listen(&mut self, client: &mut Client, head: bool)
         ensures joins { (start : Start) (machine : HubState) → Shows D.Disk self.old.hub machine → Tracks start machine self.old.places
             → client.new.stage ≡ HearingOf → (listener : ListenerState) × (client.new.listener ≡ Some listener)
             × JoinsAt (place_to_join self.old.places.boundaries) machine.committed listener }
         ensures becomes { Listens head client.old client.new }
+        ensures cause { IsCutFor D.Disk self.old.places self.old.hub self.new.hub client.new }
         ensures machine { KeepsMachine D.Disk self.old.hub self.new.hub }
         ensures disk { (self.new.hub.file ≡ self.old.hub.file)
             ⊎ IfFile (Reads D.Disk) self.old.hub.file self.new.hub.file }
@@ -127,7 +128,7 @@ impl<D: Disk + Drop> LiveHub<D> {
                     Err(_) => Stage::Cut,
                 };
             }
-            Err(_) => client.stage = Stage::Cut,
+            Err(fault) => cut_after(client, fault),
         }
     }
 
@@ -135,6 +136,7 @@ impl<D: Disk + Drop> LiveHub<D> {
     fn join(&mut self) -> Result<Listener, HubFault>
         ensures joins { (start : Start) (machine : HubState) → Shows D.Disk self.old.hub machine → Tracks start machine self.old.places
             → IfOk result (λ listener. JoinsAt (place_to_join self.old.places.boundaries) machine.committed listener) }
+        ensures cause { IfErr result (λ fault. (fault ≡ HubFault.Memory) ⊎ CannotHear D.Disk self.old.places self.old.hub self.new.hub) }
         ensures machine { KeepsMachine D.Disk self.old.hub self.new.hub }
         ensures disk { (self.new.hub.file ≡ self.old.hub.file)
             ⊎ IfFile (Reads D.Disk) self.old.hub.file self.new.hub.file }
@@ -146,6 +148,17 @@ impl<D: Disk + Drop> LiveHub<D> {
             Some(place) => self.hub.join(place),
             None => Ok(self.hub.wait()),
         }
+    }
+}
+
+/// A connection for which the hub has this fault is cut.
+fn cut_after(client: &mut Client, fault: HubFault)
+    ensures { client.new ≡ cut_after fault client.old }
+{
+    match fault {
+        HubFault::Memory => client.lack_memory(),
+        HubFault::NoSession | HubFault::SessionsFull | HubFault::Source | HubFault::NoFile =>
+            client.go_to(Stage::Cut),
     }
 }
 

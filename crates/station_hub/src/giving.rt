@@ -10,7 +10,7 @@ ghost use Rattle.serve_hub.specs.Images.{IfFile, Reads};
 ghost use Rattle.serve_hub.specs.Listening.{KeepsMachine};
 ghost use Rattle.serve_hub.specs.Showing.{Shows};
 ghost use Rattle.station_hub.specs.Keeping.{KeepsRecorded};
-ghost use Rattle.station_hub.specs.Giving.{HasHeard, HasPulled};
+ghost use Rattle.station_hub.specs.Giving.{HasHeard, HasPulled, LosesFile};
 ghost use Rattle.serve_clients.specs.declared.client.Stage.TheVariants.{Cut as CutOf, Ending as EndingOf, Hearing as HearingOf, Sending as SendingOf};
 
 use crate::live_hub::LiveHub;
@@ -63,6 +63,9 @@ fn hear<D: Disk + Drop>(hub: &mut Hub<D>, client: &mut Client, buffer: &mut [u8]
     ensures heard { (machine : HubState) (moment : Moment) (given : List ℕ) (listener : ListenerState)
         → Shows D.Disk hub.old machine → client.old.listener ≡ Some listener → (hearing : IsHearing moment machine.committed listener given)
         → HasHeard moment machine.committed given hearing.rest (length buffer.old) client.old result buffer.new client.new }
+    ensures lost { (machine : HubState) (moment : Moment) (given : List ℕ) (listener : ListenerState)
+        → Shows D.Disk hub.old machine → client.old.listener ≡ Some listener → IsHearing moment machine.committed listener given
+        → client.old.stage ≡ HearingOf → client.new.stage ≡ CutOf → LosesFile D.Disk hub.old hub.new }
     ensures machine { KeepsMachine D.Disk hub.old hub.new }
     ensures none { client.old.listener ≡ None → (result ≡ 0) × (hub.new ≡ hub.old) × (client.new ≡ client.old) }
     ensures rest { client.new ≡ record client.old { stage = client.new.stage; listener = client.new.listener } }
@@ -97,6 +100,10 @@ impl<D: Disk + Drop> LiveHub<D> {
             → Shows D.Disk self.old.hub machine → client.old.listener ≡ Some listener
             → (hearing : IsHearing moment machine.committed listener given)
             → HasHeard moment machine.committed given hearing.rest (length buffer.old) client.old result buffer.new client.new }
+        ensures lost { (machine : HubState) (moment : Moment) (given : List ℕ) (listener : ListenerState)
+            → client.old.unsent ≡ [] → client.old.stage ≡ HearingOf
+            → Shows D.Disk self.old.hub machine → client.old.listener ≡ Some listener → IsHearing moment machine.committed listener given
+            → client.new.stage ≡ CutOf → LosesFile D.Disk self.old.hub self.new.hub }
         ensures keeps { client.old.stage ≡ HearingOf → KeepsMachine D.Disk self.old.hub self.new.hub }
         ensures nothing { client.old.unsent ≡ [] → client.old.stage ≢ SendingOf → client.old.stage ≢ HearingOf
             → (result ≡ 0) × (self.new.hub ≡ self.old.hub) × (client.new ≡ client.old) }

@@ -1,14 +1,8 @@
-//! What is said of connections, and to them of the station: the player, and its numbers.
-ghost use Rattle.std.specs.Prelude.{◌≡◌, ◌⊎◌};
-ghost use Rattle.serve_clients.specs.Client.{cut, told, with_stage};
-ghost use Rattle.serve_clients.specs.declared.client.Stage.TheVariants.{Ending as EndingOf};
-ghost use Rattle.serve_texts.specs.Player.{player_response};
-ghost use Rattle.serve_texts.specs.Status.{status_response};
+//! What is said of connections.
+ghost use Rattle.std.specs.Prelude.{◌≡◌};
 ghost use Rattle.station_hub.specs.Telling.{in_seconds, kind_of, with_one};
 
-use serve_clients::{Client, Clients, Stage};
-use serve_texts::{Numbers, append_player, append_status};
-use std::alloc::Global;
+use serve_clients::{Clients, Stage};
 
 /// What a connection is.
 #[derive(Clone, Copy, Debug, PartialEq, Eq)]
@@ -89,26 +83,4 @@ pub fn in_seconds(milliseconds: u64) -> u64
     ensures { result ≡ in_seconds milliseconds }
 {
     milliseconds / 1000
-}
-
-/// The connection is answered with the player. Without memory for it the connection is cut.
-pub fn tell_player(alloc: Global, client: &mut Client, head: bool)
-    ensures { (client.new ≡ with_stage EndingOf (told (player_response head) client.old)) ⊎ (client.new ≡ cut client.old) }
-{
-    let mut text = Vec::new(alloc);
-    match append_player(&mut text, head) {
-        Ok(()) => client.tell_last(text.as_slice()),
-        Err(_) => client.go_to(Stage::Cut),
-    }
-}
-
-/// The connection is answered with these numbers. Without memory for them the connection is cut.
-pub fn tell_status(alloc: Global, client: &mut Client, numbers: &Numbers, head: bool)
-    ensures { (client.new ≡ with_stage EndingOf (told (status_response numbers.now head) client.old)) ⊎ (client.new ≡ cut client.old) }
-{
-    let mut text = Vec::new(alloc);
-    match append_status(&mut text, numbers, head) {
-        Ok(()) => client.tell_last(text.as_slice()),
-        Err(_) => client.go_to(Stage::Cut),
-    }
 }

@@ -1,5 +1,6 @@
 mod Called
 mod Early
+mod InTime
 mod Listened
 mod Owing
 mod Placed

@@ -29,7 +29,7 @@ use Rattle.station.specs.Spare.{IsAskedIn, is_spare}
 use Rattle.station_laws.specs.Calling.{Accepted, Aside, Call, Closed, EndedOpen, HasGiven, HasReceived, IsAccepted, IsCall, IsClosed, Looked, Next, NextTurn, PeerEnded, ReadFailed, Received, Stepped, Turned, Woken, WriteFailed, Wrote}
 use Rattle.station.specs.Ending.{is_over}
 use Rattle.station.specs.Passing.{Stays, expects_nothing, is_source, session_in}
-use Rattle.station.specs.Turning.{IsTurnedAway}
+use Rattle.station.specs.Turning.{IsTurnedAway, half_closed, stage_at_half_close}
 use Rattle.station_laws.specs.Written.{AreApart}
 use Rattle.station.specs.declared.station.Station.{Station}
 use Rattle.station.specs.PassingLaws.{all_stay, given_session, has_turn, like, looked, stays_session}
@@ -107,6 +107,28 @@ of_session : (session : Option ℕ) → (session ≡ None) ⊎ ((id : ℕ) × (s
 of_session None = inl refl
 of_session (Some id) = inr (id, refl)
 
+-- ---- a peer that sends no more
+goes : (client : ClientState) → stage_at_half_close client.stage ≡ client.stage → Stays client (half_closed client)
+goes client same = inl (same, refl, refl, refl, refl)
+
+gone : (client : ClientState) → stage_at_half_close client.stage ≡ Cut → Stays client (half_closed client)
+gone client cuts = inr (cuts, refl, refl, refl, refl)
+
+half_closed_in : (stage : Stage) (client : ClientState) → client.stage ≡ stage → Stays client (half_closed client)
+half_closed_in Asking client is = gone client (ap stage_at_half_close is)
+half_closed_in Offering client is = gone client (ap stage_at_half_close is)
+half_closed_in Reading client is = gone client (ap stage_at_half_close is)
+half_closed_in Hearing client is = gone client (ap stage_at_half_close is)
+half_closed_in Closing client is = gone client (ap stage_at_half_close is)
+half_closed_in Cut client is = gone client (ap stage_at_half_close is)
+half_closed_in Waiting client is = goes client (ap stage_at_half_close is ∙ sym is)
+half_closed_in Feeding client is = goes client (ap stage_at_half_close is ∙ sym is)
+half_closed_in Sending client is = goes client (ap stage_at_half_close is ∙ sym is)
+half_closed_in Ending client is = goes client (ap stage_at_half_close is ∙ sym is)
+
+half_closed_stays : (client : ClientState) → Stays client (half_closed client)
+half_closed_stays client = half_closed_in client.stage client refl
+
 listens_session : (head : Bool) (old new : ClientState) → Listens head old new → (new.session ≡ old.session) × (needs_none new.stage ≡ true)
 listens_session true old new (inl is) = (ap (λ (one : ClientState). one.session) is, ap (λ (one : ClientState). needs_none one.stage) is)
 listens_session true old new (inr is) = (ap (λ (one : ClientState). one.session) is, ap (λ (one : ClientState). needs_none one.stage) is)
@@ -138,7 +160,7 @@ module _ {D : Type 0} (model : DiskModel D) (laws : Laws) where
   asked_any true password places bytes old new client after (same, inl awaits) = inl (inl (same, awaits))
   asked_any true password places bytes old new client after (same, inr (inl (source, set, goes))) = inl (inr (inl (same, source, set, goes)))
   asked_any true password places bytes old new client after (same, inr (inr (inl (Status, head, own, answered)))) =
-      inl (inr (inr (inl (Status, head, own, (λ machine shows. subst (λ (hub : HubParts D). Shows model hub machine) (sym same) shows), answered, tt))))
+      inl (inr (inr (inl (Status, head, own, (λ machine shows. subst (λ (hub : HubParts D). Shows model hub machine) (sym same) shows), answered, tt, tt))))
   asked_any true password places bytes old new client after (same, inr (inr (inl (Live, head, own, last)))) = inr (same, last)
   asked_any true password places bytes old new client after (same, inr (inr (inl (Player, head, own, last)))) = inr (same, last)
   asked_any true password places bytes old new client after (same, inr (inr (inr (cause, last)))) = inr (same, last)
@@ -166,7 +188,7 @@ module _ {D : Type 0} (model : DiskModel D) (laws : Laws) where
                 | inr (inl (same, source, some, goes)) ↦
                     keyed_quiet model key other call old new before client after is.others found left same is.recorded.1 goes.1 shown are aside
                     (Offered bytes now refl asks source goes.1 (offered_needs_none after.stage goes.0))
-                | inr (inr (inl (resource, head, own, keeps, answered, joins))) ↦
+                | inr (inr (inl (resource, head, own, keeps, answered, joins, cause))) ↦
                     let (session, none) = answered_session resource head (heard bytes client) after answered in
                     keyed model key other call old new before before None client after is.others found left (keeps before shown)
                     (tracks_same before before old.live.places new.live.places refl is.recorded.1) (leaves_all None before)
@@ -174,7 +196,7 @@ module _ {D : Type 0} (model : DiskModel D) (laws : Laws) where
                     (still_apart None before before old.clients.slots new.clients.slots are (leaves_all None before)
                     (had model old.clients.slots new.clients.slots other is.others (had_own model old.clients.slots new.clients.slots other client after found left session)))
                     aside (Answered bytes now resource head refl asks own answered (joins_here resource head after joins) refl)
-                | inr (inr (inr (why, inr (same, becomes)))) ↦
+                | inr (inr (inr (why, inr (none, same, becomes)))) ↦
                     keyed_quiet model key other call old new before client after is.others found left same is.recorded.1 (ap (λ (one : ClientState). one.session) becomes) shown are aside
                     (WasCut (ap (λ (one : ClientState). one.stage) becomes) (ap (λ (one : ClientState). one.session) becomes) (ap (λ (one : ClientState). one.unsent) becomes) refl (λ given. refl))
                 | inr (inr (inr (why, inl connected))) ↦
@@ -382,7 +404,9 @@ module _ {D : Type 0} (model : DiskModel D) (laws : Laws) where
       (λ none. keyed_none model key other (PeerEnded other) old new before is.others none (ap (λ s. get s.clients.slots other) (is.none none) ∙ none)
       (ap (λ s. s.live.hub) (is.none none)) (ap (λ s. s.live.places) (is.none none)) shown are (λ apart. record { written = refl; received = refl; given = λ bytes. refl }))
       (λ client found.
-      let (after, left, stays) = is.stays client found in
+      let after = half_closed client in
+      let left = is.ends client found in
+      let stays = half_closed_stays client in
       keyed_quiet model key other PeerEnded old new before client after is.others found left (ap (λ live. live.hub) is.live) (ap (λ live. live.places) is.live) (stays_session client after stays) shown are
       (λ apart. record { written = refl; received = refl; given = λ bytes. refl })
       (kept_by key (PeerEnded key) old.live.places before client after stays (record { written = refl; received = refl; given = λ bytes. refl })))

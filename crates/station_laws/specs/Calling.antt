@@ -19,8 +19,8 @@ use Rattle.station_hub.specs.Live.{RecordsLive, StaysLive}
 use Rattle.station.specs.Asked.{EndsSession}
 use Rattle.station.specs.Spare.{IsAskedIn, is_spare}
 use Rattle.station.specs.Ending.{is_over}
-use Rattle.station.specs.Passing.{ArePassed, GoesOnAsSource, IsLike, Stays, expects_nothing, is_source, session_in}
-use Rattle.station.specs.Turning.{IsTurnedAway}
+use Rattle.station.specs.Passing.{ArePassed, GoesOnAsSource, IsLike, expects_nothing, is_source, session_in}
+use Rattle.station.specs.Turning.{IsTurnedAway, half_closed}
 use Rattle.station.specs.declared.station.Station.{Station}
 use Rattle.station.specs.declared.station.Unaccepted.{Unaccepted}
 
@@ -85,14 +85,14 @@ module _ {D : Type 0} (model : DiskModel D) where
     pub recorded : StaysLive model old.live new.live
 
   pub record HasPeerEnded (key : ℕ) (old new : Station D) : Type 0 where
-    pub stays : (client : ClientState) → get old.clients.slots key ≡ Some client → (after : ClientState) × (get new.clients.slots key ≡ Some after) × Stays client after
+    pub ends : (client : ClientState) → get old.clients.slots key ≡ Some client → get new.clients.slots key ≡ Some (half_closed client)
     pub none : get old.clients.slots key ≡ None → new ≡ old
     pub others : OthersStay key old.clients new.clients
     pub live : new.live ≡ old.live
 
   pub record HasGiven (key size now count : ℕ) (buffer : List ℕ) (old new : Station D) : Type 0 where
     pub gives : (client : ClientState) → get old.clients.slots key ≡ Some client → client.stage ≢ Waiting → (after : ClientState)
-        × Gives (Shows model) old.live.hub new.live.hub size client count buffer after
+        × Gives model old.live.hub new.live.hub size client count buffer after
         × (get new.clients.slots key ≡ Some (given count (is_over old.air old.ending) now after))
     pub waits : (client : ClientState) → get old.clients.slots key ≡ Some client → client.stage ≡ Waiting → (after : ClientState)
         × (get new.clients.slots key ≡ Some after) × GoesOnAsSource client after × (new.live.hub ≡ old.live.hub)

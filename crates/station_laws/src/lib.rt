@@ -3,14 +3,15 @@
 //!
 //! `specs/Calling.antt` says what a station's calls are and what each leaves of it; `src/calls.rt` makes each of them, and
 //! ensures that it is one. Over any list of them `connections_get_their_responses` says what was written to a connection,
-//! `stations_import_their_sources` what is recorded of a source, and `listeners_of_a_station_join_committed_links` where
-//! listeners join. These are functions with a contract alone.
+//! `stations_import_their_sources` what is recorded of a source, `listeners_of_a_station_join_committed_links` where
+//! listeners join, and `commands_wait_no_longer` how long a command waits for its commit. These are functions with a contract alone.
 #![tactic(auto)]
 
 mod calls;
 mod connections;
 mod places;
 mod sources;
+mod waiting;
 
 pub use calls::{
     accepted, closed, end_open, input, input_ended, look, next, next_turn, peer_ended, read_failed,
@@ -19,3 +20,4 @@ pub use calls::{
 pub use connections::connections_get_their_responses;
 pub use places::listeners_of_a_station_join_committed_links;
 pub use sources::stations_import_their_sources;
+pub use waiting::commands_wait_no_longer;

@@ -19,6 +19,11 @@ pub record IsStarved (air : OnAir) : Type 0 where
   pub none : air.decoded ≡ 0
   pub waits : page_at air.import.input.pages.unread ≡ Err Short
 
+-- That is so, and there was room for all that came: only further bytes, or the end, can make it go on.
+pub record IsWaiting (air : OnAir) : Type 0 where
+  pub starved : IsStarved air
+  pub has_room : air.short ≡ false
+
 -- who sends the stream that is recorded, if a source is on the air
 abbrev pub feeder_in : Option OnAir → Option Feeder
 feeder_in None = None
@@ -53,10 +58,11 @@ parting_answer lost air = if wants_answer air.body then Some (outcome_of (lost |
 abbrev pub noted : Taken → OnAir → OnAir
 noted taken air = record air { lost = is_some taken.answered.refused || air.lost }
 
--- What has come of the source and isn't taken yet is followed by these bytes, and nothing else is another: neither its
--- stream nor its body, nor what was noted of want of memory.
+-- What has come of the source and isn't taken yet is followed by these bytes, and is looked at again. Nothing else is
+-- another: neither its stream nor its body, nor what was noted of want of memory.
 pub record HoldsMore (bytes : List ℕ) (old new : OnAir) : Type 0 where
   pub kept : drop new.at new.pending.items ≡ drop old.at old.pending.items ++ bytes
+  pub looked_at : new.starved ≡ false
   pub short : new.short ≡ old.short
   pub import : new.import ≡ old.import
   pub body : new.body ≡ old.body

@@ -98,6 +98,8 @@ impl OnAir {
         ensures err { OnErr result (drop self.new.at self.new.pending.items ≡ drop self.old.at self.old.pending.items) }
         ensures full { OnErr result (vec_capacity self.old.pending < vec_len self.old.pending - self.old.at + length bytes.now) }
         ensures stays { (self.new.feeder ≡ self.old.feeder) × (self.new.short ≡ self.old.short) × (self.new.lost ≡ self.old.lost) × (self.new.complete ≡ self.old.complete) }
+        // What has come is looked at again, with these bytes.
+        ensures looks { self.new.starved ≡ false }
         ensures same { (self.new.import ≡ self.old.import) × (self.new.body ≡ self.old.body) }
     {
         drop_front(&mut self.pending, self.at);
@@ -151,7 +153,10 @@ impl OnAir {
             × (self.new.pending ≡ self.old.pending))) }
         ensures stays { result ≡ Ok Took.Bytes
             → (self.new.feeder ≡ self.old.feeder) × (self.new.short ≡ self.old.short) × (self.new.lost ≡ self.old.lost) }
+        // It does nothing only if more bytes must come.
         ensures nothing { result ≡ Ok Took.Nothing → (runner.new ≡ runner.old) × (self.new ≡ self.old) }
+        ensures prompt { result ≡ Ok Took.Nothing → (self.old.ended ≡ false) × (self.old.starved ≡ true) × (self.old.decoded ≡ 0)
+            × (page_at self.old.import.input.pages.unread ≡ Err Short) × (self.old.short ≡ false) }
         ensures stops { (before : T.State) → T.is_in before runner.old → IfErr result (λ fault. (after : T.State) × T.is_in after runner.new
             × StopsBy T.answers fault before after None None) }
 

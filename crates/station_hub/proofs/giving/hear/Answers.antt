@@ -1,4 +1,4 @@
-use Rattle.std.proofs.Common.{◌≡◌, Some, length, refl, sym, ◌∙◌, ap, subst, inl, inr}
+use Rattle.std.proofs.Common.{◌≡◌, Some, Err, length, refl, sym, ◌∙◌, ap, subst, inl, inr}
 use Rattle.serve_live.specs.Hearing.{IsHearing}
 use Rattle.serve_live.specs.Listening.{ListenerState}
 use Rattle.serve_hub.specs.Listening.{HearsMore}
@@ -34,3 +34,12 @@ returns-in-Err-clause-disk g c = inr c.hear.ensures.disk
 
 pub returns-in_default-clause-disk : goal.returns-in_default-clause-disk
 returns-in_default-clause-disk g c = inl refl
+
+pub returns-in-Err-clause-lost : goal.returns-in-Err-clause-lost
+returns-in-Err-clause-lost g c machine moment given listener shows is hearing hears cuts =
+    let same : c.in-Some.listener ≡ listener = same_in c.in-Some.listener listener (sym c.in-Some.is ∙ ap (λ (client : ClientState). client.listener) c.client.view_is ∙ is) in
+    let heard = subst (λ (one : ListenerState). IsHearing moment machine.committed one given) (sym same) hearing in
+    elim c.in-Err.ensures.faults [
+      | inl none ↦ inl (c.hear.ensures.no_file.0 (c.in-Err.is ∙ ap Err none))
+      | inr failed ↦ inr (c.hear.ensures.cause machine moment given shows heard (c.in-Err.is ∙ ap Err failed)).0
+    ]

@@ -1,5 +1,4 @@
 use Rattle.std.proofs.Common.{◌≡◌, Bool, Some, length, ◌∙◌, ap, subst}
-use Rattle.serve_hub.specs.Showing.{Shows}
 use Rattle.serve_clients.specs.Client.{ClientState, given}
 use Rattle.station_hub.specs.Giving.{Gives}
 use Rattle.station.specs.Found.{placed, same_client}
@@ -10,11 +9,12 @@ returns-clause-gives g c client is =
     let same : c.in-Some.client.now ≡ client = same_client c.in-Some.client.now client (c.in-Some.ensures.value ∙ is) in
     let after = c.give-count.new.client in (
       after,
-      subst (λ (one : ClientState). Gives (Shows g.D.Disk) c.args.self.now.live.hub c.give-count.new.self.hub (length c.args.buffer.now) one c.give-count.result c.give-count.new.buffer after) same
+      subst (λ (one : ClientState). Gives g.D.Disk c.args.self.now.live.hub c.give-count.new.self.hub (length c.args.buffer.now) one c.give-count.result c.give-count.new.buffer after) same
           (record {
             again = c.give-count.ensures.again;
             pulls = c.give-count.ensures.pulls;
             hears = c.give-count.ensures.hears;
+            lost = c.give-count.ensures.lost;
             nothing = c.give-count.ensures.nothing;
             unconnected = c.give-count.ensures.unconnected;
             keeps = c.give-count.ensures.keeps;

@@ -7,6 +7,7 @@ use Rattle.station.specs.Beginning.{BeginsBeside, run_in}
 use Rattle.station.specs.declared.station.Options.{Options}
 use Rattle.station.specs.Parting.{HasParted}
 use Rattle.station.specs.Passing.{ArePassed}
+use Rattle.station.specs.Clocks.{clocks_of}
 use Rattle.station.specs.Stepping.{RestsUnless}
 use Rattle.station_sources.specs.Air.{parting_answer}
 use Rattle.station.specs.Succeeding.{IsSucceeded, waits}
@@ -27,6 +28,8 @@ returns g c = record {
   at_rest =
       subst (λ (live : LiveHub _). RestsUnless c.unended-refused.result live.hub.file) (sym (c.offer_again.ensures.live ∙ ap (λ s. s.live) c.answer_feeder.ensures.rest))
       c.unended-refused.ensures.at_rest;
+  clocks =
+      c.offer_again.ensures.clocks ∙ ap (λ s. clocks_of s) c.answer_feeder.ensures.rest ∙ ap (λ s. clocks_of s) c.unended-refused.ensures.rest;
   records =
       subst (λ live. RecordsLive g.D.Disk c.args.self.now.live live) (sym (c.offer_again.ensures.live ∙ ap (λ s. s.live) c.answer_feeder.ensures.rest))
       c.unended-refused.ensures.records;

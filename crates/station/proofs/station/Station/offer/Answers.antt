@@ -1,29 +1,25 @@
-use Rattle.std.proofs.Common.{◌≡◌, ◌⊎◌, Option, Some, refl, sym, ◌∙◌, ap, subst, inl, inr}
+use Rattle.std.proofs.Common.{◌≡◌, ℕ, Option, Some, List, ◌++◌, refl, sym, ◌∙◌, ap, subst, inl, inr}
 use Rattle.slab.specs.Slab.{get}
-use Rattle.serve_clients.specs.Client.{ClientState}
+use Rattle.serve_clients.specs.Client.{ClientState, cut, memory_refused}
+use Rattle.serve_sources.specs.Asking.{HasHead}
+use Rattle.serve_sources.specs.Offer.{IsUnread}
+use Rattle.serve_sources.specs.declared.offer.Offer.TheVariants.{More}
+use Rattle.serve_sources.specs.declared.password.Password.{Password}
 use Rattle.serve_hub.specs.Parts.{serials_in}
 use Rattle.station_sources.specs.Air.{feeder_in}
 use Rattle.station_sources.specs.declared.air.Feeder.{Feeder}
 use Rattle.station_sources.specs.declared.air.Feeder.TheVariants.{Peer}
 use Rattle.station.specs.Beginning.{BeginsBeside}
-use Rattle.station.specs.Passing.{has_offered}
+use Rattle.station.specs.Passing.{has_offered, is_source}
+use Rattle.station.proofs.Results.{err_of, none_if, ok_of}
 use Rattle.station.proofs.Asked.{begins_none}
-use Rattle.station.proofs.Offered.{offers_placed, offers_self, others_placed, was_placed, was_told}
-use Rattle.station.proofs.Passed.{offers_now, offers_same, source_is}
+use Rattle.station.specs.Found.{placed, same_client}
+use Rattle.station.specs.Offering.{ComesOf, IsUnauthorized, Leads, with_more}
+use Rattle.station.specs.Succeeding.{WasOffered, is_waiting}
+use Rattle.station.proofs.Offered.{leads_begins, leads_feeder, leads_keeps, leads_offered, leads_on, leads_refused, offers_self, others_placed, was_placed}
+use Rattle.station.proofs.Passed.{offered_to, source_is}
+use Rattle.station.proofs.station.Station.offer.Given.{Over}
 use Rattle.station.proofs.station.Station.offer.Goals as goal
-
-pub returns-else-is_err-2-clause-source : goal.returns-else-is_err-2-clause-source
-returns-else-is_err-2-clause-source g c =
-    offers_same c.args.self.now.clients.slots c.args.key c.in-Some.client.now _ (get c.take_the_air.new.self.clients.slots c.args.key) (sym c.in-Some.ensures.value)
-    (ap (λ (one : ClientState). one.stage) c.client.view_is) (ap (λ (one : ClientState). one.session) c.client.view_is) c.take_the_air.ensures.source
-
-pub returns-then-is_err-2-clause-source : goal.returns-then-is_err-2-clause-source
-returns-then-is_err-2-clause-source g c =
-    let mid = get c.take_the_air.new.self.clients.slots c.args.key in
-    offers_now (get c.args.self.now.clients.slots c.args.key) mid (get c.cut.new.self.clients.slots c.args.key)
-    (offers_same c.args.self.now.clients.slots c.args.key c.in-Some.client.now _ mid (sym c.in-Some.ensures.value)
-    (ap (λ (one : ClientState). one.stage) c.client.view_is) (ap (λ (one : ClientState). one.session) c.client.view_is) c.take_the_air.ensures.source)
-    c.cut.ensures.source
 
 pub returns-in_default-clause-unauthorized : goal.returns-in_default-clause-unauthorized
 returns-in_default-clause-unauthorized g c client request password is set head isnt = refl
@@ -72,12 +68,8 @@ returns-then-is_err-clause-begins g c free =
 pub returns-then-is_err-clause-others : goal.returns-then-is_err-clause-others
 returns-then-is_err-clause-others g c other apart = others_placed c.args.self.now.clients.slots c.args.key _ other apart
 
-pub returns-then-is_err-clause-source : goal.returns-then-is_err-clause-source
-returns-then-is_err-clause-source g c =
-    offers_placed c.args.self.now.clients.slots c.args.key c.in-Some.client.now _ (sym c.in-Some.ensures.value) (λ source. (refl, ap (λ (one : ClientState). one.session) c.client.view_is))
-
 pub returns-then-is_err-clause-offered : goal.returns-then-is_err-clause-offered
-returns-then-is_err-clause-offered g c free = was_placed c.args.self.now.clients.slots c.args.key c.in-Some.client.now _ (sym c.in-Some.ensures.value) (inl refl)
+returns-then-is_err-clause-offered g c free = was_placed c.args.self.now.clients.slots c.args.key c.in-Some.client.now c.go_to.new.self (sym c.in-Some.ensures.value) (inl (ap (λ (one : ClientState). is_waiting one.stage) c.go_to.ensures))
 
 pub returns-in_default-password-clause-unauthorized : goal.returns-in_default-password-clause-unauthorized
 returns-in_default-password-clause-unauthorized g c client request password is set head isnt = refl
@@ -101,150 +93,103 @@ returns-in_default-password-clause-begins g c free =
 pub returns-in_default-password-clause-others : goal.returns-in_default-password-clause-others
 returns-in_default-password-clause-others g c other apart = others_placed c.args.self.now.clients.slots c.args.key _ other apart
 
-pub returns-in_default-password-clause-source : goal.returns-in_default-password-clause-source
-returns-in_default-password-clause-source g c =
-    offers_placed c.args.self.now.clients.slots c.args.key c.in-Some.client.now _ (sym c.in-Some.ensures.value) (λ source. (refl, ap (λ (one : ClientState). one.session) c.client.view_is))
-
 pub returns-in_default-password-clause-offered : goal.returns-in_default-password-clause-offered
-returns-in_default-password-clause-offered g c free = was_placed c.args.self.now.clients.slots c.args.key c.in-Some.client.now _ (sym c.in-Some.ensures.value) (inl refl)
+returns-in_default-password-clause-offered g c free = was_placed c.args.self.now.clients.slots c.args.key c.in-Some.client.now c.go_to-in_default-password.new.self (sym c.in-Some.ensures.value) (inl (ap (λ (one : ClientState). is_waiting one.stage) c.go_to-in_default-password.ensures))
 
-pub returns-in-More-clause-unauthorized : goal.returns-in-More-clause-unauthorized
-returns-in-More-clause-unauthorized g c client request password is set head isnt = refl
+-- what its head has led to
+led : (g : Over) (c : goal.After-take_up g) → (after : ClientState) × (get c.take_up.new.self.clients.slots c.args.key ≡ Some after)
+    × Leads c.args.key c.args.now c.args.self.now.options.skeletons (serials_in c.args.self.now.live.hub.file) c.offered-offer.result c.args.self.now.air
+    c.take_up.new.self.air c.hear.new.self after
+led g c =
+    c.take_up.ensures.leads c.hear.new.self (placed c.args.self.now.clients.slots c.args.key c.in-Some.client.now c.hear.new.self (sym c.in-Some.ensures.value))
 
-pub returns-in-More-clause-feeder : goal.returns-in-More-clause-feeder
-returns-in-More-clause-feeder g c = inr refl
+heard_more : (g : Over) (c : goal.After-take_up g) → c.hear.new.self ≡ with_more c.args.bytes.now c.in-Some.client.now
+heard_more g c = ok_of _ c.hear.result c.is_err.result c.is_err.ensures.value c.if-is_err.false c.hear.ensures.ok
 
-pub returns-in-More-clause-keeps : goal.returns-in-More-clause-keeps
-returns-in-More-clause-keeps g c some = refl
+-- all that has come of the head was looked at
+front_is : (g : Over) (c : goal.After-take_up g) → c.as_slice.result.now ≡ c.hear.new.self.head
+front_is g c = c.as_slice.ensures.value ∙ ap (λ (one : ClientState). one.head) c.client.view_is
 
-pub returns-in-More-clause-options : goal.returns-in-More-clause-options
-returns-in-More-clause-options g c = refl
+same_password : (one other : Password) → Some one ≡ Some other → one ≡ other
+same_password one other e = cc
 
-pub returns-in-More-clause-live : goal.returns-in-More-clause-live
-returns-in-More-clause-live g c = refl
+pub returns-clause-leads : goal.returns-clause-leads
+returns-clause-leads g c client is =
+    let old = c.args.self.now in
+    let same : c.in-Some.client.now ≡ client = same_client c.in-Some.client.now client (c.in-Some.ensures.value ∙ is) in
+    let more : c.hear.new.self ≡ with_more c.args.bytes.now client = heard_more g c ∙ ap (with_more c.args.bytes.now) same in
+    let (after, left, leads) = led g c in (
+      after,
+      left,
+      inr (inr (
+        c.in-Some-password.password,
+        c.offered-offer.result,
+        c.in-Some-password.is,
+        subst (λ (front : List ℕ). ComesOf c.in-Some-password.password front c.offered-offer.result) (front_is g c ∙ ap (λ (one : ClientState). one.head) more) c.offered-offer.ensures.comes,
+        subst (λ (one : ClientState). Leads c.args.key c.args.now old.options.skeletons (serials_in old.live.hub.file) c.offered-offer.result old.air c.take_up.new.self.air one after) more leads,
+      )),
+    )
 
-pub returns-in-More-clause-begins : goal.returns-in-More-clause-begins
-returns-in-More-clause-begins g c free =
-    begins_none (serials_in c.args.self.now.live.hub.file) c.args.self.now.options.skeletons c.args.self.now.air free
+pub returns-clause-source : goal.returns-clause-source
+returns-clause-source g c =
+    let (after, left, leads) = led g c in
+    offered_to c.args.self.now.clients.slots c.take_up.new.self.clients.slots c.args.key (Some c.in-Some.client.now) (Some after) (sym c.in-Some.ensures.value) left (λ source.
+    let goes =
+    leads_on c.args.key c.args.now c.args.self.now.options.skeletons (serials_in c.args.self.now.live.hub.file) c.offered-offer.result c.args.self.now.air c.take_up.new.self.air
+    c.hear.new.self after leads (ap (λ (one : ClientState). is_source one.stage) (heard_more g c) ∙ source) in
+    (goes.0, goes.1 ∙ ap (λ (one : ClientState). one.session) (heard_more g c)))
 
-pub returns-in-More-clause-others : goal.returns-in-More-clause-others
-returns-in-More-clause-others g c other apart = others_placed c.args.self.now.clients.slots c.args.key _ other apart
+pub returns-clause-unauthorized : goal.returns-clause-unauthorized
+returns-clause-unauthorized g c client request password is set head isnt =
+    let (after, left, leads) = led g c in
+    let same : c.in-Some.client.now ≡ client = same_client c.in-Some.client.now client (c.in-Some.ensures.value ∙ is) in
+    let front : c.as_slice.result.now ≡ client.head ++ c.args.bytes.now =
+    front_is g c ∙ ap (λ (one : ClientState). one.head) (heard_more g c) ∙ ap (λ (one : ClientState). one.head ++ c.args.bytes.now) same in
+    let secret : password ≡ c.in-Some-password.password = same_password password c.in-Some-password.password (sym set ∙ c.in-Some-password.is) in
+    leads_refused c.args.key c.args.now c.args.self.now.options.skeletons (serials_in c.args.self.now.live.hub.file) c.offered-offer.result c.args.self.now.air c.take_up.new.self.air
+    c.hear.new.self after leads
+    (c.offered-offer.ensures.unauthorized request (subst (λ (bytes : List ℕ). HasHead bytes request) (sym front) head) (subst (λ (one : Password). IsUnauthorized one request) secret isnt))
 
-pub returns-in-More-clause-source : goal.returns-in-More-clause-source
-returns-in-More-clause-source g c =
-    offers_placed c.args.self.now.clients.slots c.args.key c.in-Some.client.now _ (sym c.in-Some.ensures.value)
-    (λ source. (ap (λ (one : ClientState). has_offered one.stage) c.client.view_is ∙ (source_is c.in-Some.client.now source).0, ap (λ (one : ClientState). one.session) c.client.view_is))
+pub returns-clause-offered : goal.returns-clause-offered
+returns-clause-offered g c free =
+    let (after, left, leads) = led g c in
+    subst WasOffered (sym left)
+    (leads_offered c.args.key c.args.now c.args.self.now.options.skeletons (serials_in c.args.self.now.live.hub.file) c.offered-offer.result c.args.self.now.air c.take_up.new.self.air
+    c.hear.new.self after leads (λ e. subst (λ (bytes : List ℕ). IsUnread bytes More) (front_is g c) (c.offered-offer.ensures.more e)) free)
 
-pub returns-in-Nothing-clause-unauthorized : goal.returns-in-Nothing-clause-unauthorized
-returns-in-Nothing-clause-unauthorized g c client request password is set head isnt = refl
+pub returns-clause-feeder : goal.returns-clause-feeder
+returns-clause-feeder g c =
+    let (after, left, leads) = led g c in
+    leads_feeder c.args.key c.args.now c.args.self.now.options.skeletons (serials_in c.args.self.now.live.hub.file) c.offered-offer.result c.args.self.now.air c.take_up.new.self.air
+    c.hear.new.self after leads
 
-pub returns-in-Nothing-clause-feeder : goal.returns-in-Nothing-clause-feeder
-returns-in-Nothing-clause-feeder g c = inr refl
+pub returns-clause-keeps : goal.returns-clause-keeps
+returns-clause-keeps g c some =
+    let (after, left, leads) = led g c in
+    leads_keeps c.args.key c.args.now c.args.self.now.options.skeletons (serials_in c.args.self.now.live.hub.file) c.offered-offer.result c.args.self.now.air c.take_up.new.self.air
+    c.hear.new.self after leads some
 
-pub returns-in-Nothing-clause-keeps : goal.returns-in-Nothing-clause-keeps
-returns-in-Nothing-clause-keeps g c some = refl
+pub returns-clause-begins : goal.returns-clause-begins
+returns-clause-begins g c free =
+    let (after, left, leads) = led g c in
+    leads_begins c.args.key c.args.now c.args.self.now.options.skeletons (serials_in c.args.self.now.live.hub.file) c.offered-offer.result c.args.self.now.air c.take_up.new.self.air
+    c.hear.new.self after leads free
 
-pub returns-in-Nothing-clause-options : goal.returns-in-Nothing-clause-options
-returns-in-Nothing-clause-options g c = refl
+pub returns-then-is_err-clause-leads : goal.returns-then-is_err-clause-leads
+returns-then-is_err-clause-leads g c client is =
+    let same : c.in-Some.client.now ≡ client = same_client c.in-Some.client.now client (c.in-Some.ensures.value ∙ is) in
+    let refused = err_of _ c.hear.result c.is_err.result c.is_err.ensures.value c.if-is_err.true c.hear.ensures.err in (
+      c.go_to.new.self,
+      placed c.args.self.now.clients.slots c.args.key client c.go_to.new.self is,
+      inl (refl, c.go_to.ensures ∙ ap cut (refused ∙ ap memory_refused same)),
+    )
 
-pub returns-in-Nothing-clause-live : goal.returns-in-Nothing-clause-live
-returns-in-Nothing-clause-live g c = refl
-
-pub returns-in-Nothing-clause-begins : goal.returns-in-Nothing-clause-begins
-returns-in-Nothing-clause-begins g c free =
-    begins_none (serials_in c.args.self.now.live.hub.file) c.args.self.now.options.skeletons c.args.self.now.air free
-
-pub returns-in-Nothing-clause-others : goal.returns-in-Nothing-clause-others
-returns-in-Nothing-clause-others g c other apart = others_placed c.args.self.now.clients.slots c.args.key c.tell_last.new.self other apart
-
-pub returns-in-Body-clause-unauthorized : goal.returns-in-Body-clause-unauthorized
-returns-in-Body-clause-unauthorized g c client request password is set head isnt = refl
-
-pub returns-in-Body-clause-feeder : goal.returns-in-Body-clause-feeder
-returns-in-Body-clause-feeder g c = inr refl
-
-pub returns-in-Body-clause-keeps : goal.returns-in-Body-clause-keeps
-returns-in-Body-clause-keeps g c some = refl
-
-pub returns-in-Body-clause-options : goal.returns-in-Body-clause-options
-returns-in-Body-clause-options g c = refl
-
-pub returns-in-Body-clause-live : goal.returns-in-Body-clause-live
-returns-in-Body-clause-live g c = refl
-
-pub returns-in-Body-clause-begins : goal.returns-in-Body-clause-begins
-returns-in-Body-clause-begins g c free =
-    begins_none (serials_in c.args.self.now.live.hub.file) c.args.self.now.options.skeletons c.args.self.now.air free
-
-pub returns-in-Body-clause-others : goal.returns-in-Body-clause-others
-returns-in-Body-clause-others g c other apart = others_placed c.args.self.now.clients.slots c.args.key _ other apart
-
-pub returns-in-Body-clause-source : goal.returns-in-Body-clause-source
-returns-in-Body-clause-source g c =
-    offers_placed c.args.self.now.clients.slots c.args.key c.in-Some.client.now _ (sym c.in-Some.ensures.value) (λ source. (refl, ap (λ (one : ClientState). one.session) c.client.view_is))
-
-pub returns-in-Refused-clause-unauthorized : goal.returns-in-Refused-clause-unauthorized
-returns-in-Refused-clause-unauthorized g c client request password is set head isnt = c.refuse.ensures.air
-
-pub returns-in-Refused-clause-feeder : goal.returns-in-Refused-clause-feeder
-returns-in-Refused-clause-feeder g c = inr (ap feeder_in c.refuse.ensures.air)
-
-pub returns-in-Refused-clause-keeps : goal.returns-in-Refused-clause-keeps
-returns-in-Refused-clause-keeps g c some = c.refuse.ensures.air
-
-pub returns-in-Refused-clause-options : goal.returns-in-Refused-clause-options
-returns-in-Refused-clause-options g c = c.refuse.ensures.options
-
-pub returns-in-Refused-clause-live : goal.returns-in-Refused-clause-live
-returns-in-Refused-clause-live g c = c.refuse.ensures.live
-
-pub returns-in-Refused-clause-begins : goal.returns-in-Refused-clause-begins
-returns-in-Refused-clause-begins g c free =
-    begins_none (serials_in c.args.self.now.live.hub.file) c.args.self.now.options.skeletons c.refuse.new.self.air (c.refuse.ensures.air ∙ free)
-
-pub returns-in-Refused-clause-others : goal.returns-in-Refused-clause-others
-returns-in-Refused-clause-others g c other apart = c.refuse.ensures.others other apart ∙ others_placed c.args.self.now.clients.slots c.args.key _ other apart
-
-pub returns-in-Refused-clause-source : goal.returns-in-Refused-clause-source
-returns-in-Refused-clause-source g c =
-    offers_same c.args.self.now.clients.slots c.args.key c.in-Some.client.now _ (get c.refuse.new.self.clients.slots c.args.key) (sym c.in-Some.ensures.value)
-    (ap (λ (one : ClientState). one.stage) c.client.view_is) (ap (λ (one : ClientState). one.session) c.client.view_is) c.refuse.ensures.source
-
-pub returns-in-Refused-clause-offered : goal.returns-in-Refused-clause-offered
-returns-in-Refused-clause-offered g c free = was_told (get c.refuse.new.self.clients.slots c.args.key) c.refuse.ensures.told
-
-pub returns-else-is_err-2-clause-others : goal.returns-else-is_err-2-clause-others
-returns-else-is_err-2-clause-others g c other apart = c.take_the_air.ensures.others other apart ∙ others_placed c.args.self.now.clients.slots c.args.key _ other apart
-
-pub returns-else-is_err-2-clause-live : goal.returns-else-is_err-2-clause-live
-returns-else-is_err-2-clause-live g c = c.take_the_air.ensures.live
-
-pub returns-else-is_err-2-clause-options : goal.returns-else-is_err-2-clause-options
-returns-else-is_err-2-clause-options g c = c.take_the_air.ensures.options
-
-pub returns-else-is_err-2-clause-feeder : goal.returns-else-is_err-2-clause-feeder
-returns-else-is_err-2-clause-feeder g c = c.take_the_air.ensures.feeder
-
-pub returns-else-is_err-2-clause-begins : goal.returns-else-is_err-2-clause-begins
-returns-else-is_err-2-clause-begins g c = c.take_the_air.ensures.begins
-
-pub returns-then-is_err-2-clause-others : goal.returns-then-is_err-2-clause-others
-returns-then-is_err-2-clause-others g c other apart =
-    c.cut.ensures.others other apart ∙ c.take_the_air.ensures.others other apart ∙ others_placed c.args.self.now.clients.slots c.args.key _ other apart
-
-pub returns-then-is_err-2-clause-live : goal.returns-then-is_err-2-clause-live
-returns-then-is_err-2-clause-live g c = c.cut.ensures.live ∙ c.take_the_air.ensures.live
-
-pub returns-then-is_err-2-clause-options : goal.returns-then-is_err-2-clause-options
-returns-then-is_err-2-clause-options g c = c.cut.ensures.options ∙ c.take_the_air.ensures.options
-
-pub returns-then-is_err-2-clause-feeder : goal.returns-then-is_err-2-clause-feeder
-returns-then-is_err-2-clause-feeder g c =
-    subst (λ (one : Option Feeder). (one ≡ Some (Peer c.args.key)) ⊎ (one ≡ feeder_in c.args.self.now.air)) (sym c.cut.ensures.feeder) c.take_the_air.ensures.feeder
-
-pub returns-then-is_err-2-clause-begins : goal.returns-then-is_err-2-clause-begins
-returns-then-is_err-2-clause-begins g c free =
-    subst (BeginsBeside (serials_in c.args.self.now.live.hub.file) c.args.self.now.options.skeletons) (sym c.cut.ensures.run) (c.take_the_air.ensures.begins free)
-
-pub returns-then-is_err-2-clause-offered : goal.returns-then-is_err-2-clause-offered
-returns-then-is_err-2-clause-offered g c free = was_told (get c.cut.new.self.clients.slots c.args.key) c.cut.ensures.cut
+pub returns-in_default-password-clause-leads : goal.returns-in_default-password-clause-leads
+returns-in_default-password-clause-leads g c client is =
+    let same : c.in-Some.client.now ≡ client = same_client c.in-Some.client.now client (c.in-Some.ensures.value ∙ is) in
+    let more = ok_of _ c.hear.result c.is_err.result c.is_err.ensures.value c.if-is_err.false c.hear.ensures.ok in
+    let new = c.go_to-in_default-password.new.self in (
+      new,
+      placed c.args.self.now.clients.slots c.args.key client new is,
+      inr (inl (refl, none_if c.args.self.now.options.password c.in_default-password.not-Some, c.go_to-in_default-password.ensures ∙ ap cut (more ∙ ap (with_more c.args.bytes.now) same))),
+    )

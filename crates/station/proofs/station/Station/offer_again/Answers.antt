@@ -2,6 +2,7 @@ use Rattle.std.proofs.Common.{◌≡◌, ◌+◌, None, sym, ◌∙◌, subst, a
 use Rattle.slab.specs.Slab.{get}
 use Rattle.serve_hub.specs.Parts.{serials_in}
 use Rattle.station_hub.specs.declared.live_hub.LiveHub.{LiveHub}
+use Rattle.station.specs.Clocks.{KeepsClocks}
 use Rattle.station.specs.Beginning.{BeginsBeside, run_in}
 use Rattle.station.specs.declared.station.Options.{Options}
 use Rattle.station.specs.Passing.{ArePassed}
@@ -25,7 +26,7 @@ loop-key-preserved g c =
     let old = c.args.self.now.clients.slots in
     let key = c.loop-key.key in
     let was = c.loop-key.self in
-    let (tried, stay, others, live, options, begins, passed, bound) = c.loop-key.invariant in
+    let (tried, stay, others, live, options, begins, passed, bound, clocks) = c.loop-key.invariant in
     let free : was.air ≡ None = is_free was.air (sym c.is_some.ensures ∙ c.if-is_some.false) in
     elim c.if-waits.branch [
       | then-waits w ↦
@@ -35,7 +36,7 @@ loop-key-preserved g c =
           (c.args.self.now.air ≡ None → HasTried old self.clients.slots self.air (key + 1)) × StayFrom old self.clients.slots (key + 1)
           × OthersStand old self.clients.slots × (self.live ≡ c.args.self.now.live) × (self.options ≡ c.args.self.now.options)
           × (c.args.self.now.air ≡ None → BeginsBeside (serials_in c.args.self.now.live.hub.file) c.args.self.now.options.skeletons (run_in self.air))
-          × ArePassed old self.clients.slots × (c.capacity-key-end.result ≡ old.capacity)) (sym w.self-is) (
+          × ArePassed old self.clients.slots × (c.capacity-key-end.result ≡ old.capacity) × KeepsClocks c.args.self.now self) (sym w.self-is) (
             λ start. tries old was.clients.slots new.clients.slots was.air new.air key free (tried start) stay waited w.offer.ensures.others
                 (w.offer.ensures.offered free) w.offer.ensures.feeder,
             stay_behind old was.clients.slots new.clients.slots key stay w.offer.ensures.others,
@@ -48,13 +49,14 @@ loop-key-preserved g c =
                 (one_passed was.clients.slots new.clients.slots key w.offer.ensures.others
                 (offers_if (get was.clients.slots key) (get new.clients.slots key) waited w.offer.ensures.source)),
             bound,
+            w.offer.ensures.clocks ∙ clocks,
           )
       | else-waits w ↦
           subst (λ self.
           (c.args.self.now.air ≡ None → HasTried old self.clients.slots self.air (key + 1)) × StayFrom old self.clients.slots (key + 1)
           × OthersStand old self.clients.slots × (self.live ≡ c.args.self.now.live) × (self.options ≡ c.args.self.now.options)
           × (c.args.self.now.air ≡ None → BeginsBeside (serials_in c.args.self.now.live.hub.file) c.args.self.now.options.skeletons (run_in self.air))
-          × ArePassed old self.clients.slots × (c.capacity-key-end.result ≡ old.capacity)) (sym w.self-is) (
+          × ArePassed old self.clients.slots × (c.capacity-key-end.result ≡ old.capacity) × KeepsClocks c.args.self.now self) (sym w.self-is) (
             λ start. tries_past old was.clients.slots was.air key free (tried start) stay (sym c.waits.ensures ∙ w.if-waits.false),
             λ other above. stay other (omega (arith, above)),
             others,
@@ -63,5 +65,12 @@ loop-key-preserved g c =
             begins,
             passed,
             bound,
+            clocks,
           )
     ]
+
+pub returns-then-is_some-clause-clocks : goal.returns-then-is_some-clause-clocks
+returns-then-is_some-clause-clocks g c = c.loop-key.invariant.8
+
+pub returns-clause-clocks : goal.returns-clause-clocks
+returns-clause-clocks g c = c.loop-key.invariant.8

@@ -1,5 +1,6 @@
 use Rattle.std.proofs.Common.{◌≡◌, None}
 use Rattle.serve_hub.specs.Parts.{serials_in}
+use Rattle.station.specs.Clocks.{KeepsClocks}
 use Rattle.station.specs.Beginning.{BeginsBeside, run_in}
 use Rattle.station.specs.Passing.{ArePassed}
 use Rattle.station.proofs.Succeeding.{HasTried, OthersStand, StayFrom}
@@ -15,3 +16,4 @@ invariant-loop-key g l =
     × (l.initial.self.air ≡ None → BeginsBeside (serials_in l.initial.self.live.hub.file) l.initial.self.options.skeletons (run_in l.self.air))
     × ArePassed l.initial.self.clients.slots l.self.clients.slots
     × (l.key-end ≡ l.initial.self.clients.slots.capacity)
+    × KeepsClocks l.initial.self l.self

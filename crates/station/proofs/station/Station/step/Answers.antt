@@ -1,13 +1,15 @@
-use Rattle.std.proofs.Common.{◌≡◌, Option, sym, ◌∙◌, ap, subst}
+use Rattle.std.proofs.Common.{◌≡◌, ◌⊎◌, ℕ, Option, sym, ◌∙◌, ap, subst, inl, inr}
 use Rattle.serve_clients.specs.declared.clients.Clients.{Clients}
 use Rattle.station_hub.specs.declared.live_hub.LiveHub.{LiveHub}
 use Rattle.station_sources.specs.declared.air.OnAir.{OnAir}
 use Rattle.serve_hub.specs.Parts.{serials_in}
 use Rattle.station_hub.specs.Live.{RecordsLive}
 use Rattle.station.specs.Beginning.{run_in}
+use Rattle.station.specs.Clocks.{Clocks, HasReopenedAt, clocks_of, streams_in}
 use Rattle.station.specs.Passing.{ArePassed}
-use Rattle.station.specs.Stepping.{BeginsBy, FreesBy, GoesOnWithLoss, IsSucceededBy, RestsBy, TakesFromSource}
+use Rattle.station.specs.Stepping.{BeginsBy, FreesBy, GoesOnWithLoss, IsSucceededBy, RestsBy, TakesFromSource, with_done}
 use Rattle.station.specs.Succeeding.{HaveTurns}
+use Rattle.station.proofs.Counted.{done_counts}
 use Rattle.station.proofs.Passed.{all_then}
 use Rattle.station.proofs.Succeeding.{still_by, turns_then}
 use Rattle.station.proofs.station.Station.step.Given.{Over}
@@ -88,3 +90,58 @@ returns-clause-at_rest g c =
 pub returns-clause-frees : goal.returns-clause-frees
 returns-clause-frees g c =
     subst (λ (live : LiveHub _). FreesBy c.step_once-done.result c.args.self.now.air live.hub.file) (sym (live_is g c)) c.step_once-done.ensures.frees
+
+-- ---- clocks
+since_is : (g : Over) (c : goal.After-wake_feeder g) → c.wake_feeder.new.self.waiting_since ≡ c.step_once-done.new.self.waiting_since
+since_is g c = ap (λ s. s.waiting_since) c.wake_feeder.ensures.rest ∙ ap (λ (k : Clocks). k.waiting_since) c.wake_listeners.ensures.clocks
+    ∙ elim c.if-end.branch [
+      | then-end w ↦ ap (λ s. s.waiting_since) w.self-is ∙ ap (λ s. s.waiting_since) c.count.ensures
+      | else-end w ↦ ap (λ s. s.waiting_since) w.self-is ∙ ap (λ s. s.waiting_since) c.count.ensures
+    ]
+
+reopened_is : (g : Over) (c : goal.After-wake_feeder g) → c.wake_feeder.new.self.reopened ≡ c.step_once-done.new.self.reopened
+reopened_is g c = ap (λ s. s.reopened) c.wake_feeder.ensures.rest ∙ ap (λ (k : Clocks). k.reopened) c.wake_listeners.ensures.clocks
+    ∙ elim c.if-end.branch [
+      | then-end w ↦ ap (λ s. s.reopened) w.self-is ∙ ap (λ s. s.reopened) c.count.ensures
+      | else-end w ↦ ap (λ s. s.reopened) w.self-is ∙ ap (λ s. s.reopened) c.count.ensures
+    ]
+
+pub returns-clause-since : goal.returns-clause-since
+returns-clause-since g c machine shows works undue = since_is g c ∙ c.step_once-done.ensures.since machine shows works undue
+
+pub returns-clause-due : goal.returns-clause-due
+returns-clause-due g c machine shows due = since_is g c ∙ c.step_once-done.ensures.due machine shows due
+
+pub returns-clause-again : goal.returns-clause-again
+returns-clause-again g c = c.step_once-done.ensures.again
+
+pub returns-clause-once : goal.returns-clause-once
+returns-clause-once g c failed = elim (c.step_once-done.ensures.once failed) [
+  | inl given_up ↦ inl given_up
+  | inr opened ↦ inr (subst (λ (at : Option ℕ). HasReopenedAt g.D.Disk c.args.self.now.live at) (sym (reopened_is g c)) opened)
+]
+
+pub returns-clause-more : goal.returns-clause-more
+returns-clause-more g c = c.step_once-done.ensures.more
+
+pub returns-clause-works : goal.returns-clause-works
+returns-clause-works g c works = reopened_is g c ∙ c.step_once-done.ensures.works works
+
+pub returns-clause-rest : goal.returns-clause-rest
+returns-clause-rest g c = (
+  ap (λ s. s.options) c.wake_feeder.ensures.rest ∙ ap (λ (k : Clocks). k.options) c.wake_listeners.ensures.clocks
+      ∙ elim c.if-end.branch [
+        | then-end w ↦ ap (λ s. s.options) w.self-is ∙ ap (λ s. s.options) c.count.ensures
+        | else-end w ↦ ap (λ s. s.options) w.self-is ∙ ap (λ s. s.options) c.count.ensures
+      ] ∙ ap (λ (k : Clocks). k.options) c.step_once-done.ensures.clocks,
+  ap (λ s. s.ending) c.wake_feeder.ensures.rest ∙ ap (λ (k : Clocks). k.ending) c.wake_listeners.ensures.clocks
+      ∙ elim c.if-end.branch [
+        | then-end w ↦ ap (λ s. s.ending) w.self-is ∙ ap (λ s. s.ending) c.count.ensures
+        | else-end w ↦ ap (λ s. s.ending) w.self-is ∙ ap (λ s. s.ending) c.count.ensures
+      ] ∙ ap (λ (k : Clocks). k.ending) c.step_once-done.ensures.clocks,
+  ap (λ s. streams_in s.counts) c.wake_feeder.ensures.rest ∙ ap (λ (k : Clocks). k.streams) c.wake_listeners.ensures.clocks
+      ∙ elim c.if-end.branch [
+        | then-end w ↦ ap (λ s. streams_in s.counts) w.self-is ∙ ap (λ s. streams_in s.counts) c.count.ensures
+        | else-end w ↦ ap (λ s. streams_in s.counts) w.self-is ∙ ap (λ s. streams_in s.counts) c.count.ensures
+      ] ∙ done_counts c.step_once-done.result c.step_once-done.new.self.counts c.args.self.now.counts (ap (λ (k : Clocks). k.streams) c.step_once-done.ensures.clocks),
+)

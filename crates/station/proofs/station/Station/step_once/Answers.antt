@@ -132,3 +132,9 @@ returns-then-not-waited-clause-frees g c = frees_none c.step_air-done.result c.a
 
 pub returns-else-not-waited-clause-frees : goal.returns-else-not-waited-clause-frees
 returns-else-not-waited-clause-frees g c = frees_none c.step_air-done.result c.args.self.now.air c.step_air-done.new.self.live.hub.file c.step_air-done.ensures.goes_on
+
+pub returns-then-not-waited-clause-again : goal.returns-then-not-waited-clause-again
+returns-then-not-waited-clause-again g c failed = absurd (c.step_air-done.ensures.works failed)
+
+pub returns-else-not-waited-clause-again : goal.returns-else-not-waited-clause-again
+returns-else-not-waited-clause-again g c failed = absurd (c.step_air-done.ensures.works failed)

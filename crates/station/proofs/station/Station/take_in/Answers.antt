@@ -1,12 +1,13 @@
-use Rattle.std.proofs.Common.{rules, ◌≡◌, Some, refl, ◌∙◌, ap, subst}
+use Rattle.std.proofs.Common.{rules, ◌≡◌, Option, Some, refl, ◌∙◌, ap, subst}
 use Rattle.serve_clients.specs.Client.{ClientState}
 use Rattle.slab.specs.Slab.{get}
 use Rattle.serve_clients.specs.declared.clients.Clients.{Clients}
 use Rattle.station.specs.Found.{placed, same_client}
-use Rattle.station.specs.Passing.{IsLike, has_offered}
+use Rattle.station.specs.Passing.{IsLike, OffersOn, has_offered, is_source}
 use Rattle.station_sources.specs.declared.air.Feeder.TheVariants.{Peer}
 use Rattle.station.proofs.Asked.{air_stays, begins_none, feeds_on}
 use Rattle.station.proofs.Passed.{line_like, source_is}
+use Rattle.station.proofs.Waited.{found_offered}
 use Rattle.station.proofs.station.Station.take_in.Goals as goal
 
 pub returns-in-Feeding-clause-offers : goal.returns-in-Feeding-clause-offers
@@ -29,8 +30,22 @@ returns-in_default-stage g c =
       );
       ignores = λ client is nothing. (new, placed old.clients.slots c.args.key client new is, likes client is);
       feeds = λ client is stage. absurd (c.in_default-stage.not-Feeding (ap (λ (one : ClientState). one.stage) c.client.view_is ∙ (likes client is).0 ∙ stage));
+      heard = λ client is stage. absurd (c.in_default-stage.not-Feeding (ap (λ (one : ClientState). one.stage) c.client.view_is ∙ (likes client is).0 ∙ stage));
       air = air_stays (Peer c.args.key) old.air old.air refl;
       begins = begins_none _ _ old.air;
       others = search rules;
       live = refl;
+      since = refl;
     }
+
+pub returns-in-Offering-clause-offers : goal.returns-in-Offering-clause-offers
+returns-in-Offering-clause-offers g c client is source =
+    let slots = c.args.self.now.clients.slots in
+    let new = c.notice.new.client in
+    let found = get c.offer.new.self.clients.slots c.args.key in
+    let same : c.in-Some.client.now ≡ client = same_client c.in-Some.client.now client (c.in-Some.ensures.value ∙ is) in
+    let like : IsLike client new = subst (λ (one : ClientState). IsLike one new) same (line_like c.in-Some.client.now new _ c.notice.ensures) in
+    let (after, left, goes) =
+    found_offered found new (subst (λ (one : Option ClientState). OffersOn one found) (placed slots c.args.key client new is) c.offer.ensures.source)
+    (ap is_source like.0 ∙ source) in
+    (after, left, (goes.0, goes.1 ∙ like.1))

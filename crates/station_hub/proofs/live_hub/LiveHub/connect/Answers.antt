@@ -1,4 +1,4 @@
-use Rattle.std.proofs.Common.{inl, inr, refl, ap, ◌∙◌, subst, ℕ, List, Some, Ok, []}
+use Rattle.std.proofs.Common.{inl, inr, refl, ap, ◌∙◌, subst, ℕ, List, Some, Ok, Err, []}
 use Rattle.serve_machine.specs.Calls.{Steps}
 use Rattle.serve_machine.specs.Hub.{Connect, Receive}
 use Rattle.serve_hub.specs.Images.{IfFile, Reads}
@@ -20,7 +20,7 @@ returns-in-Ok-clause-connects g c = inl (record {
 })
 
 pub returns-in-Err-clause-connects : goal.returns-in-Err-clause-connects
-returns-in-Err-clause-connects g c = inr (c.in-Err.ensures.refused.1, c.go_to.ensures)
+returns-in-Err-clause-connects g c = inr (c.connect.ensures.full.0 (c.in-Err.is ∙ ap Err c.in-Err.ensures.refused.0), c.in-Err.ensures.refused.1, c.go_to.ensures)
 
 pub returns-in-Ok-clause-recorded : goal.returns-in-Ok-clause-recorded
 returns-in-Ok-clause-recorded g c =

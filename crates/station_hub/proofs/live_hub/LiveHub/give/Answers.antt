@@ -66,3 +66,7 @@ returns-in_default-clause-disk g c = inl refl
 
 pub returns-in_default-clause-recorded : goal.returns-in_default-clause-recorded
 returns-in_default-clause-recorded g c = unchanged g.D.Disk c.args.self.now.hub c.args.self.now.hub refl
+
+pub returns-in-Hearing-default-clause-lost : goal.returns-in-Hearing-default-clause-lost
+returns-in-Hearing-default-clause-lost g c machine moment given listener none stage shows is hearing cuts =
+    c.hear.ensures.lost machine moment given listener shows is hearing stage cuts

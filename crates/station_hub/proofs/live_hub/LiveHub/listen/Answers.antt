@@ -1,12 +1,23 @@
-use Rattle.std.proofs.Common.{◌≡◌, Some, refl, sym, ◌∙◌, ap, inl}
+use Rattle.std.proofs.Common.{◌≡◌, ◌⊎◌, true, Some, refl, sym, ◌∙◌, ap, inl, inr}
 use Rattle.serve_clients.specs.Client.{ClientState}
-use Rattle.serve_clients.specs.declared.client.Stage.TheVariants.{Cut, Hearing}
+use Rattle.serve_clients.specs.declared.client.Stage.TheVariants.{Cut, Ending, Hearing}
+use Rattle.serve_machine.specs.declared.fault.HubFault.{HubFault}
+use Rattle.serve_machine.specs.declared.fault.HubFault.TheVariants.{NoSession, SessionsFull, Source, Memory, NoFile}
+use Rattle.station_hub.specs.Asking.{cut_after}
 use Rattle.station_hub.proofs.Keeping.{unchanged}
 use Rattle.station_hub.proofs.live_hub.LiveHub.listen.Goals as goal
 use Rattle.station_hub.proofs.live_hub.LiveHub.listen.Goals.{in-Ok-tell, in-Err-tell}
 
 cut_hears : Cut ≡ Hearing → ⊥
 cut_hears e = cc
+
+-- whichever fault it is
+stage_is_cut : (fault : HubFault) (old : ClientState) → (cut_after fault old).stage ≡ Cut
+stage_is_cut NoSession old = refl
+stage_is_cut SessionsFull old = refl
+stage_is_cut Source old = refl
+stage_is_cut Memory old = refl
+stage_is_cut NoFile old = refl
 
 pub returns-after-tell-clause-joins : goal.returns-after-tell-clause-joins
 returns-after-tell-clause-joins g c start machine shows tracks hearing = elim c.match-tell.branch [
@@ -35,7 +46,8 @@ pub returns-in-Err-clause-recorded : goal.returns-in-Err-clause-recorded
 returns-in-Err-clause-recorded g c = c.join.ensures.recorded
 
 pub returns-in-Err-clause-joins : goal.returns-in-Err-clause-joins
-returns-in-Err-clause-joins g c start machine shows tracks hearing = absurd (cut_hears hearing)
+returns-in-Err-clause-joins g c start machine shows tracks hearing =
+    absurd (cut_hears (sym (ap (λ (one : ClientState). one.stage) c.cut_after.ensures ∙ stage_is_cut c.in-Err.fault _) ∙ hearing))
 
 pub returns-then-head-clause-machine : goal.returns-then-head-clause-machine
 returns-then-head-clause-machine g c machine shows = shows
@@ -45,3 +57,31 @@ returns-then-head-clause-disk g c = inl refl
 
 pub returns-then-head-clause-recorded : goal.returns-then-head-clause-recorded
 returns-then-head-clause-recorded g c = unchanged g.D.Disk c.args.self.now.hub c.args.self.now.hub refl
+
+-- ---- why it is cut
+ending_cut : Ending ≡ Cut → ⊥
+ending_cut e = cc
+
+hearing_cut : Hearing ≡ Cut → ⊥
+hearing_cut e = cc
+
+by_last : (Lost : Type 0) (last short new : ClientState) → (new ≡ last) ⊎ (new ≡ short) → last.stage ≡ Ending → short.refused ≡ true → new.stage ≡ Cut
+    → (new.refused ≡ true) ⊎ Lost
+by_last Lost last short new (inl is) ends noted cuts = absurd (ending_cut (sym ends ∙ sym (ap (λ (one : ClientState). one.stage) is) ∙ cuts))
+by_last Lost last short new (inr is) ends noted cuts = inl (ap (λ (one : ClientState). one.refused) is ∙ noted)
+
+by_fault : (Lost : Type 0) (fault : HubFault) (old new : ClientState) → (fault ≡ Memory) ⊎ Lost → new ≡ cut_after fault old → (new.refused ≡ true) ⊎ Lost
+by_fault Lost fault old new (inl is) becomes = inl (ap (λ (one : ClientState). one.refused) (becomes ∙ ap (λ (one : HubFault). cut_after one old) is))
+by_fault Lost fault old new (inr lost) becomes = inr lost
+
+pub returns-then-head-clause-cause : goal.returns-then-head-clause-cause
+returns-then-head-clause-cause g c cuts = by_last _ _ _ c.tell_last.new.self c.tell_last.ensures refl refl cuts
+
+pub returns-in-Err-clause-cause : goal.returns-in-Err-clause-cause
+returns-in-Err-clause-cause g c cuts = by_fault _ c.in-Err.fault _ c.cut_after.new.client c.in-Err.ensures.cause c.cut_after.ensures
+
+pub returns-after-tell-clause-cause : goal.returns-after-tell-clause-cause
+returns-after-tell-clause-cause g c cuts = elim c.match-tell.branch [
+  | in-Ok-tell w ↦ absurd (hearing_cut (sym w.client-is ∙ cuts))
+  | in-Err-tell w ↦ inl (ap (λ (one : ClientState). one.refused) c.client-in-Ok.view_is ∙ ap (λ (one : ClientState). one.refused) w.in-Err-tell.ensures.err)
+]

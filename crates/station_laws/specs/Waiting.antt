@@ -1,0 +1,47 @@
+-- How long commands wait for their commit, over any calls of a station. Times are milliseconds. Ours.
+use Rattle.std.specs.Prelude.{◌≡◌, ◌⊎◌, ◌<◌, ⊤, ℕ, true, false, List, [], ◌∷◌}
+use Rattle.disk_model.specs.declared.disk.Disk.{Ghosts as DiskModel}
+use Rattle.feed_replies.specs.declared.reply.Reply.{Reply}
+use Rattle.serve_hub.specs.Parts.{failed_in}
+use Rattle.serve_hub.specs.Showing.{Shows}
+use Rattle.serve_machine.specs.Hub.{HubState}
+use Rattle.station_hub.specs.Patience.{is_due}
+use Rattle.station.specs.Clocks.{since_after}
+use Rattle.station.specs.Stepping.{HasFlushed}
+use Rattle.station.specs.declared.station.Station.{Station}
+use Rattle.station.specs.declared.stepping.Done.TheVariants.{Flushed}
+use Rattle.station_laws.specs.Calling.{After, Call, Stepped}
+
+module _ {D : Type 0} (model : DiskModel D) where
+  -- what waited was committed, or couldn't be, as the recorder answers a flush
+  abbrev pub IsCommitted : Station D → Station D → Type 0
+  IsCommitted old new = (reply : Reply) × HasFlushed model (Flushed reply) old.live new.live
+
+  -- A step commits what waits once it is due. What waits has waited since the step that took the first of it.
+  pub record StepsInTime (now : ℕ) (old new : Station D) : Type 0 where
+    pub since : (machine : HubState) → Shows model old.live.hub machine → failed_in old.live.hub.file ≡ false
+        → is_due machine.waiting old.waiting_since now ≡ false → new.waiting_since ≡ since_after machine.waiting old.waiting_since now
+    pub due : (machine : HubState) → Shows model old.live.hub machine
+        → (failed_in old.live.hub.file ≡ true) ⊎ (is_due machine.waiting old.waiting_since now ≡ true) → new.waiting_since ≡ old.waiting_since
+    pub commits : (machine : HubState) → Shows model old.live.hub machine → failed_in old.live.hub.file ≡ false
+        → is_due machine.waiting old.waiting_since now ≡ true → IsCommitted old new
+
+  -- Any other call leaves it.
+  abbrev pub IsInTime : Call → Station D → Station D → Type 0
+  IsInTime (Stepped now) old new = StepsInTime now old new
+  IsInTime call old new = new.waiting_since ≡ old.waiting_since
+
+  -- each takes the station that the one before it left to the next
+  abbrev pub AreInTime : Station D → List (After D) → Type 0
+  AreInTime old [] = ⊤
+  AreInTime old (one ∷ later) = IsInTime one.call old one.after × AreInTime one.after later
+
+  -- something waits before the call, if it is a step
+  abbrev pub WaitsAt : Call → Station D → Type 0
+  WaitsAt (Stepped now) old = (machine : HubState) × Shows model old.live.hub machine × (0 < machine.waiting)
+  WaitsAt call old = ⊤
+
+  -- so it is before each of these
+  abbrev pub WaitsOn : Station D → List (After D) → Type 0
+  WaitsOn old [] = ⊤
+  WaitsOn old (one ∷ later) = WaitsAt one.call old × WaitsOn one.after later
