@@ -24,11 +24,13 @@ run() {
     status=$?
 }
 
-# came NAME STATUS OUT ERR: checks that the last run had this status, and wrote these texts to its standard streams.
+# came NAME STATUS OUT ERR: checks that the last run had this status, and wrote these texts to its standard streams. The
+# sentence that may follow a fault's line isn't part of ERR: sentences.sh has them.
 came() {
     check "$1: status $status, not $2" [ "$status" -eq "$2" ]
     check "$1: standard output" is_text "$work/out" "$3"
-    check "$1: standard error" is_text "$work/err" "$4"
+    sed -E 's/^(fault [^:]*): .*/\1/' "$work/err" >"$work/fronts"
+    check "$1: standard error" is_text "$work/fronts" "$4"
 }
 
 # writes COMMAND NAME WANT WORD ..: checks that what the command writes with these words is this file.

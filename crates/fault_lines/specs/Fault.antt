@@ -21,7 +21,7 @@ use Rattle.ogg_finish.specs.FinishFault as Fin
 use Rattle.ogg_split.specs.SplitFault as S
 use Rattle.serve_machine.specs.HubFault as H
 use Rattle.fault_lines.specs.declared.fault.Fault.{Fault}
-use Rattle.fault_lines.specs.declared.fault.Fault.TheVariants.{File, Locked, Foreign, Memory, Open, Feed, Write, TooMany, Index, Split, Finish, Make, Archive, Mended, Net, Serve, Failed, Refused, Seal, Nothing, Damaged}
+use Rattle.fault_lines.specs.declared.fault.Fault.TheVariants.{File, Locked, Foreign, Memory, Open, Feed, Write, TooMany, Index, Split, Finish, Make, Archive, NoPage, Mended, Net, Serve, Failed, Refused, Seal, Nothing, Damaged, LeftOut, NoStream, NoTimes}
 
 -- a number and a name, and then this
 abbrev pub coded : ℕ → List ℕ → List ℕ → List ℕ
@@ -75,6 +75,7 @@ fault_line (Split fault) = codes "fault split " ++ coded (S.code_of fault) (S.na
 fault_line (Finish fault) = codes "fault finish " ++ coded (Fin.code_of fault) (Fin.name_of fault) line_end
 fault_line (Make fault) = codes "fault make " ++ coded (M.code_of fault) (M.name_of fault) (make_rest fault)
 fault_line (Archive fault) = codes "fault archive " ++ coded (R.code_of fault) (R.name_of fault) line_end
+fault_line NoPage = codes "fault archive 4 NoPage" ++ line_end
 fault_line Mended = codes "fault mended" ++ line_end
 fault_line Net = codes "fault net" ++ line_end
 fault_line (Serve fault) = codes "fault serve " ++ coded (H.code_of fault) (H.name_of fault) line_end
@@ -83,6 +84,9 @@ fault_line Refused = codes "fault refused" ++ line_end
 fault_line Seal = codes "fault seal" ++ line_end
 fault_line Nothing = codes "fault cut 1 Nothing" ++ line_end
 fault_line Damaged = codes "fault damaged" ++ line_end
+fault_line LeftOut = codes "fault lines 1 LeftOut" ++ line_end
+fault_line NoStream = codes "fault packets 1 NoStream" ++ line_end
+fault_line NoTimes = codes "fault packets 2 NoTimes" ++ line_end
 
 -- the fault that the program reports if a run over a feed ended with one
 abbrev pub fault_of_run : RunFault → Fault

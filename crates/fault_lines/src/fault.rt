@@ -61,6 +61,9 @@ pub enum Fault {
     /// The input wasn't recorded to its end.
     #[error("{0}")]
     Archive(RecordFault),
+    /// The input has bytes, and no page.
+    #[error("the input has no page")]
+    NoPage,
     /// Something was mended, in a run that ends at the first mend.
     #[error("the input had to be mended")]
     Mended,
@@ -85,6 +88,15 @@ pub enum Fault {
     /// A file or a folder that was read holds damage, which was told.
     #[error("there is damage")]
     Damaged,
+    /// Lines of an input were left out, which was told.
+    #[error("lines were left out")]
+    LeftOut,
+    /// No link that was read has the stream that was asked for.
+    #[error("there is no such stream")]
+    NoStream,
+    /// A time was asked for of a file by itself, which has none.
+    #[error("a file by itself has no times")]
+    NoTimes,
 }
 
 impl From<RunFault> for Fault {
@@ -119,7 +131,7 @@ pub fn status_of(rt: &HostRuntime, ended: Result<(), Fault>) -> ExitCode {
 }
 
 /// The fault's line, with its line feed.
-fn line_of(fault: Fault) -> Line
+pub(crate) fn line_of(fault: Fault) -> Line
     ensures { result.text ≡ fault_line fault }
 {
     match fault {
@@ -171,6 +183,7 @@ fn line_of(fault: Fault) -> Line
             line.put_text(b"fault archive ");
             line
         }
+        Fault::NoPage => words(b"fault archive 4 NoPage"),
         Fault::Mended => words(b"fault mended"),
         Fault::Net => words(b"fault net"),
         Fault::Serve(fault) => {
@@ -184,6 +197,9 @@ fn line_of(fault: Fault) -> Line
         Fault::Seal => words(b"fault seal"),
         Fault::Nothing => words(b"fault cut 1 Nothing"),
         Fault::Damaged => words(b"fault damaged"),
+        Fault::LeftOut => words(b"fault lines 1 LeftOut"),
+        Fault::NoStream => words(b"fault packets 1 NoStream"),
+        Fault::NoTimes => words(b"fault packets 2 NoTimes"),
     }
 }
 

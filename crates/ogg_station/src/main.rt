@@ -6,8 +6,8 @@
 #![tactic(auto)]
 
 use command_line::{Action, Program, answer};
-use fault_lines::status_of;
-use station_loop::Options;
+use fault_lines::{Fault, Place, status_about, told_about};
+use station_loop::{Options, refusal_of};
 use std::process::ExitCode;
 
 /// The word about stations.
@@ -19,7 +19,7 @@ fn main(rt: HostRuntime) -> ExitCode {
 
 impl Program for Stations {
     fn run(&self, rt: &HostRuntime, action: Action<'_>) -> Option<ExitCode> {
-        let ended = match action {
+        let status = match action {
             Action::Station {
                 file,
                 address,
@@ -38,10 +38,13 @@ impl Program for Stations {
                     seal,
                     log,
                 };
-                station_loop::station(rt, options)
+                match station_loop::station(rt, options) {
+                    Err(Fault::Net) => told_about(rt, Fault::Net, address, refusal_of(rt, address)),
+                    ended => status_about(rt, ended, Place::File(file)),
+                }
             }
             _ => return None,
         };
-        Some(status_of(rt, ended))
+        Some(status)
     }
 }

@@ -1,7 +1,7 @@
 //! What is told of a recording: mends and refusals as they come, how far it has come at a terminal, and what it came
 //! to.
 ghost use Rattle.std.specs.Prelude.{◌≡◌, ◌≢◌, ◌↔◌, ◌&&◌, ◌||◌, ◌<◌, ℕ, nat_lt, IsTrue, None, Some, true};
-ghost use Rattle.record_actions.specs.Telling.{fault_of};
+ghost use Rattle.record_actions.specs.Telling.{HasCome, fault_of};
 ghost use Rattle.ogg_command.specs.declared.refusal.Refusal.{Refusal as RefusalOf};
 
 use crate::mends::MendLines;
@@ -34,6 +34,8 @@ pub struct Told<'a> {
     links: u64,
     packets: u64,
     is_refused: bool,
+    // a page has come
+    has_pages: bool,
     // the length of the file when it was opened again
     reopened: Option<u64>,
     search: Search,
@@ -58,6 +60,7 @@ impl<'a> Told<'a> {
             links: 0,
             packets: 0,
             is_refused: false,
+            has_pages: false,
             reopened: None,
             search: Search::at(0),
             shows_other: false,
@@ -66,7 +69,9 @@ impl<'a> Told<'a> {
     }
 
     /// Something was mended.
-    pub fn mended(&mut self, mend: Option<Mend>) {
+    pub fn mended(&mut self, mend: Option<Mend>)
+        ensures page { self.new.has_pages ≡ self.old.has_pages }
+    {
         if let Some(mend) = mend {
             self.totals.mends = self.totals.mends.saturating_add(1);
             self.erase();
@@ -75,7 +80,9 @@ impl<'a> Told<'a> {
     }
 
     /// A step of the stream was taken.
-    pub fn stepped(&mut self, step: &Step) {
+    pub fn stepped(&mut self, step: &Step)
+        ensures page { HasCome step.now self.old.has_pages self.new.has_pages }
+    {
         match step {
             // Whether it was kept is seen by the file.
             Step::Flushed(_) | Step::PassedOver => {}
@@ -84,6 +91,7 @@ impl<'a> Told<'a> {
                 junk,
                 taken,
             } => {
+                self.has_pages = true;
                 self.mended(*junk);
                 self.taken(*offset, taken);
             }
@@ -118,13 +126,17 @@ impl<'a> Told<'a> {
     }
 
     /// A page that begins at this offset was taken.
-    pub fn taken(&mut self, offset: u64, taken: &Taken) {
+    pub fn taken(&mut self, offset: u64, taken: &Taken)
+        ensures page { self.new.has_pages ≡ self.old.has_pages }
+    {
         self.mended(taken.mend);
         self.answered(offset, &taken.answered);
     }
 
     /// Commands were run when the input was read up to this offset.
-    pub fn answered(&mut self, offset: u64, answered: &Answered) {
+    pub fn answered(&mut self, offset: u64, answered: &Answered)
+        ensures page { self.new.has_pages ≡ self.old.has_pages }
+    {
         if answered.links > 0 {
             self.lines.link_begun();
         }
@@ -138,6 +150,7 @@ impl<'a> Told<'a> {
     pub fn unended(&mut self, offset: u64, refused: Option<Refusal>)
         ensures noted { (refusal : RefusalOf) → refused ≡ Some refusal → refusal ≢ Refusal.Disk → refusal ≢ Refusal.Failed
             → self.new.is_refused ≡ true }
+        ensures page { self.new.has_pages ≡ self.old.has_pages }
     {
         match refused {
             None | Some(Refusal::Disk | Refusal::Failed) => {}
@@ -191,12 +204,14 @@ impl<'a> Told<'a> {
 
     /// The fault with which the run ends, if it has one.
     pub fn fault(&self) -> Option<Fault>
-        ensures { result ≡ fault_of self.now.is_refused self.now.strict self.now.totals.mends }
+        ensures { result ≡ fault_of self.now.is_refused self.now.strict self.now.has_pages self.now.totals.mends }
     {
         if self.is_refused {
             Some(Fault::Refused)
         } else if self.has_enough() {
             Some(Fault::Mended)
+        } else if self.totals.mends > 0 && !self.has_pages {
+            Some(Fault::NoPage)
         } else {
             None
         }

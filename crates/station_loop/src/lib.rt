@@ -7,8 +7,10 @@
 #![tactic(auto)]
 
 mod broadcasting;
+mod refusing;
 mod running;
 mod sockets;
 mod telling;
 
 pub use broadcasting::{Options, station};
+pub use refusing::refusal_of;
