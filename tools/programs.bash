@@ -1,6 +1,6 @@
 # The programs, and the words that each of them answers. Words that none has are answered by any of them.
 programs="ogg_archive ogg_station ogg_main"
-words_of_ogg_archive="archive cut feed finish links list salvage split verify"
+words_of_ogg_archive="archive cut feed finish lines links list packets salvage split verify"
 words_of_ogg_station="station"
 words_of_ogg_main="live mux record serve"
 
@@ -25,6 +25,9 @@ say_at_terminal() {
     *" --help "* | *" -h "*) ;;
     "mux "* | "record "*)
         [ ! -t 0 ] || say "a feed is read from the keyboard; examples/feed.py makes one from lines of text"
+        ;;
+    "lines "*)
+        [ ! -t 0 ] || say "lines are read from the keyboard; Control-D ends them"
         ;;
     "feed "*)
         [ ! -t 0 ] || say "an Ogg stream is read from the keyboard; '< FILE.ogg' reads a file"

@@ -506,13 +506,17 @@ def archived_otherwise(program, path, data, end):
     refused = [stream.packets for link in wanted for stream in link] != [packets for link in links for _, packets, _ in link]
     lines = ran.stderr.decode().splitlines()
     summed = [line.split() for line in lines if line.startswith("archived ")]
-    if len(summed) != 1 or ran.returncode != int(refused) or (lines[-1:] == ["fault refused"]) != refused:
+    # Bytes without a page are a fault.
+    pageless = bool(told) and not any(one for _, one in good_pages(data))
+    faulty = refused or pageless
+    fault = "fault refused" if refused else "fault archive 4 NoPage: no page of Ogg came on standard input"
+    if len(summed) != 1 or ran.returncode != int(faulty) or (lines[-1:] == [fault]) != faulty:
         return "status %d, %r" % (ran.returncode, ran.stderr[-200:]), 0
     if [line for line in lines if line.startswith("mended ")] != told or any(line.startswith("refused ") for line in lines) != refused:
         return "it tells\n  %r\nand not\n  %r" % (lines, told), 0
-    # A file is cut to its pages only if nothing was refused.
+    # A file is cut to its pages only if there was no fault.
     end = int(summed[0][3])
-    if end > len(after) or end < len(after) and not refused or int(summed[0][1]) != len(wanted):
+    if end > len(after) or end < len(after) and not faulty or int(summed[0][1]) != len(wanted):
         return "it tells of %r, and the file has %d bytes" % (summed, len(after)), 0
     after = after[:end]
     had, made = links_in(before), links_in(after)

@@ -2,26 +2,25 @@
 ghost use Rattle.std.specs.Prelude.{◌≡◌, ◌⊎◌, ◌↔◌, IfOk, OnOk, Err, true, false};
 ghost use Rattle.gate_file.specs.declared.fault.OpenFault.{OpenFault as OpenFaultOf};
 ghost use Rattle.link_chain.specs.ChainState.{is_open};
+ghost use Rattle.ogg_command.specs.declared.refusal.Refusal.{Refusal as RefusalOf};
 ghost use Rattle.record_actions.specs.Foreign.{IsForeign, front_of};
 ghost use Rattle.record_actions.specs.Tail.{IsKeptAside};
 ghost use Rattle.archive_record.specs.Resting.{IsAtRest};
 
-use crate::filing::{Filing, archive_folder, is_folder};
+use crate::filing::{Filing, archive_folder, is_folder, now};
+use crate::recording::{FileRecording, Recording};
+use archive_clock::utc_of;
 use archive_record::Unended;
 use disk_model::{Disk, FileDisk, FileMode};
-use fault_lines::Fault;
+use fault_lines::{Fault, is_input};
 use file_recorder::Recorder;
 use import_feed::{ChangeOptions, Skeletons};
-use import_record::{ImportRun, RecordFault, Step, run_all};
-use record_actions::{
-    Aside, Asides, TailFiles, Told, keeping_recorder_on, lock_file, reopen, seal_if,
-};
+use import_record::{ImportRun, RecordFault};
+use record_actions::{Aside, Asides, TailFiles, keeping_recorder_on, lock_file};
 use std::alloc::Global;
-use std::os::unix::fs::MetadataExt;
-use std::{fs, io};
 
 /// How many bytes of the stream are read at once.
-pub(crate) const ROOM: usize = 1 << 20;
+const ROOM: usize = 1 << 20;
 
 /// How a stream is recorded.
 #[derive(Clone, Copy)]
@@ -61,13 +60,14 @@ fn archive_file(rt: &HostRuntime, file: &str, options: ArchiveOptions) -> Result
     if is_input(rt, file) {
         return Err(Fault::Archive(RecordFault::Read));
     }
-    let recorder = open_ended(rt, file, options.most)?;
-    archive_by(rt, recorder, options)
+    let mut recording = FileRecording::open(rt, file, options.most, options.strict)?;
+    record_stream(rt, &mut recording, options.skeletons)?;
+    recording.seal(options.seal)
 }
 
 /// Opens the file, which is made if there is none, and ends what an earlier run left open in it. What follows its pages
 /// is kept beside it first, unless a stop may have left that.
-fn open_ended(rt: &HostRuntime, file: &str, most: u32) -> Result<Recorder<FileDisk>, Fault> {
+pub(crate) fn open_ended(rt: &HostRuntime, file: &str, most: u32) -> Result<Recorder<FileDisk>, Fault> {
     let disk = lock_file(rt, file, FileMode::Create)?;
     match ended_on(rt.alloc(), disk, &mut TailFiles::of(rt, file), most) {
         Ok((recorder, _)) => Ok(recorder),
@@ -98,57 +98,10 @@ fn ended_on<D: Disk + Drop, A: Asides>(
     Ok((recorder, aside))
 }
 
-/// Records the Ogg stream on standard input by this recorder, in whose file nothing is open.
-fn archive_by(
-    rt: &HostRuntime,
-    recorder: Recorder<FileDisk>,
-    options: ArchiveOptions,
-) -> Result<(), Fault> {
-    let mut import = import_of(rt, &recorder, options.skeletons)?;
-    archive_told(rt, recorder, &mut import, options)
-}
-
-/// Records the stream, and tells what comes of it.
-fn archive_told(
-    rt: &HostRuntime,
-    recorder: Recorder<FileDisk>,
-    import: &mut ImportRun,
-    options: ArchiveOptions,
-) -> Result<(), Fault> {
-    let mut told = Told::new(rt, options.strict, recorder.end());
-    let recorded = record_all(rt, recorder, import, &mut told, options);
-    told.close();
-    close(recorded, told.fault(), options.seal)
-}
-
-/// Returns what was met, or else what was told of, if that is a fault. Else the file is sealed, if that is asked for.
-fn close(
-    recorded: Result<Recorder<FileDisk>, Fault>,
-    told: Option<Fault>,
-    seal: bool,
-) -> Result<(), Fault> {
-    let recorder = recorded?;
-    match told {
-        Some(fault) => Err(fault),
-        None => {
-            seal_if(recorder, seal)?;
-            Ok(())
-        }
-    }
-}
-
-/// Whether standard input is this file. A run that read what it writes would never end.
-fn is_input(rt: &HostRuntime, file: &str) -> bool {
-    let (Ok(input), Ok(output)) = (fs::metadata(rt, "/dev/stdin"), fs::metadata(rt, file)) else {
-        return false;
-    };
-    input.dev() == output.dev() && input.ino() == output.ino()
-}
-
 /// Ends the streams that are open in the file, and keeps that with all that waits.
 ///
 /// It is `Failed` if the disk has failed, and `Refused` if an end was refused for something else.
-fn end_open<D: Disk>(recorder: &mut Recorder<D>) -> Result<(), Fault>
+pub(crate) fn end_open<D: Disk>(recorder: &mut Recorder<D>) -> Result<(), Fault>
     ensures rests { OnOk result (IsAtRest recorder.new) }
     ensures failed { result ≡ Err Fault.Failed → recorder.new.file.failed ≡ true }
     ensures refused { result ≡ Err Fault.Refused → is_open recorder.new.chain ≡ true }
@@ -162,150 +115,92 @@ fn end_open<D: Disk>(recorder: &mut Recorder<D>) -> Result<(), Fault>
 /// The fault of ends that aren't kept.
 pub(crate) fn unended_fault(unended: Unended) -> Fault
     ensures failed { (result ≡ Fault.Failed) ↔ (unended ≡ Unended.Failed) }
-    ensures refused { (result ≡ Fault.Refused) ↔ (unended ≡ Unended.Refused) }
+    ensures refused { (result ≡ Fault.Refused) ↔ ((refusal : RefusalOf) × (unended ≡ Unended.Refused refusal)) }
 {
     match unended {
         Unended::Failed => Fault::Failed,
-        Unended::Refused => Fault::Refused,
+        Unended::Refused(_) => Fault::Refused,
         Unended::Untold => Fault::Write,
     }
 }
 
-/// The stream that is to be recorded. Its streams get serials that the file doesn't have.
-fn import_of(
+/// Records the Ogg stream on standard input. Its streams get serials that what it is recorded into doesn't have.
+pub(crate) fn record_stream<R: Recording>(
     rt: &HostRuntime,
-    recorder: &Recorder<FileDisk>,
+    recording: &mut R,
     skeletons: Skeletons,
-) -> Result<ImportRun, Fault> {
+) -> Result<(), Fault> {
     let options = ChangeOptions {
         renumber: true,
         skeletons,
     };
-    let serials = recorder.serials().as_slice();
-    match ImportRun::new(rt.alloc(), ROOM, options, serials) {
-        Ok(import) => Ok(import),
-        Err(_) => Err(Fault::Memory),
-    }
-}
-
-/// Records the stream, and goes on after a fault of the disk as `begin_again` says.
-fn record_all(
-    rt: &HostRuntime,
-    mut recorder: Recorder<FileDisk>,
-    import: &mut ImportRun,
-    told: &mut Told<'_>,
-    options: ArchiveOptions,
-) -> Result<Recorder<FileDisk>, Fault> {
-    for _ in 0..u64::MAX {
-        let ran = record_stream(rt, &mut recorder, import, told);
-        if !recorder.is_failed() {
-            ran?;
-            return Ok(recorder);
-        }
-        recorder = begin_again(rt, recorder, import, told, options.most)?;
-    }
-    Err(Fault::Failed)
-}
-
-/// Opens the file again after a fault of the disk, unless nothing was kept since that was done before, and goes on with
-/// the stream.
-fn begin_again(
-    rt: &HostRuntime,
-    recorder: Recorder<FileDisk>,
-    import: &mut ImportRun,
-    told: &mut Told<'_>,
-    most: u32,
-) -> Result<Recorder<FileDisk>, Fault> {
-    if !told.lost(import.offset(), recorder.end()) {
-        return Err(Fault::Failed);
-    }
-    let mut recorder = reopen(rt, recorder)?;
-    recorder.group(most.clamp(1, 1024));
-    resume(&mut recorder, import, told)?;
-    Ok(recorder)
-}
-
-/// Goes on with the stream in a file that was opened again. If the link that is open was lost with what waited, it
-/// begins again.
-fn resume(
-    recorder: &mut Recorder<FileDisk>,
-    import: &mut ImportRun,
-    told: &mut Told<'_>,
-) -> Result<(), Fault> {
-    let commands = match import.resume(recorder.streams(), recorder.serials().as_slice()) {
-        Ok(commands) => commands,
-        Err(_) => return Err(Fault::Memory),
+    let serials = recording.serials()?;
+    let Ok(mut import) = ImportRun::new(rt.alloc(), ROOM, options, serials.as_slice()) else {
+        return Err(Fault::Memory);
     };
-    match run_all(recorder, commands.as_slice(), &mut io::sink()) {
-        Ok(answered) => {
-            told.answered(import.offset(), &answered);
-            Ok(())
-        }
-        Err(_) => Err(Fault::Write),
-    }
+    let recorded = record_all(rt, recording, &mut import);
+    recording.close();
+    recorded
 }
 
-/// Records what comes until the stream ends, or has to, or the disk fails. Unless it has failed, what is open is ended
-/// then, and what waits is kept.
-fn record_stream(
+/// Records what comes until the stream ends, or has to. Then what is open is ended, and what waits is kept.
+fn record_all<R: Recording>(
     rt: &HostRuntime,
-    recorder: &mut Recorder<FileDisk>,
+    recording: &mut R,
     import: &mut ImportRun,
-    told: &mut Told<'_>,
 ) -> Result<(), Fault> {
-    let met = record_steps(rt, recorder, import, told);
-    if recorder.is_failed() {
-        return Ok(());
-    }
+    let met = record_steps(rt, recording, import);
     let ended = match met {
         // If the reader has failed, what has come is a stream that stops there.
-        Ok(()) | Err(Fault::Archive(RecordFault::Read)) => end_stream(recorder, import, told),
+        Ok(()) | Err(Fault::Archive(RecordFault::Read)) => recording.finish(import),
         Err(_) => Ok(()),
     };
-    let kept = end_open(recorder);
-    told.settle(recorder.held(), recorder.is_failed(), recorder.end());
+    let kept = recording.end_open(import);
     met.and(ended).and(kept)
 }
 
-/// Ends the stream that was recorded.
-fn end_stream(
-    recorder: &mut Recorder<FileDisk>,
+/// Records what comes, page by page, until the stream ends, or a strict run has to end.
+fn record_steps<R: Recording>(
+    rt: &HostRuntime,
+    recording: &mut R,
     import: &mut ImportRun,
-    told: &mut Told<'_>,
 ) -> Result<(), Fault> {
-    let offset = import.offset();
-    match import.finish(recorder, &mut io::sink()) {
-        Ok(taken) => {
-            told.taken(offset, &taken);
-            Ok(())
+    let mut more = true;
+    // Bytes have come over which no step was taken yet: a file is looked for, or they are told, also if the stream ends
+    // with them.
+    let mut came = false;
+    for _ in 0..u64::MAX {
+        if recording.has_enough() {
+            return Ok(());
+        }
+        let (waiting, _) = recording.waiting();
+        if !more || !import.waits() {
+            if recording.step(import, more || came)? {
+                return Ok(());
+            }
+            came = false;
+        } else if waiting > 0 {
+            // What waits is kept before more is waited for.
+            recording.keep(import)?;
+        } else {
+            more = read_more(rt, import)?;
+            came = came || more;
+        }
+    }
+    Ok(())
+}
+
+/// Waits for more of the stream, and returns whether some has come. Its links begin at the time at which they come.
+fn read_more(rt: &HostRuntime, import: &mut ImportRun) -> Result<bool, Fault> {
+    if !import.waits() {
+        return Ok(true);
+    }
+    match import.read_once(&mut rt.stdin()) {
+        Ok(0) => Ok(false),
+        Ok(_) => {
+            import.tell_time(utc_of(now(rt)));
+            Ok(true)
         }
         Err(fault) => Err(Fault::Archive(fault)),
     }
-}
-
-/// Records what comes, page by page, until the stream ends, the disk fails, or a strict run has to end.
-fn record_steps(
-    rt: &HostRuntime,
-    recorder: &mut Recorder<FileDisk>,
-    import: &mut ImportRun,
-    told: &mut Told<'_>,
-) -> Result<(), Fault> {
-    for _ in 0..u64::MAX {
-        if recorder.is_failed() || told.has_enough() {
-            return Ok(());
-        }
-        match import.step(recorder, &mut rt.stdin(), &mut io::sink()) {
-            Ok(Step::Ended { junk }) => {
-                told.mended(junk);
-                return Ok(());
-            }
-            Ok(step) => {
-                told.stepped(&step);
-                told.searched(&step, import.offset());
-            }
-            Err(fault) => return Err(Fault::Archive(fault)),
-        }
-        told.settle(recorder.held(), recorder.is_failed(), recorder.end());
-    }
-    Ok(())
 }

@@ -1,18 +1,19 @@
 //! A stream that is recorded into a folder, file after file.
 ghost use Rattle.archive_record.specs.Files.{AllKept};
 
-use crate::archiving::{ArchiveOptions, ROOM, unended_fault};
+use crate::archiving::{ArchiveOptions, record_stream};
 use crate::keeping::Keeper;
+use crate::recording::FolderRecording;
 use archive_folder::{Folder, SystemFolder};
 use archive_names::{Keeping, Limits};
-use archive_record::{Archive, ArchiveFault, ArchiveNames, Rules};
-use disk_model::{Disk, FileMode};
+use archive_record::{ArchiveNames, Rules};
+use disk_model::{Disk, FileDisk, FileMode};
 use fault_lines::Fault;
-use import_feed::ChangeOptions;
-use import_record::{ImportRun, RecordFault, Step};
+use import_record::RecordFault;
 use record_actions::{Told, lock_file};
 use std::alloc::{AllocError, Global};
-use std::fs;
+use std::fs::{self, ReadDir};
+use std::os::unix::fs::{DirEntryExt, MetadataExt};
 use std::time::SystemTime;
 
 /// How many seconds a file's period has, if nothing else is said.
@@ -40,7 +41,8 @@ impl Filing {
             || self.keep_bytes.is_some()
     }
 
-    fn rules(self, most: u32) -> Rules {
+    /// The rules of an archive, of which so many commands may share a commit.
+    pub fn rules(self, most: u32) -> Rules {
         Rules {
             limits: Limits {
                 every: self.every.unwrap_or(HOUR).max(1),
@@ -59,7 +61,7 @@ impl Filing {
 }
 
 /// Whether a path is meant as a folder: it is one, it ends in a slash, or something is asked for that a file hasn't.
-pub(crate) fn is_folder(rt: &HostRuntime, path: &str, filing: Filing) -> bool {
+pub fn is_folder(rt: &HostRuntime, path: &str, filing: Filing) -> bool {
     if path.ends_with('/') || filing.is_asked() {
         return true;
     }
@@ -70,7 +72,7 @@ pub(crate) fn is_folder(rt: &HostRuntime, path: &str, filing: Filing) -> bool {
 }
 
 /// The milliseconds since 1970, or 0 if the clock can't be read.
-fn now(rt: &HostRuntime) -> u64 {
+pub fn now(rt: &HostRuntime) -> u64 {
     let Ok(now) = SystemTime::now(rt) else {
         return 0;
     };
@@ -82,8 +84,9 @@ fn now(rt: &HostRuntime) -> u64 {
 
 /// Records the Ogg stream on standard input into the folder, which is made if there is none.
 ///
-/// It is `Locked` if another program records into it, `File` if it can't be read or written, `Memory`, `Failed` if the
-/// disk has failed three times and nothing was kept between, and otherwise as for a file.
+/// It is `Archive` if standard input is a file of the folder, which isn't opened then. It is `Locked` if another program
+/// records into it, `File` if it can't be read or written, `Memory`, `Failed` if the disk has failed three times and
+/// nothing was kept between, and otherwise as for a file.
 pub(crate) fn archive_folder(
     rt: &HostRuntime,
     path: &str,
@@ -92,60 +95,70 @@ pub(crate) fn archive_folder(
 ) -> Result<(), Fault> {
     let folder = with_slash(rt.alloc(), path)?;
     let folder = folder.as_str();
+    if is_input_in(rt, folder) {
+        return Err(Fault::Archive(RecordFault::Read));
+    }
+    let _lock = lock_folder(rt, folder)?;
+    let files = granted(SystemFolder::at(rt.alloc(), rt, ArchiveNames, folder))?;
+    let keeper = Keeper::new(rt, folder, Told::new(rt, options.strict, 0));
+    record_into(rt, files, keeper, filing.rules(options.most), options)
+}
+
+/// Locks the folder, whose path has a slash at its end. It is made if there is none.
+pub fn lock_folder(rt: &HostRuntime, folder: &str) -> Result<FileDisk, Fault> {
     if fs::metadata(rt, folder).is_err() {
         // If it can't be made, its lock can't either.
         let _ = fs::create_dir(rt, folder);
     }
     let lock = joined(rt.alloc(), folder, "lock")?;
-    let _lock = lock_file(rt, lock.as_str(), FileMode::Create)?;
-    let files = granted(SystemFolder::at(rt.alloc(), rt, ArchiveNames, folder))?;
-    let mut keeper = Keeper::new(rt, folder, Told::new(rt, options.strict, 0));
-    record_into(rt, files, &mut keeper, filing.rules(options.most), options)
+    lock_file(rt, lock.as_str(), FileMode::Create)
 }
 
 /// Records the stream into the files of this folder.
 fn record_into<D: Disk + Drop, F: Folder<File = D> + Drop>(
     rt: &HostRuntime,
     folder: F,
-    keeper: &mut Keeper<'_>,
+    keeper: Keeper<'_>,
     rules: Rules,
     options: ArchiveOptions,
 ) -> Result<(), Fault>
     requires { F.is_honest folder → AllKept (F.names folder) (F.file folder) }
 {
-    let mut archive = match Archive::open(rt.alloc(), folder, rules, now(rt), keeper) {
-        Ok(archive) => archive,
-        Err(fault) => return Err(fault_of(fault)),
-    };
-    let serials = granted(archive.serials())?;
-    let changes = ChangeOptions {
-        renumber: true,
-        skeletons: options.skeletons,
-    };
-    let import = ImportRun::new(rt.alloc(), ROOM, changes, serials.as_slice());
-    let mut import = granted(import)?;
-    let recorded = record_all(rt, &mut archive, &mut import, keeper);
-    keeper.told.close();
-    recorded?;
-    close(archive, keeper, options.seal)
+    let mut recording = FolderRecording::open(rt, folder, keeper, rules)?;
+    record_stream(rt, &mut recording, options.skeletons)?;
+    recording.seal(options.seal)
 }
 
-/// Returns what was told of, if that is a fault. Else the newest file is sealed, if that is asked for.
-fn close<D: Disk + Drop, F: Folder<File = D> + Drop>(
-    archive: Archive<D, F>,
-    keeper: &mut Keeper<'_>,
-    seal: bool,
-) -> Result<(), Fault> {
-    let mut archive = archive;
-    match keeper.told.fault() {
-        Some(fault) => Err(fault),
-        None if seal && !archive.close(keeper) => Err(Fault::Seal),
-        None => Ok(()),
+/// Whether standard input is a file of this folder. A run that read what it writes would never end.
+fn is_input_in(rt: &HostRuntime, folder: &str) -> bool {
+    let (Ok(input), Ok(within)) = (fs::metadata(rt, "/dev/stdin"), fs::metadata(rt, folder)) else {
+        return false;
+    };
+    if !input.is_file() || input.dev() != within.dev() {
+        return false;
+    }
+    match fs::read_dir(rt, folder) {
+        Ok(entries) => has_file(entries, input.ino()),
+        Err(_) => false,
     }
 }
 
+/// Whether one of these entries is the file with this number of the device.
+fn has_file(entries: ReadDir<HostRuntime>, number: u64) -> bool {
+    for entry in entries {
+        if let Ok(entry) = entry {
+            if let Ok(ino) = entry.ino() {
+                if ino == number {
+                    return true;
+                }
+            }
+        }
+    }
+    false
+}
+
 /// What memory was granted for.
-fn granted<T>(asked: Result<T, AllocError>) -> Result<T, Fault> {
+pub fn granted<T>(asked: Result<T, AllocError>) -> Result<T, Fault> {
     match asked {
         Ok(it) => Ok(it),
         Err(AllocError) => Err(Fault::Memory),
@@ -160,185 +173,6 @@ fn joined(alloc: Global, front: &str, rest: &str) -> Result<String, Fault> {
 }
 
 /// The path with a slash at its end.
-fn with_slash(alloc: Global, path: &str) -> Result<String, Fault> {
+pub fn with_slash(alloc: Global, path: &str) -> Result<String, Fault> {
     joined(alloc, path, if path.ends_with('/') { "" } else { "/" })
-}
-
-fn fault_of(fault: ArchiveFault) -> Fault {
-    match fault {
-        ArchiveFault::Folder | ArchiveFault::Numbers => Fault::File,
-        ArchiveFault::Memory => Fault::Memory,
-        ArchiveFault::Disk => Fault::Failed,
-        ArchiveFault::Input(fault) => Fault::Archive(fault),
-    }
-}
-
-/// Records what comes until the stream ends, or has to. Then what is open is ended, and what waits is kept.
-fn record_all<D: Disk + Drop, F: Folder<File = D> + Drop>(
-    rt: &HostRuntime,
-    archive: &mut Archive<D, F>,
-    import: &mut ImportRun,
-    keeper: &mut Keeper<'_>,
-) -> Result<(), Fault> {
-    let met = record_steps(rt, archive, import, keeper);
-    let ended = match met {
-        // If the reader has failed, what has come is a stream that stops there.
-        Ok(()) | Err(Fault::Archive(RecordFault::Read)) => finish(rt, archive, import, keeper),
-        Err(_) => Ok(()),
-    };
-    let kept = end_open(rt, archive, keeper);
-    met.and(ended).and(kept)
-}
-
-/// Records what comes, page by page, until the stream ends, or a strict run has to end.
-fn record_steps<D: Disk + Drop, F: Folder<File = D> + Drop>(
-    rt: &HostRuntime,
-    archive: &mut Archive<D, F>,
-    import: &mut ImportRun,
-    keeper: &mut Keeper<'_>,
-) -> Result<(), Fault> {
-    let mut more = true;
-    // Bytes have come for which no file was looked for yet: they are recorded, or told, also if the stream ends with them.
-    let mut came = false;
-    for _ in 0..u64::MAX {
-        if keeper.told.has_enough() {
-            return Ok(());
-        }
-        if more && import.waits() {
-            match wait(rt, archive, import, keeper)? {
-                Waited::Kept => {}
-                Waited::Came => came = true,
-                Waited::Ended => more = false,
-            }
-        } else {
-            if take(rt, archive, import, keeper, more || came)? {
-                return Ok(());
-            }
-            came = false;
-        }
-        recover(rt, archive, import, keeper)?;
-        keeper
-            .told
-            .settle(archive.held(), archive.is_failed(), archive.end());
-    }
-    Ok(())
-}
-
-/// What came of waiting for more of the stream.
-#[derive(Clone, Copy, Debug, PartialEq, Eq)]
-enum Waited {
-    /// Commands waited for their group, and are kept. Nothing was read.
-    Kept,
-    /// More has come.
-    Came,
-    /// The stream has ended.
-    Ended,
-}
-
-/// Keeps what waits, or else waits for more of the stream.
-fn wait<D: Disk + Drop, F: Folder<File = D> + Drop>(
-    rt: &HostRuntime,
-    archive: &mut Archive<D, F>,
-    import: &mut ImportRun,
-    keeper: &mut Keeper<'_>,
-) -> Result<Waited, Fault> {
-    if archive.held() > 0 {
-        archive.flush(now(rt), keeper);
-        return Ok(Waited::Kept);
-    }
-    if !import.waits() {
-        return Ok(Waited::Came);
-    }
-    match import.read_once(&mut rt.stdin()) {
-        Ok(0) => Ok(Waited::Ended),
-        Ok(_) => Ok(Waited::Came),
-        Err(fault) => Err(Fault::Archive(fault)),
-    }
-}
-
-/// Takes one step over what has come, and returns whether it was the last. If it may begin a file, the next one is begun
-/// before it, unless the newest can be gone on with.
-fn take<D: Disk + Drop, F: Folder<File = D> + Drop>(
-    rt: &HostRuntime,
-    archive: &mut Archive<D, F>,
-    import: &mut ImportRun,
-    keeper: &mut Keeper<'_>,
-    begins: bool,
-) -> Result<bool, Fault> {
-    let now = now(rt);
-    let offset = import.offset();
-    if begins {
-        match archive.begin_if_due(import, now, keeper) {
-            Ok(answered) => keeper.told.answered(offset, &answered),
-            Err(fault) => return Err(fault_of(fault)),
-        }
-        if archive.is_failed() {
-            return Ok(false);
-        }
-    }
-    match archive.step(import, now, keeper) {
-        Ok(Step::Ended { junk }) => {
-            keeper.told.mended(junk);
-            Ok(true)
-        }
-        Ok(step) => {
-            keeper.told.stepped(&step);
-            keeper.told.searched(&step, import.offset());
-            Ok(false)
-        }
-        Err(fault) => Err(fault_of(fault)),
-    }
-}
-
-/// Goes on after the disk has failed.
-fn recover<D: Disk + Drop, F: Folder<File = D> + Drop>(
-    rt: &HostRuntime,
-    archive: &mut Archive<D, F>,
-    import: &mut ImportRun,
-    keeper: &mut Keeper<'_>,
-) -> Result<(), Fault> {
-    // Each failure with nothing kept between counts, and the third ends the run.
-    for _ in 0..3 {
-        if !archive.is_failed() {
-            return Ok(());
-        }
-        let offset = import.offset();
-        keeper.told.lost(offset, archive.end());
-        match archive.recover(import, now(rt), keeper) {
-            Ok(answered) => keeper.told.answered(offset, &answered),
-            Err(fault) => return Err(fault_of(fault)),
-        }
-    }
-    Ok(())
-}
-
-/// Ends the stream that was recorded.
-fn finish<D: Disk + Drop, F: Folder<File = D> + Drop>(
-    rt: &HostRuntime,
-    archive: &mut Archive<D, F>,
-    import: &mut ImportRun,
-    keeper: &mut Keeper<'_>,
-) -> Result<(), Fault> {
-    let offset = import.offset();
-    match archive.finish(import, now(rt), keeper) {
-        Ok(taken) => keeper.told.taken(offset, &taken),
-        Err(fault) => return Err(fault_of(fault)),
-    }
-    recover(rt, archive, import, keeper)
-}
-
-/// Ends what is open in the newest file, and keeps that.
-fn end_open<D: Disk + Drop, F: Folder<File = D> + Drop>(
-    rt: &HostRuntime,
-    archive: &mut Archive<D, F>,
-    keeper: &mut Keeper<'_>,
-) -> Result<(), Fault> {
-    let ended = archive.end_open(now(rt), keeper);
-    keeper
-        .told
-        .settle(archive.held(), archive.is_failed(), archive.end());
-    match ended {
-        Ok(()) => Ok(()),
-        Err(unended) => Err(unended_fault(unended)),
-    }
 }

@@ -5,6 +5,7 @@ use archive_names::Kind;
 use archive_record::{Beside, Damage, FileName, name_of, text_of};
 use archive_times::{Line, last_line};
 use fault_lines::{Fault, write_fault};
+use ogg_command::Refusal;
 use record_actions::Told;
 use std::fs::{File, OpenFile, OpenOptions};
 use std::io::Read;
@@ -22,19 +23,20 @@ struct Times {
 /// Tells what becomes of an archive's files, and keeps their times in the folder. If times can't be written, that is told
 /// once for each file, and the file has none from then on.
 #[derive(Drop)]
-pub(crate) struct Keeper<'a> {
+pub struct Keeper<'a> {
     rt: &'a HostRuntime,
     // with a slash at the end
     folder: &'a str,
-    pub(crate) told: Told<'a>,
+    /// What the recording came to so far.
+    pub told: Told<'a>,
     times: Option<Times>,
     // it was told that the file has no times
     has_told: bool,
 }
 
 impl<'a> Keeper<'a> {
-    /// Nothing was told yet.
-    pub(crate) fn new(rt: &'a HostRuntime, folder: &'a str, told: Told<'a>) -> Keeper<'a> {
+    /// Nothing was told yet. The folder's path has a slash at its end.
+    pub fn new(rt: &'a HostRuntime, folder: &'a str, told: Told<'a>) -> Keeper<'a> {
         Keeper {
             rt,
             folder,
@@ -203,8 +205,16 @@ impl Beside for Keeper<'_> {
         self.told.lost(offset, committed);
     }
 
+    fn refused(&mut self, offset: u64, refusal: Refusal) {
+        self.told.unended(offset, Some(refusal));
+    }
+
     fn removed(&mut self, file: FileName) {
         self.told.tell(file_line(file, b"removed").as_slice());
+    }
+
+    fn stays(&mut self, file: FileName) {
+        self.told.tell(file_line(file, b"stays").as_slice());
     }
 
     fn stands_twice(&mut self, number: u64) {

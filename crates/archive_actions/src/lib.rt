@@ -8,6 +8,9 @@
 mod archiving;
 mod filing;
 mod keeping;
+mod recording;
 
 pub use archiving::{ArchiveOptions, archive};
-pub use filing::Filing;
+pub use filing::{Filing, granted, is_folder, lock_folder, now, with_slash};
+pub use keeping::Keeper;
+pub use recording::{FileRecording, FolderRecording, Recording};

@@ -1,7 +1,7 @@
 -- The numbers of what is asked for. Their bounds are ours.
-use Rattle.std.specs.Prelude.{◌≤◌, ℕ, ⊤}
+use Rattle.std.specs.Prelude.{◌≤◌, ℕ, ⊤, IfSome}
 use Rattle.command_line.specs.declared.action.Action.{Action}
-use Rattle.command_line.specs.declared.action.Action.TheVariants.{Archive, Station, Record, Serve, Live}
+use Rattle.command_line.specs.declared.action.Action.TheVariants.{Archive, Lines, Station, Record, Serve, Live}
 
 -- how many commands may share one commit
 abbrev pub IsGroup : ℕ → Type 0
@@ -18,6 +18,7 @@ IsRoom count = (1 ≤ count) × (count ≤ 16384)
 -- each number lies within its bounds
 abbrev pub IsInBounds : Action → Type 0
 IsInBounds (Archive path filing skeletons most strict seal) = IsGroup most
+IsInBounds (Lines path filing most acks media stream streams seal) = IfSome most IsGroup
 IsInBounds (Station file address password_file listeners skeletons seal log) = IsRoom listeners
 IsInBounds (Record file end_open renumber seal most strict) = IsGroup most
 IsInBounds (Serve file address count) = IsCount count

@@ -64,6 +64,31 @@ pub enum Action<'a> {
         until: Option<u64>,
         raw: bool,
     },
+    /// Each line of standard input as a packet into the file or the folder, at most `most` of them to a commit, or all that
+    /// are at hand. `streams` are the names of several streams with commas between, of which each line begins with one and
+    /// a tab; otherwise all lines go to the stream `stream`. With `acks` each commit is told. The file, or the newest of the
+    /// folder, is sealed at the end if `seal` says so.
+    Lines {
+        path: &'a str,
+        filing: Filing,
+        most: Option<u32>,
+        acks: bool,
+        media: Option<&'a str>,
+        stream: Option<&'a str>,
+        streams: Option<&'a str>,
+        seal: bool,
+    },
+    /// The packets that the file or the folder holds, of the stream with this name or place, or of all; with `headers`
+    /// their headers too, and with `json` an object for each.
+    Packets {
+        path: &'a str,
+        stream: Option<&'a str>,
+        link: Option<u32>,
+        since: Option<u64>,
+        until: Option<u64>,
+        headers: bool,
+        json: bool,
+    },
     /// Whatever is wrong with the file, or the folder.
     Verify {
         path: &'a str,

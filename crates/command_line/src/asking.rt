@@ -10,6 +10,7 @@ use archive_clock::read_span;
 use clap::error::ErrorKind;
 use clap::{ArgMatches, Error};
 use import_changes::Skeletons;
+use skeleton3::is_media_type;
 use std::alloc::{AllocError, Global};
 
 /// What is said of words of which `clap` has checked that they aren't there: all have their subcommand and their bounds.
@@ -20,6 +21,16 @@ const NO_SPAN: &str = "a DURATION is a number from 1 on and one of s m h d w, as
 
 /// What is said of a text that is no number of bytes.
 const NO_BYTES: &str = "BYTES is a number from 1 on";
+
+/// What is said of two ways to name streams.
+const BOTH: &str = "`--stream` names one stream and `--streams` several: give one of them";
+
+/// How many names there may be.
+const MOST_NAMES: usize = 63;
+
+/// What is said of a text that is no name of a stream and no media type.
+const NO_NAME: &str =
+    "a NAME and a TYPE are 1 to 255 printing ASCII characters without a space at an end; NAMES are 63 at most, with commas between";
 
 /// What is said of a text that is no time.
 const NO_TIME: &str =
@@ -70,6 +81,8 @@ fn asked<'a>(
 {
     match name {
         "archive" => archive_of(words),
+        "lines" => lines_of(words),
+        "packets" => packets_of(rt, words),
         "list" => list_of(rt, words),
         "cut" => cut_of(rt, words),
         _ => asked_of_files(name, words).ok_or(NOTHING),
@@ -193,6 +206,71 @@ fn archive_filed<'a>(words: &ArgMatches<'a>, filing: Filing) -> Option<Action<'a
         most: group_of(words)?,
         strict: words.get_flag("strict"),
         seal: words.get_flag("seal"),
+    })
+}
+
+fn lines_of<'a>(words: &ArgMatches<'a>) -> Result<Action<'a>, &'static str>
+    ensures { IfOk result IsInBounds }
+{
+    let filing = filing_of(words)?;
+    let named = named_streams(words)?;
+    Ok(Action::Lines {
+        path: words.get_str("PATH").ok_or(NOTHING)?,
+        filing,
+        most: group_of(words),
+        acks: words.get_flag("acks"),
+        media: media_of(words)?,
+        stream: named.0,
+        streams: named.1,
+        seal: words.get_flag("seal"),
+    })
+}
+
+/// The name of the one stream, or those of several.
+fn named_streams<'a>(
+    words: &ArgMatches<'a>,
+) -> Result<(Option<&'a str>, Option<&'a str>), &'static str> {
+    match (words.get_str("stream"), words.get_str("streams")) {
+        (Some(_), Some(_)) => Err(BOTH),
+        (stream, streams) => {
+            if are_names(stream, false) && are_names(streams, true) {
+                Ok((stream, streams))
+            } else {
+                Err(NO_NAME)
+            }
+        }
+    }
+}
+
+/// Whether these may be the names of streams.
+fn are_names(text: Option<&str>, several: bool) -> bool {
+    match text {
+        Some(names) if several => names.split(',').count() <= MOST_NAMES
+            && names.split(',').all(|name| is_media_type(name.as_bytes())),
+        Some(name) => is_media_type(name.as_bytes()),
+        None => true,
+    }
+}
+
+/// The media type of the lines, if one is given.
+fn media_of<'a>(words: &ArgMatches<'a>) -> Result<Option<&'a str>, &'static str> {
+    match words.get_str("media") {
+        Some(media) if !is_media_type(media.as_bytes()) => Err(NO_NAME),
+        media => Ok(media),
+    }
+}
+
+fn packets_of<'a>(rt: &HostRuntime, words: &ArgMatches<'a>) -> Result<Action<'a>, &'static str>
+    ensures { IfOk result IsInBounds }
+{
+    Ok(Action::Packets {
+        path: words.get_str("PATH").ok_or(NOTHING)?,
+        stream: words.get_str("stream"),
+        link: words.get_one::<u32>("link"),
+        since: time_of(rt, words, "since")?,
+        until: time_of(rt, words, "until")?,
+        headers: words.get_flag("headers"),
+        json: words.get_flag("json"),
     })
 }
 

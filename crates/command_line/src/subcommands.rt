@@ -16,6 +16,11 @@ From an encoder to an archive, to a file that plays well, and to listeners:
   kudzuturret finish radio.ogg > radio-to-play.ogg
   ffmpeg -re -i INPUT -f ogg - | kudzuturret station radio.ogg 127.0.0.1:8000
 
+Lines of sensors go in as packets, with their times, and come out again:
+
+  vmstat 1 | kudzuturret lines sensors/
+  kudzuturret packets sensors/ --since -1h --json
+
 Packets can also come as a feed: records that begin streams, put packets into them and end them.
 docs/FORMATS.md describes feeds, and examples/ has some:
 
@@ -27,10 +32,10 @@ or a command line that can't be read.
 };
 
 /// The subcommands, as help lists them.
-pub(crate) fn subcommands() -> [&'static Subcommand; 14] {
+pub(crate) fn subcommands() -> [&'static Subcommand; 16] {
     [
-        &ARCHIVE, &LIST, &CUT, &VERIFY, &STATION, &FEED, &MUX, &RECORD, &LINKS, &SPLIT, &FINISH,
-        &SALVAGE, &SERVE, &LIVE,
+        &ARCHIVE, &LIST, &CUT, &VERIFY, &LINES, &PACKETS, &STATION, &FEED, &MUX, &RECORD, &LINKS,
+        &SPLIT, &FINISH, &SALVAGE, &SERVE, &LIVE,
     ]
 }
 
@@ -98,6 +103,34 @@ const RECORDED_FILE: Argument = Argument {
     help: "The file; it is made if there is none, and continued if there is one",
 };
 
+/// When a file of a folder is begun.
+const EVERY: Argument = Argument {
+    name: "every",
+    kind: Kind::Named("DURATION"),
+    help: "Begins a file each so often, as 1h, which is meant for a folder without this",
+};
+
+/// When it is begun besides.
+const MOST_BYTES: Argument = Argument {
+    name: "most-bytes",
+    kind: Kind::Named("BYTES"),
+    help: "Begins a file also once the last one has this many bytes",
+};
+
+/// When a file of a folder is thrown away.
+const KEEP: Argument = Argument {
+    name: "keep",
+    kind: Kind::Named("DURATION"),
+    help: "Throws files away that are so old, as 6w; not the newest, and none beside which is NAME.keep",
+};
+
+/// When it is thrown away besides.
+const KEEP_BYTES: Argument = Argument {
+    name: "keep-bytes",
+    kind: Kind::Named("BYTES"),
+    help: "Throws the oldest files away while all together have more bytes",
+};
+
 /// Whether the file is sealed.
 const SEAL: Argument = Argument {
     name: "seal",
@@ -135,26 +168,10 @@ static ARCHIVE: Subcommand = Subcommand {
             kind: Kind::Text,
             help: "The folder or the file; it is made if there is none, and continued if there is one",
         },
-        Argument {
-            name: "every",
-            kind: Kind::Named("DURATION"),
-            help: "Begins a file each so often, as 1h, which is meant for a folder without this",
-        },
-        Argument {
-            name: "most-bytes",
-            kind: Kind::Named("BYTES"),
-            help: "Begins a file also once the last one has this many bytes",
-        },
-        Argument {
-            name: "keep",
-            kind: Kind::Named("DURATION"),
-            help: "Throws files away that are so old, as 6w; not the newest, and none beside which is NAME.keep",
-        },
-        Argument {
-            name: "keep-bytes",
-            kind: Kind::Named("BYTES"),
-            help: "Throws the oldest files away while all together have more bytes",
-        },
+        EVERY,
+        MOST_BYTES,
+        KEEP,
+        KEEP_BYTES,
         SKELETON,
         NO_SKELETON,
         Argument {
@@ -288,6 +305,129 @@ It reads names, pages with their checksums, links and times:
   verified FILES LINKS BYTES FAULTS        the last line
 
 If anything is wrong, the status is 1. At a terminal a line tells how far it has come.
+",
+};
+
+static LINES: Subcommand = Subcommand {
+    name: "lines",
+    about: "Records each line of standard input as a packet, with its time",
+    arguments: &[
+        Argument {
+            name: "PATH",
+            kind: Kind::Text,
+            help: "The folder or the file; it is made if there is none, and continued if there is one",
+        },
+        EVERY,
+        MOST_BYTES,
+        KEEP,
+        KEEP_BYTES,
+        Argument {
+            name: "group",
+            kind: Kind::Valued {
+                value: "MOST",
+                bounds: GROUPS,
+                default: None,
+            },
+            help: "At most MOST lines share a commit, 1 to 1024; without it, all that are at hand",
+        },
+        Argument {
+            name: "acks",
+            kind: Kind::Flag,
+            help: "Writes `kept N` to standard output once the first N lines of this run are on the disk",
+        },
+        Argument {
+            name: "media",
+            kind: Kind::Named("TYPE"),
+            help: "The media type of the lines [default: text/plain; charset=utf-8]",
+        },
+        Argument {
+            name: "stream",
+            kind: Kind::Named("NAME"),
+            help: "The name of the stream [default: lines]",
+        },
+        Argument {
+            name: "streams",
+            kind: Kind::Named("NAMES"),
+            help: "Names of streams, as a,b,c: a line begins with one of them and a tab, and goes there without these",
+        },
+        SEAL,
+    ],
+    help: "\
+What a sensor says is kept line by line, and each line has the time at which it came:
+
+  vmstat 1 | kudzuturret lines sensors/ --keep 1w
+  mosquitto_sub -v -F '%t\\t%p' -t 'home/#' | kudzuturret lines sensors/ --streams home/door,home/boiler
+  kudzuturret packets sensors/ --since -1h
+
+A folder is one as for `archive`, with files of an hour unless `--every` says otherwise. Run the same line again
+after whatever stopped it: all that was on the disk is kept, and a new link begins. What is at hand is on the disk
+before more is waited for. A line may have any bytes; its line feed isn't kept. The streams are described by a
+Skeleton: their names, their media type, and that positions are milliseconds since 1970.
+
+With `--acks` a program that sends lines can drop its own copies of those that are safe:
+
+  kept N               the first N lines of this run are on the disk, but for those that were left out
+
+After a loss, told by `refused 21 Disk`, no such line comes any more. What is left out is told on standard error,
+and the status is 1 then, with `fault lines 1 LeftOut`:
+
+  left out N TooLong   line N has more than 8,388,608 bytes
+  left out N NoStream  no stream has the name before the first tab of line N
+
+What happens to files is told as by `archive`, and so is the last line, `archived LINKS PACKETS BYTES MENDS`.
+",
+};
+
+static PACKETS: Subcommand = Subcommand {
+    name: "packets",
+    about: "Writes the packets of a file or an archive, as lines or as JSON",
+    arguments: &[
+        Argument {
+            name: "PATH",
+            kind: Kind::Text,
+            help: "The file, or the folder of an archive, which is only read",
+        },
+        Argument {
+            name: "stream",
+            kind: Kind::Named("NAME|PLACE"),
+            help: "Only the streams with this name, or at this place of each link, from 1 on; a Skeleton isn't counted",
+        },
+        Argument {
+            name: "link",
+            kind: Kind::Valued {
+                value: "LINK",
+                bounds: ANY,
+                default: None,
+            },
+            help: "Only the link with this number in its file, counted from 0, as `links` lists it",
+        },
+        SINCE,
+        UNTIL,
+        Argument {
+            name: "headers",
+            kind: Kind::Flag,
+            help: "Writes header packets too, and those of Skeletons",
+        },
+        Argument {
+            name: "json",
+            kind: Kind::Flag,
+            help: "Writes an object for each packet, a line each",
+        },
+    ],
+    help: "\
+The packets go to standard output in the order of the pages in which they end, each with a line feed after it:
+
+  kudzuturret packets sensors/ --since -1h
+  kudzuturret packets sensors/ --stream home/door --json | jq .text
+
+With `--json` each packet is an object, whose `text` is its bytes, or `data` in base64 if they aren't UTF-8:
+
+  {\"time\":\"2026-11-28T14:05:00.310Z\",\"file\":42,\"link\":0,\"serial\":7,\"position\":1795874700310,\"bytes\":5,\"text\":\"21.5C\"}
+
+`time` is when it was on the disk, by the times beside the file; a file by itself has neither `time` nor `file`,
+and takes no `--since` and `--until`, for which T is a time as for `list`. Of streams that `lines` has recorded,
+`position` is the time at which the line came, in milliseconds since 1970. What is recorded meanwhile may be
+read up to the last commit. If no link has the stream, the status is 1, and the line is `fault packets 1 NoStream`.
 ",
 };
 

@@ -8,9 +8,17 @@
 
 use archive_actions::{ArchiveOptions, Filing};
 use command_line::{Action, Program, answer};
-use fault_lines::status_of;
+use fault_lines::{Place, status_about, status_of};
 use import_feed::ChangeOptions;
+use line_actions::LineOptions;
+use packet_actions::PacketOptions;
 use std::process::ExitCode;
+
+/// The media type of lines.
+const MEDIA: &str = "text/plain; charset=utf-8";
+
+/// The name of the stream of lines.
+const NAME: &str = "lines";
 
 /// The words about archives.
 struct Archives;
@@ -37,6 +45,45 @@ impl Program for Archives {
                     seal,
                 };
                 archive_actions::archive(rt, path, filed(filing), options)
+            }
+            Action::Lines {
+                path,
+                filing,
+                most,
+                acks,
+                media,
+                stream,
+                streams,
+                seal,
+            } => {
+                let options = LineOptions {
+                    most,
+                    acks,
+                    media: media.unwrap_or(MEDIA),
+                    names: streams.unwrap_or(stream.unwrap_or(NAME)),
+                    tagged: streams.is_some(),
+                    seal,
+                };
+                line_actions::lines(rt, path, filed(filing), options)
+            }
+            Action::Packets {
+                path,
+                stream,
+                link,
+                since,
+                until,
+                headers,
+                json,
+            } => {
+                let options = PacketOptions {
+                    stream,
+                    link,
+                    since,
+                    until,
+                    headers,
+                    json,
+                };
+                packet_actions::packets(rt, path, options)
             }
             Action::Feed {
                 mend,
@@ -68,7 +115,23 @@ impl Program for Archives {
             Action::Salvage { file } => file_actions::salvage(rt, file),
             _ => return None,
         };
-        Some(status_of(rt, ended))
+        Some(match place_of(action) {
+            Some(place) => status_about(rt, ended, place),
+            None => status_of(rt, ended),
+        })
+    }
+}
+
+/// What a word of ours works on: its faults are told with a sentence.
+fn place_of(action: Action<'_>) -> Option<Place<'_>> {
+    match action {
+        Action::Archive { path, .. }
+        | Action::Lines { path, .. }
+        | Action::Packets { path, .. }
+        | Action::Verify { path } => Some(Place::Either(path)),
+        Action::List { folder, .. } | Action::Cut { folder, .. } => Some(Place::Folder(folder)),
+        Action::Finish { file, .. } => Some(Place::File(file)),
+        _ => None,
     }
 }
 

@@ -1,0 +1,4 @@
+pub mod Cutting
+pub mod Putting
+pub mod Reading
+pub mod Splitting

@@ -1,0 +1,9 @@
+pub mod Acks
+pub mod Begin
+pub mod Bitstream
+pub mod Lines
+pub mod Pieces
+pub mod Placing
+pub mod Standing
+pub mod Taking
+pub mod Texts

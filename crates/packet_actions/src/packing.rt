@@ -1,0 +1,422 @@
+//! Packets of a file, or of the files of a folder, as lines.
+
+use crate::streams::{Streams, Wanted};
+use archive_cut::{Recorded, is_before, stood_at, time_of};
+use archive_names::Kind;
+use archive_reading::{
+    Listed, Prefix, ReadingFault, committed, folder, length_of, path_of, span_of, times_of,
+};
+use archive_times::{Line, last_line, next_line};
+use disk_model::{FileDisk, FileMode};
+use fault_lines::Fault;
+use gate_file::GateFile;
+use line_packets::{Pieces, Told, put_json, put_plain};
+use link_index::{Index, PageTaker, fault_at};
+use ogg_page::{Page, PageBuffer, PageSource, PageVisitor, Window, write_whole};
+use std::alloc::{AllocError, Global};
+use std::fs;
+use std::time::SystemTime;
+
+/// After how many bytes lines are written out.
+const TOGETHER: usize = 65_536;
+
+/// Which packets are written, and how. Times are in milliseconds since 1970.
+#[derive(Clone, Copy)]
+pub struct PacketOptions<'a> {
+    /// The name of the stream, or its place in each link from 1 on; all streams without it.
+    pub stream: Option<&'a str>,
+    /// The number of the link in its file.
+    pub link: Option<u32>,
+    /// Only what was recorded after this time.
+    pub since: Option<u64>,
+    /// Only what was recorded up to this time.
+    pub until: Option<u64>,
+    /// Header packets too.
+    pub headers: bool,
+    /// An object for each packet.
+    pub json: bool,
+}
+
+/// Writes to standard output the packets that the file or the archive in the folder holds, in the order of the pages in which
+/// they end. Nothing is locked, and nothing is written to the files.
+///
+/// It is `NoTimes` if a time is asked for of a file by itself, `File` if the file or the folder can't be read, `Open` if a file's
+/// committed bytes can't be found, `Index` if its pages aren't links, `Damaged` if that is so of a file of a folder, which is told,
+/// `NoStream` if no link has the stream, `Memory`, and `Write` if standard output takes no more. What came before is written.
+pub fn packets(rt: &HostRuntime, path: &str, options: PacketOptions<'_>) -> Result<(), Fault> {
+    let wanted = Wanted {
+        stream: options.stream,
+        headers: options.headers,
+    };
+    let mut writing = Writing {
+        rt,
+        options,
+        streams: Streams::new(rt.alloc(), wanted),
+        lines: Vec::new(rt.alloc()),
+        is_damaged: false,
+    };
+    let written = match fs::metadata(rt, path) {
+        Ok(metadata) if metadata.is_dir() => writing.of_folder(path),
+        Ok(_) => writing.of_file(path),
+        Err(_) => Err(Fault::File),
+    };
+    let out = writing.write_out();
+    written?;
+    out?;
+    writing.ended()
+}
+
+/// What memory was granted for.
+fn granted<T>(asked: Result<T, AllocError>) -> Result<T, Fault> {
+    match asked {
+        Ok(it) => Ok(it),
+        Err(AllocError) => Err(Fault::Memory),
+    }
+}
+
+/// The times of a file, as its pages are gone through.
+#[derive(Drop)]
+struct Times<'a> {
+    text: &'a [u8],
+    facts: Recorded,
+    // what follows the last line that was read, and that line
+    rest: &'a [u8],
+    line: Option<Line>,
+    // the time of what ends up to this offset
+    until: u64,
+    time: u64,
+}
+
+impl<'a> Times<'a> {
+    /// Those of a file with these lines.
+    fn of(text: &'a [u8], facts: Recorded) -> Times<'a> {
+        Times {
+            text,
+            facts,
+            rest: text,
+            line: None,
+            until: 0,
+            time: 0,
+        }
+    }
+
+    /// When the first bytes up to this offset were committed, which isn't less than the one before: the time of the first line at
+    /// or after it.
+    fn at(&mut self, offset: u64) -> u64 {
+        for _ in 0..u64::MAX {
+            if self.until >= offset {
+                break;
+            }
+            match next_line(self.rest, self.line, self.facts.committed) {
+                Some((line, rest)) => {
+                    self.until = line.offset;
+                    self.time = line.time.max(self.facts.begin);
+                    self.line = Some(line);
+                    self.rest = rest;
+                }
+                None => {
+                    self.until = u64::MAX;
+                    self.time = time_of(self.text, self.facts, offset);
+                }
+            }
+        }
+        self.time
+    }
+}
+
+/// A file that is gone through: its number and its times, if it is one of an archive, and between which places the packets end that
+/// are asked for.
+#[derive(Drop)]
+struct Given<'a> {
+    number: Option<u64>,
+    times: Option<Times<'a>>,
+    start: u64,
+    end: u64,
+}
+
+/// A run of `packets`.
+#[derive(Drop)]
+struct Writing<'a> {
+    rt: &'a HostRuntime,
+    options: PacketOptions<'a>,
+    streams: Streams<'a>,
+    // lines that aren't written yet
+    lines: Vec<u8>,
+    is_damaged: bool,
+}
+
+/// The committed bytes of a file.
+fn prefix_of(rt: &HostRuntime, file: &str) -> Result<Prefix<FileDisk>, Fault> {
+    let disk = match FileDisk::open(rt, file, FileMode::ReadOnly) {
+        Ok(disk) => disk,
+        Err(_) => return Err(Fault::File),
+    };
+    match GateFile::find(rt.alloc(), disk) {
+        Ok(found) => {
+            let end = found.end();
+            match Prefix::whole(found.give_back()) {
+                Ok(bytes) => {
+                    let all = bytes.end();
+                    Ok(bytes.up_to(end.min(all)))
+                }
+                Err(_) => Err(Fault::File),
+            }
+        }
+        Err((fault, _)) => Err(Fault::Open(fault)),
+    }
+}
+
+/// Appends the line of a packet.
+fn put_packet(lines: &mut Vec<u8>, json: bool, told: Told, packet: &[u8]) -> Result<(), Fault> {
+    if json {
+        granted(put_json(lines, told, packet))
+    } else {
+        granted(put_plain(lines, packet))
+    }
+}
+
+fn fault_of(fault: ReadingFault) -> Fault {
+    match fault {
+        ReadingFault::File => Fault::File,
+        ReadingFault::Memory => Fault::Memory,
+        ReadingFault::Open(fault) => Fault::Open(fault),
+    }
+}
+
+/// Takes a page into the index, if it may follow.
+fn take_page(index: &mut Index, offset: u64, page: &Page<'_>) -> Result<(), Fault> {
+    let mut taker = PageTaker::of(index);
+    let _ = taker.see(offset, page);
+    match taker.broken() {
+        None => Ok(()),
+        Some((offset, fault)) => Err(Fault::Index(fault_at(offset, fault))),
+    }
+}
+
+/// The milliseconds since 1970 at which a file was begun, by its name.
+fn begin_of(file: &Listed) -> u64 {
+    span_of(file.name, None, 0, 0).begin
+}
+
+/// The milliseconds since 1970, or 0 if the clock can't be read.
+fn now(rt: &HostRuntime) -> u64 {
+    let Ok(now) = SystemTime::now(rt) else {
+        return 0;
+    };
+    match now.duration_since(SystemTime::UNIX_EPOCH) {
+        Ok(since) => u64::try_from(since.as_millis()).unwrap_or(u64::MAX),
+        Err(_) => 0,
+    }
+}
+
+impl Writing<'_> {
+    /// What the run has come to, if it met no fault.
+    fn ended(&self) -> Result<(), Fault> {
+        if self.is_damaged {
+            return Err(Fault::Damaged);
+        }
+        if !self.streams.has_found() {
+            return Err(Fault::NoStream);
+        }
+        Ok(())
+    }
+
+    /// Writes the lines so far.
+    fn write_out(&mut self) -> Result<(), Fault> {
+        match write_whole(&mut self.rt.stdout(), self.lines.as_slice()) {
+            Ok(()) => {
+                self.lines.clear();
+                Ok(())
+            }
+            Err(_) => Err(Fault::Write),
+        }
+    }
+
+    /// Writes the packets of a file by itself.
+    fn of_file(&mut self, file: &str) -> Result<(), Fault> {
+        if self.options.since.is_some() || self.options.until.is_some() {
+            return Err(Fault::NoTimes);
+        }
+        let source = prefix_of(self.rt, file)?;
+        let end = source.end();
+        let mut given = Given {
+            number: None,
+            times: None,
+            start: 0,
+            end,
+        };
+        self.of_source(source, &mut given)
+    }
+
+    /// Writes the packets of the files of a folder.
+    fn of_folder(&mut self, path: &str) -> Result<(), Fault> {
+        let seen = match folder(self.rt, path) {
+            Ok(seen) => seen,
+            Err(fault) => return Err(fault_of(fault)),
+        };
+        let now = now(self.rt);
+        let mut rest = seen.files.as_slice();
+        for _ in 0..u64::MAX {
+            let Some((file, others)) = rest.split_first() else {
+                break;
+            };
+            let later = match others.first() {
+                Some(next) => begin_of(next),
+                None => now,
+            };
+            if self.is_asked(begin_of(file), later) {
+                match self.of_listed(path, file, later) {
+                    Ok(()) => {}
+                    Err(Fault::Open(_) | Fault::Index(_)) => self.tell_damaged(path, file)?,
+                    Err(fault) => return Err(fault),
+                }
+            }
+            rest = others;
+        }
+        Ok(())
+    }
+
+    /// Tells that a file is damaged.
+    fn tell_damaged(&mut self, path: &str, file: &Listed) -> Result<(), Fault> {
+        self.is_damaged = true;
+        let name = granted(path_of(self.rt.alloc(), path, file.name, Kind::Pages))?;
+        let mut line = granted(String::from_str(self.rt.alloc(), "damaged "))?;
+        granted(line.push_str(name.as_str()))?;
+        granted(line.push_str("\n"))?;
+        let _ = write_whole(&mut self.rt.stderr(), line.as_bytes());
+        Ok(())
+    }
+
+    /// Whether something of a file may be asked for, by when it was begun and when the next one was.
+    fn is_asked(&self, begin: u64, later: u64) -> bool {
+        let all_before = match self.options.since {
+            Some(since) => is_before(later, since),
+            None => false,
+        };
+        let all_after = match self.options.until {
+            Some(until) => until < begin && !is_before(later, until),
+            None => false,
+        };
+        !all_before && !all_after
+    }
+
+    /// Writes the packets of a file of a folder. One that is gone meanwhile was thrown away.
+    fn of_listed(&mut self, path: &str, file: &Listed, later: u64) -> Result<(), Fault> {
+        let Ok(length) = length_of(self.rt, path, file.name) else {
+            return Ok(());
+        };
+        let text = granted(times_of(self.rt, path, file))?;
+        let text = text.as_slice();
+        let (line, _) = last_line(text, None, length);
+        let source = match committed(self.rt, path, file.name, line) {
+            Ok(source) => source,
+            Err(fault) => return Err(fault_of(fault)),
+        };
+        let facts = Recorded {
+            begin: begin_of(file),
+            later,
+            committed: source.end(),
+        };
+        let start = match self.options.since {
+            Some(since) => stood_at(text, facts, since).offset,
+            None => 0,
+        };
+        let end = match self.options.until {
+            Some(until) => stood_at(text, facts, until).offset,
+            None => facts.committed,
+        };
+        if start >= end {
+            return Ok(());
+        }
+        let mut given = Given {
+            number: Some(file.name.number),
+            times: Some(Times::of(text, facts)),
+            start,
+            end,
+        };
+        self.of_source(source, &mut given)
+    }
+
+    /// Writes the packets that end between two places of a source of pages.
+    fn of_source(&mut self, source: Prefix<FileDisk>, given: &mut Given<'_>) -> Result<(), Fault> {
+        let alloc = self.rt.alloc();
+        self.streams.begin_file();
+        let end = given.end.min(source.end());
+        let buffer = granted(PageBuffer::new(alloc))?;
+        let mut window = Window::new(source, buffer, 0, end);
+        let mut index = Index::new(alloc);
+        for _ in 0..u64::MAX {
+            if window.advance().is_err() {
+                return Err(Fault::File);
+            }
+            let Some((offset, page)) = window.lent() else {
+                return Ok(());
+            };
+            take_page(&mut index, offset, &page)?;
+            self.of_page(&page, index.end(), u64::from(index.links()), given)?;
+            if self.lines.len() >= TOGETHER {
+                self.write_out()?;
+            }
+        }
+        Ok(())
+    }
+
+    /// Adds the lines of the packets that end in a page, which ends at this place. It is one of the last of so many links.
+    fn of_page(
+        &mut self,
+        page: &Page<'_>,
+        end: u64,
+        links: u64,
+        given: &mut Given<'_>,
+    ) -> Result<(), Fault> {
+        let link = links.saturating_sub(1);
+        let place = granted(self.streams.place_of(page, link))?;
+        let is_asked = end > given.start && self.is_link(link);
+        let time = match &mut given.times {
+            Some(times) if is_asked && self.options.json => Some(times.at(end)),
+            _ => None,
+        };
+        let told = Told {
+            time,
+            file: given.number,
+            link,
+            serial: u64::from(page.serial()),
+            position: page.position(),
+        };
+        let mut pieces = Pieces::of(page);
+        for _ in 0..u64::MAX {
+            let Some(piece) = pieces.next() else {
+                return granted(self.streams.join(place, pieces.rest()));
+            };
+            granted(self.streams.join(place, piece))?;
+            let wanted = granted(self.streams.takes(place))?;
+            if wanted && is_asked {
+                put_packet(
+                    &mut self.lines,
+                    self.options.json,
+                    told,
+                    self.streams.packet(place),
+                )?;
+            }
+            if let Some((serial, first)) = self.streams.take_late() {
+                if is_asked {
+                    let told = Told {
+                        serial: u64::from(serial),
+                        ..told
+                    };
+                    put_packet(&mut self.lines, self.options.json, told, first.as_slice())?;
+                }
+            }
+            self.streams.end_packet(place);
+        }
+        Ok(())
+    }
+
+    /// Whether the link with this number is asked for.
+    fn is_link(&self, link: u64) -> bool {
+        match self.options.link {
+            Some(number) => u64::from(number) == link,
+            None => true,
+        }
+    }
+}
