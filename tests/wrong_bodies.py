@@ -14,7 +14,7 @@ changed:
     new:         self.head.sequence
 
 What stands after 'old: ' is in the file once; what stands after 'new: ' takes its place. A line 'mistake: TEXT' says what
-the wrong body does, where docs/PROOFS.md lists it among the mistakes that an implementer makes (tools/proofs.py).
+the wrong body does, where 'tools/proofs.py --all' lists it among the mistakes that an implementer makes.
 
 The wrong bodies of a crate are planted together in one copy of it, and one check says of each function whether it is
 proved. None of them hides another: the proof of a function rests on the contracts of what it calls, not on the bodies,
@@ -86,7 +86,7 @@ TRAIT = re.compile(r"(?:pub(?:\(\w+\))? )?trait ")
 # The parameters; a trait, if there is one, and what it is of; and the type, and what it is of.
 IMPL = re.compile(r"impl(?:<(.*?)>)? (?:(\w+)(?:<(\w+).*?>)? for )?(?:&(?:'\w+ )?(?:mut )?)?(\w+)(?:<(\w+)>)?")
 # What is said of a proof file that names something that the edit took away.
-MISSING = re.compile(r"has no field|has no `|is not in scope|was not admitted")
+MISSING = re.compile(r"has no field|has no `|is not in scope|was not admitted|, which was rejected,")
 NEAREST = re.compile(rf"{MISSING.pattern}|\(nearest: ")
 # What is said of an answer to a goal that has another name now, so that it isn't answered.
 RENAMED = re.compile(r"\.Goals` has no `")

@@ -1,8 +1,10 @@
 #!/usr/bin/env python3
-"""Makes docs/PROOFS.md of the promises, the wrong bodies, the sources, and the prose that is written by hand.
+"""Tells what is promised, by which contract, and which wrong bodies are refused.
 
-    tools/proofs.py            writes it
-    tools/proofs.py --check    says whether it is as it would be written, and whether all names in it exist
+    tools/proofs.py            writes docs/PROOFS.md: what the program promises, what isn't proved, what isn't promised
+    tools/proofs.py CRATE ..   prints what these crates promise
+    tools/proofs.py --all      prints the rest: the mistakes that are refused, what each crate promises, and its size
+    tools/proofs.py --check    says whether docs/PROOFS.md is as it would be written, and whether all names exist
 
 crates/CRATE/promises.txt has the promises of a crate. An indented line goes on with the one before it:
 
@@ -19,6 +21,7 @@ bodies, or why it has none, and then it must be there.
 
 docs/proofs/program.txt has the promises of the whole program in the same form: names of any crate, and no wrong bodies;
 its 'tried' is what only tests show. docs/proofs/*.md and crates/CRATE/tested.md are prose, which is taken as it stands.
+Nothing in docs/PROOFS.md is counted or measured, so it changes only if docs/proofs/ does.
 
 The last line of --check is 'N passed, M failed'; the status is 0 if nothing failed.
 """
@@ -274,10 +277,8 @@ def contents(crates):
 def section(crate):
     """What is proved of a crate, and what isn't."""
     yield f"### {crate.name}"
-    if crate.promises:
-        yield "\n".join(map(listed, crate.promises.values()))
-    if crate.tested():
-        yield crate.tested()
+    yield "\n".join(map(listed, crate.promises.values())) or "It promises nothing of its own."
+    yield crate.tested()
 
 
 def mistakes(crates):
@@ -320,36 +321,53 @@ def sizes(crates):
     return table(head, rows)
 
 
-def page(crates, program):
-    """The text of docs/PROOFS.md."""
-    proved = [it for it in crates.values() if it.promises or it.tested()]
-    prose = {it.stem: text_of(it) for it in PROSE.glob("*.md")}
-    parts = [
-        "<!-- Made by tools/proofs.py, which says what of. Don't change it here. -->",
-        "# What is proved, what is tested, what is neither",
-        prose["intro"],
-        "## The promises of the program",
-        prose["program"],
-        "\n".join(map(told, program.values())),
-        "## Not proved yet",
-        prose["not-proved"],
-        "## Not promised, and trusted",
-        prose["not-promised"],
-        "## Mistakes that an implementer makes",
-        prose["mistakes"],
-        "\n".join(mistakes(crates)),
-        prose["mistakes-by-tests"],
-        "## Crate by crate",
-        prose["crates"],
-        "\n".join(contents(proved)),
-        *(part for it in proved for part in section(it)),
-        "## Wrong bodies that nobody chose",
-        prose["planted"],
-        "## Lines, and what the gate costs",
-        prose["gate"],
-        sizes(crates),
-    ]
+def prose(name):
+    return text_of(PROSE / f"{name}.md")
+
+
+def joined(parts):
     return "\n\n".join(it for it in parts if it) + "\n"
+
+
+def page(program):
+    """The text of docs/PROOFS.md."""
+    return joined(
+        [
+            "<!-- Made by tools/proofs.py, which says what of. Don't change it here. -->",
+            "# What is proved, what is tested, what is neither",
+            prose("intro"),
+            "## The promises of the program",
+            prose("program"),
+            "\n".join(map(told, program.values())),
+            "## Not proved yet",
+            prose("not-proved"),
+            "## Not promised, and trusted",
+            prose("not-promised"),
+            "## Crate by crate",
+            prose("crates"),
+        ]
+    )
+
+
+def rest(crates):
+    """What docs/PROOFS.md leaves out."""
+    proved = [it for it in crates.values() if it.promises or it.tested()]
+    return joined(
+        [
+            "## Mistakes that an implementer makes",
+            prose("mistakes"),
+            "\n".join(mistakes(crates)),
+            prose("mistakes-by-tests"),
+            "## Crate by crate",
+            "\n".join(contents(proved)),
+            *(part for it in proved for part in section(it)),
+            "## Wrong bodies that a tool makes",
+            prose("planted"),
+            "## Lines, and what `./check` costs",
+            prose("gate"),
+            sizes(crates),
+        ]
+    )
 
 
 def check(text, lost):
@@ -365,22 +383,28 @@ def check(text, lost):
 
 def main():
     words = sys.argv[1:]
-    if words not in ([], ["--check"]):
-        sys.exit(__doc__.strip())
     try:
         crates = every_crate()
         program = promises_of(PROSE / "program.txt")
-        lost, text = [*faults(crates, program)], page(crates, program)
+        lost, text, more = [*faults(crates, program)], page(program), rest(crates)
     except Bad as why:
         print(f"FAILED: {why}\n0 passed, 1 failed")
         return 1
-    if words:
+    if words == ["--check"]:
         passed, failed = check(text, lost)
         print(f"{passed} passed, {failed} failed")
         return 1 if failed else 0
+    unknown = [it for it in words if it not in crates]
+    if unknown and words != ["--all"]:
+        sys.exit(f"usage: tools/proofs.py [--check | --all | CRATE ..]: crates.txt has no {unknown[0]}")
     for it in lost:
         print(f"note: {it}", file=sys.stderr)
-    PAGE.write_text(text, encoding="utf-8")
+    if unknown:
+        print(more, end="")
+    elif words:
+        print(joined(part for it in words for part in section(crates[it])), end="")
+    else:
+        PAGE.write_text(text, encoding="utf-8")
     return 0
 
 

@@ -20,6 +20,8 @@ WORDS = [
     ("seq(?!\\w)", "the word is 'sequence'"),
     ("segs?(?!\\w)", "the word is 'lacing', or 'lacing value'"),
     ("came to(?= [0-9])", "the word is 'total', or 'result'"),
+    ("[Nn]obody's clause", "say it: 'no contract states this'"),
+    ("for each who(?!\\w)", "say for whom: 'per listener'"),
 ]
 
 
